@@ -1,0 +1,40 @@
+//! Linear forms `a * x + b * y + c`.
+ghost use Rattle.std.specs.Prelude.{◌≡◌, ◌≤◌, ◌-◌, ◌*◌, ◌^◌, ◌*ℤ◌, pos};
+ghost use Rattle.px_num.specs.Forms.{IsWithin, IsInTreeRange, value_at};
+
+/// A linear form `a * x + b * y + c` over the pixels of a screen.
+///
+/// `x` counts pixels from the left, and `y` from the top (docs/PICTURE.md, "Pixels and cells").
+#[derive(Clone, Copy, Debug, Default, PartialEq, Eq)]
+pub struct Linear {
+    pub a: i64,
+    pub b: i64,
+    pub c: i64,
+}
+
+impl Linear {
+    /// The value at a pixel, below `2^39` in size where `x` and `y` are at most 511.
+    ///
+    /// The form is in the range of the multiplier tree (`a` and `b` at most `2^27`, `c` at most
+    /// `2^38` in size), and `x` and `y` are at most 4095.
+    pub fn value(&self, x: u32, y: u32) -> i64
+        requires range { IsInTreeRange self.now }
+        requires x { x ≤ 4095 }
+        requires y { y ≤ 4095 }
+        ensures value { result ≡ value_at self.now x y }
+        ensures size { x ≤ 511 → y ≤ 511 → IsWithin (2 ^ 39 - 1) result }
+    {
+        scaled(self.a, x) + scaled(self.b, y) + self.c
+    }
+}
+
+/// `factor * place`.
+fn scaled(factor: i64, place: u32) -> i64
+    requires factor { IsWithin (2 ^ 27) factor }
+    requires place { place ≤ 4095 }
+    ensures value { result ≡ factor *ℤ pos place }
+    ensures size { IsWithin (2 ^ 27 * 4095) result }
+    ensures on_grid { place ≤ 511 → IsWithin (2 ^ 27 * 511) result }
+{
+    factor * i64::from(place)
+}
