@@ -1,0 +1,18 @@
+-- A source and a sink over memory, as contracts see them.
+use Rattle.std.specs.Prelude.{ℕ, List, Bool}
+
+pub record SourceView : Type 0 where
+  pub rest : List ℕ
+  pub piece : ℕ
+  pub failing : List ℕ
+  pub calls : ℕ
+  pub faults : ℕ
+
+pub record SinkView : Type 0 where
+  pub written : List ℕ
+  pub room : ℕ
+  pub piece : ℕ
+  pub failing : List ℕ
+  pub calls : ℕ
+  pub faults : ℕ
+  pub finished : Bool

@@ -1,0 +1,5 @@
+pub mod Counts
+pub mod Edge
+pub mod InMemory
+pub mod Told
+pub mod ToldLaws
