@@ -1,0 +1,4 @@
+pub mod PostorderLemmas
+pub mod CellsLemmas
+pub mod WaitingLemmas
+pub mod SidesLemmas

@@ -1,0 +1,6 @@
+use Rattle.std.proofs.Common.{arith}
+use Rattle.px_expr.proofs.WaitingLemmas.{counts}
+use Rattle.px_expr.proofs.builder.ExprBuilder.leaves.Goals as goal
+
+pub returns : goal.returns
+returns c = let here = (counts _ _ _ c.self.invariant).leaves in rw (← c.self.view_is) (omega arith)

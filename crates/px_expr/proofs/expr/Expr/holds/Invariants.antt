@@ -1,0 +1,8 @@
+use Rattle.std.proofs.Common.{◌≡◌, map, reverse, take}
+use Rattle.px_expr.specs.Cells.{is_member, is_true}
+use Rattle.px_expr.specs.Postorder.{trees_after}
+use Rattle.px_expr.proofs.expr.Expr.holds.Given as goal
+
+abbrev pub invariant-loop-node : goal.invariant-loop-node
+invariant-loop-node l =
+    reverse l.stack.items ≡ map (is_member (is_true l.inside)) (trees_after (take l.node-index l.node-items))

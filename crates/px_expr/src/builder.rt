@@ -1,0 +1,215 @@
+//! Building an expression from its leaves up.
+ghost use Rattle.std.specs.Prelude.{◌≡◌, ◌<◌, ◌≤◌, ◌+◌, ◌-◌, ◌∷◌, ◌++◌, [], length, take, vec_len, vec_capacity, OnOk, OnErr, IfErr};
+ghost use Rattle.px_expr.specs.Tree.{leaf, nesting};
+ghost use Rattle.px_expr.specs.Waiting.{joined, newest, all_leaves};
+ghost use Rattle.px_expr.specs.declared.node.Op.{Op as AnyOp};
+
+use crate::{Expr, ExprFault, Node, Op};
+use std::alloc::Global;
+use std::marker::Model;
+
+const MAX_LEAVES: usize = 512;
+
+const MAX_NESTING: u8 = 64;
+
+/// A waiting subtree: the place of its root, and how deep it is nested.
+#[derive(Clone, Copy, Debug, PartialEq, Eq)]
+struct Subtree {
+    root: u16,
+    nesting: u8,
+}
+
+/// Subtrees that wait to be joined. Contracts see the list of them, the newest first.
+#[derive(Debug, Drop)]
+pub struct ExprBuilder {
+    nodes: Vec<Node>,
+    waiting: Vec<Subtree>,
+}
+
+impl Model for ExprBuilder {
+    ghost use Rattle.std.specs.Prelude.{List};
+    ghost use Rattle.std.specs.Coded.{coded_list};
+    ghost use Rattle.px_expr.specs.Tree.{Tree};
+    ghost use Rattle.px_expr.specs.TreeCode.{tree_code};
+
+    ghost Value = { List Tree };
+
+    ghost coded = { coded_list tree_code };
+
+    ghost use Rattle.px_expr.specs.Postorder.{trees_after};
+    ghost use Rattle.px_expr.specs.Kept.{IsKept};
+
+    ghost view = { λ builder. trees_after builder.nodes.items };
+
+    ghost invariant = { λ builder.
+        IsKept builder.nodes.items builder.waiting.items (trees_after builder.nodes.items) };
+}
+
+impl ExprBuilder {
+    /// No subtree waits, and no memory is taken yet.
+    pub fn new(alloc: Global) -> ExprBuilder
+        ensures { result ≡ [] }
+    {
+        ExprBuilder {
+            nodes: Vec::new(alloc),
+            waiting: Vec::new(alloc),
+        }
+    }
+
+    /// The number of waiting subtrees.
+    pub fn waiting(&self) -> usize
+        ensures { result ≡ length self.now }
+    {
+        self.waiting.len()
+    }
+
+    /// A solid waits as a new subtree.
+    pub fn leaf(&mut self, solid: u8) -> Result<(), ExprFault>
+        ensures ok { OnOk result (self.new ≡ leaf solid ∷ self.old) }
+        ensures err { OnErr result (self.new ≡ self.old) }
+        ensures full { 512 ≤ all_leaves self.old → result ≡ Err (ExprFault.Leaves 513) }
+        ensures memory { all_leaves self.old < 512 → IfErr result (λ fault. fault ≡ ExprFault.Memory) }
+    {
+        if self.leaves() == MAX_LEAVES {
+            return Err(ExprFault::Leaves { found: 513 });
+        }
+        self.nodes.reserve(1)?;
+        self.waiting.reserve(1)?;
+        put(&mut self.nodes, &mut self.waiting, Node::Leaf(solid), 0);
+        Ok(())
+    }
+
+    /// The last two waiting subtrees become one.
+    pub fn join(&mut self, op: Op) -> Result<(), ExprFault>
+        requires { 2 ≤ length self.old }
+        ensures ok { OnOk result (self.new ≡ joined op self.old) }
+        ensures err { OnErr result (self.new ≡ self.old) }
+        ensures deep { 64 < nesting (newest (joined op self.old)) → result ≡ Err (ExprFault.Nesting 65) }
+        ensures memory { nesting (newest (joined op self.old)) ≤ 64 →
+            IfErr result (λ fault. fault ≡ ExprFault.Memory) }
+    {
+        let nesting = self.joined_nesting();
+        if nesting > MAX_NESTING {
+            return Err(ExprFault::Nesting {
+                found: u32::from(nesting),
+            });
+        }
+        self.nodes.reserve(1)?;
+        let (left, right) = take_two(&mut self.waiting);
+        put(
+            &mut self.nodes,
+            &mut self.waiting,
+            op.node(left.root, right.root),
+            nesting,
+        );
+        Ok(())
+    }
+
+    /// The expression that waits alone.
+    pub fn finish(self) -> Expr
+        requires { length self ≡ 1 }
+        ensures { self ≡ result ∷ [] }
+    {
+        let ExprBuilder { nodes, waiting: _ } = self;
+        Expr { nodes }
+    }
+
+    /// The nesting of what the last two would become.
+    fn joined_nesting(&self) -> u8
+        requires { 2 ≤ length self.now }
+        ensures nesting { (op : AnyOp) → result ≡ nesting (newest (joined op self.now)) }
+        ensures most { result ≤ 65 }
+    {
+        let (left, right) = last_two(&self.waiting);
+        left.nesting.max(right.nesting) + 1
+    }
+
+    /// The number of leaves: each adds a node and a subtree, and a join a node for a subtree.
+    fn leaves(&self) -> usize
+        ensures { result ≡ all_leaves self.now }
+    {
+        (self.nodes.len() + self.waiting.len()) / 2
+    }
+}
+
+/// The last two subtrees.
+fn last_two(waiting: &[Subtree]) -> (Subtree, Subtree)
+    requires { 2 ≤ length waiting.now }
+    ensures { waiting.now ≡ take (length waiting.now - 2) waiting.now ++ result.0 ∷ result.1 ∷ [] }
+{
+    (waiting[waiting.len() - 2], waiting[waiting.len() - 1])
+}
+
+/// Takes the last two subtrees away.
+fn take_two(waiting: &mut Vec<Subtree>) -> (Subtree, Subtree)
+    requires { 2 ≤ vec_len waiting.old }
+    ensures items { waiting.old.items ≡ waiting.new.items ++ result.0 ∷ result.1 ∷ [] }
+    ensures room { vec_len waiting.new < vec_capacity waiting.new }
+{
+    let pair = last_two(waiting);
+    waiting.truncate(waiting.len() - 2);
+    pair
+}
+
+/// Puts a node down as the root of a new subtree, where there is room for both.
+fn put(nodes: &mut Vec<Node>, waiting: &mut Vec<Subtree>, node: Node, nesting: u8)
+    requires node_room { vec_len nodes.old < vec_capacity nodes.old }
+    requires subtree_room { vec_len waiting.old < vec_capacity waiting.old }
+    requires few { vec_len nodes.old < 1023 }
+    ensures nodes { nodes.new.items ≡ nodes.old.items ++ node ∷ [] }
+    ensures waiting { waiting.new.items ≡ waiting.old.items
+        ++ record { root = vec_len nodes.old; nesting = nesting } ∷ [] }
+{
+    let root = nodes.len() as u16;
+    nodes.push(node).unwrap();
+    waiting.push(Subtree { root, nesting }).unwrap();
+}
+
+#[cfg(test)]
+mod tests {
+    use super::ExprBuilder;
+    use crate::{ExprFault, Node, Op};
+
+    /// `a - (b - c)` with `a` from 1 to 9, `b` from 0 to 7 and `c` from 4 to 5 has the cells of `c`,
+    /// and those behind `b`.
+    #[test]
+    fn difference_of_a_difference(rt: HostRuntime) {
+        let mut builder = ExprBuilder::new(rt.alloc());
+        builder.leaf(0).expect(&rt, "memory");
+        builder.leaf(1).expect(&rt, "memory");
+        builder.leaf(2).expect(&rt, "memory");
+        builder.join(Op::Minus).expect(&rt, "memory");
+        builder.join(Op::Minus).expect(&rt, "memory");
+        let expr = builder.finish();
+        for z in 0..11 {
+            let inside = [1 <= z && z <= 9, z <= 7, 4 <= z && z <= 5];
+            assert_eq!(rt; expr.holds(&inside), [4, 5, 8, 9].contains(&z));
+        }
+        let nodes = [
+            Node::Leaf(0),
+            Node::Leaf(1),
+            Node::Leaf(2),
+            Node::Minus(1, 2),
+            Node::Minus(0, 3),
+        ];
+        assert!(rt; expr.nodes() == nodes.as_slice());
+    }
+
+    #[test]
+    fn faults_as_text(rt: HostRuntime) {
+        let texts = [
+            (
+                ExprFault::Leaves { found: 513 },
+                "513 leaves, of at most 512",
+            ),
+            (
+                ExprFault::Nesting { found: 65 },
+                "nested 65 deep, of at most 64",
+            ),
+            (ExprFault::Memory, "out of memory"),
+        ];
+        for (fault, text) in texts {
+            assert!(rt; fault.to_string(rt.alloc()).expect(&rt, "memory").as_str() == text);
+        }
+    }
+}

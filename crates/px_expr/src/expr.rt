@@ -1,0 +1,92 @@
+//! An expression, its nodes and its truth.
+ghost use Rattle.std.specs.Prelude.{◌≡◌, ◌<◌, ◌≤◌, ◌+◌, ◌∷◌, [], ℕ, All, length, reverse, take, slice_index_or};
+ghost use Rattle.arrayvec.specs.ArrayVec.{array_vec_len};
+ghost use Rattle.px_expr.specs.Tree.{HasLeavesBelow, IsLawful};
+ghost use Rattle.px_expr.specs.Cells.{is_member, is_true};
+ghost use Rattle.px_expr.specs.Postorder.{nodes_of, trees_after, CanPlace, IsLeafBelow, sides, parent_count};
+ghost use Rattle.px_expr.specs.declared.node.Node.{Node as AnyNode};
+ghost use Rattle.px_expr.specs.Truths.{truths, joined_truth};
+
+use crate::{Node, Op};
+use arrayvec::ArrayVec;
+use std::marker::Model;
+
+/// An expression over solids, of at most 512 leaves and 64 levels of nesting.
+/// Contracts see the tree that is written.
+#[derive(Debug, Drop)]
+pub struct Expr {
+    pub(crate) nodes: Vec<Node>,
+}
+
+impl Model for Expr {
+    ghost use Rattle.std.specs.Prelude.{◌≡◌};
+    ghost use Rattle.px_expr.specs.Tree.{Tree, IsLawful};
+    ghost use Rattle.px_expr.specs.TreeCode.{tree_code};
+
+    ghost Value = { Tree };
+
+    ghost coded = { tree_code };
+
+    ghost use Rattle.px_expr.specs.Postorder.{nodes_of, trees_after};
+    ghost use Rattle.px_expr.specs.Waiting.{newest};
+
+    ghost view = { λ expr. newest (trees_after expr.nodes.items) };
+
+    ghost invariant = { λ expr. (expr.nodes.items ≡ nodes_of (newest (trees_after expr.nodes.items)))
+        × IsLawful (newest (trees_after expr.nodes.items)) };
+}
+
+impl Expr {
+    /// The nodes in postorder: each stands behind its sides, and the last is the root.
+    pub fn nodes(&self) -> &[Node]
+        ensures nodes { result.now ≡ nodes_of self.now }
+        ensures tree { trees_after result.now ≡ self.now ∷ [] }
+        ensures few { length result.now ≤ 1023 }
+        ensures before { (i : ℕ) (any : AnyNode) → i < length result.now →
+            All (λ side. side < i) (sides (slice_index_or result.now i any)) }
+        ensures once { (i : ℕ) → i + 1 < length result.now → parent_count i result.now ≡ 1 }
+        ensures places { (i : ℕ) (any : AnyNode) → i < length result.now →
+            CanPlace (length (trees_after (take i result.now))) (slice_index_or result.now i any) }
+        ensures leaves { (count : ℕ) → HasLeavesBelow count self.now → All (IsLeafBelow count) result.now }
+        ensures lawful { IsLawful self.now }
+    {
+        self.nodes.as_slice()
+    }
+
+    /// Whether a cell is a member, by a truth value for each solid: whether the cell is inside it.
+    pub fn holds(&self, inside: &[bool]) -> bool
+        requires { HasLeavesBelow (length inside.now) self.now }
+        ensures { result ≡ is_member (is_true inside.now) self.now }
+    {
+        let mut stack = ArrayVec::<bool, 65>::new();
+        for node in self.nodes() {
+            place(&mut stack, *node, inside);
+        }
+        stack.pop().unwrap()
+    }
+}
+
+/// Puts the truth of a node down, in place of its sides' where it has them.
+fn place(stack: &mut ArrayVec<bool, 65>, node: Node, inside: &[bool])
+    requires place { CanPlace (array_vec_len stack.old) node }
+    requires leaf { IsLeafBelow (length inside.now) node }
+    ensures { reverse stack.new.items ≡ truths (is_true inside.now) (reverse stack.old.items) node }
+{
+    match node {
+        Node::Leaf(solid) => stack.push(inside[usize::from(solid)]),
+        Node::Union(..) => combine(stack, Op::Union),
+        Node::Meet(..) => combine(stack, Op::Meet),
+        Node::Minus(..) => combine(stack, Op::Minus),
+    }
+}
+
+/// The last two become one.
+fn combine(stack: &mut ArrayVec<bool, 65>, op: Op)
+    requires two { 2 ≤ array_vec_len stack.old }
+    requires few { array_vec_len stack.old ≤ 65 }
+    ensures { reverse stack.new.items ≡ joined_truth op (reverse stack.old.items) }
+{
+    let right = stack.pop().unwrap();
+    let left = stack.pop().unwrap();
+    stack.push(op.truth(left, right));
+}

@@ -1,0 +1,14 @@
+//! Expressions over solids: the tree that is written, kept as nodes in postorder.
+#![tactic(auto)]
+
+mod builder;
+mod expr;
+mod fault;
+mod node;
+mod surface;
+
+pub use builder::ExprBuilder;
+pub use expr::Expr;
+pub use fault::ExprFault;
+pub use node::{Node, Op};
+pub use surface::{member_law, surface_law};
