@@ -1,1 +1,5 @@
+pub mod BitLaws
+pub mod Bits
+pub mod FormLaws
 pub mod Forms
+pub mod Lists

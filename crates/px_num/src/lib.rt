@@ -1,8 +1,10 @@
-//! Linear forms over a pixel's place, and the answer for want of memory.
+//! Linear forms over a pixel's place, the bits of whole numbers, and the answer for want of memory.
 #![tactic(auto)]
 
+mod bits;
 mod linear;
 mod memory;
 
+pub use bits::{bit_of, majority, power};
 pub use linear::Linear;
 pub use memory::Memory;

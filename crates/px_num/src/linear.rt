@@ -1,6 +1,6 @@
 //! Linear forms `a * x + b * y + c`.
-ghost use Rattle.std.specs.Prelude.{◌≡◌, ◌≤◌, ◌-◌, ◌*◌, ◌^◌, ◌*ℤ◌, pos};
-ghost use Rattle.px_num.specs.Forms.{IsWithin, IsInTreeRange, value_at};
+ghost use Rattle.std.specs.Prelude.{◌≡◌, ◌≤◌, ◌-◌, ◌*◌, ◌^◌, ◌*ℤ◌, ◌-ℤ◌, ◌<ℤ◌, neg_ℤ, pos, ℕ};
+ghost use Rattle.px_num.specs.Forms.{IsInHalfRange, IsInTreeRange, IsWithin, less_one, minus, value_at};
 
 /// A linear form `a * x + b * y + c` over the pixels of a screen.
 ///
@@ -25,6 +25,34 @@ impl Linear {
         ensures size { x ≤ 511 → y ≤ 511 → IsWithin (2 ^ 39 - 1) result }
     {
         scaled(self.a, x) + scaled(self.b, y) + self.c
+    }
+
+    /// The form whose value is this one's less the other's.
+    ///
+    /// Of both, `a` and `b` are at most `2^26` and `c` at most `2^37` in size.
+    pub fn minus(&self, other: &Linear) -> Linear
+        requires range { IsInHalfRange self.now }
+        requires other { IsInHalfRange other.now }
+        ensures form { result ≡ minus self.now other.now }
+        ensures value { (x y : ℕ) → value_at result x y ≡ value_at self.now x y -ℤ value_at other.now x y }
+    {
+        Linear {
+            a: self.a - other.a,
+            b: self.b - other.b,
+            c: self.c - other.c,
+        }
+    }
+
+    /// The form whose value is one less; `c` is above `-2^38`.
+    pub fn less_one(&self) -> Linear
+        requires { neg_ℤ (pos (2 ^ 38)) <ℤ self.now.c }
+        ensures form { result ≡ less_one self.now }
+        ensures value { (x y : ℕ) → value_at result x y ≡ value_at self.now x y -ℤ pos 1 }
+    {
+        Linear {
+            c: self.c - 1,
+            ..*self
+        }
     }
 }
 

@@ -1,0 +1,25 @@
+-- What a contract sees of single bits: those of whole numbers, and the sums of bits.
+use Rattle.std.specs.Prelude.{ℕ, ◌-◌, ◌/◌, ◌%◌, ◌^◌, ◌==◌, ℤ, pos, negsuc, Bool, true, false, not, ◌&&◌, ◌||◌}
+
+-- bit t of a number
+abbrev pub nat_bit : ℕ → ℕ → Bool
+nat_bit n t = n / 2 ^ t % 2 == 1
+
+-- bit t of the two's complement form of an integer; `negsuc n` is -(n + 1), whose bits are those of n, turned over
+abbrev pub bit_of : ℤ → ℕ → Bool
+bit_of (pos n) t = nat_bit n t
+bit_of (negsuc n) t = not (nat_bit n t)
+
+-- an integer modulo 2^width, a number of so many bits
+abbrev pub modulo : ℤ → ℕ → ℕ
+modulo (pos n) width = n % 2 ^ width
+modulo (negsuc n) width = 2 ^ width - 1 - n % 2 ^ width
+
+-- exactly one of two
+abbrev pub xor : Bool → Bool → Bool
+xor false b = b
+xor true b = not b
+
+-- at least two of three
+abbrev pub majority : Bool → Bool → Bool → Bool
+majority a b c = (a && b) || ((a && c) || (b && c))
