@@ -1,0 +1,2 @@
+pub mod FeedingLemmas
+pub mod PlaceLemmas
