@@ -1,10 +1,11 @@
 -- Laws of the values of linear forms.
-use Rattle.std.specs.Prelude.{◌≡◌, ℕ, zero, suc, ℤ, pos, negsuc, ◌+ℤ◌, ◌-ℤ◌, ◌*ℤ◌}
+use Rattle.std.specs.Prelude.{◌≡◌, ℕ, zero, suc, ◌-◌, ◌*◌, ◌^◌, ◌≤◌, ℤ, pos, negsuc, ◌+ℤ◌, ◌-ℤ◌, ◌*ℤ◌}
 use Rattle.std.proofs.Common.{arith}
 use Rattle.std.proofs.Math.IntN.{*ℤ-zero}
+use Rattle.std.proofs.Math.Nat.{mul-le-mul}
 use Rattle.std.proofs.lemmas.Int.{ints}
 use Rattle.px_num.specs.declared.linear.Linear.{Linear}
-use Rattle.px_num.specs.Forms.{less_one, minus, value_at}
+use Rattle.px_num.specs.Forms.{IsInTreeRange, IsWithin, less_one, minus, value_at}
 
 -- one place further
 pub *ℤ-suc : (z : ℤ) (x : ℕ) → z *ℤ pos (suc x) ≡ (z *ℤ pos x) +ℤ z
@@ -24,3 +25,23 @@ value_at-minus p q x y = omega (arith, ints, -ℤ-times p.a q.a x, -ℤ-times p.
 
 pub value_at-less_one : (p : Linear) (x y : ℕ) → value_at (less_one p) x y ≡ value_at p x y -ℤ pos 1
 value_at-less_one p x y = omega (arith, ints)
+
+times_within : (a : ℤ) (x m k : ℕ) → IsWithin m a → x ≤ k → IsWithin (m * k) (a *ℤ pos x)
+times_within (pos n) x m k within below =
+    let fits : n ≤ m = omega (arith, ints, within.1) in
+    let product : n * x ≤ m * k = mul-le-mul fits below in
+    (omega (arith, ints), omega (arith, ints, product))
+times_within (negsuc n) x m k within below =
+    let fits : suc n ≤ m = omega (arith, ints, within.0) in
+    let product : suc n * x ≤ m * k = mul-le-mul fits below in
+    (omega (arith, ints, product), omega (arith, ints))
+
+-- the values on a screen
+pub value_within : (form : Linear) (x y : ℕ) → IsInTreeRange form → x ≤ 511 → y ≤ 511 → IsWithin (2 ^ 39 - 1) (value_at form x y)
+value_within form x y range at_x at_y =
+    let a = times_within form.a x (2 ^ 27) 511 range.a at_x in
+    let b = times_within form.b y (2 ^ 27) 511 range.b at_y in
+    (
+      omega (arith, ints, a.0, b.0, range.c.0),
+      omega (arith, ints, a.1, b.1, range.c.1),
+    )

@@ -1,2 +1,7 @@
+pub mod AdderLemmas
+pub mod DelayLemmas
 pub mod FeedingLemmas
+pub mod LeafLemmas
+pub mod NodeLemmas
 pub mod PlaceLemmas
+pub mod SumLemmas

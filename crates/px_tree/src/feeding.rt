@@ -17,9 +17,7 @@ pub fn feed_nodes(nodes: &mut [Node], a: bool, b: bool, c: bool, first_b: usize)
     ensures { nodes.new ≡ tabulate (length nodes.old) (next_at a b c first_b nodes.old) }
 {
     // From the leaves upwards, so that each node is written before its parent.
-    let mut place = nodes.len();
-    while place > 2 {
-        place -= 1;
+    for place in (2..nodes.len()).rev() {
         let parent = if place < 4 {
             c
         } else {

@@ -6,8 +6,4 @@ abbrev pub invariant-loop-place : goal.invariant-loop-place
 invariant-loop-place l = record {
   untouched : (k : ℕ) → k < l.place → at_place l.nodes k ≡ at_place l.fn.nodes k;
   fed : (k : ℕ) → l.place ≤ k → k < length l.nodes → at_place l.nodes k ≡ next_at l.a l.b l.c l.first_b l.fn.nodes k;
-  within : l.place ≤ length l.nodes;
 }
-
-abbrev pub decreases-loop-place : goal.decreases-loop-place
-decreases-loop-place l = l.place

@@ -1,0 +1,140 @@
+//! What a tree computes while one linear form is fed into it.
+ghost use Rattle.std.specs.Prelude.{◌≡◌, ◌+◌, ◌<◌, ◌^◌};
+ghost use Rattle.px_tree.specs.Feeds.{fed_form};
+ghost use Rattle.px_tree.specs.Nodes.{IsGrid};
+ghost use Rattle.px_tree.specs.Sums.{HoldsSums};
+ghost use Rattle.px_tree.specs.TreeBit.{
+  IsFedByTable,
+  LeafGivesSign,
+  LeafGivesTreeBit,
+  LeafGivesValue,
+  LeafSumIsValue,
+  NodesHoldSums,
+  tree_bit,
+};
+
+use crate::lines::lines_at;
+use crate::tree::Tree;
+use px_num::Linear;
+
+/// Bit `t` of a form's value at pixel `(x, y)`, as a tree of `2^nx` by `2^ny` leaves gives it.
+///
+/// The tree is cleared and then fed the form's lines `t + nx + ny` times, as in docs/MACHINE.md,
+/// "The multiplier tree".
+pub fn value_bit<T: Tree>(
+    tree: &mut T,
+    nx: u32,
+    ny: u32,
+    form: &Linear,
+    x: u32,
+    y: u32,
+    t: u32,
+) -> bool
+    requires grid { IsGrid nx ny }
+    requires columns { (T.state tree.old).nx ≡ nx }
+    requires rows { (T.state tree.old).ny ≡ ny }
+    requires column { x < 2 ^ nx }
+    requires row { y < 2 ^ ny }
+    requires bit { t < 40 }
+    ensures bit { result ≡ tree_bit form.now x y t }
+    ensures columns_stay { (T.state tree.new).nx ≡ nx }
+    ensures rows_stay { (T.state tree.new).ny ≡ ny }
+    ensures state { T.state tree.new ≡ fed_form form.now nx ny (t + nx + ny) }
+{
+    feed_form(tree, nx, ny, form, t + nx + ny);
+    tree.leaf(x, y)
+}
+
+/// Clears a tree of `2^nx` by `2^ny` leaves and feeds it the lines of a form so many times.
+pub fn feed_form<T: Tree>(tree: &mut T, nx: u32, ny: u32, form: &Linear, feeds: u32)
+    requires grid { IsGrid nx ny }
+    requires columns { (T.state tree.old).nx ≡ nx }
+    requires rows { (T.state tree.old).ny ≡ ny }
+    ensures columns_stay { (T.state tree.new).nx ≡ nx }
+    ensures rows_stay { (T.state tree.new).ny ≡ ny }
+    ensures state { T.state tree.new ≡ fed_form form.now nx ny feeds }
+    ensures nodes { HoldsSums form.now nx ny feeds (T.state tree.new) }
+{
+    tree.clear();
+    for s in 0..feeds {
+        let lines = lines_at(form, nx, ny, s);
+        tree.feed(lines.a, lines.b, lines.c);
+    }
+}
+
+/// The laws of a tree that is cleared and fed one form, in whatever way its latches are kept.
+pub fn laws_of_feeds()
+    ensures table { IsFedByTable }
+    ensures nodes { NodesHoldSums }
+    ensures leaf_sum { LeafSumIsValue }
+    ensures leaf { LeafGivesValue }
+    ensures tree_bit { LeafGivesTreeBit }
+    ensures sign { LeafGivesSign }
+{}
+
+#[cfg(test)]
+mod tests {
+    use super::*;
+    use crate::node_tree::NodeTree;
+    use std::test::Fail;
+
+    #[test]
+    fn four_by_four(rt: HostRuntime) -> Result<(), Fail> {
+        let form = Linear { a: 3, b: -5, c: 7 };
+        for (t, want) in [(0, false), (1, true), (2, true), (3, false)] {
+            let mut tree = NodeTree::new(rt.alloc(), 2, 2)?;
+            assert_eq!(rt;
+                value_bit(&mut tree, 2, 2, &form, 3, 2, t),
+                want,
+                "bit {t} of 6"
+            );
+        }
+        let mut tree = NodeTree::new(rt.alloc(), 2, 2)?;
+        feed_form(&mut tree, 2, 2, &form, 5);
+        let path = [
+            (1, 1, (false, false)),
+            (2, 3, (false, true)),
+            (3, 7, (true, false)),
+            (4, 14, (true, false)),
+            (4, 15, (false, true)),
+        ];
+        for (level, index, want) in path {
+            assert_eq!(rt;
+                tree.node(level, index),
+                want,
+                "node {index} of level {level}"
+            );
+        }
+        Ok(())
+    }
+
+    #[test]
+    fn minus_five_on_the_smallest_tree(rt: HostRuntime) -> Result<(), Fail> {
+        let form = Linear { a: 1, b: 2, c: -8 };
+        for t in 0..40 {
+            let mut tree = NodeTree::new(rt.alloc(), 1, 1)?;
+            assert_eq!(rt;
+                value_bit(&mut tree, 1, 1, &form, 1, 1, t),
+                t != 2,
+                "bit {t} of -5"
+            );
+        }
+        Ok(())
+    }
+
+    #[test]
+    fn largest_tree(rt: HostRuntime) -> Result<(), Fail> {
+        // The value is 2^27 * (2048 + x - y), so its bit 35 is bit 8 of 2048 + x - y.
+        let form = Linear {
+            a: 134217728,
+            b: -134217728,
+            c: 274877906944,
+        };
+        let mut tree = NodeTree::new(rt.alloc(), 9, 9)?;
+        assert!(rt; value_bit(&mut tree, 9, 9, &form, 511, 0, 35));
+        assert!(rt; !value_bit(&mut tree, 9, 9, &form, 255, 0, 35));
+        assert!(rt; value_bit(&mut tree, 9, 9, &form, 0, 1, 35));
+        assert!(rt; !value_bit(&mut tree, 9, 9, &form, 511, 511, 35));
+        Ok(())
+    }
+}
