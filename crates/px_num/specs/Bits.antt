@@ -1,5 +1,5 @@
 -- What a contract sees of single bits: those of whole numbers, and the sums of bits.
-use Rattle.std.specs.Prelude.{ℕ, ◌-◌, ◌/◌, ◌%◌, ◌^◌, ◌==◌, ℤ, pos, negsuc, Bool, true, false, not, ◌&&◌, ◌||◌}
+use Rattle.std.specs.Prelude.{ℕ, zero, suc, ◌-◌, ◌/◌, ◌%◌, ◌^◌, ◌==◌, ℤ, pos, negsuc, Bool, true, false, not, ◌&&◌, ◌||◌}
 
 -- bit t of a number
 abbrev pub nat_bit : ℕ → ℕ → Bool
@@ -23,3 +23,8 @@ xor true b = not b
 -- at least two of three
 abbrev pub majority : Bool → Bool → Bool → Bool
 majority a b c = (a && b) || ((a && c) || (b && c))
+
+-- the carry into bit t of the sum of two integers, where `first` comes into bit 0
+abbrev pub carry_from : (first : Bool) → ℤ → ℤ → (t : ℕ) → Bool
+carry_from first u v zero = first
+carry_from first u v (suc t) = majority (bit_of u t) (bit_of v t) (carry_from first u v t)

@@ -5,7 +5,7 @@ use Rattle.std.proofs.Math.IntN.{*ℤ-zero}
 use Rattle.std.proofs.Math.Nat.{mul-le-mul}
 use Rattle.std.proofs.lemmas.Int.{ints}
 use Rattle.px_num.specs.declared.linear.Linear.{Linear}
-use Rattle.px_num.specs.Forms.{IsInTreeRange, IsWithin, less_one, minus, value_at}
+use Rattle.px_num.specs.Forms.{IsInHalfRange, IsInTreeRange, IsWithin, less_one, minus, value_at}
 
 -- one place further
 pub *ℤ-suc : (z : ℤ) (x : ℕ) → z *ℤ pos (suc x) ≡ (z *ℤ pos x) +ℤ z
@@ -22,6 +22,13 @@ pub -ℤ-times : (u v : ℤ) (x : ℕ) → (u -ℤ v) *ℤ pos x ≡ (u *ℤ pos
 
 pub value_at-minus : (p q : Linear) (x y : ℕ) → value_at (minus p q) x y ≡ value_at p x y -ℤ value_at q x y
 value_at-minus p q x y = omega (arith, ints, -ℤ-times p.a q.a x, -ℤ-times p.b q.b y)
+
+pub IsInTreeRange-minus : (p q : Linear) → IsInHalfRange p → IsInHalfRange q → IsInTreeRange (minus p q)
+IsInTreeRange-minus p q half_p half_q = record {
+  a = (omega (arith, ints, half_p.a.0, half_q.a.1), omega (arith, ints, half_p.a.1, half_q.a.0));
+  b = (omega (arith, ints, half_p.b.0, half_q.b.1), omega (arith, ints, half_p.b.1, half_q.b.0));
+  c = (omega (arith, ints, half_p.c.0, half_q.c.1), omega (arith, ints, half_p.c.1, half_q.c.0));
+}
 
 pub value_at-less_one : (p : Linear) (x y : ℕ) → value_at (less_one p) x y ≡ value_at p x y -ℤ pos 1
 value_at-less_one p x y = omega (arith, ints)
@@ -40,8 +47,7 @@ times_within (negsuc n) x m k within below =
 pub value_within : (form : Linear) (x y : ℕ) → IsInTreeRange form → x ≤ 511 → y ≤ 511 → IsWithin (2 ^ 39 - 1) (value_at form x y)
 value_within form x y range at_x at_y =
     let a = times_within form.a x (2 ^ 27) 511 range.a at_x in
-    let b = times_within form.b y (2 ^ 27) 511 range.b at_y in
-    (
+    let b = times_within form.b y (2 ^ 27) 511 range.b at_y in (
       omega (arith, ints, a.0, b.0, range.c.0),
       omega (arith, ints, a.1, b.1, range.c.1),
     )

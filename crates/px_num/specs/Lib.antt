@@ -1,3 +1,4 @@
+pub mod AdderLaws
 pub mod BitLaws
 pub mod Bits
 pub mod FormLaws

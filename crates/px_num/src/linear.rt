@@ -34,6 +34,7 @@ impl Linear {
         requires range { IsInHalfRange self.now }
         requires other { IsInHalfRange other.now }
         ensures form { result ≡ minus self.now other.now }
+        ensures range { IsInTreeRange result }
         ensures value { (x y : ℕ) → value_at result x y ≡ value_at self.now x y -ℤ value_at other.now x y }
     {
         Linear {
@@ -47,6 +48,7 @@ impl Linear {
     pub fn less_one(&self) -> Linear
         requires { neg_ℤ (pos (2 ^ 38)) <ℤ self.now.c }
         ensures form { result ≡ less_one self.now }
+        ensures range { IsInTreeRange self.now → IsInTreeRange result }
         ensures value { (x y : ℕ) → value_at result x y ≡ value_at self.now x y -ℤ pos 1 }
     {
         Linear {

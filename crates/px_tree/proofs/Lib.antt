@@ -1,4 +1,3 @@
-pub mod AdderLemmas
 pub mod DelayLemmas
 pub mod FeedingLemmas
 pub mod LeafLemmas

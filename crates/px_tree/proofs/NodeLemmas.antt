@@ -6,14 +6,15 @@ use Rattle.std.proofs.lemmas.Int.{ints}
 use Rattle.std.proofs.lemmas.List.{get_or-replicate}
 use Rattle.std.proofs.Math.Nat.{pow-le-pow_right}
 use Rattle.px_num.specs.BitLaws.{pow_above}
+use Rattle.px_num.specs.Bits.{carry_from}
 use Rattle.px_num.specs.Lists.{get_or-tabulate}
 use Rattle.px_num.specs.declared.linear.Linear.{Linear}
 use Rattle.px_tree.specs.declared.node.Node.{Node}
 use Rattle.px_tree.specs.Feeds.{delayed_bit, fed_form, lines_at}
 use Rattle.px_tree.specs.Nodes.{next_at, next_node, node_at, zero_node}
-use Rattle.px_tree.specs.Sums.{HoldsSums, carry_into, partial_sum, weight}
+use Rattle.px_tree.specs.Sums.{HoldsSums, partial_sum, weight}
 use Rattle.px_tree.specs.TreeBit.{IsFedByTable, NodesHoldSums}
-use Rattle.px_tree.proofs.AdderLemmas.{sum_bit}
+use Rattle.px_num.specs.AdderLaws.{sum_bit}
 use Rattle.px_tree.proofs.DelayLemmas.{delayed_after, delayed_before, delayed_more, lt_false, lt_true}
 use Rattle.px_tree.proofs.PlaceLemmas.{place_below}
 use Rattle.px_tree.proofs.SumLemmas.{double}
@@ -60,11 +61,11 @@ module _ (u w : ℤ) (k s : ℕ) where
   abbrev held : Bool → ℕ → Node
   held odd feeds = record {
     output = delayed_bit (suc k) (u +ℤ cond odd w (pos 0)) feeds;
-    carry = odd && carry_into u w (feeds - k);
+    carry = odd && carry_from false u w (feeds - k);
   }
 
   abbrev fed : Bool → Node
-  fed odd = next_node odd (delayed_bit k u s) (delayed_bit k w s) (odd && carry_into u w (s - k))
+  fed odd = next_node odd (delayed_bit k u s) (delayed_bit k w s) (odd && carry_from false u w (s - k))
 
   -- nothing has come yet
   waits : (odd : Bool) → s < k → fed odd ≡ held odd (suc s)

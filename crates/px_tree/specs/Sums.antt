@@ -1,6 +1,6 @@
 -- The sums that come together in the tree while one linear form is fed.
-use Rattle.std.specs.Prelude.{◌≡◌, ℕ, zero, suc, ◌+◌, ◌-◌, ◌/◌, ◌%◌, ◌^◌, ◌<◌, ◌≤◌, ◌==◌, ℤ, pos, ◌+ℤ◌, ◌*ℤ◌, Bool, false, ◌&&◌, if◌then◌else◌, nat_lt}
-use Rattle.px_num.specs.Bits.{bit_of, majority}
+use Rattle.std.specs.Prelude.{◌≡◌, ℕ, zero, suc, ◌+◌, ◌-◌, ◌/◌, ◌%◌, ◌^◌, ◌<◌, ◌≤◌, ◌==◌, ℤ, pos, ◌+ℤ◌, ◌*ℤ◌, false, ◌&&◌, if◌then◌else◌, nat_lt}
+use Rattle.px_num.specs.Bits.{carry_from}
 use Rattle.px_num.specs.declared.linear.Linear.{Linear}
 use Rattle.px_tree.specs.declared.node.Node.{Node}
 use Rattle.px_tree.specs.Feeds.{delayed_bit}
@@ -17,17 +17,12 @@ partial_sum form nx ny zero index = form.c
 partial_sum form nx ny (suc k) index =
     partial_sum form nx ny k (index / 2) +ℤ (if index % 2 == 1 then weight form nx ny (suc k) else pos 0)
 
--- the carry into bit t of the sum of two integers
-abbrev pub carry_into : ℤ → ℤ → (t : ℕ) → Bool
-carry_into u v zero = false
-carry_into u v (suc t) = majority (bit_of u t) (bit_of v t) (carry_into u v t)
-
 -- node `index` of level k + 1 after s feeds: its output is bit s - (k + 1) of its sum, and 0 before that bit has
 -- come; its carry, in an odd node, is what that sum has carried so far
 abbrev pub held_node : Linear → (nx ny s k index : ℕ) → Node
 held_node form nx ny s k index = record {
   output = delayed_bit (suc k) (partial_sum form nx ny (suc k) index) s;
-  carry = (index % 2 == 1) && carry_into (partial_sum form nx ny k (index / 2)) (weight form nx ny (suc k)) (s - k);
+  carry = (index % 2 == 1) && carry_from false (partial_sum form nx ny k (index / 2)) (weight form nx ny (suc k)) (s - k);
 }
 
 -- every node of a tree holds what s feeds of a form leave there
