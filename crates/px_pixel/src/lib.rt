@@ -1,0 +1,12 @@
+//! One pixel of the machine: its memory bits, its three registers, and the fourteen acts.
+#![tactic(auto)]
+
+mod act;
+mod memory;
+mod pixel;
+#[cfg(test)]
+mod tests;
+
+pub use act::Act;
+pub use memory::PixelMemory;
+pub use pixel::Pixel;
