@@ -1,0 +1,15 @@
+//! The array that is clocked: a pixel for each place of a grid, and the multiplier tree over them.
+#![tactic(auto)]
+
+mod array;
+mod clocking;
+mod grid;
+mod micro;
+mod pixel_array;
+#[cfg(test)]
+mod tests;
+
+pub use array::Array;
+pub use clocking::clock_all;
+pub use micro::{Micro, Registers, TreeOp};
+pub use pixel_array::PixelArray;
