@@ -26,11 +26,21 @@ impl<const N: usize> Model for Pixel<N> {
 
     ghost Value = { PixelState };
 
-    ghost view = { λ p. record { memory = p.memory; enable = p.enable; carry = p.carry; latch = p.latch } };
+    ghost view = { λ p. record {
+      memory = p.memory;
+      enable = p.enable;
+      carry = p.carry;
+      latch = p.latch;
+    } };
 
     ghost invariant = { λ p. N ≤ 256 };
 
-    ghost inverse = { λ p. record { memory = p.memory; enable = p.enable; carry = p.carry; latch = p.latch } };
+    ghost inverse = { λ p. record {
+      memory = p.memory;
+      enable = p.enable;
+      carry = p.carry;
+      latch = p.latch;
+    } };
 }
 
 impl<const N: usize> Pixel<N> {
