@@ -40,7 +40,8 @@ impl<R: Read> Source for StdSource<R> {
     fn read(&mut self, buf: &mut [u8]) -> Result<usize, Failed>
         requires { 0 < length buf.old }
         ensures bound { ReadsAtMost result buf.new }
-        ensures bytes { ReadConsumes (R.remaining self.old.end) (R.remaining self.new.end) result buf.new }
+        ensures bytes { ReadConsumes (R.remaining self.old.end) (R.remaining self.new.end)
+            result buf.new }
         ensures cause { HasCause self.old.faults self.new.faults result }
         ensures counts { OnErr result (self.new.faults ≡ one_more self.old.faults) }
     {
@@ -83,7 +84,8 @@ impl<W: Write> Sink for StdSink<W> {
 
     fn write(&mut self, buf: &[u8]) -> Result<usize, Failed>
         ensures bound { WritesAtMost result buf.now }
-        ensures bytes { WriteAppends (W.contents self.old.end) (W.contents self.new.end) result buf.now }
+        ensures bytes { WriteAppends (W.contents self.old.end) (W.contents self.new.end)
+            result buf.now }
         ensures cause { HasWriteCause self.old.faults self.new.faults result buf.now }
         ensures counts { OnErr result (self.new.faults ≡ one_more self.old.faults) }
         ensures stuck { IfOk result (λ n. n ≡ 0 → 0 < length buf.now →

@@ -10,8 +10,8 @@ use std::marker::Model;
 
 /// A sink with room for so many bytes, which takes at most `piece` of them at a time.
 ///
-/// The write and finish calls are counted together from 1. Those whose number is in a list fail, and
-/// so does a write of a piece that is not empty where no room is left.
+/// The write and finish calls are counted together from 1. Those whose number is in a list fail,
+/// and so does a write of a piece that is not empty where no room is left.
 #[derive(Drop)]
 pub struct MemSink {
     bytes: Vec<u8>,

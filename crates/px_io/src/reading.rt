@@ -40,7 +40,7 @@ impl From<AllocError> for ReadError {
 
 /// Reads a source to its end, but no more than `limit` bytes, in reads of at most 4096.
 ///
-/// Each read but the last takes a byte. After an error the source has lost a front of at most `limit`.
+/// Each read but the last takes a byte. After an error a front of at most `limit` bytes is gone.
 pub fn read_whole<S: Source>(
     alloc: Global,
     input: &mut S,
@@ -51,7 +51,8 @@ pub fn read_whole<S: Source>(
     ensures end { IfOk result (λ v. vec_len v < limit → IsAtEnd (S.rest input.new)) }
     ensures front { IfOk result (λ v. IsFrontOf (S.rest input.old) limit v.items) }
     ensures err { OnErr result (ConsumesAtMost (S.rest input.old) (S.rest input.new) limit) }
-    ensures failed { IsErrOf result ReadError.Failed → Rose (S.faults input.old) (S.faults input.new) }
+    ensures failed { IsErrOf result ReadError.Failed →
+        Rose (S.faults input.old) (S.faults input.new) }
     ensures calm { OnOk result (S.faults input.new ≡ S.faults input.old) }
     ensures memory { IsErrOf result ReadError.Memory → S.faults input.new ≡ S.faults input.old }
 {
@@ -77,11 +78,13 @@ fn read_piece<S: Source>(
     ensures taken { (start : Option (List ℕ)) → Consumes start (S.rest input.old) bytes.old.items →
         OnOk result (Consumes start (S.rest input.new) bytes.new.items) }
     ensures err { (start : Option (List ℕ)) → Consumes start (S.rest input.old) bytes.old.items →
-        OnErr result (ConsumesAtMost start (S.rest input.new) (vec_len bytes.old + length piece.old)) }
+        let limit = vec_len bytes.old + length piece.old in
+        OnErr result (ConsumesAtMost start (S.rest input.new) limit) }
     ensures count { IfOk result (λ n.
         (n ≤ length piece.old) × (vec_len bytes.new ≡ vec_len bytes.old + n)) }
     ensures end { IfOk result (λ n. n ≡ 0 → IsAtEnd (S.rest input.new)) }
-    ensures failed { IsErrOf result ReadError.Failed → Rose (S.faults input.old) (S.faults input.new) }
+    ensures failed { IsErrOf result ReadError.Failed →
+        Rose (S.faults input.old) (S.faults input.new) }
     ensures calm { OnOk result (S.faults input.new ≡ S.faults input.old) }
     ensures memory { IsErrOf result ReadError.Memory → S.faults input.new ≡ S.faults input.old }
 {

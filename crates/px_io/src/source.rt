@@ -16,7 +16,7 @@ pub trait Source {
 
     /// Reads the next bytes into the front of `buf`, which is not empty, and says how many.
     ///
-    /// `Ok(0)` is the end of input. After `Failed` the buffer may hold any bytes, and none was taken.
+    /// `Ok(0)` is the end of input. After `Failed` none was taken, and the buffer may hold any bytes.
     fn read(&mut self, buf: &mut [u8]) -> Result<usize, Failed>
         requires { 0 < length buf.old }
         ensures bound { ReadsAtMost result buf.new }
