@@ -1,4 +1,4 @@
--- What is told of bytes and of an end, and the laws of several calls in a row.
+-- What is told of bytes and of an end.
 use Rattle.std.specs.Prelude.{◌≡◌, ℕ, ◌<◌, ◌≤◌, List, length, take, Bool, false, ⊤, Result, MatchResult}
 use Rattle.std.specs.Io.KnownBytes.{Appends, Consumes}
 use Rattle.std.specs.declared.option.Option.{Option}
