@@ -1,4 +1,4 @@
--- What a builder keeps of the trees that wait: their nodes one after another, and the root and nesting of each.
+-- What a builder keeps of trees that wait: all their nodes, and the root and nesting of each.
 use Rattle.std.specs.Prelude.{ℕ, ◌≡◌, ◌≤◌, ◌+◌, ◌-◌, List, [], ◌∷◌, ◌++◌, reverse}
 use Rattle.px_expr.specs.Tree.{Tree, nesting, HasLeavesBelow}
 use Rattle.px_expr.specs.Waiting.{all_leaves}

@@ -17,7 +17,8 @@ op_node o.Union left right = n.Union left right
 op_node o.Meet left right = n.Meet left right
 op_node o.Minus left right = n.Minus left right
 
--- behind so many other nodes: those of the left side, those of the right, and the root, which names the last of each
+-- behind so many others: the nodes of the left side, those of the right, and the root,
+-- which names the last of each
 abbrev pub nodes_behind : ℕ → Tree → List Node
 nodes_behind others (leaf solid) = n.Leaf solid ∷ []
 nodes_behind others (join op left right) =
@@ -37,7 +38,7 @@ placed trees (n.Minus left right) = joined o.Minus trees
 abbrev pub trees_after : List Node → List Tree
 trees_after nodes = fold placed [] nodes
 
--- where so many trees wait, a node finds its two sides, or room for one more; never more than 65 wait
+-- where so many trees wait, a node finds its two sides, or room for one more; at most 65 wait
 abbrev pub CanPlace : ℕ → Node → Type 0
 CanPlace waiting (n.Leaf solid) = waiting < 65
 CanPlace waiting (n.Union left right) = (2 ≤ waiting) × (waiting ≤ 65)
@@ -57,6 +58,6 @@ sides (n.Union left right) = left ∷ right ∷ []
 sides (n.Meet left right) = left ∷ right ∷ []
 sides (n.Minus left right) = left ∷ right ∷ []
 
--- how many nodes name a place as a side
+-- how often a place is named as a side
 abbrev pub parent_count : ℕ → List Node → ℕ
 parent_count place nodes = sum_by (λ node. count_by (λ side. side == place) (sides node)) nodes

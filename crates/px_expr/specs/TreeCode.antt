@@ -1,4 +1,4 @@
--- How a tree is stored as a list of numbers, each operator after its sides, for the type's model alone.
+-- How a tree is stored as a list of numbers, each operator after its sides: for models alone.
 use Rattle.std.specs.Prelude.{ℕ, ◌≡◌, List, [], ◌∷◌, ◌++◌, fold, refl}
 use Rattle.std.specs.Coded.{Coded, code_by, coded_list, coded_ℕ}
 use Rattle.std.proofs.Common.{ap, ◌∙◌}
@@ -27,7 +27,8 @@ read trees (suc (suc (suc solid))) = leaf solid ∷ trees
 abbrev pub tree_of : List ℕ → Tree
 tree_of numbers = newest (fold read [] numbers)
 
-read_op : (op : Op) (left right : Tree) (trees : List Tree) → read (right ∷ left ∷ trees) (number_of op) ≡ join op left right ∷ trees
+read_op : (op : Op) (left right : Tree) (trees : List Tree)
+    → read (right ∷ left ∷ trees) (number_of op) ≡ join op left right ∷ trees
 read_op o.Union left right trees = refl
 read_op o.Meet left right trees = refl
 read_op o.Minus left right trees = refl
@@ -36,7 +37,8 @@ read_back : (tree : Tree) (trees : List Tree) → fold read trees (numbers_of tr
 read_back (leaf solid) trees = refl
 read_back (join op left right) trees =
     fold-append read trees (numbers_of left ++ numbers_of right) (number_of op ∷ [])
-    ∙ rw (fold-append read trees (numbers_of left) (numbers_of right), read_back left trees, read_back right (left ∷ trees)) (read_op op left right trees)
+    ∙ rw (fold-append read trees (numbers_of left) (numbers_of right))
+    (rw (read_back left trees, read_back right (left ∷ trees)) (read_op op left right trees))
 
 pub tree_of-numbers_of : (tree : Tree) → tree_of (numbers_of tree) ≡ tree
 tree_of-numbers_of tree = ap newest (read_back tree [])

@@ -68,7 +68,8 @@ impl ExprBuilder {
         ensures ok { OnOk result (self.new ≡ leaf solid ∷ self.old) }
         ensures err { OnErr result (self.new ≡ self.old) }
         ensures full { 512 ≤ all_leaves self.old → result ≡ Err (ExprFault.Leaves 513) }
-        ensures memory { all_leaves self.old < 512 → IfErr result (λ fault. fault ≡ ExprFault.Memory) }
+        ensures memory { all_leaves self.old < 512 →
+            IfErr result (λ fault. fault ≡ ExprFault.Memory) }
     {
         if self.leaves() == MAX_LEAVES {
             return Err(ExprFault::Leaves { found: 513 });
@@ -84,7 +85,8 @@ impl ExprBuilder {
         requires { 2 ≤ length self.old }
         ensures ok { OnOk result (self.new ≡ joined op self.old) }
         ensures err { OnErr result (self.new ≡ self.old) }
-        ensures deep { 64 < nesting (newest (joined op self.old)) → result ≡ Err (ExprFault.Nesting 65) }
+        ensures deep { 64 < nesting (newest (joined op self.old)) →
+            result ≡ Err (ExprFault.Nesting 65) }
         ensures memory { nesting (newest (joined op self.old)) ≤ 64 →
             IfErr result (λ fault. fault ≡ ExprFault.Memory) }
     {
@@ -170,8 +172,8 @@ mod tests {
     use super::ExprBuilder;
     use crate::{ExprFault, Node, Op};
 
-    /// `a - (b - c)` with `a` from 1 to 9, `b` from 0 to 7 and `c` from 4 to 5 has the cells of `c`,
-    /// and those behind `b`.
+    /// `a - (b - c)` with `a` from 1 to 9, `b` from 0 to 7 and `c` from 4 to 5 has the cells of
+    /// `c`, and those behind `b`.
     #[test]
     fn difference_of_a_difference(rt: HostRuntime) {
         let mut builder = ExprBuilder::new(rt.alloc());

@@ -32,7 +32,8 @@ impl Model for Expr {
 
     ghost view = { λ expr. newest (trees_after expr.nodes.items) };
 
-    ghost invariant = { λ expr. (expr.nodes.items ≡ nodes_of (newest (trees_after expr.nodes.items)))
+    ghost invariant = { λ expr.
+        (expr.nodes.items ≡ nodes_of (newest (trees_after expr.nodes.items)))
         × IsLawful (newest (trees_after expr.nodes.items)) };
 }
 
@@ -47,7 +48,8 @@ impl Expr {
         ensures once { (i : ℕ) → i + 1 < length result.now → parent_count i result.now ≡ 1 }
         ensures places { (i : ℕ) (any : AnyNode) → i < length result.now →
             CanPlace (length (trees_after (take i result.now))) (slice_index_or result.now i any) }
-        ensures leaves { (count : ℕ) → HasLeavesBelow count self.now → All (IsLeafBelow count) result.now }
+        ensures leaves { (count : ℕ) → HasLeavesBelow count self.now →
+            All (IsLeafBelow count) result.now }
         ensures lawful { IsLawful self.now }
     {
         self.nodes.as_slice()
