@@ -1,0 +1,64 @@
+-- Counts are the lengths of normal forms.
+use Rattle.std.proofs.Common.{ℕ, suc, zero, ◌≡◌, ◌≤◌, ◌+◌, ◌*◌, ◌^◌, min, List, [], ◌∷◌, ◌++◌, length, refl, ap, sym, ◌∙◌, arith, inl, inr, map, length-append, lit≤}
+use Rattle.std.proofs.Math.Nat.{mul-le-mul, mul_comm}
+use Rattle.std.proofs.lemmas.Bool.{cases_lt}
+use Rattle.std.proofs.lemmas.List.{length-map}
+use Rattle.px_expr.specs.Tree.{Tree, join}
+use Rattle.px_expr.specs.Postorder.{placed}
+use Rattle.px_expr.specs.declared.node.Node.{Node}
+use Rattle.px_expr.specs.declared.node.Node.TheVariants as n
+use Rattle.px_expr.specs.declared.node.Op.{Op}
+use Rattle.px_expr.specs.declared.node.Op.TheVariants as o
+use Rattle.px_expr.specs.Waiting.{joined}
+use Rattle.px_normal.specs.declared.product.Product.{Product}
+use Rattle.px_normal.specs.Forms.{forms, both, crossed}
+use Rattle.px_normal.specs.Counting.{capped, counts_of, combined_counts, joined_counts, counted}
+
+length-crossed : (ps qs : List Product) → length (crossed ps qs) ≡ length ps * length qs
+length-crossed [] qs = grind arith
+length-crossed (p ∷ ps) qs = grind (arith, length-append (map (both p) qs) (crossed ps qs), length-map qs (both p), length-crossed ps qs)
+
+at_least : (k x y : ℕ) → k ≤ x → 1 ≤ y → k ≤ x * y
+at_least k x y p q = omega (arith, mul-le-mul {n₁ = k} {m₁ = 1} {n₂ = x} {m₂ = y} p q)
+
+past_both : (k a b : ℕ) → 1 ≤ k → k ≤ a * b → k ≤ min a k * min b k → min (min a k * min b k) k ≡ min (a * b) k
+past_both k a b one x y = omega arith
+
+-- a product of numbers up to a limit, up to that limit
+min_product : (k a b : ℕ) → 1 ≤ k → min (min a k * min b k) k ≡ min (a * b) k
+min_product k zero b one = grind arith
+min_product k (suc a) zero one = grind arith
+min_product k (suc a) (suc b) one = elim (cases_lt (suc a) k) [
+  | inl p ↦ elim (cases_lt (suc b) k) [
+    | inl q ↦ let e : min (suc a) k ≡ suc a = omega arith in let f : min (suc b) k ≡ suc b = omega arith in rw (e, f) refl
+    | inr q ↦ past_both k (suc a) (suc b) one (omega (arith, at_least k (suc b) (suc a) q (omega arith), mul_comm (suc a) (suc b)))
+        (let e : min (suc b) k ≡ k = omega arith in rw e (omega (arith, at_least k k (min (suc a) k) (omega arith) (omega arith), mul_comm k (min (suc a) k))))
+  ]
+  | inr p ↦ past_both k (suc a) (suc b) one (at_least k (suc a) (suc b) p (omega arith))
+      (at_least k (min (suc a) k) (min (suc b) k) (omega arith) (omega arith))
+]
+
+capped_sum : (a b : ℕ) → capped (capped a + capped b) ≡ capped (a + b)
+capped_sum a b = omega arith
+
+capped_append : (ps qs : List Product) → capped (length (ps ++ qs)) ≡ capped (capped (length ps) + capped (length qs))
+capped_append ps qs = ap capped (length-append ps qs) ∙ sym (capped_sum (length ps) (length qs))
+
+capped_crossed : (ps qs : List Product) → capped (length (crossed ps qs)) ≡ capped (capped (length ps) * capped (length qs))
+capped_crossed ps qs = ap capped (length-crossed ps qs) ∙ sym (min_product (2 ^ 32) (length ps) (length qs) (lit≤ tt))
+
+counts_join : (op : Op) (left right : Tree) → counts_of (join op left right) ≡ combined_counts op (counts_of left) (counts_of right)
+counts_join o.Union left right = rw (capped_append (forms left).products (forms right).products, capped_crossed (forms left).complement (forms right).complement) refl
+counts_join o.Meet left right = rw (capped_crossed (forms left).products (forms right).products, capped_append (forms left).complement (forms right).complement) refl
+counts_join o.Minus left right = rw (capped_crossed (forms left).products (forms right).complement, capped_append (forms left).complement (forms right).products) refl
+
+counts_joined : (op : Op) (trees : List Tree) → map counts_of (joined op trees) ≡ joined_counts op (map counts_of trees)
+counts_joined op [] = refl
+counts_joined op (a ∷ []) = refl
+counts_joined op (b ∷ a ∷ others) = ap (λ counts. counts ∷ map counts_of others) (counts_join op a b)
+
+pub counts_placed : (trees : List Tree) (node : Node) → map counts_of (placed trees node) ≡ counted (map counts_of trees) node
+counts_placed trees (n.Leaf solid) = refl
+counts_placed trees (n.Union left right) = counts_joined o.Union trees
+counts_placed trees (n.Meet left right) = counts_joined o.Meet trees
+counts_placed trees (n.Minus left right) = counts_joined o.Minus trees

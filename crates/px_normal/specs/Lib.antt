@@ -1,0 +1,5 @@
+pub mod Sets
+pub mod Forms
+pub mod NormalLaw
+pub mod Counting
+pub mod Building

@@ -1,0 +1,86 @@
+//! The number of products, without memory.
+ghost use Rattle.std.specs.Prelude.{◌≡◌, ◌≤◌, ◌+◌, ◌*◌, length, reverse};
+ghost use Rattle.arrayvec.specs.ArrayVec.{array_vec_len};
+ghost use Rattle.px_expr.specs.Postorder.{CanPlace};
+ghost use Rattle.px_normal.specs.Counting.{capped, counted, combined_counts, joined_counts};
+ghost use Rattle.px_normal.specs.Forms.{sum_of_products};
+
+use arrayvec::ArrayVec;
+use px_expr::{Expr, Node, Op};
+
+/// How many products an expression and its complement have, each at most `2^32`.
+#[derive(Clone, Copy, Debug, Default, PartialEq, Eq)]
+struct Counts {
+    products: u64,
+    complement: u64,
+}
+
+/// The number of products of an expression, or `2^32` where it is greater.
+pub fn count_products(expr: &Expr) -> u64
+    ensures { result ≡ capped (length (sum_of_products expr.now)) }
+{
+    let mut stack = ArrayVec::<Counts, 65>::new();
+    for node in expr.nodes() {
+        count(&mut stack, *node);
+    }
+    stack.pop().unwrap().products
+}
+
+/// Puts the counts of a node down, in place of its sides' where it has them.
+fn count(stack: &mut ArrayVec<Counts, 65>, node: Node)
+    requires { CanPlace (array_vec_len stack.old) node }
+    ensures { reverse stack.new.items ≡ counted (reverse stack.old.items) node }
+{
+    match node {
+        Node::Leaf(_) => stack.push(Counts {
+            products: 1,
+            complement: 1,
+        }),
+        Node::Union(..) => combine(stack, Op::Union),
+        Node::Meet(..) => combine(stack, Op::Meet),
+        Node::Minus(..) => combine(stack, Op::Minus),
+    }
+}
+
+/// The last two become one.
+fn combine(stack: &mut ArrayVec<Counts, 65>, op: Op)
+    requires two { 2 ≤ array_vec_len stack.old }
+    requires few { array_vec_len stack.old ≤ 65 }
+    ensures { reverse stack.new.items ≡ joined_counts op (reverse stack.old.items) }
+{
+    let right = stack.pop().unwrap();
+    let left = stack.pop().unwrap();
+    stack.push(combined(op, &left, &right));
+}
+
+/// The counts of two expressions that are joined.
+fn combined(op: Op, left: &Counts, right: &Counts) -> Counts
+    ensures { result ≡ combined_counts op left.now right.now }
+{
+    match op {
+        Op::Union => Counts {
+            products: capped_sum(left.products, right.products),
+            complement: capped_product(left.complement, right.complement),
+        },
+        Op::Meet => Counts {
+            products: capped_product(left.products, right.products),
+            complement: capped_sum(left.complement, right.complement),
+        },
+        Op::Minus => Counts {
+            products: capped_product(left.products, right.complement),
+            complement: capped_sum(left.complement, right.products),
+        },
+    }
+}
+
+fn capped_sum(a: u64, b: u64) -> u64
+    ensures { result ≡ capped (a + b) }
+{
+    a.saturating_add(b).min(1 << 32)
+}
+
+fn capped_product(a: u64, b: u64) -> u64
+    ensures { result ≡ capped (a * b) }
+{
+    a.saturating_mul(b).min(1 << 32)
+}

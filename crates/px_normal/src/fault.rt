@@ -1,0 +1,25 @@
+//! Why an expression has no normal form here.
+use std::alloc::AllocError;
+use thiserror::Error;
+
+/// Why an expression is not made into products (docs/SCENES.md, "Limits").
+#[derive(Clone, Copy, Debug, PartialEq, Eq, Error)]
+pub enum NormalFault {
+    /// A sum has at most 1024 products. Counts end at `2^32`.
+    #[error("{count} products, of at most 1024")]
+    TooMany { count: u64 },
+    #[error("out of memory")]
+    Memory,
+}
+
+impl From<AllocError> for NormalFault {
+    ghost use Rattle.std.specs.Prelude.{◌≡◌};
+    ghost use Rattle.px_normal.specs.declared.fault.NormalFault.{NormalFault};
+    ghost use Rattle.px_normal.specs.declared.fault.NormalFault.TheVariants.{Memory};
+
+    ghost from_gives = { λ _ fault. fault ≡ Memory };
+
+    fn from(_: AllocError) -> Self {
+        NormalFault::Memory
+    }
+}

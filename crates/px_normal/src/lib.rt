@@ -1,0 +1,16 @@
+//! An expression as a sum of products: cells inside some solids and outside others.
+#![tactic(auto)]
+
+mod count;
+mod fault;
+mod lists;
+mod normal;
+mod product;
+mod set;
+mod step;
+
+pub use count::count_products;
+pub use fault::NormalFault;
+pub use normal::normalise;
+pub use product::{Product, Products};
+pub use set::SolidSet;

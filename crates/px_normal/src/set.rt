@@ -1,0 +1,69 @@
+//! Sets of solids.
+ghost use Rattle.std.specs.Prelude.{◌≡◌, ◌<◌, ◌||◌, ◌==◌, ℕ, false};
+ghost use Rattle.px_normal.specs.Sets.{has, empty, one, joined, solids};
+
+use arrayvec::ArrayVec;
+
+/// A set of solids: solid `q` is in it where bit `q mod 64` of word `q div 64` is 1.
+#[derive(Clone, Copy, Debug, Default, PartialEq, Eq)]
+pub struct SolidSet {
+    words: [u64; 4],
+}
+
+impl SolidSet {
+    /// Whether a solid is in the set.
+    pub fn has(&self, solid: u8) -> bool
+        ensures { result ≡ has self.now solid }
+    {
+        (self.words[usize::from(solid / 64)] >> (solid % 64)) & 1 == 1
+    }
+
+    /// The set and one solid more.
+    pub fn with(&self, solid: u8) -> SolidSet
+        ensures set { result ≡ joined self.now (one solid) }
+        ensures solids { (q : ℕ) → q < 256 → has result q ≡ (has self.now q || q == solid) }
+    {
+        self.joined(&SolidSet::one(solid))
+    }
+
+    /// The solids of either set.
+    pub fn joined(&self, other: &SolidSet) -> SolidSet
+        ensures set { result ≡ joined self.now other.now }
+        ensures solids { (q : ℕ) → q < 256 → has result q ≡ (has self.now q || has other.now q) }
+    {
+        let [a, b, c, d] = self.words;
+        let [e, f, g, h] = other.words;
+        SolidSet {
+            words: [a | e, b | f, c | g, d | h],
+        }
+    }
+
+    /// The solids of the set, in ascending order.
+    pub fn solids(&self) -> ArrayVec<u8, 256>
+        ensures { result.items ≡ solids self.now }
+    {
+        let mut list = ArrayVec::new();
+        for solid in 0..=u8::MAX {
+            if self.has(solid) {
+                list.push(solid);
+            }
+        }
+        list
+    }
+
+    /// No solid.
+    pub(crate) fn empty() -> SolidSet
+        ensures { result ≡ empty }
+    {
+        SolidSet::default()
+    }
+
+    /// One solid.
+    pub(crate) fn one(solid: u8) -> SolidSet
+        ensures { result ≡ one solid }
+    {
+        let mut words = [0; 4];
+        words[usize::from(solid / 64)] = 1 << (solid % 64);
+        SolidSet { words }
+    }
+}
