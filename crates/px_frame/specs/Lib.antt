@@ -1,2 +1,5 @@
 pub mod Image
 pub mod ImageLaws
+pub mod Spans
+pub mod Marks
+pub mod Picture

@@ -2,7 +2,11 @@
 #![tactic(auto)]
 
 mod image;
+mod mark;
+mod picture;
+mod span;
 #[cfg(test)]
 mod tests;
 
 pub use image::write_numbers;
+pub use picture::{Picture, draw};

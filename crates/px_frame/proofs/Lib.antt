@@ -1,0 +1,4 @@
+pub mod SpanLemmas
+pub mod MarkLemmas
+pub mod NumberLemmas
+pub mod PictureLemmas
