@@ -1,0 +1,2 @@
+pub mod MacroLemmas
+pub mod NumberLemmas

@@ -1,0 +1,116 @@
+-- Numbers by their bits, and fields that take them.
+use Rattle.std.proofs.Common.{◌≡◌, ℕ, zero, suc, ◌+◌, ◌-◌, ◌*◌, ◌/◌, ◌%◌, ◌^◌, ◌<◌, ◌≤◌, ◌==◌, Bool, true, false, if◌then◌else◌, length, ◌⊎◌, inl, inr, refl, ap, sym, ◌∙◌, arith}
+use Rattle.std.proofs.lemmas.Bool.{cases_lt}
+use Rattle.std.proofs.lemmas.Bool.Decides.{nat_tests}
+use Rattle.std.proofs.lemmas.Nat.{pow-add}
+use Rattle.std.proofs.lemmas.Nat.Bits.{bit_at_cat_high, bit_at_cat_low}
+use Rattle.std.proofs.Math.Nat.{mod-one, pow-suc}
+use Rattle.std.proofs.Math.Arith.{mod-mul}
+use Rattle.px_num.specs.AdderLaws.{number}
+use Rattle.px_num.specs.BitLaws.{pow_above}
+use Rattle.px_num.specs.Bits.{nat_bit}
+use Rattle.px_num.specs.Lists.{get_or-tabulate}
+use Rattle.px_macro.specs.FieldLaws.{BitsOfNumber, NumberIsBelow, NumberIsKept, NumberIsRead, NumberOfParts, PlacesAreWritten}
+use Rattle.px_macro.specs.Fields.{bit_at, is_in, number_of, with_number}
+use Rattle.px_macro.specs.declared.field.Field.{Field}
+
+double_pow : (n : ℕ) → 2 ^ suc n ≡ 2 * 2 ^ n
+double_pow n = pow-suc 2 n ∙ omega arith
+
+pub number_same : (f g : ℕ → Bool) (n : ℕ) → ((t : ℕ) → t < n → f t ≡ g t) → number_of f n ≡ number_of g n
+number_same f g zero same = refl
+number_same f g (suc n) same = rw (number_same f g n (λ t low. same t (omega arith)), same n (omega arith)) refl
+
+bit_below : (b : Bool) (p : ℕ) → (if b then p else 0) ≤ p
+bit_below true p = omega arith
+bit_below false p = omega arith
+
+pub number_below : (bit : ℕ → Bool) (n : ℕ) → number_of bit n < 2 ^ n
+number_below bit zero = omega arith
+number_below bit (suc n) = omega (arith, number_below bit n, bit_below (bit n) (2 ^ n), double_pow n)
+
+if_times : (b : Bool) (p q : ℕ) → (if b then p * q else 0) ≡ p * (if b then q else 0)
+if_times true p q = refl
+if_times false p q = omega arith
+
+number_of_parts : (bit : ℕ → Bool) (low high : ℕ) → number_of bit (low + high) ≡ number_of bit low + 2 ^ low * number_of (λ t. bit (low + t)) high
+number_of_parts bit low zero = let e : low + 0 ≡ low = omega arith in rw e (omega arith)
+number_of_parts bit low (suc high) =
+    let e : low + suc high ≡ suc (low + high) = omega arith in
+    let top : (if bit (low + high) then 2 ^ (low + high) else 0) ≡ 2 ^ low * (if bit (low + high) then 2 ^ high else 0) =
+    rw (pow-add 2 low high) (if_times (bit (low + high)) (2 ^ low) (2 ^ high)) in
+    rw e (omega (arith, number_of_parts bit low high, top))
+
+-- a number by its highest bit and the rest
+high_bit : (b : Bool) (r p : ℕ) → r + (if b then p else 0) ≡ number b * p + r
+high_bit true r p = omega arith
+high_bit false r p = omega arith
+
+only_bit : (b : Bool) → nat_bit (number b) 0 ≡ b
+only_bit true = refl
+only_bit false = refl
+
+-- a number has the bits that it was made of
+pub number_bit : (bit : ℕ → Bool) (n t : ℕ) → t < n → nat_bit (number_of bit n) t ≡ bit t
+number_bit bit zero t low = absurd (omega arith)
+number_bit bit (suc n) t low =
+    rw (high_bit (bit n) (number_of bit n) (2 ^ n)) (elim (cases_lt t n) [
+      | inl below ↦ ap (λ b. b == 1) (bit_at_cat_low (number (bit n)) n (number_of bit n) t below) ∙ number_bit bit n t below
+      | inr past ↦
+          let top : t ≡ n = omega arith in
+          let none : n - n ≡ 0 = omega arith in
+          rw top (ap (λ b. b == 1) (bit_at_cat_high (number (bit n)) n (number_of bit n) n (number_below bit n) (omega arith))
+          ∙ rw none (only_bit (bit n)))
+    ])
+
+bit_times : (b p : ℕ) → b < 2 → (if b == 1 then p else 0) ≡ b * p
+bit_times zero p h = omega arith
+bit_times (suc zero) p h = omega arith
+bit_times (suc (suc b)) p h = absurd (omega arith)
+
+-- the number of the bits of a number
+number_of_bits : (m n : ℕ) → number_of (nat_bit m) n ≡ m % 2 ^ n
+number_of_bits m zero = sym (mod-one m)
+number_of_bits m (suc n) =
+    let two : 0 < 2 = omega arith in
+    let digits : m % (2 * 2 ^ n) ≡ m / 2 ^ n % 2 * 2 ^ n + m % 2 ^ n = mod-mul m two (pow_above n) in
+    let bit : m / 2 ^ n % 2 < 2 = omega arith in
+    rw (double_pow n, digits, bit_times (m / 2 ^ n % 2) (2 ^ n) bit, number_of_bits m n) (omega arith)
+
+pub bits_of_number : BitsOfNumber
+bits_of_number field memory t low = number_bit (λ i. bit_at memory (field.at + i)) field.len t low
+
+pub number_is_below : NumberIsBelow
+number_is_below field memory = number_below (λ t. bit_at memory (field.at + t)) field.len
+
+pub places_are_written : PlacesAreWritten
+places_are_written field number memory place inside =
+    let bits : ℕ → Bool = λ i. if is_in field i then nat_bit number (i - field.at) else bit_at memory i in
+    get_or-tabulate (length memory) bits place false inside
+
+is_in_field : (field : Field) (t : ℕ) → t < field.len → is_in field (field.at + t) ≡ true
+is_in_field field t low = grind (arith, nat_tests)
+
+is_in_other : (field other : Field) (t : ℕ) → t < other.len → (field.at + field.len ≤ other.at) ⊎ (other.at + other.len ≤ field.at) → is_in field (other.at + t) ≡ false
+is_in_other field other t low (inl before) = grind (arith, nat_tests)
+is_in_other field other t low (inr after) = grind (arith, nat_tests)
+
+pub number_is_read : NumberIsRead
+number_is_read field number memory within =
+    number_same (λ t. bit_at (with_number field number memory) (field.at + t)) (nat_bit number) field.len (λ t low.
+    let back : field.at + t - field.at ≡ t = omega arith in
+    places_are_written field number memory (field.at + t) (omega arith)
+    ∙ rw (is_in_field field t low, back) refl)
+    ∙ number_of_bits number field.len
+
+pub number_is_kept : NumberIsKept
+number_is_kept field other number memory within apart =
+    number_same (λ t. bit_at (with_number field number memory) (other.at + t)) (λ t. bit_at memory (other.at + t)) other.len (λ t low.
+    places_are_written field number memory (other.at + t) (omega arith)
+    ∙ rw (is_in_other field other t low apart) refl)
+
+pub number_of_two_parts : NumberOfParts
+number_of_two_parts at low high memory =
+    number_of_parts (λ t. bit_at memory (at + t)) low high
+    ∙ ap (λ n. number_of (λ t. bit_at memory (at + t)) low + 2 ^ low * n) (number_same (λ t. bit_at memory (at + (low + t))) (λ t. bit_at memory (at + low + t)) high (λ t below.
+    let e : at + (low + t) ≡ at + low + t = omega arith in ap (bit_at memory) e))

@@ -1,0 +1,28 @@
+-- What a contract sees of the numbers in fields of a memory.
+use Rattle.std.specs.Prelude.{ℕ, zero, suc, ◌+◌, ◌-◌, ◌^◌, Bool, false, ◌&&◌, if◌then◌else◌, nat_le, nat_lt, List, length, slice_index_or}
+use Rattle.px_num.specs.Bits.{nat_bit}
+use Rattle.px_num.specs.Lists.{tabulate}
+use Rattle.px_macro.specs.declared.field.Field.{Field}
+
+-- the bit of a memory at a place
+abbrev pub bit_at : List Bool → ℕ → Bool
+bit_at memory place = slice_index_or memory place false
+
+-- the number of so many bits, the lowest first
+abbrev pub number_of : (bit : ℕ → Bool) → (count : ℕ) → ℕ
+number_of bit zero = 0
+number_of bit (suc n) = number_of bit n + (if bit n then 2 ^ n else 0)
+
+-- the number in a field
+abbrev pub number_in : Field → List Bool → ℕ
+number_in field memory = number_of (λ t. bit_at memory (field.at + t)) field.len
+
+-- the place is one of the field's
+abbrev pub is_in : Field → (place : ℕ) → Bool
+is_in field place = nat_le field.at place && nat_lt place (field.at + field.len)
+
+-- the memory with the bits of a number in a field, and every other bit as before
+abbrev pub with_number : Field → ℕ → List Bool → List Bool
+with_number field number memory =
+    tabulate (length memory) (λ place.
+    if is_in field place then nat_bit number (place - field.at) else bit_at memory place)
