@@ -1,0 +1,9 @@
+use Rattle.std.proofs.Common.{◌≡◌, ◌+◌}
+use Rattle.px_asm.proofs.tests.carry_out.Given as goal
+
+abbrev pub invariant-loop-i : goal.invariant-loop-i
+invariant-loop-i g l = record {
+  columns : l.array.state.tree.nx ≡ 1;
+  rows : l.array.state.tree.ny ≡ 1;
+  clocks : l.array.clocks ≡ l.initial.array.clocks + l.i;
+}

@@ -1,0 +1,13 @@
+//! The microprograms: what is broadcast, clock by clock, to carry out each operation.
+#![tactic(auto)]
+
+mod between_fields;
+mod law;
+mod of_forms;
+mod still;
+mod table;
+#[cfg(test)]
+mod tests;
+
+pub use law::law_of_microprograms;
+pub use table::{cycles, micro_at};
