@@ -18,8 +18,9 @@ use Rattle.px_macro.specs.declared.field.Field.{Field}
 use Rattle.px_asm.specs.Micros.{act_at}
 use Rattle.px_asm.specs.Microprograms.{bits_of}
 use Rattle.px_asm.proofs.Acting.{after_acts, after_acts-parts, after_acts-same, after_nops}
-use Rattle.px_asm.proofs.MemoryRuns.{HasCompared, kept_by_carry, put_by_stores, same_bits}
+use Rattle.px_asm.proofs.Comparing.{HasCompared, kept_by_carry}
 use Rattle.px_asm.proofs.Steps.{not_first}
+use Rattle.px_asm.proofs.Storing.{put_by_stores, same_bits}
 use Rattle.px_asm.proofs.Written.{IsWritten, none_written, one_written, whole_written}
 
 waiting_act : (levels : ℕ) (first : Act) (each : ℕ → Act) (i : ℕ) → suc i ≤ levels → act_at levels first each (suc i) ≡ act.Nop

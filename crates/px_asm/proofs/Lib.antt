@@ -1,8 +1,9 @@
 pub mod Acting
+pub mod Comparing
 pub mod FormRuns
 pub mod LawLemmas
-pub mod MemoryRuns
 pub mod PlaceLemmas
 pub mod ProgramLemmas
 pub mod Steps
+pub mod Storing
 pub mod Written

@@ -1,5 +1,5 @@
 -- Numbers by their bits, and fields that take them.
-use Rattle.std.proofs.Common.{◌≡◌, ℕ, zero, suc, ◌+◌, ◌-◌, ◌*◌, ◌/◌, ◌%◌, ◌^◌, ◌<◌, ◌≤◌, ◌==◌, Bool, true, false, if◌then◌else◌, length, ◌⊎◌, inl, inr, refl, ap, sym, ◌∙◌, arith}
+use Rattle.std.proofs.Common.{◌≡◌, ◌≢◌, ℕ, zero, suc, ◌+◌, ◌-◌, ◌*◌, ◌/◌, ◌%◌, ◌^◌, ◌<◌, ◌≤◌, ◌==◌, Bool, true, false, if◌then◌else◌, length, ◌⊎◌, inl, inr, refl, ap, sym, ◌∙◌, arith, get_or-set_other, slice_set}
 use Rattle.std.proofs.lemmas.Bool.{cases_lt}
 use Rattle.std.proofs.lemmas.Bool.Decides.{nat_tests}
 use Rattle.std.proofs.lemmas.Nat.{pow-add}
@@ -10,7 +10,7 @@ use Rattle.px_num.specs.AdderLaws.{number}
 use Rattle.px_num.specs.BitLaws.{pow_above}
 use Rattle.px_num.specs.Bits.{nat_bit}
 use Rattle.px_num.specs.Lists.{get_or-tabulate}
-use Rattle.px_macro.specs.FieldLaws.{BitsOfNumber, NumberIsBelow, NumberIsKept, NumberIsRead, NumberOfParts, PlacesAreWritten}
+use Rattle.px_macro.specs.FieldLaws.{BitBesideIsKept, BitsOfNumber, NumberBesideIsKept, NumberIsBelow, NumberIsKept, NumberIsRead, NumberOfParts, PlacesAreWritten}
 use Rattle.px_macro.specs.Fields.{bit_at, is_in, number_of, with_number}
 use Rattle.px_macro.specs.declared.field.Field.{Field}
 
@@ -108,6 +108,18 @@ number_is_kept field other number memory within apart =
     number_same (λ t. bit_at (with_number field number memory) (other.at + t)) (λ t. bit_at memory (other.at + t)) other.len (λ t low.
     places_are_written field number memory (other.at + t) (omega arith)
     ∙ rw (is_in_other field other t low apart) refl)
+
+pub bit_beside_is_kept : BitBesideIsKept
+bit_beside_is_kept field number memory place inside beside =
+    places_are_written field number memory place inside ∙ rw beside refl
+
+beside_each : (field : Field) (place t : ℕ) → t < field.len → is_in field place ≡ false → field.at + t ≢ place
+beside_each field place t low beside = grind (arith, nat_tests)
+
+pub number_beside_is_kept : NumberBesideIsKept
+number_beside_is_kept field memory place v beside =
+    number_same (λ t. bit_at (slice_set memory place v) (field.at + t)) (λ t. bit_at memory (field.at + t)) field.len (λ t low.
+    get_or-set_other memory place (field.at + t) v false (beside_each field place t low beside))
 
 pub number_of_two_parts : NumberOfParts
 number_of_two_parts at low high memory =

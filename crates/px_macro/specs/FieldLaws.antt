@@ -1,5 +1,5 @@
 -- Laws of numbers in fields.
-use Rattle.std.specs.Prelude.{◌≡◌, ℕ, ◌+◌, ◌-◌, ◌*◌, ◌%◌, ◌^◌, ◌<◌, ◌≤◌, Bool, if◌then◌else◌, List, length}
+use Rattle.std.specs.Prelude.{◌≡◌, ℕ, ◌+◌, ◌-◌, ◌*◌, ◌%◌, ◌^◌, ◌<◌, ◌≤◌, Bool, false, if◌then◌else◌, List, length, slice_set}
 use Rattle.px_num.specs.Bits.{nat_bit}
 use Rattle.px_macro.specs.Fields.{bit_at, is_in, number_in, with_number}
 use Rattle.px_macro.specs.Macros.{AreApart}
@@ -29,6 +29,16 @@ NumberIsRead = (field : Field) (number : ℕ) (memory : List Bool) → field.at 
 abbrev pub NumberIsKept : Type 0
 NumberIsKept = (field other : Field) (number : ℕ) (memory : List Bool) → other.at + other.len ≤ length memory →
     AreApart field other → number_in other (with_number field number memory) ≡ number_in other memory
+
+-- a place that is not in the field keeps its bit
+abbrev pub BitBesideIsKept : Type 0
+BitBesideIsKept = (field : Field) (number : ℕ) (memory : List Bool) (place : ℕ) → place < length memory →
+    is_in field place ≡ false → bit_at (with_number field number memory) place ≡ bit_at memory place
+
+-- a field keeps its number where a bit that is not in it is written
+abbrev pub NumberBesideIsKept : Type 0
+NumberBesideIsKept = (field : Field) (memory : List Bool) (place : ℕ) (v : Bool) → is_in field place ≡ false →
+    number_in field (slice_set memory place v) ≡ number_in field memory
 
 -- the number in a field by those in its low and its high part
 abbrev pub NumberOfParts : Type 0

@@ -1,6 +1,8 @@
 //! Fields: where a number stands in the memory of a pixel.
 ghost use Rattle.px_macro.specs.FieldLaws.{
+  BitBesideIsKept,
   BitsOfNumber,
+  NumberBesideIsKept,
   NumberIsBelow,
   NumberIsKept,
   NumberIsRead,
@@ -23,5 +25,7 @@ pub fn laws_of_fields()
     ensures written { PlacesAreWritten }
     ensures read { NumberIsRead }
     ensures kept { NumberIsKept }
+    ensures bit_beside { BitBesideIsKept }
+    ensures number_beside { NumberBesideIsKept }
     ensures parts { NumberOfParts }
 {}

@@ -1,4 +1,4 @@
-use Rattle.px_macro.proofs.NumberLemmas.{bits_of_number, number_is_below, number_is_kept, number_is_read, number_of_two_parts, places_are_written}
+use Rattle.px_macro.proofs.NumberLemmas.{bit_beside_is_kept, bits_of_number, number_beside_is_kept, number_is_below, number_is_kept, number_is_read, number_of_two_parts, places_are_written}
 use Rattle.px_macro.proofs.field.laws_of_fields.Goals as goal
 
 pub returns : goal.returns
@@ -8,5 +8,7 @@ returns c = record {
   written = places_are_written;
   read = number_is_read;
   kept = number_is_kept;
+  bit_beside = bit_beside_is_kept;
+  number_beside = number_beside_is_kept;
   parts = number_of_two_parts;
 }
