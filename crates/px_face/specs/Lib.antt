@@ -1,0 +1,8 @@
+pub use Rattle.px_num.specs.Forms
+pub use Rattle.px_scene.specs.Solids
+pub mod Cells
+pub mod Covering
+pub mod Edges
+pub mod Faces
+pub mod Orders
+pub mod ParityLaws

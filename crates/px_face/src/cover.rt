@@ -1,0 +1,44 @@
+//! Which faces of a solid cover a pixel.
+ghost use Rattle.std.specs.Prelude.{◌≡◌, ◌<◌, ◌≤◌, All};
+ghost use Rattle.px_num.specs.Forms.{IsInTreeRange};
+ghost use Rattle.px_face.specs.Covering.{CoveringLaw, IsCoveredOnce, IsInsideByParity, ParityLaw};
+ghost use Rattle.px_face.specs.Edges.{covers, hold_at};
+ghost use Rattle.px_face.specs.Faces.{face_count};
+
+use crate::edge::edges;
+use arrayvec::ArrayVec;
+use px_num::Linear;
+use px_scene::Solid;
+
+/// Whether a face covers a pixel: whether each of its edges is at least 0 there.
+///
+/// `x` and `y` are at most 511.
+pub fn covered(solid: &Solid, far: u32, face: usize, x: u32, y: u32) -> bool
+    requires face { face < face_count solid.now }
+    requires x { x ≤ 511 }
+    requires y { y ≤ 511 }
+    ensures value { result ≡ covers solid.now far face x y }
+    ensures once { IsCoveredOnce solid.now far x y }
+    ensures parity { IsInsideByParity solid.now far x y }
+{
+    let mut forms = ArrayVec::new();
+    edges(solid, far, face, &mut forms);
+    laws_of_covering();
+    hold_at(forms.as_slice(), x, y)
+}
+
+/// Where a solid has a cell one front and one back cover the pixel, and elsewhere none; and a cell
+/// is inside where an odd number of covering faces stands at or before it.
+pub fn laws_of_covering()
+    ensures covering { CoveringLaw }
+    ensures parity { ParityLaw }
+{}
+
+fn hold_at(forms: &[Linear], x: u32, y: u32) -> bool
+    requires forms { All IsInTreeRange forms.now }
+    requires x { x ≤ 511 }
+    requires y { y ≤ 511 }
+    ensures { result ≡ hold_at forms.now x y }
+{
+    forms.iter().all(|form| form.value(x, y) >= 0)
+}

@@ -1,0 +1,112 @@
+//! The faces of a solid by their index.
+ghost use Rattle.std.specs.Prelude.{◌≡◌, ◌<◌, ◌≤◌, ◌++◌, ◌∷◌, [], All, length, get_or};
+ghost use Rattle.px_num.specs.Forms.{IsInTreeRange};
+ghost use Rattle.px_scene.specs.Solids.{IsPlane};
+ghost use Rattle.px_face.specs.Faces.{
+  back_planes,
+  face_count,
+  front_planes,
+  is_front,
+  level,
+  number_of,
+  numbers_of,
+  plane_of,
+};
+
+use px_num::Linear;
+use px_scene::{Face, Solid};
+
+/// How many faces there are: the near face, the fronts, the backs and the far limit.
+///
+/// A face's index is its place in this order (docs/PICTURE.md, "Faces").
+pub fn face_count(solid: &Solid) -> usize
+    ensures { result ≡ face_count solid.now }
+{
+    solid.fronts().len() + solid.backs().len() + 2
+}
+
+/// Whether the face is the near face or a front.
+pub fn is_front(solid: &Solid, face: usize) -> bool
+    requires { face < face_count solid.now }
+    ensures { result ≡ is_front solid.now face }
+{
+    face < solid.fronts().len() + 1
+}
+
+/// The face's number, and 0 for the far limit.
+pub fn number_of(solid: &Solid, face: usize) -> u32
+    requires { face < face_count solid.now }
+    ensures { result ≡ number_of solid.now face }
+{
+    let fronts = solid.fronts();
+    if face == 0 {
+        solid.near_number()
+    } else if face <= fronts.len() {
+        fronts[face - 1].number
+    } else {
+        back_number(solid.backs(), face - fronts.len() - 1)
+    }
+}
+
+/// The number of a back, and 0 for the far limit, which is the last back.
+fn back_number(backs: &[Face], i: usize) -> u32
+    requires { i ≤ length backs.now }
+    ensures { result ≡ get_or (numbers_of backs.now ++ 0 ∷ []) i 0 }
+{
+    if i < backs.len() { backs[i].number } else { 0 }
+}
+
+/// The face's plane: depth 0 for the near face, and `far` for the far limit.
+#[tactic(auto, using(crate::proofs::RangeLemmas::plane_range))]
+pub fn plane_of(solid: &Solid, far: u32, face: usize) -> Linear
+    requires { face < face_count solid.now }
+    ensures plane { result ≡ plane_of solid.now far face }
+    ensures range { IsInTreeRange result }
+{
+    let fronts = solid.fronts();
+    if face <= fronts.len() {
+        front_plane(fronts, face)
+    } else {
+        back_plane(solid.backs(), far, face - fronts.len() - 1)
+    }
+}
+
+/// The plane of the near face, which is front 0, or of a front.
+pub(crate) fn front_plane(fronts: &[Face], i: usize) -> Linear
+    requires there { i ≤ length fronts.now }
+    requires planes { All (λ f. IsPlane f.plane) fronts.now }
+    ensures plane { result ≡ get_or (front_planes fronts.now) i (level 0) }
+    ensures limits { IsPlane result }
+{
+    if i == 0 {
+        level(0)
+    } else {
+        fronts[i - 1].plane
+    }
+}
+
+/// The plane of a back or of the far limit, which is the last back.
+pub(crate) fn back_plane(backs: &[Face], far: u32, i: usize) -> Linear
+    requires there { i ≤ length backs.now }
+    requires planes { All (λ f. IsPlane f.plane) backs.now }
+    ensures plane { result ≡ get_or (back_planes backs.now far) i (level 0) }
+    ensures limits { IsPlane result }
+{
+    if i < backs.len() {
+        backs[i].plane
+    } else {
+        level(far)
+    }
+}
+
+/// The plane whose value is `depth` at every pixel.
+pub(crate) fn level(depth: u32) -> Linear
+    ensures plane { result ≡ level depth }
+    ensures limits { IsPlane result }
+{
+    Linear {
+        a: 0,
+        b: 0,
+        c: i64::from(depth),
+    }
+}

@@ -1,0 +1,12 @@
+//! The faces of a solid, and which of them covers a pixel.
+#![tactic(auto)]
+
+mod cover;
+mod edge;
+mod face;
+#[cfg(test)]
+mod tests;
+
+pub use cover::{covered, laws_of_covering};
+pub use edge::edges;
+pub use face::{face_count, is_front, number_of, plane_of};
