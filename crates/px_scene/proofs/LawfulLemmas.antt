@@ -1,0 +1,324 @@
+-- A draft is lawful after each good line.
+use Prim.Native.Nat.{suc}
+use Rattle.std.proofs.Common.{◌≡◌, ℕ, ℤ, pos, ◌+◌, ◌<◌, ◌≤◌, ◌==◌, List, [], ◌∷◌, ◌++◌, length, Bool, true, false, not, ◌||◌, refl, ap, arith, length-append, inl, inr, ◌⊎◌, Option, Some, None, IsSomeAnd, subst, add-zero, if◌then◌else◌}
+use Rattle.std.proofs.lemmas.List.{length-map, map-append}
+use Rattle.std.proofs.lemmas.List.Sums.{sum_by-append}
+use Rattle.std.proofs.lemmas.Bool.Decides.{nat_tests}
+use Rattle.std.specs.Option.{option_or}
+use Rattle.px_scene.specs.declared.line.LimitKind.{LimitKind}
+use Rattle.px_scene.specs.declared.line.LimitKind.TheVariants as kind
+use Rattle.px_scene.specs.declared.line.Due.{Due}
+use Rattle.px_scene.specs.declared.line.Due.TheVariants as d
+use Rattle.px_scene.specs.declared.line.Keyword.{Keyword}
+use Rattle.px_scene.specs.declared.line.Keyword.TheVariants as k
+use Rattle.px_scene.specs.declared.line.Cause.{Cause}
+use Rattle.px_scene.specs.declared.line.Cause.TheVariants as cause
+use Rattle.px_expr.specs.Tree.{HasLeavesBelow}
+use Rattle.px_scene.specs.Show.{show_cause, show_limit, show_fault, show_tree}
+use Rattle.px_scene.proofs.ShowLemmas.{shown_lawful, named_show}
+use Rattle.px_scene.specs.declared.line.LineFault.{LineFault}
+use Rattle.px_scene.specs.Faults.{is_among, judged}
+use Rattle.px_scene.specs.Word.{is_name}
+use Rattle.std.specs.Str.{bytes_eq}
+use Rattle.px_num.specs.declared.linear.Linear.{Linear}
+use Rattle.std.proofs.lemmas.Bool.{cases_eq}
+use Rattle.px_scene.specs.declared.solid.Colour.{Colour}
+use Rattle.px_scene.specs.declared.solid.Face.{Face}
+use Rattle.px_scene.specs.Text.{Words}
+use Rattle.px_scene.specs.Lines.{numeric, numbers_of, face_past, limit_of, figures, two_past, depth_past, past, most, due_after, solid_form, behind_name, face_limit}
+use Rattle.px_scene.specs.Figures.{face_of, side_of}
+use Rattle.px_scene.specs.Solids.{SolidView, faces_in, names_of}
+use Rattle.px_scene.specs.Scenes.{IsNumberedFrom, faces_of}
+use Rattle.px_scene.specs.Drafts.{DraftView, IsLawfulDraft, with_last, with_front, with_back, with_side, and_side, with_line, with_picture, with_depth, fresh_solid, first_word, is_begun, is_ended, tally_of, IsGoodForm, CanBeTaken}
+use Rattle.px_scene.proofs.NumberLemmas.{numbered_front, numbered_back, numbered_push}
+use Rattle.px_scene.proofs.TakenLemmas.{numbered_last, faces_of-with_last, names_with_last, names_push, IsNewName, SolidRoom, size_within, none_first, none_second, numbered_fresh, face_room, solid_room, at_most, begun_front, begun_back, begun_side, begun_end, new_name, ended_end, last_can_take}
+
+pub length-with_last : (change : SolidView → SolidView) (ss : List SolidView) → length (with_last change ss) ≡ length ss
+length-with_last change [] = refl
+length-with_last change (s ∷ []) = refl
+length-with_last change (s ∷ t ∷ ss) = ap suc (length-with_last change (t ∷ ss))
+
+-- one more plane behind the last solid's
+record Grows (number more : ℕ) (change : SolidView → SolidView) : Type 0 where
+  name : (s : SolidView) → (change s).name ≡ s.name
+  faces : (s : SolidView) → faces_in (change s) ≡ faces_in s + more
+  numbers : (first : ℕ) (s : SolidView) → first + faces_in s ≡ number → IsNumberedFrom first s → IsNumberedFrom first (change s)
+
+lawful_plane : (draft : DraftView) (more : ℕ) (change : SolidView → SolidView) → IsLawfulDraft draft → is_begun draft.due ≡ true → draft.numbered + more ≤ 4095
+    → Grows (1 + draft.numbered) more change
+    → IsLawfulDraft (record draft { due = d.Plane; numbered = draft.numbered + more; solids = with_last change draft.solids })
+lawful_plane draft more change is begun room grows =
+    let some = is.begun begun
+    in let same = names_with_last change grows.name draft.solids
+    in record {
+      some_width = is.some_width;
+      width_limit = is.width_limit;
+      some_height = is.some_height;
+      height_limit = is.height_limit;
+      some_depth = is.some_depth;
+      depth_limit = is.depth_limit;
+      few = let few = is.few in omega (arith, length-with_last change draft.solids);
+      names = rw same is.names;
+      different = rw same is.different;
+      numbers = numbered_last change 1 draft.solids is.numbers some (λ n s e lawful. grows.numbers n s (let count = is.count in omega (arith, e)) lawful);
+      count = let count = is.count in omega (arith, faces_of-with_last change more grows.faces draft.solids some);
+      faces = room;
+      shown = λ e. cc;
+      begun = λ _. omega (arith, length-with_last change draft.solids);
+    }
+
+-- the words of a face's line write a face
+pub record HasFace (colour : Colour) (number : ℕ) (zs : List ℤ) : Type 0 where
+  pub face : Face
+  pub is : face_of colour number zs ≡ Some face
+  pub numbered : face.number ≡ number
+
+three_face : (colour : Colour) (number : ℕ) (ws : Words) → length ws ≡ 3 → HasFace colour number (numbers_of ws)
+three_face colour number [] e = absurd (omega arith)
+three_face colour number (p ∷ []) e = absurd (omega arith)
+three_face colour number (p ∷ q ∷ []) e = absurd (omega arith)
+three_face colour number (p ∷ q ∷ r ∷ []) e = record { face = _; is = refl; numbered = refl }
+three_face colour number (p ∷ q ∷ r ∷ s ∷ ws) e = absurd (omega arith)
+
+six_face : (colour : Colour) (number : ℕ) (ws : Words) → length ws ≡ 6 → HasFace colour number (numbers_of ws)
+six_face colour number [] e = absurd (omega arith)
+six_face colour number (p ∷ []) e = absurd (omega arith)
+six_face colour number (p ∷ q ∷ []) e = absurd (omega arith)
+six_face colour number (p ∷ q ∷ r ∷ []) e = absurd (omega arith)
+six_face colour number (p ∷ q ∷ r ∷ s ∷ []) e = absurd (omega arith)
+six_face colour number (p ∷ q ∷ r ∷ s ∷ t ∷ []) e = absurd (omega arith)
+six_face colour number (p ∷ q ∷ r ∷ s ∷ t ∷ u ∷ []) e = record { face = _; is = refl; numbered = refl }
+six_face colour number (p ∷ q ∷ r ∷ s ∷ t ∷ u ∷ v ∷ ws) e = absurd (omega arith)
+
+pub counted : (b : Bool) (ws : Words) → numeric b ws ≡ None → b ≡ true
+counted true ws e = refl
+counted false ws e = cc
+
+either : (a b : ℕ) (n : ℕ) → (n == a || n == b) ≡ true → (n ≡ a) ⊎ (n ≡ b)
+either a b n e = elim (cases_eq n a) [ inl same ↦ inl same | inr other ↦ inr (grind (arith, nat_tests)) ]
+
+pub face_shape : (colour : Colour) (number : ℕ) (ws : Words) → numeric (length ws == 3 || length ws == 6) ws ≡ None → HasFace colour number (numbers_of ws)
+face_shape colour number ws e =
+    elim (either 3 6 (length ws) (counted _ ws e)) [
+      | inl three ↦ three_face colour number ws three
+      | inr six ↦ six_face colour number ws six
+    ]
+
+front_grows : (number : ℕ) (zs : List ℤ) → ((colour : Colour) → HasFace colour number zs) → Grows number 1 (with_front number zs)
+front_grows number zs has = record {
+  name = λ s. let h = has s.colour in rw h.is refl;
+  faces = λ s. let h = has s.colour in rw h.is (omega (arith, length-append s.fronts (h.face ∷ [])));
+  numbers = λ first s e is. let h = has s.colour in let n = h.numbered in rw h.is (numbered_front first s h.face is (omega arith));
+}
+
+back_grows : (number : ℕ) (zs : List ℤ) → ((colour : Colour) → HasFace colour number zs) → Grows number 1 (with_back number zs)
+back_grows number zs has = record {
+  name = λ s. let h = has s.colour in rw h.is refl;
+  faces = λ s. let h = has s.colour in rw h.is (omega (arith, length-append s.backs (h.face ∷ [])));
+  numbers = λ first s e is. let h = has s.colour in let n = h.numbered in rw h.is (numbered_back first s h.face is (omega arith));
+}
+
+side_name : (s : SolidView) (side : Option Linear) → (and_side s side).name ≡ s.name
+side_name s None = refl
+side_name s (Some p) = refl
+
+side_faces : (s : SolidView) (side : Option Linear) → faces_in (and_side s side) ≡ faces_in s + 0
+side_faces s None = omega arith
+side_faces s (Some p) = omega arith
+
+side_numbers : (first : ℕ) (s : SolidView) (side : Option Linear) → IsNumberedFrom first s → IsNumberedFrom first (and_side s side)
+side_numbers first s None is = is
+side_numbers first s (Some p) is = record { near = is.near; fronts = is.fronts; backs = is.backs; once = is.once }
+
+side_grows : (number : ℕ) (zs : List ℤ) → Grows number 0 (with_side zs)
+side_grows number zs = record {
+  name = λ s. side_name s (side_of zs);
+  faces = λ s. side_faces s (side_of zs);
+  numbers = λ first s e is. side_numbers first s (side_of zs) is;
+}
+
+-- the parts of a draft that a line leaves
+lawful_due : (draft : DraftView) (due : Due) → IsLawfulDraft draft → (is_begun due ≡ true → 0 < length draft.solids) → (is_ended due ≡ true → IsSomeAnd draft.show (HasLeavesBelow (length draft.solids))) → IsLawfulDraft (record draft { due = due })
+lawful_due draft due is begun shown = record {
+  some_width = is.some_width;
+  width_limit = is.width_limit;
+  some_height = is.some_height;
+  height_limit = is.height_limit;
+  some_depth = is.some_depth;
+  depth_limit = is.depth_limit;
+  few = is.few;
+  names = is.names;
+  different = is.different;
+  numbers = is.numbers;
+  count = is.count;
+  faces = is.faces;
+  shown = shown;
+  begun = begun;
+}
+
+lawful_picture : (draft : DraftView) (zs : List ℤ) → IsLawfulDraft draft → two_past zs ≡ None → IsLawfulDraft (record (with_picture draft zs) { due = d.Depth })
+lawful_picture draft [] is e = lawful_due draft d.Depth is (λ b. cc) (λ e. cc)
+lawful_picture draft (w ∷ []) is e = lawful_due draft d.Depth is (λ b. cc) (λ e. cc)
+lawful_picture draft (w ∷ h ∷ []) is e =
+    let wide = size_within kind.Picture 512 w (none_first _ _ e)
+    in let high = size_within kind.Picture 512 h (none_second (past kind.Picture (pos 1) (pos 512) w) _ e)
+    in record {
+      some_width = wide.0;
+      width_limit = wide.1;
+      some_height = high.0;
+      height_limit = high.1;
+      some_depth = is.some_depth;
+      depth_limit = is.depth_limit;
+      few = is.few;
+      names = is.names;
+      different = is.different;
+      numbers = is.numbers;
+      count = is.count;
+      faces = is.faces;
+      shown = λ e. cc;
+      begun = λ b. cc;
+    }
+lawful_picture draft (w ∷ h ∷ z ∷ zs) is e = lawful_due draft d.Depth is (λ b. cc) (λ e. cc)
+
+lawful_depth : (draft : DraftView) (zs : List ℤ) → IsLawfulDraft draft → depth_past zs ≡ None → IsLawfulDraft (record (with_depth draft zs) { due = d.Solid })
+lawful_depth draft [] is e = lawful_due draft d.Solid is (λ b. cc) (λ e. cc)
+lawful_depth draft (bits ∷ []) is e =
+    let deep = size_within kind.Depth 24 bits e
+    in record {
+      some_width = is.some_width;
+      width_limit = is.width_limit;
+      some_height = is.some_height;
+      height_limit = is.height_limit;
+      some_depth = deep.0;
+      depth_limit = deep.1;
+      few = is.few;
+      names = is.names;
+      different = is.different;
+      numbers = is.numbers;
+      count = is.count;
+      faces = is.faces;
+      shown = λ e. cc;
+      begun = λ b. cc;
+    }
+lawful_depth draft (bits ∷ z ∷ zs) is e = lawful_due draft d.Solid is (λ b. cc) (λ e. cc)
+
+lawful_solid : (draft : DraftView) (ws : Words) → IsLawfulDraft draft → IsNewName (names_of draft.solids) ws → SolidRoom (length draft.solids) draft.numbered
+    → IsLawfulDraft (record (with_line k.Solid draft ws (numbers_of (figures k.Solid ws))) { due = d.Plane })
+lawful_solid draft ws is new room =
+    let fresh = fresh_solid (first_word ws) (draft.numbered + 1) new.colour
+    in let named = names_push (names_of draft.solids) (first_word ws) (record { lawful = is.names; different = is.different }) new.lawful new.fresh
+    in let same : names_of (draft.solids ++ fresh ∷ []) ≡ names_of draft.solids ++ first_word ws ∷ [] = map-append (λ s. s.name) draft.solids (fresh ∷ [])
+    in let grown = length-append draft.solids (fresh ∷ [])
+    in rw (new.solid (draft.numbered + 1)) (record {
+      some_width = is.some_width;
+      width_limit = is.width_limit;
+      some_height = is.some_height;
+      height_limit = is.height_limit;
+      some_depth = is.some_depth;
+      depth_limit = is.depth_limit;
+      few = let few = room.solids in omega (arith, grown);
+      names = rw same named.lawful;
+      different = rw same named.different;
+      numbers = numbered_push 1 draft.solids fresh is.numbers (let count = is.count in subst (λ (n : ℕ). IsNumberedFrom n fresh) (omega arith) (numbered_fresh (first_word ws) (draft.numbered + 1) new.colour));
+      count = let count = is.count in omega (arith, sum_by-append faces_in draft.solids (fresh ∷ []));
+      faces = let next = room.numbers in omega arith;
+      shown = λ e. cc;
+      begun = λ b. omega (arith, grown);
+    })
+
+-- no limit is passed on the line of a side
+record SideRoom (zs : List ℤ) (sides : ℕ) : Type 0 where
+  within : face_past zs ≡ None
+  room : sides < 32
+
+side_room : (zs : List ℤ) (sides : ℕ) → option_or (face_past zs) (most kind.Sides 32 (sides + 1)) ≡ None → SideRoom zs sides
+side_room zs sides e =
+    let few : sides + 1 ≤ 32 = at_most kind.Sides 32 (sides + 1) (none_second (face_past zs) _ e)
+    in record { within = none_first _ _ e; room = omega arith }
+
+pub lawful_show : (draft : DraftView) (ws : Words) → IsLawfulDraft draft → show_cause (names_of draft.solids) ws ≡ None
+    → IsLawfulDraft (record draft { due = d.End; show = show_tree (names_of draft.solids) ws })
+lawful_show draft ws is good = record {
+  some_width = is.some_width;
+  width_limit = is.width_limit;
+  some_height = is.some_height;
+  height_limit = is.height_limit;
+  some_depth = is.some_depth;
+  depth_limit = is.depth_limit;
+  few = is.few;
+  names = is.names;
+  different = is.different;
+  numbers = is.numbers;
+  count = is.count;
+  faces = is.faces;
+  shown = λ e. rw (← length-map draft.solids (λ s. s.name)) (shown_lawful (names_of draft.solids) ws good);
+  begun = λ b. let some = named_show (names_of draft.solids) ws good in omega (arith, length-map draft.solids (λ s. s.name));
+}
+
+pub of_form : (cause : Option Cause) (limit : Option LineFault) → judged cause limit ≡ None → cause ≡ None
+of_form None limit e = refl
+of_form (Some cause) limit e = cc
+
+pub lawful_shown : (draft after : DraftView) (ws : Words) → IsLawfulDraft draft → show_fault (names_of draft.solids) ws ≡ None
+    → after ≡ record draft { due = d.End; show = show_tree (names_of draft.solids) ws } → IsLawfulDraft after
+lawful_shown draft after ws is good e = rw e (lawful_show draft ws is (of_form _ (show_limit ws) good))
+
+pub lawful_line : (draft : DraftView) (k : Keyword) (ws : Words) → IsLawfulDraft draft → IsGoodForm draft.due (names_of draft.solids) k ws
+    → limit_of k (tally_of draft) (numbers_of (figures k ws)) ≡ None
+    → IsLawfulDraft (record (with_line k draft ws (numbers_of (figures k ws))) { due = due_after k })
+lawful_line draft k.Pxscene ws is good e = lawful_due draft d.Picture is (λ b. cc) (λ e. cc)
+lawful_line draft k.Picture ws is good e = lawful_picture draft (numbers_of ws) is e
+lawful_line draft k.Depth ws is good e = lawful_depth draft (numbers_of ws) is e
+lawful_line draft k.Solid ws is good e = lawful_solid draft ws is (new_name (names_of draft.solids) ws good.formed) (solid_room _ _ _ e)
+lawful_line draft k.Front ws is good e =
+    let room = face_room kind.Fronts (tally_of draft).fronts draft.numbered (numbers_of ws) e
+    in lawful_plane draft 1 (with_front (draft.numbered + 1) (numbers_of ws)) is (begun_front draft.due good.comes) (let next = room.next in omega arith)
+    (subst (λ (n : ℕ). Grows n 1 (with_front (draft.numbered + 1) (numbers_of ws))) (omega arith) (front_grows (draft.numbered + 1) (numbers_of ws) (λ colour. face_shape colour (draft.numbered + 1) ws good.formed)))
+lawful_line draft k.Back ws is good e =
+    let room = face_room kind.Backs (tally_of draft).backs draft.numbered (numbers_of ws) e
+    in lawful_plane draft 1 (with_back (draft.numbered + 1) (numbers_of ws)) is (begun_back draft.due good.comes) (let next = room.next in omega arith)
+    (subst (λ (n : ℕ). Grows n 1 (with_back (draft.numbered + 1) (numbers_of ws))) (omega arith) (back_grows (draft.numbered + 1) (numbers_of ws) (λ colour. face_shape colour (draft.numbered + 1) ws good.formed)))
+lawful_line draft k.Side ws is good e =
+    rw (← add-zero draft.numbered) (lawful_plane draft 0 (with_side (numbers_of ws)) is (begun_side draft.due good.comes) (let faces = is.faces in omega arith) (side_grows _ (numbers_of ws)))
+lawful_line draft k.Show ws is good e = lawful_show draft ws is good.formed
+lawful_line draft k.End ws is good e = lawful_due draft d.Nothing is (λ b. is.begun (begun_end draft.due good.comes)) (λ b. is.shown (ended_end draft.due good.comes))
+lawful_line draft k.Other ws is good e = lawful_due draft d.Header is (λ b. cc) (λ e. cc)
+
+pub can_be_taken : (draft : DraftView) → IsLawfulDraft draft → is_begun draft.due ≡ true → CanBeTaken draft.numbered draft.solids
+can_be_taken draft is begun =
+    let next : 1 + faces_of draft.solids ≡ draft.numbered + 1 = let count = is.count in omega arith
+    in rw (← next) (last_can_take 1 draft.solids is.numbers (is.begun begun))
+
+few_by : (ws : Words) (a b : ℕ) → a ≤ 6 → b ≤ 6 → numeric (length ws == a || length ws == b) ws ≡ None → length ws ≤ 6
+few_by ws a b la lb e = elim (either a b (length ws) (counted _ ws e)) [ inl same ↦ omega arith | inr same ↦ omega arith ]
+
+few_one : (ws : Words) (a : ℕ) → a ≤ 6 → numeric (length ws == a) ws ≡ None → length ws ≤ 6
+few_one ws a la e = let same = counted (length ws == a) ws e in grind (arith, nat_tests)
+
+few_solid : (names ws : Words) → solid_form names ws ≡ None → length (behind_name ws) ≤ 6
+few_solid names [] e = omega arith
+few_solid names (n ∷ []) e = omega arith
+few_solid names (n ∷ p ∷ []) e = omega arith
+few_solid names (n ∷ p ∷ q ∷ []) e = omega arith
+few_solid names (n ∷ p ∷ q ∷ r ∷ []) e = omega arith
+few_solid names (n ∷ p ∷ q ∷ r ∷ s ∷ ws) e = cc
+
+pub few_figures : (due : Due) (names : Words) (k : Keyword) (ws : Words) → IsGoodForm due names k ws → length (figures k ws) ≤ 6
+few_figures due names k.Pxscene ws good = omega arith
+few_figures due names k.Picture ws good = few_one ws 2 (omega arith) good.formed
+few_figures due names k.Depth ws good = few_one ws 1 (omega arith) good.formed
+few_figures due names k.Solid ws good = few_solid names ws good.formed
+few_figures due names k.Front ws good = few_by ws 3 6 (omega arith) (omega arith) good.formed
+few_figures due names k.Back ws good = few_by ws 3 6 (omega arith) (omega arith) good.formed
+few_figures due names k.Side ws good = few_one ws 3 (omega arith) good.formed
+few_figures due names k.Show ws good = omega arith
+few_figures due names k.End ws good = omega arith
+few_figures due names k.Other ws good = omega arith
+
+pub lawful_after : (draft after : DraftView) (due : Due) (key : Keyword) (ws : Words) (zs : List ℤ) → IsLawfulDraft draft → IsGoodForm draft.due (names_of draft.solids) key ws
+    → limit_of key (tally_of draft) zs ≡ None → zs ≡ numbers_of (figures key ws) → after ≡ with_line key draft ws zs → due ≡ due_after key
+    → IsLawfulDraft (record after { due = due })
+lawful_after draft after due key ws zs is good e written line next = rw (next, line, written) (lawful_line draft key ws is good (rw written at e))
+
+pub face_next : (limit : LimitKind) (faces numbered : ℕ) (zs : List ℤ) → face_limit limit faces numbered zs ≡ None → numbered < 4095
+face_next limit faces numbered zs e = (face_room limit faces numbered zs e).next

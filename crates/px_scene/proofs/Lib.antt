@@ -1,0 +1,17 @@
+pub mod DraftLemmas
+pub mod ExpressionLemmas
+pub mod LawfulLemmas
+pub mod LineLemmas
+pub mod NumberLemmas
+pub mod PrintedLemmas
+pub mod ReadLemmas
+pub mod ReadingLemmas
+pub mod ShowLemmas
+pub mod SolidLemmas
+pub mod SolidsLemmas
+pub mod StackLemmas
+pub mod StepLemmas
+pub mod TakenLemmas
+pub mod TellsLemmas
+pub mod TextLemmas
+pub mod TokenLemmas

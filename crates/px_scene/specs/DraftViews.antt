@@ -1,0 +1,14 @@
+-- What a contract sees of a draft.
+use Rattle.px_scene.specs.declared.draft.Draft.{Draft}
+use Rattle.px_scene.specs.Drafts.{DraftView}
+
+abbrev pub view_of : Draft → DraftView
+view_of draft = record {
+  due = draft.due;
+  numbered = draft.numbered;
+  width = draft.width;
+  height = draft.height;
+  depth_bits = draft.depth_bits;
+  solids = draft.solids.items;
+  show = draft.show;
+}

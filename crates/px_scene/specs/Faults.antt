@@ -1,0 +1,15 @@
+-- A fault of a line's form, or else of its limits; a name among others.
+use Rattle.std.specs.Prelude.{ℕ, List, Bool, Option, Some, None}
+use Rattle.std.specs.List.{list_any}
+use Rattle.std.specs.Str.{bytes_eq}
+use Rattle.px_scene.specs.Text.{Words}
+use Rattle.px_scene.specs.declared.line.Cause.{Cause}
+use Rattle.px_scene.specs.declared.line.LineFault.{LineFault}
+use Rattle.px_scene.specs.declared.line.LineFault.TheVariants as f
+
+abbrev pub judged : Option Cause → Option LineFault → Option LineFault
+judged (Some cause) limit = Some (f.Malformed cause)
+judged None limit = limit
+
+abbrev pub is_among : Words → List ℕ → Bool
+is_among names name = list_any (λ n. bytes_eq n name) names

@@ -1,0 +1,201 @@
+-- One line of a scene text: which lines are due, and why a line is bad.
+use Rattle.std.specs.Prelude.{ℕ, ℤ, pos, ◌+◌, ◌-ℤ◌, ◌^◌, ◌==◌, List, [], ◌∷◌, ◌&&◌, ◌||◌, not, Bool, true, false, if◌then◌else◌, Option, Some, None, map, length, codes, unwrap_or, is_some}
+use Rattle.std.specs.Option.{option_or}
+use Rattle.std.specs.Str.{bytes_eq}
+use Rattle.std.specs.List.{list_all}
+use Rattle.std.specs.Borrow.{Bor}
+use lib.Signed.{le_z}
+use Rattle.px_scene.specs.Text.{Words}
+use Rattle.px_scene.specs.Word.{number_of, is_name}
+use Rattle.px_scene.specs.Faults.{judged, is_among}
+use Rattle.px_scene.specs.Show.{show_cause, show_limit}
+use Rattle.px_scene.specs.declared.line.Keyword.{Keyword}
+use Rattle.px_scene.specs.declared.line.Keyword.TheVariants as k
+use Rattle.px_scene.specs.declared.line.Due.{Due}
+use Rattle.px_scene.specs.declared.line.Due.TheVariants as d
+use Rattle.px_scene.specs.declared.line.Cause.{Cause}
+use Rattle.px_scene.specs.declared.line.Cause.TheVariants as c
+use Rattle.px_scene.specs.declared.line.LimitKind.{LimitKind}
+use Rattle.px_scene.specs.declared.line.LimitKind.TheVariants as kind
+use Rattle.px_scene.specs.declared.line.Tally.{Tally}
+use Rattle.px_scene.specs.declared.line.LineFault.{LineFault}
+use Rattle.px_scene.specs.declared.line.LineFault.TheVariants as f
+
+abbrev pub keyword_of : List ℕ → Keyword
+keyword_of w =
+    if bytes_eq w (codes "pxscene") then k.Pxscene
+    else if bytes_eq w (codes "picture") then k.Picture
+    else if bytes_eq w (codes "depth") then k.Depth
+    else if bytes_eq w (codes "solid") then k.Solid
+    else if bytes_eq w (codes "front") then k.Front
+    else if bytes_eq w (codes "back") then k.Back
+    else if bytes_eq w (codes "side") then k.Side
+    else if bytes_eq w (codes "show") then k.Show
+    else if bytes_eq w (codes "end") then k.End
+    else k.Other
+
+-- what is due after a line that begins so
+abbrev pub due_after : Keyword → Due
+due_after k.Pxscene = d.Picture
+due_after k.Picture = d.Depth
+due_after k.Depth = d.Solid
+due_after k.Solid = d.Plane
+due_after k.Front = d.Plane
+due_after k.Back = d.Plane
+due_after k.Side = d.Plane
+due_after k.Show = d.End
+due_after k.End = d.Nothing
+due_after k.Other = d.Header
+
+-- the lines that are due
+abbrev pub is_due : Due → Keyword → Bool
+is_due d.Header k.Pxscene = true
+is_due d.Picture k.Picture = true
+is_due d.Depth k.Depth = true
+is_due d.Solid k.Solid = true
+is_due d.Solid k.Show = true
+is_due d.Plane k.Front = true
+is_due d.Plane k.Back = true
+is_due d.Plane k.Side = true
+is_due d.Plane k.Solid = true
+is_due d.Plane k.Show = true
+is_due d.End k.End = true
+is_due w v = false
+
+-- the words behind references
+abbrev pub now_of : List (Bor (List ℕ)) → Words
+now_of ws = map (λ w. w.now) ws
+
+abbrev pub is_header : List ℕ → Words → Bool
+is_header w (v ∷ []) = bytes_eq w (codes "pxscene") && bytes_eq v (codes "1")
+is_header w vs = false
+
+abbrev pub are_numbers : Words → Bool
+are_numbers ws = list_all (λ w. is_some (number_of w)) ws
+
+abbrev pub numbers_of : Words → List ℤ
+numbers_of ws = map (λ w. unwrap_or (number_of w) (pos 0)) ws
+
+-- the count of the words, and then the words as numbers
+abbrev pub numeric : Bool → Words → Option Cause
+numeric has_count ws = if not has_count then Some c.WordCount else if are_numbers ws then None else Some c.NotNumber
+
+abbrev pub solid_form : Words → Words → Option Cause
+solid_form names (name ∷ red ∷ green ∷ blue ∷ []) =
+    if not (is_name name) then Some c.BadName
+    else if not (are_numbers (red ∷ green ∷ blue ∷ [])) then Some c.NotNumber
+    else if is_among names name then Some c.SecondName
+    else None
+solid_form names ws = Some c.WordCount
+
+-- why the words after the first are bad, by the names of the solids before
+abbrev pub form_of : Keyword → Words → Words → Option Cause
+form_of k.Picture names ws = numeric (length ws == 2) ws
+form_of k.Depth names ws = numeric (length ws == 1) ws
+form_of k.Solid names ws = solid_form names ws
+form_of k.Front names ws = numeric (length ws == 3 || length ws == 6) ws
+form_of k.Back names ws = numeric (length ws == 3 || length ws == 6) ws
+form_of k.Side names ws = numeric (length ws == 3) ws
+form_of k.Show names ws = show_cause names ws
+form_of k.End names ws = numeric (length ws == 0) ws
+form_of k.Pxscene names ws = None
+form_of k.Other names ws = None
+
+abbrev pub due_form : Due → Keyword → Words → Words → Option Cause
+due_form due keyword names ws = if is_due due keyword then form_of keyword names ws else Some c.Unexpected
+
+-- why the words of a line are bad: the first word, and those after it
+abbrev pub cause_of : Due → Words → List ℕ → Words → Option Cause
+cause_of d.Header names w ws = if is_header w ws then None else Some c.NotHeader
+cause_of d.Nothing names w ws = Some c.AfterEnd
+cause_of due names w ws = due_form due (keyword_of w) names ws
+
+-- a number past its range
+abbrev pub past : LimitKind → ℤ → ℤ → ℤ → Option LineFault
+past limit low high found = if le_z low found && le_z found high then None else Some (f.Limit limit found)
+
+-- a count past its limit
+abbrev pub most : LimitKind → ℕ → ℕ → Option LineFault
+most limit high found = past limit (pos 0) (pos high) (pos found)
+
+abbrev pub picture_past : ℤ → ℤ → Option LineFault
+picture_past width height = option_or (past kind.Picture (pos 1) (pos 512) width) (past kind.Picture (pos 1) (pos 512) height)
+
+abbrev pub colour_past : ℤ → ℤ → ℤ → Option LineFault
+colour_past red green blue =
+    option_or (option_or (past kind.Colour (pos 0) (pos 255) red) (past kind.Colour (pos 0) (pos 255) green)) (past kind.Colour (pos 0) (pos 255) blue)
+
+-- a coefficient past n in size
+abbrev pub size_past : ℕ → ℤ → Option LineFault
+size_past n z = past kind.Coefficient (pos 0 -ℤ pos n) (pos n) z
+
+abbrev pub plane_past : ℤ → ℤ → ℤ → Option LineFault
+plane_past a b c = option_or (option_or (size_past (2 ^ 23) a) (size_past (2 ^ 23) b)) (size_past (2 ^ 33) c)
+
+abbrev pub face_past : List ℤ → Option LineFault
+face_past (a ∷ b ∷ c ∷ []) = plane_past a b c
+face_past (a ∷ b ∷ c ∷ red ∷ green ∷ blue ∷ []) = option_or (plane_past a b c) (colour_past red green blue)
+face_past zs = None
+
+abbrev pub behind_name : Words → Words
+behind_name [] = []
+behind_name (name ∷ ws) = ws
+
+-- the words of a line that write its numbers, of those after the first
+abbrev pub figures : Keyword → Words → Words
+figures k.Picture ws = ws
+figures k.Depth ws = ws
+figures k.Solid ws = behind_name ws
+figures k.Front ws = ws
+figures k.Back ws = ws
+figures k.Side ws = ws
+figures k.Pxscene ws = []
+figures k.Show ws = []
+figures k.End ws = []
+figures k.Other ws = []
+
+abbrev pub two_past : List ℤ → Option LineFault
+two_past (width ∷ height ∷ []) = picture_past width height
+two_past zs = None
+
+abbrev pub depth_past : List ℤ → Option LineFault
+depth_past (bits ∷ []) = past kind.Depth (pos 1) (pos 24) bits
+depth_past zs = None
+
+abbrev pub three_past : List ℤ → Option LineFault
+three_past (red ∷ green ∷ blue ∷ []) = colour_past red green blue
+three_past zs = None
+
+-- a face's line: its numbers, the faces of its kind, and the face numbers, with this line
+abbrev pub face_limit : LimitKind → ℕ → ℕ → List ℤ → Option LineFault
+face_limit limit faces numbered zs = option_or (option_or (face_past zs) (most limit 32 (faces + 1))) (most kind.Faces 4095 (numbered + 1))
+
+-- the first limit that a line of good form passes: its numbers from left to right, and then the counts with this line
+abbrev pub limit_of : Keyword → Tally → List ℤ → Option LineFault
+limit_of k.Picture t zs = two_past zs
+limit_of k.Depth t zs = depth_past zs
+limit_of k.Solid t zs = option_or (option_or (three_past zs) (most kind.Solids 255 (t.solids + 1))) (most kind.Faces 4095 (t.numbered + 1))
+limit_of k.Front t zs = face_limit kind.Fronts t.fronts t.numbered zs
+limit_of k.Back t zs = face_limit kind.Backs t.backs t.numbered zs
+limit_of k.Side t zs = option_or (face_past zs) (most kind.Sides 32 (t.sides + 1))
+limit_of k.Pxscene t zs = None
+limit_of k.Show t zs = None
+limit_of k.End t zs = None
+limit_of k.Other t zs = None
+
+abbrev pub limit_on : Keyword → Tally → Words → Option LineFault
+limit_on k.Show t ws = show_limit ws
+limit_on keyword t ws = limit_of keyword t (numbers_of (figures keyword ws))
+
+abbrev pub is_show : Keyword → Bool
+is_show k.Show = true
+is_show keyword = false
+
+abbrev pub is_show_due : Due → Keyword → Bool
+is_show_due due k.Show = is_due due k.Show
+is_show_due due keyword = false
+
+-- why a line is bad, by what is due, the names of the solids before and the counts before: its form first, and then its limits
+abbrev pub fault_of : Due → Words → Tally → Words → Option LineFault
+fault_of due names t [] = None
+fault_of due names t (w ∷ ws) = judged (cause_of due names w ws) (limit_on (keyword_of w) t ws)

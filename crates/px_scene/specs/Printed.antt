@@ -1,0 +1,29 @@
+-- How an expression is printed: a name, or `(X + Y)` with one space on each side of the sign.
+use Rattle.std.specs.Prelude.{◌≢◌, ℕ, List, [], ◌∷◌, ◌++◌, slice_index_or, AllPairs}
+use Rattle.std.specs.List.{AllPass}
+use Rattle.px_expr.specs.declared.node.Op.{Op}
+use Rattle.px_expr.specs.declared.node.Op.TheVariants as o
+use Rattle.px_expr.specs.Tree.{Tree}
+use Rattle.px_expr.specs.Tree as tree
+use Rattle.px_scene.specs.Text.{Words}
+use Rattle.px_scene.specs.Word.{is_name}
+use Rattle.px_scene.specs.Expressions.{Named, leaf, join}
+
+abbrev pub sign_byte : Op → ℕ
+sign_byte o.Union = 43
+sign_byte o.Meet = 42
+sign_byte o.Minus = 45
+
+abbrev pub printed : Named → List ℕ
+printed (leaf name) = name
+printed (join op left right) = 40 ∷ (printed left ++ 32 ∷ sign_byte op ∷ 32 ∷ (printed right ++ 41 ∷ []))
+
+-- an expression over solids by their names
+abbrev pub named_by : Words → Tree → Named
+named_by names (tree.leaf place) = leaf (slice_index_or names place [])
+named_by names (tree.join op left right) = join op (named_by names left) (named_by names right)
+
+-- the names of solids, no two alike
+pub record AreDistinctNames (names : Words) : Type 0 where
+  pub lawful : AllPass is_name names
+  pub different : AllPairs (λ m n. m ≢ n) names

@@ -1,0 +1,206 @@
+-- A scene text line by line: the first bad line, and the scene of a text that has none.
+-- Each line is judged by what is counted over the lines before it.
+use Rattle.std.specs.Prelude.{ℕ, ℤ, ◌+◌, ◌==◌, List, [], ◌∷◌, ◌++◌, length, map, filter, count_by, Bool, true, false, ◌&&◌, if◌then◌else◌, Option, Some, None, unwrap_or}
+use Rattle.std.specs.List.{after_last, filter_map}
+use Rattle.px_expr.specs.Tree.{Tree, leaf}
+use Rattle.px_num.specs.declared.linear.Linear.{Linear}
+use Rattle.px_scene.specs.declared.solid.Colour.{Colour}
+use Rattle.px_scene.specs.declared.solid.Face.{Face}
+use Rattle.px_scene.specs.declared.line.Keyword.{Keyword}
+use Rattle.px_scene.specs.declared.line.Keyword.TheVariants as k
+use Rattle.px_scene.specs.declared.line.Due.{Due}
+use Rattle.px_scene.specs.declared.line.Due.TheVariants as d
+use Rattle.px_scene.specs.declared.line.Tally.{Tally}
+use Rattle.px_scene.specs.declared.line.LineFault.{LineFault}
+use Rattle.px_scene.specs.Text.{Words}
+use Rattle.px_scene.specs.Lines.{keyword_of, due_after, figures, numbers_of, fault_of}
+use Rattle.px_scene.specs.Figures.{size_of, colour_of, face_of, side_of}
+use Rattle.px_scene.specs.Solids.{SolidView}
+use Rattle.px_scene.specs.Scenes.{SceneView, black}
+use Rattle.px_scene.specs.Show.{show_tree}
+use Rattle.px_scene.specs.Drafts.{first_word}
+
+abbrev pub is_picture : Keyword → Bool
+is_picture k.Picture = true
+is_picture keyword = false
+
+abbrev pub is_depth : Keyword → Bool
+is_depth k.Depth = true
+is_depth keyword = false
+
+abbrev pub is_solid : Keyword → Bool
+is_solid k.Solid = true
+is_solid keyword = false
+
+abbrev pub is_front : Keyword → Bool
+is_front k.Front = true
+is_front keyword = false
+
+abbrev pub is_back : Keyword → Bool
+is_back k.Back = true
+is_back keyword = false
+
+abbrev pub is_side : Keyword → Bool
+is_side k.Side = true
+is_side keyword = false
+
+abbrev pub is_shown : Keyword → Bool
+is_shown k.Show = true
+is_shown keyword = false
+
+-- the lines that take a face number: a solid's, for its near face, and those of its fronts and backs
+abbrev pub is_numbered : Keyword → Bool
+is_numbered k.Solid = true
+is_numbered k.Front = true
+is_numbered k.Back = true
+is_numbered keyword = false
+
+-- whether a line begins so; a line without words does not
+abbrev pub begins : (Keyword → Bool) → Words → Bool
+begins kind [] = false
+begins kind (w ∷ ws) = kind (keyword_of w)
+
+abbrev pub words_behind : Words → Words
+words_behind [] = []
+words_behind (w ∷ ws) = ws
+
+-- the numbers of a line
+abbrev pub figures_in : Words → List ℤ
+figures_in [] = []
+figures_in (w ∷ ws) = numbers_of (figures (keyword_of w) ws)
+
+-- what is due behind lines, by the last of them that has words
+abbrev pub due_from : Due → List Words → Due
+due_from due [] = due
+due_from due ([] ∷ ls) = due_from due ls
+due_from due ((w ∷ ws) ∷ ls) = due_from (due_after (keyword_of w)) ls
+
+abbrev pub due_behind : List Words → Due
+due_behind lines = due_from d.Header lines
+
+abbrev pub count_of : (Keyword → Bool) → List Words → ℕ
+count_of kind lines = count_by (begins kind) lines
+
+-- how many lines of a kind stand behind the last solid's
+abbrev pub count_since : (Keyword → Bool) → List Words → ℕ
+count_since kind lines = count_of kind (after_last (begins is_solid) lines)
+
+abbrev pub tally_behind : List Words → Tally
+tally_behind lines = record {
+  solids = count_of is_solid lines;
+  numbered = count_of is_numbered lines;
+  fronts = count_since is_front lines;
+  backs = count_since is_back lines;
+  sides = count_since is_side lines;
+}
+
+abbrev pub names_in : List Words → Words
+names_in lines = map (λ l. first_word (words_behind l)) (filter (begins is_solid) lines)
+
+-- why a line is bad behind others
+abbrev pub fault_behind : List Words → Words → Option LineFault
+fault_behind before line = fault_of (due_behind before) (names_in before) (tally_behind before) line
+
+abbrev pub at_line : ℕ → Option LineFault → Option (ℕ × LineFault) → Option (ℕ × LineFault)
+at_line number (Some fault) later = Some (number, fault)
+at_line number None later = later
+
+-- the first bad line, counted from 1, and why it is bad
+abbrev pub first_bad : List Words → List Words → Option (ℕ × LineFault)
+first_bad before [] = None
+first_bad before (l ∷ ls) = at_line (length before + 1) (fault_behind before l) (first_bad (before ++ l ∷ []) ls)
+
+-- a line, and the lines before it
+pub record Place : Type 0 where
+  pub before : List Words
+  pub line : Words
+
+-- each line with those before it
+abbrev pub places : List Words → List Words → List Place
+places before [] = []
+places before (l ∷ ls) = record { before = before; line = l } ∷ places (before ++ l ∷ []) ls
+
+-- what the lines say, where they say it
+abbrev pub said : {X : Type 0} → (Place → Option X) → List Words → List X
+said what lines = filter_map what (places [] lines)
+
+-- a front or a back of the solid of this number, counted from 1: of the last one before its line
+abbrev pub face_at : (Keyword → Bool) → ℕ → Colour → Place → Option Face
+face_at kind solid colour place =
+    if begins kind place.line && count_of is_solid place.before == solid
+    then face_of colour (count_of is_numbered place.before + 1) (figures_in place.line)
+    else None
+
+abbrev pub side_at : ℕ → Place → Option Linear
+side_at solid place =
+    if begins is_side place.line && count_of is_solid place.before == solid
+    then side_of (figures_in place.line)
+    else None
+
+-- the line of a solid
+pub record Head : Type 0 where
+  pub name : List ℕ
+  pub colour : Colour
+  pub number : ℕ
+
+abbrev pub head_colour : List ℤ → Colour
+head_colour (red ∷ green ∷ blue ∷ []) = colour_of red green blue
+head_colour zs = black
+
+abbrev pub head_at : Place → Option Head
+head_at place =
+    if begins is_solid place.line
+    then Some (record { name = first_word (words_behind place.line); colour = head_colour (figures_in place.line); number = count_of is_numbered place.before + 1 })
+    else None
+
+-- the solid of this number, by its line
+abbrev pub solid_of : List Words → ℕ → Head → SolidView
+solid_of lines solid head = record {
+  name = head.name;
+  colour = head.colour;
+  near_number = head.number;
+  fronts = said (face_at is_front solid head.colour) lines;
+  backs = said (face_at is_back solid head.colour) lines;
+  sides = said (side_at solid) lines;
+}
+
+abbrev pub solids_from : List Words → ℕ → List Head → List SolidView
+solids_from lines solid [] = []
+solids_from lines solid (head ∷ heads) = solid_of lines solid head ∷ solids_from lines (solid + 1) heads
+
+abbrev pub solids_of : List Words → List SolidView
+solids_of lines = solids_from lines 1 (said head_at lines)
+
+-- the last line of a kind
+abbrev pub line_from : (Keyword → Bool) → Words → List Words → Words
+line_from kind found [] = found
+line_from kind found (l ∷ ls) = line_from kind (if begins kind l then l else found) ls
+
+abbrev pub line_of : (Keyword → Bool) → List Words → Words
+line_of kind lines = line_from kind [] lines
+
+abbrev pub width_of : List ℤ → ℕ
+width_of (width ∷ height ∷ []) = size_of width
+width_of zs = 1
+
+abbrev pub height_of : List ℤ → ℕ
+height_of (width ∷ height ∷ []) = size_of height
+height_of zs = 1
+
+abbrev pub depth_of : List ℤ → ℕ
+depth_of (bits ∷ []) = size_of bits
+depth_of zs = 1
+
+-- the expression of the show line, where it stands
+abbrev pub shown_in : List Words → Option Tree
+shown_in lines = show_tree (names_in lines) (words_behind (line_of is_shown lines))
+
+-- the scene of a text without a bad line
+abbrev pub scene_of : List Words → SceneView
+scene_of lines = record {
+  width = width_of (figures_in (line_of is_picture lines));
+  height = height_of (figures_in (line_of is_picture lines));
+  depth_bits = depth_of (figures_in (line_of is_depth lines));
+  solids = solids_of lines;
+  show = unwrap_or (shown_in lines) (leaf 0);
+}

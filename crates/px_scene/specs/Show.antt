@@ -1,0 +1,60 @@
+-- The expression of a `show` line, by the words after the first.
+use Rattle.std.specs.Prelude.{ℕ, ◌+◌, pos, nat_le, List, [], ◌∷◌, ◌&&◌, Bool, if◌then◌else◌, Option, Some, None}
+use Rattle.std.specs.Option.{option_map, option_or}
+use Rattle.std.specs.Str.{bytes_eq}
+use Rattle.px_expr.specs.Tree.{Tree}
+use Rattle.px_expr.specs.Tree as tree
+use Rattle.px_scene.specs.Text.{Words}
+use Rattle.px_scene.specs.Faults.{judged, is_among}
+use Rattle.px_scene.specs.Tokens.{tokens_of}
+use Rattle.px_scene.specs.Expressions.{Named, leaf, join, leaves, nesting, expression_of}
+use Rattle.px_scene.specs.declared.line.Cause.{Cause}
+use Rattle.px_scene.specs.declared.line.Cause.TheVariants as c
+use Rattle.px_scene.specs.declared.line.LimitKind.{LimitKind}
+use Rattle.px_scene.specs.declared.line.LimitKind.TheVariants as kind
+use Rattle.px_scene.specs.declared.line.LineFault.{LineFault}
+use Rattle.px_scene.specs.declared.line.LineFault.TheVariants as f
+
+-- the place of a name among the solids'
+abbrev pub place_of : Words → List ℕ → ℕ
+place_of [] name = 0
+place_of (n ∷ ns) name = if bytes_eq n name then 0 else place_of ns name + 1
+
+-- each name is a solid's
+abbrev pub are_known : Words → Named → Bool
+are_known names (leaf name) = is_among names name
+are_known names (join op left right) = are_known names left && are_known names right
+
+-- the expression over the places of its names
+abbrev pub placed : Words → Named → Tree
+placed names (leaf name) = tree.leaf (place_of names name)
+placed names (join op left right) = tree.join op (placed names left) (placed names right)
+
+abbrev pub cause_in : Words → Option Named → Option Cause
+cause_in names None = Some c.BadExpression
+cause_in names (Some tree) = if are_known names tree then None else Some c.UnknownName
+
+-- a count past its limit
+abbrev pub count_past : LimitKind → ℕ → ℕ → Option LineFault
+count_past kind limit found = if nat_le found limit then None else Some (f.Limit kind (pos found))
+
+-- the leaves and then the nesting, both of the whole expression
+abbrev pub counts_past : ℕ → ℕ → Option LineFault
+counts_past leaves nesting = option_or (count_past kind.Leaves 512 leaves) (count_past kind.Nesting 64 nesting)
+
+abbrev pub limit_in : Option Named → Option LineFault
+limit_in None = None
+limit_in (Some tree) = counts_past (leaves tree) (nesting tree)
+
+abbrev pub show_cause : Words → Words → Option Cause
+show_cause names ws = cause_in names (expression_of (tokens_of ws))
+
+abbrev pub show_limit : Words → Option LineFault
+show_limit ws = limit_in (expression_of (tokens_of ws))
+
+-- why the expression is bad: its form and its names first, and then its limits
+abbrev pub show_fault : Words → Words → Option LineFault
+show_fault names ws = judged (show_cause names ws) (show_limit ws)
+
+abbrev pub show_tree : Words → Words → Option Tree
+show_tree names ws = option_map (placed names) (expression_of (tokens_of ws))

@@ -1,0 +1,27 @@
+-- A draft that says what the lines of a text say.
+use Rattle.std.specs.Prelude.{◌≡◌, List, [], length, false, None}
+use Rattle.px_scene.specs.Text.{Words}
+use Rattle.px_scene.specs.Solids.{names_of}
+use Rattle.px_scene.specs.Drafts.{DraftView, IsLawfulDraft, in_last, is_ended}
+use Rattle.px_scene.specs.Reading.{is_picture, is_depth, is_solid, is_front, is_back, is_side, is_shown, is_numbered, count_of, count_since, names_in, due_behind, figures_in, line_of, width_of, height_of, depth_of, shown_in, solids_of, first_bad}
+
+pub record Tells (draft : DraftView) (before : List Words) : Type 0 where
+  pub due : draft.due ≡ due_behind before
+  pub numbered : draft.numbered ≡ count_of is_numbered before
+  pub solids : draft.solids ≡ solids_of before
+  pub count : length draft.solids ≡ count_of is_solid before
+  pub names : names_of draft.solids ≡ names_in before
+  pub fronts : in_last (λ s. length s.fronts) draft.solids ≡ count_since is_front before
+  pub backs : in_last (λ s. length s.backs) draft.solids ≡ count_since is_back before
+  pub sides : in_last (λ s. length s.sides) draft.solids ≡ count_since is_side before
+  pub width : draft.width ≡ width_of (figures_in (line_of is_picture before))
+  pub height : draft.height ≡ height_of (figures_in (line_of is_picture before))
+  pub depth : draft.depth_bits ≡ depth_of (figures_in (line_of is_depth before))
+  pub show : draft.show ≡ shown_in before
+  pub unshown : is_ended draft.due ≡ false → line_of is_shown before ≡ []
+
+-- the draft of lines of which none is bad
+pub record IsDraftOf (draft : DraftView) (lines : List Words) : Type 0 where
+  pub good : first_bad [] lines ≡ None
+  pub tells : Tells draft lines
+  pub lawful : IsLawfulDraft draft

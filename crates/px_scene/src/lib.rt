@@ -1,0 +1,20 @@
+//! Scenes: convex solids by their planes, what is seen of them, and the text that writes them.
+#![tactic(auto)]
+
+mod draft;
+mod figure;
+mod line;
+mod read;
+mod scene;
+mod show;
+mod solid;
+mod stack;
+mod text;
+mod token;
+mod word;
+
+pub use line::{Cause, LimitKind};
+pub use read::{SceneFault, read_scene};
+pub use scene::Scene;
+pub use show::{expression_law, printed_law};
+pub use solid::{Colour, Face, Solid};
