@@ -9,7 +9,7 @@ use lib.Signed.{le_z, lt_z}
 use Rattle.px_num.specs.declared.linear.Linear.{Linear}
 use Rattle.px_num.specs.Forms.{value_at}
 use Rattle.px_scene.specs.Solids.{SolidView}
-use Rattle.px_face.specs.Cells.{is_inside}
+use Rattle.px_scene.specs.Cells.{is_inside}
 use Rattle.px_face.specs.Covering.{enters_at, is_met, leaves_at}
 use Rattle.px_face.specs.Edges.{hold_at}
 use Rattle.px_face.specs.Faces.{back_planes, front_planes, level, planes_of}

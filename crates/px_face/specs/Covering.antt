@@ -7,7 +7,7 @@ use Rattle.std.specs.Int.{int_max, int_min}
 use lib.Signed.{le_z, lt_z}
 use Rattle.px_num.specs.Forms.{value_at}
 use Rattle.px_scene.specs.Solids.{IsLawfulSolid, SolidView}
-use Rattle.px_face.specs.Cells.{is_inside}
+use Rattle.px_scene.specs.Cells.{is_inside}
 use Rattle.px_face.specs.Edges.{hold_at, covers}
 use Rattle.px_face.specs.Faces.{back_planes, face_count, front_planes, is_front, number_of, plane_of}
 

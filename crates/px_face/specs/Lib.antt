@@ -1,6 +1,6 @@
 pub use Rattle.px_num.specs.Forms
+pub use Rattle.px_scene.specs.Cells
 pub use Rattle.px_scene.specs.Solids
-pub mod Cells
 pub mod Covering
 pub mod Edges
 pub mod Faces
