@@ -1,0 +1,14 @@
+use Rattle.px_program.proofs.AnswerLemmas.{stop_meets, made_of}
+use Rattle.px_program.proofs.run.answer.Goals as goal
+
+pub returns-in-Err-clause-meets : goal.returns-in-Err-clause-meets
+returns-in-Err-clause-meets g c bytes told =
+    stop_meets c.args.command bytes _ _ _ c.in-Err.stop told c.in_ok-text.ensures.front c.as_slice.ensures.value c.in-Err.ensures.err
+
+pub returns-clause-meets : goal.returns-clause-meets
+returns-clause-meets g c bytes told =
+    rw (made_of c.args.command bytes _ _ _ _ told c.in_ok-text.ensures.front c.as_slice.ensures.value c.in-Ok.ensures.ok.0 c.in-Ok.ensures.ok.1) c.make.ensures.meets
+
+pub returns-clause-writes : goal.returns-clause-writes
+returns-clause-writes g c bytes told =
+    rw (made_of c.args.command bytes _ _ _ _ told c.in_ok-text.ensures.front c.as_slice.ensures.value c.in-Ok.ensures.ok.0 c.in-Ok.ensures.ok.1) c.make.ensures.writes

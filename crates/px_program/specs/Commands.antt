@@ -1,0 +1,17 @@
+-- The words of the command line.
+use Rattle.std.specs.Prelude.{ℕ, List, [], ◌∷◌, Option, Some, None, if◌then◌else◌, codes}
+use Rattle.std.specs.Str.{bytes_eq}
+use Rattle.px_program.specs.declared.command.Command.{Command}
+use Rattle.px_program.specs.declared.command.Command.TheVariants as c
+
+abbrev pub word_of : List ℕ → Option Command
+word_of w =
+    if bytes_eq w (codes "render") then Some c.Render
+    else if bytes_eq w (codes "plan") then Some c.Plan
+    else None
+
+-- no words, or the one word of a command
+abbrev pub command_of : List (List ℕ) → Option Command
+command_of [] = Some c.Render
+command_of (w ∷ []) = word_of w
+command_of (w ∷ v ∷ ws) = None
