@@ -1,19 +1,19 @@
 -- The mark of an expression is that of its cell: the lowest numbers of the faces shown and hidden there.
-use Rattle.std.proofs.Common.{◌≡◌, ℕ, pos, Bool, true, false, ◌&&◌, not, Option, Some, None, List, [], ◌∷◌, ◌++◌, refl, ap, sym, ◌∙◌, arith, map, filter, min, fold, get_or, if◌then◌else◌, ◌==◌}
+use Rattle.std.proofs.Common.{◌≡◌, ℕ, pos, Bool, true, false, not, Option, Some, None, List, [], ◌∷◌, ◌++◌, refl, ap, sym, ◌∙◌, arith, map, filter, fold, if◌then◌else◌, ◌==◌}
 use Rattle.std.specs.Ordering.{int_eq}
 use Prim.Native.Nat.{zero, suc}
 use Rattle.std.specs.Option.{unwrap_or}
 use Rattle.px_num.specs.Forms.{value_at}
 use Rattle.px_scene.specs.declared.solid.Face.{Face}
 use Rattle.px_scene.specs.Solids.{SolidView}
-use Rattle.px_scene.specs.Cells.{is_inside, is_inside_before, faces_at, solid_cell, leaf_cell, least}
+use Rattle.px_scene.specs.Cells.{is_inside_before, faces_at, solid_cell, leaf_cell, least}
 use Rattle.px_expr.specs.Tree.{Tree, leaf, join}
 use Rattle.px_expr.specs.Cells.{Cell, cell, combined, where_true}
 use Rattle.px_expr.specs.declared.node.Op.{Op}
 use Rattle.px_expr.specs.declared.node.Op.TheVariants as o
 use Rattle.px_frame.specs.declared.mark.Mark.{Mark}
-use Rattle.px_frame.specs.Spans.{has_depth, span_of}
-use Rattle.px_frame.specs.Marks.{lower, lowest, if_true, mark_of, no_mark, combined_marks, mark_in, number_at, lowest_at, has_before, solid_mark}
+use Rattle.px_frame.specs.Spans.{span_of}
+use Rattle.px_frame.specs.Marks.{lower, lowest, if_true, mark_of, mark_at, combined_marks, mark_in, number_at, lowest_at, has_before, solid_mark}
 use Rattle.px_frame.proofs.SpanLemmas.{inside_span}
 
 lower_none : (a : Option ℕ) → lower a None ≡ a
@@ -91,14 +91,14 @@ solid_mark_is s far x y z =
     ) refl
 
 leaf_mark_is : (solids : List SolidView) (far x y z solid : ℕ)
-    → get_or (map (solid_mark far x y z) solids) solid no_mark ≡ mark_of (leaf_cell solids far x y z solid)
+    → mark_at (map (solid_mark far x y z) solids) solid ≡ mark_of (leaf_cell solids far x y z solid)
 leaf_mark_is [] far x y z solid = refl
 leaf_mark_is (s ∷ ss) far x y z zero = solid_mark_is s far x y z
 leaf_mark_is (s ∷ ss) far x y z (suc solid) = leaf_mark_is ss far x y z solid
 
 pub shown_is : (solids : List SolidView) (far x y z : ℕ) (show : Tree) (marks : List Mark) → marks ≡ map (solid_mark far x y z) solids
-    → least (cell (leaf_cell solids far x y z) show).shown ≡ unwrap_or (mark_in (λ solid. get_or marks solid no_mark) show).shown 0
+    → least (cell (leaf_cell solids far x y z) show).shown ≡ unwrap_or (mark_in (mark_at marks) show).shown 0
 shown_is solids far x y z show marks is =
     least_is (cell (leaf_cell solids far x y z) show).shown
-    ∙ ap (λ m. unwrap_or m.shown 0) (sym (mark_is (leaf_cell solids far x y z) (λ solid. get_or marks solid no_mark)
-    (λ solid. ap (λ ms. get_or ms solid no_mark) is ∙ leaf_mark_is solids far x y z solid) show))
+    ∙ ap (λ m. unwrap_or m.shown 0) (sym (mark_is (leaf_cell solids far x y z) (mark_at marks)
+    (λ solid. ap (λ ms. mark_at ms solid) is ∙ leaf_mark_is solids far x y z solid) show))

@@ -1,5 +1,5 @@
 -- The face numbers of a lawful scene are at most 4095, and so is what a pixel shows.
-use Rattle.std.proofs.Common.{◌≡◌, ◌<◌, ◌≤◌, ◌+◌, ◌^◌, ℕ, pos, Bool, true, false, not, Option, Some, None, List, [], ◌∷◌, ◌++◌, refl, arith, map, filter, min, if◌then◌else◌, ◌==◌, sum_by}
+use Rattle.std.proofs.Common.{◌<◌, ◌≤◌, ◌+◌, ◌^◌, ℕ, pos, Bool, true, false, not, Option, Some, None, List, [], ◌∷◌, ◌++◌, arith, if◌then◌else◌, ◌==◌}
 use Rattle.std.specs.List.{All}
 use Rattle.std.specs.Ordering.{int_eq}
 use Rattle.std.proofs.lemmas.List.Elements.{All-nil, All-cons, All-append, All-filter, All-map}
@@ -10,10 +10,10 @@ use Rattle.px_num.specs.Forms.{value_at}
 use Rattle.px_scene.specs.declared.solid.Face.{Face}
 use Rattle.px_scene.specs.Solids.{SolidView, faces_in}
 use Rattle.px_scene.specs.Scenes.{SceneView, IsLawfulScene, IsNumberedFrom, AreNumberedFrom, faces_of}
-use Rattle.px_scene.specs.Cells.{is_inside_before, faces_at, solid_cell, no_cell, leaf_cell, scene_cell, is_member_at, least, first, first_or, first_cell, sight_at, far_of}
+use Rattle.px_scene.specs.Cells.{is_inside_before, faces_at, solid_cell, leaf_cell, scene_cell, is_member_at, least, first, first_or, first_cell, sight_at, far_of}
 use Rattle.px_frame.specs.Picture.{depth_at, face_at}
 use Rattle.px_expr.specs.Tree.{Tree, leaf, join}
-use Rattle.px_expr.specs.Cells.{Cell, cell, combined, where_true}
+use Rattle.px_expr.specs.Cells.{Cell, cell, combined}
 use Rattle.px_expr.specs.declared.node.Op.{Op}
 use Rattle.px_expr.specs.declared.node.Op.TheVariants as o
 

@@ -1,6 +1,5 @@
 -- What a pixel shows by the nearest end of a span, and numbers by their place in the rows.
-use Rattle.std.proofs.Common.{◌≡◌, ◌<◌, ◌≤◌, ◌+◌, ◌*◌, ◌%◌, ◌/◌, ◌^◌, ℕ, List, Some, None, refl, ap, sym, ◌∙◌, arith, map, get_or, length}
-use Rattle.std.specs.List.{All}
+use Rattle.std.proofs.Common.{◌≡◌, ◌<◌, ◌≤◌, ◌+◌, ◌*◌, ◌%◌, ◌/◌, ◌^◌, ℕ, List, Some, None, refl, ap, ◌∙◌, arith, map, get_or, length}
 use Rattle.std.proofs.lemmas.Nat.{mod-mul-add, div-mul-add}
 use Rattle.std.proofs.lemmas.Grind.{get_or_default_zero}
 use Rattle.std.proofs.Math.Nat.{mul-le-mul_right}

@@ -1,5 +1,5 @@
 -- The span of a solid has its cells, and the nearest end where an expression holds is its first cell.
-use Rattle.std.proofs.Common.{◌≡◌, ◌≢◌, ◌<◌, ◌≤◌, ◌+◌, ℕ, ℤ, pos, negsuc, Bool, true, false, ◌&&◌, Option, Some, None, List, [], ◌∷◌, refl, ap, sym, ◌∙◌, arith, map, min, max, fold, inl, inr, nat_lt, nat_le, get_or, if◌then◌else◌, ◌⊎◌}
+use Rattle.std.proofs.Common.{◌≡◌, ◌≢◌, ◌<◌, ◌≤◌, ◌+◌, ℕ, ℤ, pos, negsuc, Bool, true, false, ◌&&◌, Some, None, List, [], ◌∷◌, refl, ap, sym, ◌∙◌, arith, map, min, max, fold, inl, inr, nat_lt, nat_le, if◌then◌else◌, ◌⊎◌}
 use Rattle.std.proofs.lemmas.Bool.{cases_eq}
 use Prim.Native.Nat.{zero, suc}
 use lib.Signed.{lt_z, le_z}

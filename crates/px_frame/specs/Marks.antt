@@ -1,5 +1,5 @@
 -- The lowest-numbered faces shown and hidden at a cell, for a solid and for what joins two sides.
-use Rattle.std.specs.Prelude.{ℕ, pos, ◌==◌, min, Bool, false, ◌&&◌, ◌||◌, not, List, [], ◌∷◌, Option, Some, None, fold, if◌then◌else◌}
+use Rattle.std.specs.Prelude.{ℕ, pos, ◌==◌, min, Bool, false, not, List, [], ◌∷◌, Option, Some, None, fold, slice_index_or, if◌then◌else◌}
 use Rattle.std.specs.Ordering.{int_eq}
 use Prim.Native.Nat.{zero, suc}
 use Rattle.px_num.specs.Forms.{value_at}
@@ -34,6 +34,10 @@ mark_of c = record { member = c.member; shown = lowest c.shown; hidden = lowest 
 
 abbrev pub no_mark : Mark
 no_mark = record { member = false; shown = None; hidden = None }
+
+-- the mark of a solid by its index
+abbrev pub mark_at : List Mark → ℕ → Mark
+mark_at marks solid = slice_index_or marks solid no_mark
 
 abbrev pub combined_marks : Op → Mark → Mark → Mark
 combined_marks o.Union a b = record {

@@ -1,4 +1,5 @@
--- The cells of each solid at a pixel as one span of depths, and the nearest depth where an expression holds.
+-- The cells of a solid at a pixel as one span of depths, and the nearest depth where an expression
+-- holds.
 use Rattle.std.specs.Prelude.{ℕ, ℤ, pos, negsuc, min, max, Bool, ◌&&◌, List, map, fold, nat_le, nat_lt, if◌then◌else◌}
 use Rattle.std.specs.List.{list_all}
 use lib.Signed.{le_z}
@@ -31,7 +32,10 @@ no_span = record { first = 0; end = 0 }
 -- the cells of a solid at a pixel, from its greatest front on, below its least back
 abbrev pub span_of : ℕ → ℕ → ℕ → SolidView → Span
 span_of far x y s = if sides_hold s.sides x y
-    then record { first = fold max 0 (depths_of far x y s.fronts); end = fold min far (depths_of far x y s.backs) }
+    then record {
+      first = fold max 0 (depths_of far x y s.fronts);
+      end = fold min far (depths_of far x y s.backs);
+    }
     else no_span
 
 -- whether an expression holds at a depth, by the spans of its solids

@@ -1,12 +1,14 @@
-//! What an expression shows at a cell of a pixel.
-ghost use Rattle.std.specs.Prelude.{◌≡◌, ◌<◌, ◌≤◌, All, length, map, reverse, slice_index_or};
+//! The lowest-numbered face that an expression shows at a cell of a pixel.
+ghost use Rattle.std.specs.Prelude.{◌≡◌, ◌≤◌, All, length, reverse};
 ghost use Rattle.arrayvec.specs.ArrayVec.{array_vec_len};
 ghost use Rattle.px_scene.specs.Solids.{IsPlane};
 ghost use Rattle.px_scene.specs.Cells.{leaf_cell, least};
 ghost use Rattle.px_expr.specs.Cells.{cell};
 ghost use Rattle.px_expr.specs.Tree.{HasLeavesBelow};
 ghost use Rattle.px_expr.specs.Postorder.{CanPlace, IsLeafBelow};
-ghost use Rattle.px_frame.specs.Marks.{lower, if_true, combined_marks, joined_marks, marks_after, number_at, lowest_at, has_before, solid_mark, no_mark, mark_in};
+ghost use Rattle.px_frame.specs.Marks.{lower, if_true, combined_marks, joined_marks, mark_at};
+ghost use Rattle.px_frame.specs.Marks.{marks_after, mark_in, number_at, lowest_at, has_before};
+ghost use Rattle.px_frame.specs.Marks.{solid_mark};
 
 use crate::span::{Span, span_of};
 use arrayvec::ArrayVec;
@@ -83,7 +85,8 @@ fn join(stack: &mut ArrayVec<Mark, 65>, op: Op)
 fn place(stack: &mut ArrayVec<Mark, 65>, node: Node, leaves: &[Mark])
     requires place { CanPlace (array_vec_len stack.old) node }
     requires leaf { IsLeafBelow (length leaves.now) node }
-    ensures { reverse stack.new.items ≡ marks_after (λ solid. slice_index_or leaves.now solid no_mark) (reverse stack.old.items) node }
+    ensures { reverse stack.new.items
+        ≡ marks_after (mark_at leaves.now) (reverse stack.old.items) node }
 {
     match node {
         Node::Leaf(solid) => stack.push(leaves[usize::from(solid)]),
@@ -147,7 +150,7 @@ fn solid_mark(solid: &Solid, far: u32, x: u32, y: u32, depth: u32) -> Mark
 /// An expression by its solids.
 fn mark_in(show: &Expr, leaves: &[Mark]) -> Mark
     requires { HasLeavesBelow (length leaves.now) show.now }
-    ensures { result ≡ mark_in (λ solid. slice_index_or leaves.now solid no_mark) show.now }
+    ensures { result ≡ mark_in (mark_at leaves.now) show.now }
 {
     let mut stack = ArrayVec::<Mark, 65>::new();
     for node in show.nodes() {
@@ -157,7 +160,14 @@ fn mark_in(show: &Expr, leaves: &[Mark]) -> Mark
 }
 
 /// The lowest-numbered face that the expression shows at a cell, or 0 where there is none.
-pub(crate) fn face_at(show: &Expr, solids: &[Solid], far: u32, x: u32, y: u32, depth: u32) -> u32
+pub(crate) fn lowest_shown(
+    show: &Expr,
+    solids: &[Solid],
+    far: u32,
+    x: u32,
+    y: u32,
+    depth: u32,
+) -> u32
     requires few { length solids.now ≤ 255 }
     requires leaves { HasLeavesBelow (length solids.now) show.now }
     requires x { x ≤ 511 }

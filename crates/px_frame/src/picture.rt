@@ -1,11 +1,10 @@
 //! The picture of a scene, computed plainly, pixel by pixel.
-ghost use Rattle.std.specs.Prelude.{◌≡◌, ◌≤◌, ◌<◌, ◌^◌, length, map, IfOk};
-ghost use Rattle.px_scene.specs.Scenes.{IsLawfulScene};
+ghost use Rattle.std.specs.Prelude.{◌≡◌, ◌≤◌, length, map, IfOk};
 ghost use Rattle.px_scene.specs.Cells.{first_cell};
 ghost use Rattle.px_frame.specs.Picture.{depth_at, face_at, AreRows};
 ghost use Rattle.px_frame.specs.Spans.{span_of};
 
-use crate::mark::face_at;
+use crate::mark::lowest_shown;
 use crate::span::{Span, nearest_end, span_of};
 use arrayvec::ArrayVec;
 use px_num::Memory;
@@ -58,7 +57,7 @@ fn sight_of(scene: &Scene, x: u32, y: u32) -> Sight
     match first_cell(scene, x, y) {
         Some(depth) => Sight {
             depth,
-            face: face_at(scene.show(), scene.solids(), scene.far(), x, y, depth),
+            face: lowest_shown(scene.show(), scene.solids(), scene.far(), x, y, depth),
         },
         None => Sight {
             depth: scene.far(),

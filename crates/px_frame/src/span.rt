@@ -1,9 +1,9 @@
-//! The cells of a solid at a pixel.
-ghost use Rattle.std.specs.Prelude.{◌≡◌, ◌<◌, ◌≤◌, ◌-◌, ◌^◌, All, length, map, fold, min, max};
-ghost use Rattle.px_num.specs.Forms.{IsInTreeRange, IsWithin};
+//! The cells of a solid at a pixel, and the nearest depth where an expression holds.
+ghost use Rattle.std.specs.Prelude.{◌≡◌, ◌≤◌, All, length, fold, min, max};
 ghost use Rattle.px_scene.specs.Solids.{IsPlane};
 ghost use Rattle.px_expr.specs.Tree.{HasLeavesBelow};
-ghost use Rattle.px_frame.specs.Spans.{has_depth, sides_hold, depth_near, depths_of, span_of, holds_at, nearer, nearer_end, nearest_end};
+ghost use Rattle.px_frame.specs.Spans.{has_depth, span_of, sides_hold, depths_of, depth_near};
+ghost use Rattle.px_frame.specs.Spans.{holds_at, nearer, nearer_end, nearest_end};
 
 use arrayvec::ArrayVec;
 use px_expr::Expr;

@@ -1,4 +1,4 @@
-use Rattle.std.proofs.Common.{ℕ, ◌≡◌, List, [], ◌∷◌, map, length, refl, ap, arith, get_or}
+use Rattle.std.proofs.Common.{ℕ, ◌≡◌, List, [], ◌∷◌, map, length, refl, ap, arith}
 use Rattle.std.proofs.lemmas.List.{length-reverse}
 use Rattle.px_expr.specs.Tree.{Tree}
 use Rattle.px_expr.specs.Waiting.{joined}
@@ -9,7 +9,7 @@ use Rattle.px_expr.specs.declared.node.Node.TheVariants as n
 use Rattle.px_expr.specs.declared.node.Op.{Op}
 use Rattle.px_expr.specs.declared.node.Op.TheVariants as o
 use Rattle.px_frame.specs.declared.mark.Mark.{Mark}
-use Rattle.px_frame.specs.Marks.{mark_in, no_mark, joined_marks, marks_after}
+use Rattle.px_frame.specs.Marks.{mark_in, mark_at, joined_marks, marks_after}
 use Rattle.px_frame.proofs.mark.mark_in.Goals as goal
 
 mark_joined : (leaves : ℕ → Mark) (op : Op) (trees : List Tree) → map (mark_in leaves) (joined op trees) ≡ joined_marks op (map (mark_in leaves) trees)
@@ -32,7 +32,7 @@ place-requires-clause-leaf c = c.nodes-node-items.ensures.leaves _ c.requires _ 
 
 pub loop-node-preserved : goal.loop-node-preserved
 loop-node-preserved c =
-    let leaves = λ (solid : ℕ). get_or c.args.leaves.now solid no_mark
+    let leaves = mark_at c.args.leaves.now
     in values_more (mark_in leaves) (marks_after leaves) (mark_placed leaves) _ _ (n.Leaf 0) _ _ c.loop-node-test.true c.loop-node.invariant c.place.ensures
 
 pub unwrap-requires : goal.unwrap-requires

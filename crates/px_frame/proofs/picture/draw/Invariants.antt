@@ -1,4 +1,4 @@
-use Rattle.std.proofs.Common.{◌≡◌, ◌<◌, ◌%◌, ◌/◌, ℕ, get_or, length, vec_len}
+use Rattle.std.proofs.Common.{◌≡◌, ◌<◌, ◌%◌, ◌/◌, ℕ, get_or, length}
 use Rattle.px_frame.specs.Picture.{depth_at, face_at}
 use Rattle.px_frame.proofs.picture.draw.Given as goal
 

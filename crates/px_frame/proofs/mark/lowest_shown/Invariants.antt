@@ -1,7 +1,7 @@
 use Rattle.std.proofs.Common.{◌≡◌, map, take}
 use Rattle.arrayvec.specs.ArrayVec.{array_vec_len}
 use Rattle.px_frame.specs.Marks.{solid_mark}
-use Rattle.px_frame.proofs.mark.face_at.Given as goal
+use Rattle.px_frame.proofs.mark.lowest_shown.Given as goal
 
 abbrev pub invariant-loop-solid : goal.invariant-loop-solid
 invariant-loop-solid l = record {

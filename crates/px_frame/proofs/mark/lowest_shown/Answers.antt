@@ -4,7 +4,7 @@ use Rattle.std.proofs.lemmas.List.{take_all}
 use Rattle.px_frame.specs.declared.mark.Mark.{Mark}
 use Rattle.px_frame.specs.Marks.{solid_mark}
 use Rattle.px_frame.proofs.MarkLemmas.{shown_is}
-use Rattle.px_frame.proofs.mark.face_at.Goals as goal
+use Rattle.px_frame.proofs.mark.lowest_shown.Goals as goal
 
 pub returns : goal.returns
 returns c =
