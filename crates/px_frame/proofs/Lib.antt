@@ -1,4 +1,5 @@
 pub mod SpanLemmas
+pub mod NearestLemmas
 pub mod MarkLemmas
 pub mod NumberLemmas
 pub mod PictureLemmas

@@ -11,7 +11,7 @@ use Rattle.px_frame.specs.declared.span.Span.{Span}
 use Rattle.px_frame.specs.Spans.{span_of, holds_at, nearest_end}
 use Rattle.px_frame.specs.ImageLaws.{rows_by_place}
 use Rattle.px_frame.specs.Picture.{AreRows}
-use Rattle.px_frame.proofs.SpanLemmas.{spans_in, first_cell_is, no_first_cell}
+use Rattle.px_frame.proofs.NearestLemmas.{spans_in, first_cell_is, no_first_cell}
 
 nearest_is : (scene : SceneView) (x y far depth : ℕ) (solids : List SolidView) (spans given : List Span) (show : Tree)
     → far ≡ far_of scene → solids ≡ scene.solids → show ≡ scene.show

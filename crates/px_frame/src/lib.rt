@@ -1,4 +1,4 @@
-//! Images: the raw pixel maps that a run writes.
+//! The picture of a scene, and its images: the raw pixel maps that a run writes.
 #![tactic(auto)]
 
 mod image;

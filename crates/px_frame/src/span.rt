@@ -89,30 +89,17 @@ fn depth_near(far: u32, value: i64) -> u32
     }
 }
 
-/// Whether the expression holds at a depth, by the spans of its solids.
-fn holds_at(show: &Expr, spans: &[Span], depth: u32) -> bool
+/// The least end of a span where the expression holds, or `far`.
+pub(crate) fn nearest_end(show: &Expr, spans: &[Span], far: u32) -> u32
     requires few { length spans.now ≤ 255 }
     requires leaves { HasLeavesBelow (length spans.now) show.now }
-    ensures { result ≡ holds_at show.now spans.now depth }
+    ensures { result ≡ nearest_end (holds_at show.now spans.now) far spans.now }
 {
-    let mut inside = ArrayVec::<bool, 255>::new();
+    let mut best = far;
     for span in spans {
-        inside.push(span.has_depth(depth));
+        best = nearer_end(show, spans, best, *span);
     }
-    show.holds(inside.as_slice())
-}
-
-/// The nearer of the best depth so far and this one, where the expression holds at it.
-fn nearer(show: &Expr, spans: &[Span], best: u32, depth: u32) -> u32
-    requires few { length spans.now ≤ 255 }
-    requires leaves { HasLeavesBelow (length spans.now) show.now }
-    ensures { result ≡ nearer (holds_at show.now spans.now) best depth }
-{
-    if depth < best && holds_at(show, spans, depth) {
-        depth
-    } else {
-        best
-    }
+    best
 }
 
 /// The nearer of the best depth so far and the ends of a span, where the expression holds at them.
@@ -128,15 +115,28 @@ fn nearer_end(show: &Expr, spans: &[Span], best: u32, span: Span) -> u32
     }
 }
 
-/// The least end of a span where the expression holds, or `far`.
-pub(crate) fn nearest_end(show: &Expr, spans: &[Span], far: u32) -> u32
+/// The nearer of the best depth so far and this one, where the expression holds at it.
+fn nearer(show: &Expr, spans: &[Span], best: u32, depth: u32) -> u32
     requires few { length spans.now ≤ 255 }
     requires leaves { HasLeavesBelow (length spans.now) show.now }
-    ensures { result ≡ nearest_end (holds_at show.now spans.now) far spans.now }
+    ensures { result ≡ nearer (holds_at show.now spans.now) best depth }
 {
-    let mut best = far;
-    for span in spans {
-        best = nearer_end(show, spans, best, *span);
+    if depth < best && holds_at(show, spans, depth) {
+        depth
+    } else {
+        best
     }
-    best
+}
+
+/// Whether the expression holds at a depth, by the spans of its solids.
+fn holds_at(show: &Expr, spans: &[Span], depth: u32) -> bool
+    requires few { length spans.now ≤ 255 }
+    requires leaves { HasLeavesBelow (length spans.now) show.now }
+    ensures { result ≡ holds_at show.now spans.now depth }
+{
+    let mut inside = ArrayVec::<bool, 255>::new();
+    for span in spans {
+        inside.push(span.has_depth(depth));
+    }
+    show.holds(inside.as_slice())
 }
