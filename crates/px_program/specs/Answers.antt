@@ -1,11 +1,10 @@
 -- What a stop, and what a status, says of the outcome, of the input and of the output.
-use Rattle.std.specs.Prelude.{ℕ, ℤ, ◌≡◌, ◌^◌, List, [], Bool, true, ⊤, Option, Some, None, Result, Ok, Err, drop}
-use Rattle.std.specs.Io.KnownBytes.{Appends, Keeps, Consumes}
+use Rattle.std.specs.Prelude.{ℕ, ℤ, ◌≡◌, List, [], Bool, true, ⊤, Option, Some, None, Result, Ok, Err, drop}
+use Rattle.std.specs.Io.KnownBytes.{Appends, Keeps}
 use Rattle.px_io.specs.Counts.{Rose}
 use Rattle.px_io.specs.Told.{AppendsFront, ConsumesAtMost, Tells}
 use Rattle.px_scene.specs.declared.line.Cause.{Cause}
 use Rattle.px_scene.specs.declared.line.LimitKind.{LimitKind}
-use Rattle.px_scene.specs.declared.read.SceneFault.{SceneFault}
 use Rattle.px_scene.specs.declared.read.SceneFault.TheVariants as f
 use Rattle.px_program.specs.declared.note.Stop.{Stop}
 use Rattle.px_program.specs.declared.note.Stop.TheVariants as s

@@ -7,6 +7,7 @@ use Rattle.px_scene.specs.Solids.{names_of}
 use Rattle.px_normal.specs.declared.product.Product.{Product}
 use Rattle.px_normal.specs.Forms.{sum_of_products}
 use Rattle.px_normal.specs.Counting.{capped}
+use Rattle.px_prune.specs.Kept.{kept_of}
 use Rattle.px_program.specs.Plans.{plan_text}
 use Rattle.px_scene.specs.Scenes.{SceneView}
 use Rattle.px_scene.specs.Text.{worded}
@@ -28,11 +29,11 @@ output usage = []
 output (refused fault) = []
 output (done bytes) = bytes
 
--- the products of the shown expression, where there are not too many
+-- the products of the shown expression that can show anything, where there are not too many in all
 abbrev pub planned : SceneView → List Product → Outcome
 planned scene products =
     if nat_lt 1024 (length products) then refused (f.Limit 0 kind.Products (pos (capped (length products))))
-    else done (plan_text (names_of scene.solids) products)
+    else done (plan_text (names_of scene.solids) (length products) (kept_of scene products))
 
 -- what a command makes of a scene
 abbrev pub made : Command → SceneView → Outcome

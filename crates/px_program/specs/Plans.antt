@@ -23,6 +23,6 @@ abbrev pub product_line : List (List ℕ) → Product → List ℕ
 product_line names product =
     starred names (solids product.plain) ++ signed (codes " - ") names (solids product.barred) ++ codes "\n"
 
--- the count of the products, and a line for each
-abbrev pub plan_text : List (List ℕ) → List Product → List ℕ
-plan_text names products = kept_line (length products) (length products) ++ flat_map (product_line names) products
+-- the count of the kept products and of all, and a line for each that is kept
+abbrev pub plan_text : List (List ℕ) → ℕ → List Product → List ℕ
+plan_text names all kept = kept_line (length kept) all ++ flat_map (product_line names) kept

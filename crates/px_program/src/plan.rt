@@ -1,5 +1,5 @@
-//! The command `plan`: the products of the shown expression.
-ghost use Rattle.std.specs.Prelude.{◌≡◌, ◌++◌, ◌<◌, ◌^◌, codes, length, OnOk, IfOk};
+//! The command `plan`: the products of the shown expression that can show anything.
+ghost use Rattle.std.specs.Prelude.{◌≡◌, ◌++◌, ◌≤◌, codes, length, OnOk, IfOk};
 ghost use Rattle.std.specs.List.{flat_map};
 ghost use Rattle.px_normal.specs.Sets.{solids};
 ghost use Rattle.px_scene.specs.Solids.{names_of};
@@ -12,19 +12,19 @@ use px_num::Memory;
 use px_scene::Solid;
 use std::alloc::Global;
 
-/// The count of the products, and a line for each.
+/// The count of the kept products and of all, and a line for each that is kept.
 pub(crate) fn plan_text(
     alloc: Global,
     solids: &[Solid],
-    products: &[Product],
+    all: u32,
+    kept: &[Product],
 ) -> Result<Vec<u8>, Memory>
-    requires { length products.now < 2 ^ 32 }
-    ensures { IfOk result (λ v. v.items ≡ plan_text (names_of solids.now) products.now) }
+    requires { length kept.now ≤ all }
+    ensures { IfOk result (λ v. v.items ≡ plan_text (names_of solids.now) all kept.now) }
 {
-    let count = products.len() as u32;
     let mut text = Vec::new(alloc);
-    text.extend_from_slice(kept_line(count, count).as_bytes())?;
-    for product in products {
+    text.extend_from_slice(kept_line(kept.len() as u32, all).as_bytes())?;
+    for product in kept {
         push_product(&mut text, solids, product)?;
     }
     Ok(text)

@@ -20,6 +20,7 @@ use crate::status::Status;
 use px_frame::draw;
 use px_io::{Failed, ReadError, Sink, Source, read_whole, write_whole};
 use px_normal::{NormalFault, normalise};
+use px_prune::prune;
 use px_scene::{LimitKind, Scene, SceneFault, read_scene};
 use std::alloc::Global;
 
@@ -159,7 +160,7 @@ fn plan<O: Sink>(alloc: Global, scene: &Scene, out: &mut O) -> Result<(), Stop>
     }
 }
 
-/// The lines of the products, where there are not too many.
+/// The lines of the products that can show anything, where there are not too many in all.
 fn planned(alloc: Global, scene: &Scene) -> Result<Vec<u8>, Stop>
     ensures ok { IfOk result (λ v. made Command.Plan scene.now ≡ done v.items) }
     ensures err { IfErr result (λ stop. Meets (Err stop) (made Command.Plan scene.now) ×
@@ -170,7 +171,11 @@ fn planned(alloc: Global, scene: &Scene) -> Result<Vec<u8>, Stop>
         Err(NormalFault::TooMany { count }) => return Err(Stop::Refused(too_many(count))),
         Err(NormalFault::Memory) => return Err(Stop::Memory),
     };
-    match plan_text(alloc, scene.solids(), products.as_slice()) {
+    let plan = match prune(alloc, scene, &products) {
+        Ok(plan) => plan,
+        Err(_) => return Err(Stop::Memory),
+    };
+    match plan_text(alloc, scene.solids(), plan.whole, plan.products.as_slice()) {
         Ok(text) => Ok(text),
         Err(_) => Err(Stop::Memory),
     }

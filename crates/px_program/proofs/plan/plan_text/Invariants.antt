@@ -5,4 +5,4 @@ use Rattle.px_program.specs.Plans.{kept_line, product_line}
 use Rattle.px_program.proofs.plan.plan_text.Given as goal
 
 abbrev pub invariant-loop-product : goal.invariant-loop-product
-invariant-loop-product l = l.text.items ≡ kept_line (length l.products) (length l.products) ++ flat_map (product_line (names_of l.solids)) (take l.product-index l.products)
+invariant-loop-product l = l.text.items ≡ kept_line (length l.kept) l.all ++ flat_map (product_line (names_of l.solids)) (take l.product-index l.kept)

@@ -1,0 +1,91 @@
+-- The bounding boxes of a scene's solids at the cells of its picture.
+use Rattle.std.proofs.Common.{ℕ, suc, zero, ◌≡◌, ◌<◌, ◌≤◌, ◌-◌, ◌^◌, ◌&&◌, Bool, true, false, List, [], nat_lt, refl, arith, Option, Some, None, ◌+◌, ◌∷◌, ◌++◌, length, get_or, slice_index_or, inl, inr, ap, ◌∙◌, if◌then◌else◌, slice_get}
+use Rattle.std.specs.Option.{option_map_or}
+use Rattle.std.proofs.Math.Pow.{pow_mono}
+use Rattle.std.proofs.Math.ListN.{get_or-append, get_or-eq_default}
+use Rattle.std.proofs.Math.Seq.{get_or-append_seam}
+use Rattle.std.proofs.lemmas.Bool.{cases_eq, cases_lt}
+use Rattle.std.proofs.lemmas.Option.{slice_get_past, slice_get_read}
+use Rattle.px_expr.specs.Cells.{has_face}
+use Rattle.px_scene.specs.Cells.{faces_at, far_of, is_inside, leaf_cell, no_cell, solid_cell}
+use Rattle.px_scene.specs.Scenes.{SceneView}
+use Rattle.px_scene.specs.Solids.{SolidView}
+use Rattle.px_prune.specs.declared.cell_box.CellBox.{CellBox}
+use Rattle.px_prune.specs.Boxes.{is_in}
+use Rattle.px_normal.specs.declared.product.Product.{Product}
+use Rattle.px_prune.specs.Kept.{kept_of, kept_products}
+use Rattle.px_prune.specs.Bounding.{IsBoundingBox, IsBoxOf, cells_of, in_rows}
+use Rattle.px_prune.proofs.HullLemmas.{no_box, same_box}
+use Rattle.px_prune.proofs.BoundingLemmas.{bounding_boxes}
+use Rattle.px_prune.proofs.BehindLemmas.{HasCells, is_in_or_behind}
+
+in_picture : (x y width height : ℕ) (v : Bool) → x < width → y < height → v ≡ true → nat_lt x width && nat_lt y height && v ≡ true
+in_picture x y width height v p q r = grind arith
+
+one_behind : (box : Option CellBox) (x y z : ℕ) → is_in box x y z ≡ true → is_in_or_behind box x y (suc z) ≡ true
+one_behind None x y z h = h
+one_behind (Some b) x y z h = grind arith
+
+was : (n : ℕ) (b : Bool) (faces : List ℕ) → has_face n (if b then faces else []) ≡ true → b ≡ true
+was n true faces h = refl
+was n false faces h = h
+
+-- a solid that hides a face was there one cell before
+member_behind : (found : Option SolidView) (far x y z n : ℕ) → has_face n (option_map_or (solid_cell far x y (suc z)) found no_cell).hidden ≡ true → (option_map_or (solid_cell far x y z) found no_cell).member ≡ true
+member_behind None far x y z n h = h
+member_behind (Some s) far x y z n h = was n (is_inside s far x y z) (faces_at s.backs x y (suc z)) h
+
+-- and none is before the first cell
+none_behind : (found : Option SolidView) (far x y n : ℕ) → has_face n (option_map_or (solid_cell far x y zero) found no_cell).hidden ≡ true → false ≡ true
+none_behind None far x y n h = h
+none_behind (Some s) far x y n h = h
+
+module _ (scene : SceneView) (boxes : ℕ → Option CellBox) (bounding : (q : ℕ) → IsBoundingBox scene q (boxes q)) (x y : ℕ) (left : x < scene.width) (up : y < scene.height) where
+  member_in : (z q : ℕ) → (leaf_cell scene.solids (far_of scene) x y z q).member ≡ true → is_in (boxes q) x y z ≡ true
+  member_in z q h = (bounding q).holds x y z (in_picture x y scene.width scene.height (leaf_cell scene.solids (far_of scene) x y z q).member left up h)
+
+  hidden_in : (z q n : ℕ) → has_face n (leaf_cell scene.solids (far_of scene) x y z q).hidden ≡ true → is_in_or_behind (boxes q) x y z ≡ true
+  hidden_in zero q n h = absurd_face (none_behind (slice_get scene.solids q) (far_of scene) x y n h) where
+    absurd_face : false ≡ true → is_in_or_behind (boxes q) x y zero ≡ true
+    absurd_face e = cc
+  hidden_in (suc z) q n h = one_behind (boxes q) x y z (member_in z q (member_behind (slice_get scene.solids q) (far_of scene) x y z n h))
+
+  pub boxes_have_cells : (z : ℕ) → HasCells boxes x y z (leaf_cell scene.solids (far_of scene) x y z)
+  boxes_have_cells z = record { members = member_in z; hidden = hidden_in z }
+
+-- the box of a scene's solid
+pub known : (scene : SceneView) (q : ℕ) (ss : List SolidView) (s : SolidView) (box : Option CellBox) (far width height : ℕ) → q < length scene.solids → ss ≡ scene.solids → s ≡ get_or ss q s
+    → far ≡ far_of scene → width ≡ scene.width → height ≡ scene.height → IsBoxOf (in_rows (is_inside s far) width height) box → IsBoundingBox scene q box
+known scene q ss s box far width height there solids read is_far is_width is_height p =
+    let found : slice_get scene.solids q ≡ Some s = slice_get_read scene.solids (length scene.solids) q s refl there (read ∙ ap (λ ts. get_or ts q s) solids)
+    in same_box (in_rows (is_inside s far) width height) (cells_of scene q) box (λ x y z. rw (found, is_far, is_width, is_height) refl) p
+
+-- no cell of a scene is past the places that a box can hold
+pub small_far : (bits : ℕ) → bits ≤ 24 → 2 ^ bits - 1 < 2 ^ 32
+small_far bits h = omega (arith, pow_mono {i = bits} {j = 24} h)
+
+-- a solid that is not there has no box
+unknown : (scene : SceneView) (q : ℕ) → length scene.solids ≤ q → IsBoundingBox scene q None
+unknown scene q h = no_box (cells_of scene q) (λ x y z. rw (slice_get_past scene.solids q h) (outside (nat_lt x scene.width) (nat_lt y scene.height))) where
+  outside : (a b : Bool) → a && b && false ≡ false
+  outside a b = grind arith
+
+pub all_boxes : (scene : SceneView) (bs : List (Option CellBox)) → length bs ≡ length scene.solids
+    → ((q : ℕ) → q < length bs → IsBoundingBox scene q (slice_index_or bs q None)) → (q : ℕ) → IsBoundingBox scene q (slice_index_or bs q None)
+all_boxes scene bs same known q = elim (cases_lt q (length bs)) [
+  | inl there ↦ known q there
+  | inr past ↦ rw (get_or-eq_default bs None {n = q} past) (unknown scene q (omega (arith, same, past)))
+]
+
+pub next_box : (scene : SceneView) (bs cs : List (Option CellBox)) (box : Option CellBox) (n : ℕ) → length bs ≡ n → cs ≡ bs ++ box ∷ []
+    → ((q : ℕ) → q < n → IsBoundingBox scene q (slice_index_or bs q None)) → IsBoundingBox scene n box
+    → (q : ℕ) → q < n + 1 → IsBoundingBox scene q (slice_index_or cs q None)
+next_box scene bs cs box n count pushed known new q lt = elim (cases_eq q n) [
+  | inl last ↦ rw (pushed, last, ← count, get_or-append_seam bs box [] None) (rw count new)
+  | inr before ↦ rw (pushed, get_or-append bs (box ∷ []) None q (omega arith)) (known q (omega arith))
+]
+
+pub is_kept : (scene : SceneView) (products kept given : List Product) (bs cs : List (Option CellBox)) → ((q : ℕ) → IsBoundingBox scene q (slice_index_or bs q None))
+    → cs ≡ bs → given ≡ products → kept ≡ kept_products (λ q. slice_index_or cs q None) given → kept ≡ kept_of scene products
+is_kept scene products kept given bs cs bounding same_boxes same list =
+    list ∙ rw (same_boxes, same) (ap (λ boxes. kept_products boxes products) (bounding_boxes scene (λ q. slice_index_or bs q None) bounding))

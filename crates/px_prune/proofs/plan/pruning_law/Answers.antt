@@ -1,0 +1,19 @@
+use Rattle.std.proofs.Common.{arith, ◌<◌, ◌^◌}
+use Rattle.px_scene.specs.Cells.{far_of, leaf_cell}
+use Rattle.px_prune.specs.Bounding.{bounding_box}
+use Rattle.px_prune.proofs.BoundingLemmas.{bounding_is}
+use Rattle.px_prune.proofs.PictureLemmas.{boxes_have_cells, small_far}
+use Rattle.px_prune.proofs.PruningLemmas.{kept_holds, kept_shows}
+use Rattle.px_prune.proofs.plan.pruning_law.Goals as goal
+
+pub returns : goal.returns
+returns c scene lawful products x y z left up before =
+    let near_x : x < 2 ^ 32 = omega (arith, left, lawful.width)
+    in let near_y : y < 2 ^ 32 = omega (arith, up, lawful.height)
+    in let near_z : z < 2 ^ 32 = omega (arith, before, small_far scene.depth_bits lawful.depth)
+    in let at = leaf_cell scene.solids (far_of scene) x y z
+    in let fits = boxes_have_cells scene (bounding_box scene) (bounding_is scene) x y left up z
+    in record {
+      members = kept_holds (bounding_box scene) at x y z near_x near_y near_z fits products;
+      faces = λ face. kept_shows (bounding_box scene) at x y z near_x near_y near_z fits products face;
+    }

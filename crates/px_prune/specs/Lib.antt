@@ -1,0 +1,6 @@
+pub use Rattle.px_scene.specs.Cells
+pub use Rattle.px_scene.specs.Scenes
+pub mod Boxes
+pub mod Bounding
+pub mod Kept
+pub mod PruningLaw

@@ -1,0 +1,10 @@
+//! Boxes of solids, and the products that can show anything in the picture.
+#![tactic(auto)]
+
+mod bounds;
+mod cell_box;
+mod plan;
+
+pub use bounds::box_of;
+pub use cell_box::CellBox;
+pub use plan::{Plan, prune};

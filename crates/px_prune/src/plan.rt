@@ -1,0 +1,139 @@
+//! The products that can show anything.
+ghost use Rattle.std.specs.Prelude.{◌≡◌, ◌≤◌, ℕ, List, Option, None, slice_index_or, IfOk, filter, length};
+ghost use Rattle.std.specs.List.{list_any};
+ghost use Rattle.px_normal.specs.Sets.{empty, has, solids};
+ghost use Rattle.px_prune.specs.Kept.{box_of_all, kept_products, kept_of, meets, pruned, set_of};
+ghost use Rattle.px_prune.specs.PruningLaw.{PruningLaw};
+ghost use Rattle.px_normal.specs.declared.product.Product.{Product};
+ghost use Rattle.px_scene.specs.Scenes.{SceneView, IsLawfulScene};
+
+use crate::CellBox;
+use crate::bounds::boxes_of;
+use crate::cell_box::{EVERYTHING, common_part, has_cell, narrowed};
+use px_normal::{Product, Products, SolidSet};
+use px_num::Memory;
+use px_scene::Scene;
+use std::alloc::{AllocError, Global};
+
+/// The products of a scene that can show anything, and how many it had.
+#[derive(Debug, Drop)]
+pub struct Plan {
+    pub whole: u32,
+    pub products: Vec<Product>,
+}
+
+/// Keeps the products that can show anything, in their order (docs/PICTURE.md, "Boxes and
+/// pruning").
+///
+/// At most 1024 products.
+pub fn prune(alloc: Global, scene: &Scene, products: &Products) -> Result<Plan, Memory>
+    requires few { length products.now ≤ 1024 }
+    ensures whole { IfOk result (λ plan. plan.whole ≡ length products.now) }
+    ensures kept { IfOk result (λ plan. plan.products.items ≡ kept_of scene.now products.now) }
+    ensures fewer { IfOk result (λ plan. length plan.products.items ≤ plan.whole) }
+    ensures law { IfOk result (λ plan. PruningLaw scene.now products.now plan.products.items) }
+{
+    let boxes = boxes_of(alloc, scene)?;
+    let kept = kept_products(alloc, boxes.as_slice(), products.as_slice())?;
+    pruning_law();
+    Ok(Plan {
+        whole: products.as_slice().len() as u32,
+        products: kept,
+    })
+}
+
+/// What is kept by the boxes of the solids shows the same as the whole.
+fn pruning_law()
+    ensures { (scene : SceneView) → IsLawfulScene scene → (products : List Product)
+        → PruningLaw scene products (kept_of scene products) }
+{}
+
+fn kept_products(
+    alloc: Global,
+    boxes: &[Option<CellBox>],
+    products: &[Product],
+) -> Result<Vec<Product>, AllocError>
+    ensures { IfOk result (λ kept.
+        kept.items ≡ kept_products (λ q. slice_index_or boxes.now q None) products.now) }
+{
+    products
+        .iter()
+        .filter_map(|product| pruned(boxes, product))
+        .collect(alloc)
+}
+
+/// A product with the barred solids that count, if it can have a cell.
+fn pruned(boxes: &[Option<CellBox>], product: &Product) -> Option<Product>
+    ensures { result ≡ pruned (λ q. slice_index_or boxes.now q None) product.now }
+{
+    let plain = product.plain.solids();
+    let barred = product.barred.solids();
+    match box_of_all(boxes, &plain) {
+        Some(part) if has_cell(&part) && !is_void(product, &plain) => Some(Product {
+            plain: product.plain,
+            barred: staying(boxes, part, &barred),
+        }),
+        _ => None,
+    }
+}
+
+/// The common part of the boxes of some solids, if each has one.
+fn box_of_all(boxes: &[Option<CellBox>], plain: &[u8]) -> Option<CellBox>
+    ensures { result ≡ box_of_all (λ q. slice_index_or boxes.now q None) plain.now }
+{
+    plain.iter().fold(
+        Some(EVERYTHING),
+        |part, q| narrowed(part, box_at(boxes, *q)),
+    )
+}
+
+/// Whether a plain solid is barred too.
+fn is_void(product: &Product, plain: &[u8]) -> bool
+    ensures { result ≡ list_any (λ q. has product.now.barred q) plain.now }
+{
+    plain.iter().any(|q| product.barred.has(*q))
+}
+
+/// The barred solids that can take a cell from the product's box, or show a back in it.
+fn staying(boxes: &[Option<CellBox>], part: CellBox, barred: &[u8]) -> SolidSet
+    ensures { result ≡
+        set_of (filter (λ q. meets (slice_index_or boxes.now q None) part) barred.now) }
+{
+    barred
+        .iter()
+        .filter(|q| meets(box_at(boxes, **q), part))
+        .fold(no_solid(), |set, q| set.with(*q))
+}
+
+fn no_solid() -> SolidSet
+    ensures { result ≡ empty }
+{
+    SolidSet::default()
+}
+
+/// Whether a box meets a part, with the cells just behind its last ones.
+///
+/// A barred solid shows its backs there, where they can tie with a plain solid's front.
+fn meets(barred: Option<CellBox>, part: CellBox) -> bool
+    ensures { result ≡ meets barred part }
+{
+    match barred {
+        None => false,
+        Some(barred) => {
+            let behind = CellBox {
+                z1: barred.z1.saturating_add(1),
+                ..barred
+            };
+            has_cell(&common_part(&behind, &part))
+        }
+    }
+}
+
+fn box_at(boxes: &[Option<CellBox>], solid: u8) -> Option<CellBox>
+    ensures { result ≡ slice_index_or boxes.now solid None }
+{
+    match boxes.get(usize::from(solid)) {
+        Some(found) => *found,
+        None => None,
+    }
+}
