@@ -33,17 +33,25 @@ fn pieces_of(alloc: Global, text: &[u8]) -> Result<Vec<&[u8]>, AllocError>
         text.now) }
     ensures count { IfOk result (λ v. vec_len v ≤ length text.now + 1) }
 {
-    text.split(|b| *b == b'\n').collect(alloc)
+    let mut pieces = Vec::new(alloc);
+    for piece in text.split(|b| *b == b'\n') {
+        pieces.push(piece)?;
+    }
+    Ok(pieces)
 }
 
 /// The words of a line: the longest runs of bytes other than blanks, before a comment.
 pub(crate) fn words_of(alloc: Global, line: &[u8]) -> Result<Vec<&[u8]>, AllocError>
     ensures { IfOk result (λ v. map (λ w. w.now) v.items ≡ words_of line.now) }
 {
-    before_comment(line)
+    let mut words = Vec::new(alloc);
+    for word in before_comment(line)
         .split(|b| is_blank(*b))
         .filter(|w| is_word(*w))
-        .collect(alloc)
+    {
+        words.push(word)?;
+    }
+    Ok(words)
 }
 
 fn before_comment(line: &[u8]) -> &[u8]
