@@ -1,6 +1,6 @@
 -- A draft is lawful after each good line.
 use Prim.Native.Nat.{suc}
-use Rattle.std.proofs.Common.{◌≡◌, ℕ, ℤ, pos, ◌+◌, ◌<◌, ◌≤◌, ◌==◌, List, [], ◌∷◌, ◌++◌, length, Bool, true, false, not, ◌||◌, refl, ap, arith, length-append, inl, inr, ◌⊎◌, Option, Some, None, IsSomeAnd, subst, add-zero, if◌then◌else◌}
+use Rattle.std.proofs.Common.{◌≡◌, ℕ, ℤ, pos, ◌+◌, ◌<◌, ◌≤◌, ◌==◌, List, [], ◌∷◌, ◌++◌, length, Bool, true, false, ◌||◌, refl, ap, arith, length-append, inl, inr, ◌⊎◌, Option, Some, None, IsSomeAnd, subst, add-zero}
 use Rattle.std.proofs.lemmas.List.{length-map, map-append}
 use Rattle.std.proofs.lemmas.List.Sums.{sum_by-append}
 use Rattle.std.proofs.lemmas.Bool.Decides.{nat_tests}
@@ -12,14 +12,11 @@ use Rattle.px_scene.specs.declared.line.Due.TheVariants as d
 use Rattle.px_scene.specs.declared.line.Keyword.{Keyword}
 use Rattle.px_scene.specs.declared.line.Keyword.TheVariants as k
 use Rattle.px_scene.specs.declared.line.Cause.{Cause}
-use Rattle.px_scene.specs.declared.line.Cause.TheVariants as cause
 use Rattle.px_expr.specs.Tree.{HasLeavesBelow}
 use Rattle.px_scene.specs.Show.{show_cause, show_limit, show_fault, show_tree}
 use Rattle.px_scene.proofs.ShowLemmas.{shown_lawful, named_show}
 use Rattle.px_scene.specs.declared.line.LineFault.{LineFault}
-use Rattle.px_scene.specs.Faults.{is_among, judged}
-use Rattle.px_scene.specs.Word.{is_name}
-use Rattle.std.specs.Str.{bytes_eq}
+use Rattle.px_scene.specs.Faults.{judged}
 use Rattle.px_num.specs.declared.linear.Linear.{Linear}
 use Rattle.std.proofs.lemmas.Bool.{cases_eq}
 use Rattle.px_scene.specs.declared.solid.Colour.{Colour}

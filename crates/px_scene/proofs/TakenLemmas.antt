@@ -16,7 +16,6 @@ use Rattle.px_scene.specs.Text.{Words}
 use Rattle.px_scene.specs.declared.line.LineFault.{LineFault}
 use Rattle.px_scene.specs.Lines.{past, most, face_past, face_limit, is_due, form_of, is_header, keyword_of, cause_of, solid_form, are_numbers, numbers_of, figures}
 use Rattle.px_scene.specs.Faults.{is_among}
-use Rattle.px_scene.specs.Show.{show_cause}
 use Rattle.px_scene.specs.Figures.{colour_of, size_of}
 use Rattle.px_scene.specs.Reading.{head_colour}
 use lib.IntN.{negsuc}

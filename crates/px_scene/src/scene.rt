@@ -1,5 +1,6 @@
 //! A scene: its picture's size and depth, its solids, and the expression that is shown.
-ghost use Rattle.std.specs.Prelude.{◌≡◌, ◌-◌, ◌^◌, ◌<◌, ◌≤◌, length};
+ghost use Rattle.std.specs.Prelude.{◌≡◌, ◌-◌, ◌^◌, ◌<◌, ◌≤◌, All, length};
+ghost use Rattle.px_scene.specs.Solids.{IsLawfulSolid};
 ghost use Rattle.px_scene.specs.Scenes.{SceneView, IsLawfulScene, IsGridExponent, faces_of, colour_in_scene};
 
 use crate::solid::{Colour, Solid};
@@ -15,12 +16,15 @@ pub struct Scene {
     width: u32,
     height: u32,
     depth_bits: u32,
+    faces: u32,
     solids: Vec<Solid>,
     show: Expr,
 }
 
 impl Model for Scene {
-    ghost use Rattle.px_scene.specs.Scenes.{SceneView, IsLawfulScene};
+    ghost use Rattle.std.specs.Prelude.{◌≡◌, All};
+    ghost use Rattle.px_scene.specs.Scenes.{SceneView, IsLawfulScene, faces_of};
+    ghost use Rattle.px_scene.specs.Solids.{IsLawfulSolid};
     ghost use Rattle.px_expr.specs.TreeCode.{tree_code};
     ghost use Rattle.std.specs.Coded.{codes};
 
@@ -43,7 +47,7 @@ impl Model for Scene {
           = s.depth_bits;
       solids = s.solids.items;
       show = s.show;
-    }) };
+    }) × All IsLawfulSolid s.solids.items × (s.faces ≡ faces_of s.solids.items) };
 }
 
 impl Scene {
@@ -71,10 +75,12 @@ impl Scene {
           show = show;
         } }
     {
+        let faces = faces_among(solids.as_slice());
         Scene {
             width,
             height,
             depth_bits,
+            faces,
             solids,
             show,
         }
@@ -108,6 +114,7 @@ impl Scene {
     pub fn solids(&self) -> &[Solid]
         ensures value { result.now ≡ self.now.solids }
         ensures lawful { IsLawfulScene self.now }
+        ensures each { All IsLawfulSolid self.now.solids }
     {
         self.solids.as_slice()
     }
@@ -139,7 +146,7 @@ impl Scene {
     pub fn faces(&self) -> u32
         ensures { result ≡ faces_of self.now.solids }
     {
-        self.solids.iter().map(|solid| solid.face_count()).sum()
+        self.faces
     }
 
     /// The colour of the face of this number, and black for 0.
@@ -160,6 +167,19 @@ impl Scene {
             blue: 0,
         }
     }
+}
+
+/// The greatest face number of these solids.
+fn faces_among(solids: &[Solid]) -> u32
+    requires { faces_of solids.now ≤ 4095 }
+    ensures faces { result ≡ faces_of solids.now }
+    ensures each { All IsLawfulSolid solids.now }
+{
+    let mut faces = 0;
+    for solid in solids {
+        faces += solid.face_count();
+    }
+    faces
 }
 
 /// The least `n` of at least 1 with `2^n` at least `size`, which is from 1 to 512.

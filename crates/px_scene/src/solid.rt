@@ -134,7 +134,8 @@ impl Solid {
 
     /// How many face numbers it takes, its near face's among them.
     pub(crate) fn face_count(&self) -> u32
-        ensures { result ≡ faces_in self.now }
+        ensures count { result ≡ faces_in self.now }
+        ensures lawful { IsLawfulSolid self.now }
     {
         1 + self.fronts.len() as u32 + self.backs.len() as u32
     }
