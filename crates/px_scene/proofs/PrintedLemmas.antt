@@ -78,7 +78,7 @@ split_name (b ∷ n) bs first others all is =
     let each = both (is_name_byte b) (list_all is_name_byte n) all
     in rw ((plain_name b each.0).no_blank, split_name n bs first others each.1 is) refl
 
-name_bytes : (n : List ℕ) → is_name n ≡ true → list_all is_name_byte n ≡ true
+pub name_bytes : (n : List ℕ) → is_name n ≡ true → list_all is_name_byte n ≡ true
 name_bytes [] e = cc
 name_bytes (b ∷ bs) e = (both (is_letter b) (list_all is_name_byte (b ∷ bs)) (both (is_letter b && list_all is_name_byte (b ∷ bs)) (nat_le (length (b ∷ bs)) 32) e).0).1
 
@@ -109,7 +109,7 @@ across_printed (join op left right) bs names behind =
     (rw (append_assoc (printed left) (32 ∷ sign_byte op ∷ 32 ∷ (printed right ++ 41 ∷ [])) bs, append_assoc (written left) (sign op ∷ (written right ++ closes ∷ [])) (tokens_across bs))
     (across_printed left (32 ∷ sign_byte op ∷ 32 ∷ ((printed right ++ 41 ∷ []) ++ bs)) each.0 refl ∙ ap (λ ts. written left ++ ts) behind_left))
 
-abbrev is_no_comment : ℕ → Bool
+abbrev pub is_no_comment : ℕ → Bool
 is_no_comment b = not (b == 35)
 
 name_uncommented : (n : List ℕ) → list_all is_name_byte n ≡ true → list_all is_no_comment n ≡ true
@@ -123,7 +123,7 @@ sign_uncommented o.Union = refl
 sign_uncommented o.Meet = refl
 sign_uncommented o.Minus = refl
 
-printed_uncommented : (tree : Named) → has_names tree ≡ true → list_all is_no_comment (printed tree) ≡ true
+pub printed_uncommented : (tree : Named) → has_names tree ≡ true → list_all is_no_comment (printed tree) ≡ true
 printed_uncommented (leaf n) names = name_uncommented n (name_bytes n names)
 printed_uncommented (join op left right) names =
     let each = both (has_names left) (has_names right) names
@@ -136,7 +136,7 @@ printed_uncommented (join op left right) names =
     ) refl
 
 -- what has no comment stays whole
-before_none : (bs : List ℕ) → list_all is_no_comment bs ≡ true → take_while is_no_comment bs ≡ bs
+pub before_none : (bs : List ℕ) → list_all is_no_comment bs ≡ true → take_while is_no_comment bs ≡ bs
 before_none [] all = refl
 before_none (b ∷ bs) all =
     let each = both (is_no_comment b) (list_all is_no_comment bs) all
@@ -172,7 +172,7 @@ placed_back names (shown.leaf place) different below = ap shown.leaf (place_back
 placed_back names (shown.join op left right) different below =
     cc (placed_back names left different below.0, placed_back names right different below.1)
 
-names_lawful : (names : Words) (tree : Tree) → AllPass is_name names → HasLeavesBelow (length names) tree → has_names (named_by names tree) ≡ true
+pub names_lawful : (names : Words) (tree : Tree) → AllPass is_name names → HasLeavesBelow (length names) tree → has_names (named_by names tree) ≡ true
 names_lawful names (shown.leaf place) lawful below = lawful place [] below
 names_lawful names (shown.join op left right) lawful below = rw (names_lawful names left lawful below.0, names_lawful names right lawful below.1) refl
 

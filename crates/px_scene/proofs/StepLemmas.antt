@@ -1,10 +1,11 @@
 -- The steps of a tree build it.
 use Prim.Native.Nat.{zero, suc}
-use Rattle.std.proofs.Common.{◌≡◌, ℕ, ◌<◌, ◌≤◌, List, [], ◌∷◌, ◌++◌, length, take, get_or, fold, refl, ap, ◌∙◌, arith}
-use Rattle.std.proofs.lemmas.List.{take_all}
-use Rattle.std.proofs.lemmas.List.Sums.{fold-append}
+use Rattle.std.proofs.Common.{◌≡◌, ℕ, ◌<◌, ◌≤◌, List, [], ◌∷◌, ◌++◌, length, take, get_or, fold, refl, ap, ◌∙◌, arith, ◌+◌, drop, max, sym}
+use Rattle.std.proofs.lemmas.List.{take_all, take-append-drop}
+use Rattle.std.proofs.lemmas.List.Sums.{fold-append, fold_more}
 use Rattle.px_expr.specs.declared.node.Op.{Op}
-use Rattle.px_expr.specs.Tree.{Tree, leaf, join}
+use Rattle.px_expr.specs.Tree.{Tree, leaf, join, leaf_count, nesting}
+use Rattle.px_expr.specs.Waiting.{joined, newest, all_leaves}
 use Rattle.px_scene.specs.Stacks.{steps_of, built}
 use Rattle.px_scene.specs.declared.stack.Step.{Step}
 use Rattle.px_scene.specs.declared.stack.Step.TheVariants as s
@@ -51,3 +52,53 @@ can_join tree steps waiting i step op is lt now here = rw now (rw here at (can_t
 -- behind the last step the tree waits alone
 pub all_built : (tree : Tree) (steps : List Step) (waiting : List Tree) (i : ℕ) → steps ≡ steps_of tree → length steps ≤ i → waiting ≡ fold built [] (take i steps) → waiting ≡ tree ∷ []
 all_built tree steps waiting i is past now = now ∙ ap (fold built []) (take_all i steps past ∙ is) ∙ build_tree [] tree
+
+-- what no step makes less is at most what it is of the whole tree
+never_falls : (measure : List Tree → ℕ) → ((trees : List Tree) (step : Step) → measure trees ≤ measure (built trees step))
+    → (trees : List Tree) (steps : List Step) → measure trees ≤ measure (fold built trees steps)
+never_falls measure each trees [] = omega arith
+never_falls measure each trees (step ∷ steps) = omega (arith, each trees step, never_falls measure each (built trees step) steps)
+
+at_most : (measure : List Tree → ℕ) → ((trees : List Tree) (step : Step) → measure trees ≤ measure (built trees step))
+    → (tree : Tree) (steps : List Step) (waiting : List Tree) (i : ℕ) (step : Step) → steps ≡ steps_of tree → i < length steps
+    → waiting ≡ fold built [] (take i steps) → measure (built waiting (get_or steps i step)) ≤ measure (tree ∷ [])
+at_most measure each tree steps waiting i step is lt now =
+    let after = fold built [] (take (i + 1) steps)
+    in let here : built waiting (get_or steps i step) ≡ after = ap (λ trees. built trees (get_or steps i step)) now ∙ sym (fold_more built [] steps i step lt)
+    in let last : fold built after (drop (i + 1) steps) ≡ tree ∷ [] =
+    sym (fold-append built [] (take (i + 1) steps) (drop (i + 1) steps)) ∙ ap (fold built []) (take-append-drop (i + 1) steps ∙ is) ∙ build_tree [] tree
+    in omega (arith, never_falls measure each after (drop (i + 1) steps), ap measure here, ap measure last)
+
+leaves_grow : (trees : List Tree) (step : Step) → all_leaves trees ≤ all_leaves (built trees step)
+leaves_grow trees (s.Leaf place) = omega arith
+leaves_grow [] (s.Join op) = omega arith
+leaves_grow (tree ∷ []) (s.Join op) = omega arith
+leaves_grow (right ∷ left ∷ others) (s.Join op) = omega arith
+
+-- the nesting of the deepest tree that waits
+abbrev deepest : List Tree → ℕ
+deepest [] = 0
+deepest (tree ∷ others) = max (nesting tree) (deepest others)
+
+deepens : (trees : List Tree) (step : Step) → deepest trees ≤ deepest (built trees step)
+deepens trees (s.Leaf place) = omega arith
+deepens [] (s.Join op) = omega arith
+deepens (tree ∷ []) (s.Join op) = omega arith
+deepens (right ∷ left ∷ others) (s.Join op) = omega arith
+
+newest_most : (trees : List Tree) → nesting (newest trees) ≤ deepest trees
+newest_most [] = omega arith
+newest_most (tree ∷ others) = omega arith
+
+-- a tree within the limits leaves room for each of its leaves, and for each join
+pub room_for_leaf : (tree : Tree) (steps : List Step) (waiting : List Tree) (i : ℕ) (step : Step) (place : ℕ) → steps ≡ steps_of tree → leaf_count tree ≤ 512 → i < length steps
+    → waiting ≡ fold built [] (take i steps) → get_or steps i step ≡ s.Leaf place → all_leaves waiting < 512
+room_for_leaf tree steps waiting i step place is few lt now here =
+    let most = rw here at (at_most all_leaves leaves_grow tree steps waiting i step is lt now)
+    in omega arith
+
+pub room_for_join : (tree : Tree) (steps : List Step) (waiting : List Tree) (i : ℕ) (step : Step) (op : Op) → steps ≡ steps_of tree → nesting tree ≤ 64 → i < length steps
+    → waiting ≡ fold built [] (take i steps) → get_or steps i step ≡ s.Join op → nesting (newest (joined op waiting)) ≤ 64
+room_for_join tree steps waiting i step op is flat lt now here =
+    let most = rw here at (at_most deepest deepens tree steps waiting i step is lt now)
+    in omega (arith, newest_most (joined op waiting))

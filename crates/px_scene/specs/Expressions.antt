@@ -1,4 +1,5 @@
 -- Expressions over names: how they are written, and how they are read.
+-- The two agree: what is written is read, and what is read was written (`expression_law` in src/show.rt).
 use Rattle.std.specs.Prelude.{◌≡◌, ℕ, ◌+◌, max, List, [], ◌∷◌, ◌++◌, true, Bool, ◌&&◌, if◌then◌else◌, Option, Some, None, fold}
 use Rattle.px_expr.specs.declared.node.Op.{Op}
 use Rattle.px_scene.specs.Tokens.{Token, name, opens, closes, sign, other}
@@ -27,17 +28,17 @@ abbrev pub nesting : Named → ℕ
 nesting (leaf n) = 0
 nesting (join op left right) = max (nesting left) (nesting right) + 1
 
--- what a line is read to: whole expressions, and the tokens that belong to none yet
+-- what tokens are read to: sides, which are whole expressions, and tokens that stand in no side yet
 pub data Part : Type 0 where
   side : Named → Part
   token : Token → Part
 
--- a bracket closes the last two sides with the sign between them, where such a bracket stands open
+-- where a bracket, a side, a sign and a side stand last, a closing bracket makes one side of them
 abbrev pub closed : List Part → List Part
 closed (side right ∷ token (sign op) ∷ side left ∷ token opens ∷ before) = side (join op left right) ∷ before
 closed before = token closes ∷ before
 
--- one more token: a name is a side
+-- one more token: a name is a side by itself
 abbrev pub put : List Part → Token → List Part
 put before (name n) = (if is_name n then side (leaf n) else token (name n)) ∷ before
 put before closes = closed before
@@ -53,11 +54,11 @@ abbrev pub whole : List Part → Option Named
 whole (side tree ∷ []) = Some tree
 whole parts = None
 
--- the expression that tokens write: the tree that is written so, where there is one
+-- the expression that tokens write, where one side is all that they are read to
 abbrev pub expression_of : List Token → Option Named
 expression_of ts = whole (parts_of ts)
 
--- what tells that it is so
+-- the tokens are those of the tree, and its leaves are names
 pub record IsExpressionOf (ts : List Token) (tree : Named) : Type 0 where
   pub text : written tree ≡ ts
   pub names : has_names tree ≡ true

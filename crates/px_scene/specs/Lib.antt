@@ -1,9 +1,11 @@
+pub mod Canonical
 pub mod Cells
 pub mod DraftViews
 pub mod Drafts
 pub mod Expressions
 pub mod Faults
 pub mod Figures
+pub mod Gaps
 pub mod Lines
 pub mod Printed
 pub mod Reading
@@ -16,3 +18,4 @@ pub mod Tells
 pub mod Text
 pub mod Tokens
 pub mod Word
+pub mod Writable

@@ -16,6 +16,7 @@ use Rattle.px_scene.specs.declared.stack.Stack.{Stack}
 use Rattle.px_scene.specs.declared.stack.Step.{Step}
 use Rattle.px_scene.specs.declared.stack.Step.TheVariants as s
 
+-- a token of the code, as the rules name it
 abbrev pub token_of : Token → t.Token
 token_of (d.Name n) = t.name n.now
 token_of d.Opens = t.opens
@@ -23,6 +24,7 @@ token_of d.Closes = t.closes
 token_of (d.Sign op) = t.sign op
 token_of d.Other = t.other
 
+-- what the stack keeps of a part
 abbrev pub part_of : e.Part → Part
 part_of (side tree) = p.Side (nesting tree)
 part_of (token (t.name n)) = p.Other
@@ -31,7 +33,7 @@ part_of (token t.closes) = p.Other
 part_of (token (t.sign op)) = p.Sign op
 part_of (token t.other) = p.Other
 
--- the sign and the nesting of what a bracket closes
+-- the sign and the nesting of what a bracket closes; a nesting stops at the greatest number
 abbrev pub bracketed : Part → Part → Part → Part → Option (Op × ℕ)
 bracketed p.Opens (p.Side left) (p.Sign op) (p.Side right) = Some (op, min (max left right + 1) (2 ^ 64 - 1))
 bracketed bracket left sign right = None
@@ -78,6 +80,7 @@ abbrev pub is_unknown : ℕ → Step → Bool
 is_unknown count (s.Leaf place) = nat_le count place
 is_unknown count (s.Join op) = false
 
+-- the kinds of the parts that were read, the last one on top, and the steps of their sides
 pub record AreKept (names : Words) (parts : List Part) (steps : List Step) (read : List e.Part) : Type 0 where
   pub kinds : reverse parts ≡ map part_of read
   pub order : steps ≡ all_steps names read

@@ -4,6 +4,7 @@
 mod draft;
 mod figure;
 mod line;
+mod print;
 mod read;
 mod scene;
 mod show;
@@ -12,9 +13,11 @@ mod stack;
 mod text;
 mod token;
 mod word;
+mod write;
 
 pub use line::{Cause, LimitKind};
 pub use read::{SceneFault, read_scene};
 pub use scene::Scene;
 pub use show::{expression_law, printed_law};
 pub use solid::{Colour, Face, Solid};
+pub use write::{canonical_law, write_scene, written_law};

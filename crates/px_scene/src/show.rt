@@ -1,9 +1,9 @@
 //! The expression of a `show` line.
-ghost use Rattle.std.specs.Prelude.{◌≡◌, ◌≤◌, None, Some, true, List, OnOk, IfOk, IsErrOf, length};
+ghost use Rattle.std.specs.Prelude.{◌≡◌, ◌≤◌, None, Some, true, List, OnOk, IfOk, IfErr, IsErrOf, length};
 ghost use Rattle.px_scene.specs.declared.line.LineFault.{LineFault};
 ghost use Rattle.px_scene.specs.Solids.{names_of};
 ghost use Rattle.px_scene.specs.Lines.{now_of};
-ghost use Rattle.px_expr.specs.Tree.{Tree, HasLeavesBelow, IsLawful};
+ghost use Rattle.px_expr.specs.Tree.{Tree, leaf_count, nesting, HasLeavesBelow, IsLawful};
 ghost use Rattle.px_scene.specs.Text.{Words, words_of};
 ghost use Rattle.px_scene.specs.Tokens.{Token, tokens_of};
 ghost use Rattle.px_scene.specs.Printed.{AreDistinctNames, printed, named_by};
@@ -34,13 +34,16 @@ pub(crate) fn read_show(alloc: Global, solids: &[Solid], words: &[&[u8]]) -> Res
     if let Some(fault) = stack.fault(solids.len()) {
         return Err(LineError::Bad(fault));
     }
+    // Both counts are within their limits here, so that only memory can be wanting.
     build(alloc, stack.steps()).map_err(|_| LineError::Memory)
 }
 
 /// The expression that steps build.
 fn build(alloc: Global, steps: &[Step]) -> Result<Expr, ExprFault>
     requires { (tree : Tree) × (steps.now ≡ steps_of tree) }
-    ensures { (tree : Tree) → steps.now ≡ steps_of tree → IfOk result (λ e. e ≡ tree) }
+    ensures tree { (tree : Tree) → steps.now ≡ steps_of tree → IfOk result (λ e. e ≡ tree) }
+    ensures memory { (tree : Tree) → steps.now ≡ steps_of tree → leaf_count tree ≤ 512 →
+        nesting tree ≤ 64 → IfErr result (λ fault. fault ≡ ExprFault.Memory) }
 {
     let mut builder = ExprBuilder::new(alloc);
     for step in steps {

@@ -16,7 +16,9 @@ use crate::word::is_name;
 use px_expr::Op;
 use std::alloc::{AllocError, Global};
 
-/// What stands on the stack: a whole expression with its nesting, or a token that is in none yet.
+/// What stands on the stack: a side, which is a whole expression, or a token that is in none yet.
+///
+/// A side's nesting is below the number of steps that build it, so that it never stops short.
 #[derive(Clone, Copy, Debug, PartialEq, Eq)]
 enum Part {
     Side { nesting: usize },
@@ -32,7 +34,7 @@ pub(crate) enum Step {
     Join(Op),
 }
 
-/// What tokens were read to, the last part on top, and the steps that build its sides.
+/// What tokens were read to, the last part on top, and the steps that build all sides in order.
 #[derive(Drop)]
 pub(crate) struct Stack {
     parts: Vec<Part>,
@@ -40,7 +42,7 @@ pub(crate) struct Stack {
 }
 
 impl Stack {
-    /// Reads tokens; an unknown name has the place behind the last solid.
+    /// Reads tokens, each once; an unknown name has the place behind the last solid.
     pub(crate) fn read(
         alloc: Global,
         solids: &[Solid],
@@ -126,7 +128,7 @@ impl Stack {
         Ok(())
     }
 
-    /// Why there is no expression over so many solids, or which limit it passes.
+    /// Why the tokens are no expression over so many solids, or else the limit that it passes.
     pub(crate) fn fault(&self, solids: usize) -> Option<LineFault>
         ensures { (names : Words) (read : List AnyPart) → length names ≡ solids →
             IsStackOf names self.now read →

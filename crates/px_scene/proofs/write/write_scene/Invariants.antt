@@ -1,0 +1,7 @@
+use Rattle.std.proofs.Common.{◌≡◌, ◌++◌, take}
+use Rattle.std.specs.List.{flat_map}
+use Rattle.px_scene.specs.Canonical.{first_lines, solid_lines}
+use Rattle.px_scene.proofs.write.write_scene.Given as goal
+
+abbrev pub invariant-loop-solid : goal.invariant-loop-solid
+invariant-loop-solid l = l.text.items ≡ first_lines l.scene ++ flat_map solid_lines (take l.solid-index l.scene.solids)

@@ -1,0 +1,78 @@
+-- The canonical text of a scene: the one way in which it is written.
+use Rattle.std.specs.Prelude.{ℕ, ◌+◌, ◌==◌, List, [], ◌∷◌, ◌++◌, codes, decimal, filter, length, Bool, not, ◌||◌, ◌&&◌}
+use Rattle.std.specs.Fmt.{signed_decimal}
+use Rattle.std.specs.List.{flat_map, range_with_len, list_all}
+use Rattle.px_num.specs.declared.linear.Linear.{Linear}
+use Rattle.px_scene.specs.declared.solid.Colour.{Colour}
+use Rattle.px_scene.specs.declared.solid.Face.{Face}
+use Rattle.px_scene.specs.Text.{Words, is_blank, is_some_byte}
+use Rattle.px_scene.specs.Printed.{printed, named_by}
+use Rattle.px_scene.specs.Solids.{SolidView, names_of}
+use Rattle.px_scene.specs.Scenes.{SceneView}
+
+-- each word with one space before it
+abbrev pub spaced : Words → List ℕ
+spaced ws = flat_map (λ w. 32 ∷ w) ws
+
+-- a byte of a word: no blank, and none that begins a comment or ends a line
+abbrev pub is_plain_byte : ℕ → Bool
+is_plain_byte b = not (is_blank b || b == 35 || b == 10)
+
+abbrev pub is_plain : List ℕ → Bool
+is_plain w = is_some_byte w && list_all is_plain_byte w
+
+abbrev pub are_plain : Words → Bool
+are_plain ws = list_all is_plain ws
+
+-- a line: its first word, the words after it, and the line feed
+unfoldable pub written_line : List ℕ → Words → List ℕ
+written_line w ws = w ++ spaced ws ++ 10 ∷ []
+
+abbrev pub is_no_feed : ℕ → Bool
+is_no_feed b = not (b == 10)
+
+-- lines, each with its line feed
+abbrev pub fed : List (List ℕ) → List ℕ
+fed lines = flat_map (λ l. l ++ 10 ∷ []) lines
+
+-- the numbers of a colour and of a plane
+abbrev pub colour_words : Colour → Words
+colour_words c = decimal c.red ∷ decimal c.green ∷ decimal c.blue ∷ []
+
+abbrev pub plane_words : Linear → Words
+plane_words p = signed_decimal p.a ∷ signed_decimal p.b ∷ signed_decimal p.c ∷ []
+
+-- a front or a back, with its colour
+abbrev pub face_line : List ℕ → Face → List ℕ
+face_line kind f = written_line kind (plane_words f.plane ++ colour_words f.colour)
+
+abbrev pub side_line : Linear → List ℕ
+side_line p = written_line (codes "side") (plane_words p)
+
+-- the lines of the faces that have a number
+abbrev pub lines_at : List ℕ → List Face → ℕ → List ℕ
+lines_at kind faces number = flat_map (face_line kind) (filter (λ f. f.number == number) faces)
+
+abbrev pub lines_of_number : SolidView → ℕ → List ℕ
+lines_of_number s number = lines_at (codes "front") s.fronts number ++ lines_at (codes "back") s.backs number
+
+-- fronts and backs together, in the order of their numbers
+abbrev pub face_lines : SolidView → List ℕ
+face_lines s = flat_map (lines_of_number s) (range_with_len (s.near_number + 1) (length s.fronts + length s.backs))
+
+-- a solid: its line, its fronts and backs, and its sides
+abbrev pub solid_lines : SolidView → List ℕ
+solid_lines s = written_line (codes "solid") (s.name ∷ colour_words s.colour) ++ face_lines s ++ flat_map side_line s.sides
+
+abbrev pub first_lines : SceneView → List ℕ
+first_lines scene =
+    written_line (codes "pxscene") (codes "1" ∷ [])
+    ++ written_line (codes "picture") (decimal scene.width ∷ decimal scene.height ∷ [])
+    ++ written_line (codes "depth") (decimal scene.depth_bits ∷ [])
+
+abbrev pub show_line : SceneView → List ℕ
+show_line scene = written_line (codes "show") (printed (named_by (names_of scene.solids) scene.show) ∷ [])
+
+-- the size of the picture, the solids, what is shown, and the end
+abbrev pub canonical_text : SceneView → List ℕ
+canonical_text scene = first_lines scene ++ flat_map solid_lines scene.solids ++ show_line scene ++ written_line (codes "end") []

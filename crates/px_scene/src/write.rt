@@ -1,0 +1,279 @@
+//! Writing a scene's canonical text (docs/SCENES.md, "Canonical text").
+ghost use Rattle.std.specs.Prelude.{◌≡◌, ◌<◌, ◌≤◌, ◌^◌, None, length, ◌++◌, ◌∷◌, [], ℕ, ℤ, List, Some, true, codes, decimal, OnOk, IfOk};
+ghost use lib.Signed.{mag};
+ghost use Rattle.px_scene.specs.Scenes.{SceneView};
+ghost use Rattle.px_scene.specs.Writable.{IsWritable};
+ghost use Rattle.px_scene.specs.Refusals.{refusal_of};
+ghost use Rattle.px_scene.specs.Reading.{scene_of};
+ghost use Rattle.px_scene.specs.Text.{Words, words_of, lines_of, worded};
+ghost use Rattle.px_scene.specs.Word.{number_of};
+ghost use Rattle.std.specs.Fmt.{signed_decimal};
+ghost use Rattle.std.specs.List.{list_all};
+ghost use Rattle.px_scene.specs.Canonical.{
+  spaced,
+  written_line,
+  colour_words,
+  plane_words,
+  face_line,
+  side_line,
+  lines_at,
+  lines_of_number,
+  face_lines,
+  solid_lines,
+  first_lines,
+  show_line,
+  canonical_text,
+  is_plain,
+  are_plain,
+  is_no_feed,
+  fed,
+};
+
+use crate::print::put_expression;
+use crate::scene::Scene;
+use crate::solid::{Colour, Face, Solid};
+use itoa::Buffer;
+use px_num::{Linear, Memory};
+use std::alloc::Global;
+
+/// The canonical text of a scene (docs/SCENES.md, "Canonical text").
+pub fn write_scene(alloc: Global, scene: &Scene) -> Result<Vec<u8>, Memory>
+    ensures { IfOk result (λ text. text.items ≡ canonical_text scene.now) }
+{
+    let mut text = Vec::new(alloc);
+    put_first_lines(&mut text, scene)?;
+    for solid in scene.solids() {
+        put_solid(&mut text, solid)?;
+    }
+    put_show(alloc, &mut text, scene)?;
+    put_line(&mut text, b"end")?;
+    Ok(text)
+}
+
+fn put_first_lines(text: &mut Vec<u8>, scene: &Scene) -> Result<(), Memory>
+    ensures { OnOk result (text.new.items ≡ text.old.items ++ first_lines scene.now) }
+{
+    put_header(text)?;
+    put_picture(text, scene.width(), scene.height())?;
+    put_depth(text, scene.depth_bits())
+}
+
+#[tactic(auto, unfolding(crate::specs::Canonical::written_line))]
+fn put_header(text: &mut Vec<u8>) -> Result<(), Memory>
+    ensures { OnOk result (text.new.items ≡ text.old.items
+        ++ written_line (codes "pxscene") (codes "1" ∷ [])) }
+{
+    put(text, b"pxscene 1\n")
+}
+
+#[tactic(auto, unfolding(crate::specs::Canonical::written_line))]
+fn put_picture(text: &mut Vec<u8>, width: u32, height: u32) -> Result<(), Memory>
+    ensures { OnOk result (text.new.items ≡ text.old.items
+        ++ written_line (codes "picture") (decimal width ∷ decimal height ∷ [])) }
+{
+    put(text, b"picture")?;
+    put_size(text, width)?;
+    put_size(text, height)?;
+    put(text, b"\n")
+}
+
+#[tactic(auto, unfolding(crate::specs::Canonical::written_line))]
+fn put_depth(text: &mut Vec<u8>, bits: u32) -> Result<(), Memory>
+    ensures { OnOk result (text.new.items ≡ text.old.items
+        ++ written_line (codes "depth") (decimal bits ∷ [])) }
+{
+    put(text, b"depth")?;
+    put_size(text, bits)?;
+    put(text, b"\n")
+}
+
+fn put_solid(text: &mut Vec<u8>, solid: &Solid) -> Result<(), Memory>
+    ensures { OnOk result (text.new.items ≡ text.old.items ++ solid_lines solid.now) }
+{
+    put_head(text, solid.name(), solid.colour())?;
+    put_faces(text, solid)?;
+    for side in solid.sides() {
+        put_side(text, side)?;
+    }
+    Ok(())
+}
+
+#[tactic(auto, unfolding(crate::specs::Canonical::written_line))]
+fn put_head(text: &mut Vec<u8>, name: &[u8], colour: Colour) -> Result<(), Memory>
+    ensures { OnOk result (text.new.items ≡ text.old.items
+        ++ written_line (codes "solid") (name.now ∷ colour_words colour)) }
+{
+    put(text, b"solid ")?;
+    put(text, name)?;
+    put_colour(text, colour)?;
+    put(text, b"\n")
+}
+
+/// The fronts and backs in the order of their numbers.
+fn put_faces(text: &mut Vec<u8>, solid: &Solid) -> Result<(), Memory>
+    ensures { OnOk result (text.new.items ≡ text.old.items ++ face_lines solid.now) }
+{
+    let first = u64::from(solid.near_number()) + 1;
+    let count = solid.fronts().len() as u64 + solid.backs().len() as u64;
+    for i in 0..count {
+        put_number(text, solid, first + i)?;
+    }
+    Ok(())
+}
+
+/// The front or the back of a number.
+fn put_number(text: &mut Vec<u8>, solid: &Solid, number: u64) -> Result<(), Memory>
+    ensures { OnOk result (text.new.items ≡ text.old.items ++ lines_of_number solid.now number) }
+{
+    put_faces_at(text, b"front", solid.fronts(), number)?;
+    put_faces_at(text, b"back", solid.backs(), number)
+}
+
+fn put_faces_at(
+    text: &mut Vec<u8>,
+    keyword: &[u8],
+    faces: &[Face],
+    number: u64,
+) -> Result<(), Memory>
+    ensures { OnOk result (text.new.items ≡ text.old.items
+        ++ lines_at keyword.now faces.now number) }
+{
+    for face in faces {
+        if u64::from(face.number) == number {
+            put_face(text, keyword, face)?;
+        }
+    }
+    Ok(())
+}
+
+#[tactic(auto, unfolding(crate::specs::Canonical::written_line))]
+fn put_face(text: &mut Vec<u8>, keyword: &[u8], face: &Face) -> Result<(), Memory>
+    ensures { OnOk result (text.new.items ≡ text.old.items ++ face_line keyword.now face.now) }
+{
+    put(text, keyword)?;
+    put_plane(text, &face.plane)?;
+    put_colour(text, face.colour)?;
+    put(text, b"\n")
+}
+
+#[tactic(auto, unfolding(crate::specs::Canonical::written_line))]
+fn put_side(text: &mut Vec<u8>, side: &Linear) -> Result<(), Memory>
+    ensures { OnOk result (text.new.items ≡ text.old.items ++ side_line side.now) }
+{
+    put(text, b"side")?;
+    put_plane(text, side)?;
+    put(text, b"\n")
+}
+
+#[tactic(auto, unfolding(crate::specs::Canonical::written_line))]
+fn put_show(alloc: Global, text: &mut Vec<u8>, scene: &Scene) -> Result<(), Memory>
+    ensures { OnOk result (text.new.items ≡ text.old.items ++ show_line scene.now) }
+{
+    put(text, b"show ")?;
+    put_expression(alloc, text, scene.solids(), scene.show())?;
+    put(text, b"\n")
+}
+
+/// A line of one word.
+#[tactic(auto, unfolding(crate::specs::Canonical::written_line))]
+fn put_line(text: &mut Vec<u8>, word: &[u8]) -> Result<(), Memory>
+    ensures { OnOk result (text.new.items ≡ text.old.items ++ written_line word.now []) }
+{
+    put(text, word)?;
+    put(text, b"\n")
+}
+
+fn put_plane(text: &mut Vec<u8>, plane: &Linear) -> Result<(), Memory>
+    ensures { OnOk result (text.new.items ≡ text.old.items ++ spaced (plane_words plane.now)) }
+{
+    put_coefficient(text, plane.a)?;
+    put_coefficient(text, plane.b)?;
+    put_coefficient(text, plane.c)
+}
+
+fn put_colour(text: &mut Vec<u8>, colour: Colour) -> Result<(), Memory>
+    ensures { OnOk result (text.new.items ≡ text.old.items ++ spaced (colour_words colour)) }
+{
+    put_size(text, u32::from(colour.red))?;
+    put_size(text, u32::from(colour.green))?;
+    put_size(text, u32::from(colour.blue))
+}
+
+fn put_coefficient(text: &mut Vec<u8>, z: i64) -> Result<(), Memory>
+    ensures { OnOk result (text.new.items ≡ text.old.items ++ 32 ∷ signed_decimal z) }
+{
+    let mut digits = Buffer::new();
+    put(text, b" ")?;
+    put(text, digits.format(z).as_bytes())
+}
+
+fn put_size(text: &mut Vec<u8>, n: u32) -> Result<(), Memory>
+    ensures { OnOk result (text.new.items ≡ text.old.items ++ 32 ∷ decimal n) }
+{
+    let mut digits = Buffer::new();
+    put(text, b" ")?;
+    put(text, digits.format(n).as_bytes())
+}
+
+fn put(text: &mut Vec<u8>, bytes: &[u8]) -> Result<(), Memory>
+    ensures { OnOk result (text.new.items ≡ text.old.items ++ bytes.now) }
+{
+    text.extend_from_slice(bytes)?;
+    Ok(())
+}
+
+/// What is written of a number, of words and of lines is read as them.
+pub fn written_law()
+    ensures numbers { (z : ℤ) → mag z < 10 ^ 18 → number_of (signed_decimal z) ≡ Some z }
+    ensures words { (w : List ℕ) (ws : Words) → is_plain w ≡ true → are_plain ws ≡ true →
+        words_of (w ++ spaced ws) ≡ w ∷ ws }
+    ensures lines { (lines : List (List ℕ)) → list_all (λ l. list_all is_no_feed l) lines ≡ true →
+        lines_of (fed lines) ≡ lines }
+{}
+
+/// The canonical text of a scene, within the limit of texts, is read as the scene.
+pub fn canonical_law()
+    ensures good { (scene : SceneView) → IsWritable scene →
+        length (canonical_text scene) ≤ 2 ^ 20 → refusal_of (canonical_text scene) ≡ None }
+    ensures scene { (scene : SceneView) → IsWritable scene →
+        length (canonical_text scene) ≤ 2 ^ 20 →
+        scene_of (worded (canonical_text scene)) ≡ scene }
+{}
+
+#[cfg(test)]
+mod tests {
+    use super::write_scene;
+    use crate::read::read_scene;
+    use std::test::Fail;
+
+    /// Texts, each with its canonical text.
+    const CASES: [(&[u8], &[u8]); 2] = [
+        (
+            b"  pxscene\t1 # all of it\r\n\npicture 007 9\ndepth 24\n\
+              solid b 1 2 3\nback -0 8388608 -8589934592\nside 1 2 -3\nfront 0 0 5 4 5 6\n\
+              side 0 0 0\nsolid _a9 255 0 9\nshow ( b-(_a9 *b ) )\nend",
+            b"pxscene 1\npicture 7 9\ndepth 24\nsolid b 1 2 3\n\
+              back 0 8388608 -8589934592 1 2 3\nfront 0 0 5 4 5 6\nside 1 2 -3\nside 0 0 0\n\
+              solid _a9 255 0 9\nshow (b - (_a9 * b))\nend\n",
+        ),
+        (
+            b"pxscene 1\npicture 1 512\ndepth 1\nsolid a 0 0 0\nsolid c 0 0 0\n\
+              show (((a+c)*(c-a))+a)\nend\n",
+            b"pxscene 1\npicture 1 512\ndepth 1\nsolid a 0 0 0\nsolid c 0 0 0\n\
+              show (((a + c) * (c - a)) + a)\nend\n",
+        ),
+    ];
+
+    #[test]
+    fn texts_in_canonical_form(rt: HostRuntime) -> Result<(), Fail> {
+        for (text, canonical) in CASES {
+            let scene = read_scene(rt.alloc(), text)?;
+            let written = write_scene(rt.alloc(), &scene)?;
+            assert_eq!(rt; written.as_slice(), canonical);
+            let again = read_scene(rt.alloc(), canonical)?;
+            let twice = write_scene(rt.alloc(), &again)?;
+            assert_eq!(rt; twice.as_slice(), canonical);
+        }
+        Ok(())
+    }
+}
