@@ -27,64 +27,90 @@ text_of_lines ls = fed (map bare ls)
 
 joined : (ls ms : List Words) → text_of_lines (ls ++ ms) ≡ text_of_lines ls ++ text_of_lines ms
 joined [] ms = refl
-joined (l ∷ ls) ms = ap (λ t. (bare l ++ 10 ∷ []) ++ t) (joined ls ms) ∙ sym (append_assoc (bare l ++ 10 ∷ []) (text_of_lines ls) (text_of_lines ms))
+joined (l ∷ ls) ms = ap (λ t. (bare l ++ 10 ∷ []) ++ t) (joined ls ms)
+    ∙ sym (append_assoc (bare l ++ 10 ∷ []) (text_of_lines ls) (text_of_lines ms))
 
 one_line : (w : List ℕ) (ws : Words) → written_line w ws ≡ text_of_lines ((w ∷ ws) ∷ [])
 unfolding written_line
 one_line w ws = simp (append_assoc, append-nil)
 
-face_lines_are : (kind : List ℕ) (fs : List Face) → flat_map (face_line kind) fs ≡ text_of_lines (map (λ f. kind ∷ face_words f) fs)
+face_lines_are : (kind : List ℕ) (fs : List Face)
+    → flat_map (face_line kind) fs ≡ text_of_lines (map (λ f. kind ∷ face_words f) fs)
 face_lines_are kind [] = refl
-face_lines_are kind (f ∷ fs) = rw (one_line kind (face_words f), face_lines_are kind fs) (sym (joined ((kind ∷ face_words f) ∷ []) (map (λ g. kind ∷ face_words g) fs)))
+face_lines_are kind (f ∷ fs) =
+    rw (one_line kind (face_words f), face_lines_are kind fs)
+    (sym (joined ((kind ∷ face_words f) ∷ []) (map (λ g. kind ∷ face_words g) fs)))
 
 side_lines_are : (ps : List Linear) → flat_map side_line ps ≡ text_of_lines (map (λ p. codes "side" ∷ plane_words p) ps)
 side_lines_are [] = refl
-side_lines_are (p ∷ ps) = rw (one_line (codes "side") (plane_words p), side_lines_are ps) (sym (joined ((codes "side" ∷ plane_words p) ∷ []) (map (λ q. codes "side" ∷ plane_words q) ps)))
+side_lines_are (p ∷ ps) =
+    rw (one_line (codes "side") (plane_words p), side_lines_are ps)
+    (sym (joined ((codes "side" ∷ plane_words p) ∷ []) (map (λ q. codes "side" ∷ plane_words q) ps)))
 
 number_lines_are : (s : SolidView) (m : ℕ) → lines_of_number s m ≡ text_of_lines (words_of_number s m)
 number_lines_are s m =
-    ap (λ t. t ++ lines_at (codes "back") s.backs m) (face_lines_are (codes "front") (filter (λ f. f.number == m) s.fronts))
-    ∙ ap (λ t. text_of_lines (words_at (codes "front") s.fronts m) ++ t) (face_lines_are (codes "back") (filter (λ f. f.number == m) s.backs))
+    ap (λ t. t ++ lines_at (codes "back") s.backs m)
+    (face_lines_are (codes "front") (filter (λ f. f.number == m) s.fronts))
+    ∙ ap (λ t. text_of_lines (words_at (codes "front") s.fronts m) ++ t)
+    (face_lines_are (codes "back") (filter (λ f. f.number == m) s.backs))
     ∙ sym (joined (words_at (codes "front") s.fronts m) (words_at (codes "back") s.backs m))
 
-numbers_are : (s : SolidView) (ms : List ℕ) → flat_map (lines_of_number s) ms ≡ text_of_lines (flat_map (words_of_number s) ms)
+numbers_are : (s : SolidView) (ms : List ℕ)
+    → flat_map (lines_of_number s) ms ≡ text_of_lines (flat_map (words_of_number s) ms)
 numbers_are s [] = refl
-numbers_are s (m ∷ ms) = ap (λ t. t ++ flat_map (lines_of_number s) ms) (number_lines_are s m) ∙ ap (λ t. text_of_lines (words_of_number s m) ++ t) (numbers_are s ms) ∙ sym (joined (words_of_number s m) (flat_map (words_of_number s) ms))
+numbers_are s (m ∷ ms) = ap (λ t. t ++ flat_map (lines_of_number s) ms) (number_lines_are s m)
+    ∙ ap (λ t. text_of_lines (words_of_number s m) ++ t) (numbers_are s ms)
+    ∙ sym (joined (words_of_number s m) (flat_map (words_of_number s) ms))
 
 solid_lines_are : (s : SolidView) → solid_lines s ≡ text_of_lines (solid_words s)
 solid_lines_are s =
-    ap (λ t. t ++ face_lines s ++ flat_map side_line s.sides) (one_line (codes "solid") (s.name ∷ colour_words s.colour))
+    ap (λ t. t ++ face_lines s ++ flat_map side_line s.sides)
+    (one_line (codes "solid") (s.name ∷ colour_words s.colour))
     ∙ append_assoc (text_of_lines (head_words s ∷ [])) (face_lines s) (flat_map side_line s.sides)
     ∙ ap (λ t. text_of_lines (head_words s ∷ []) ++ t)
-    (ap (λ t. t ++ flat_map side_line s.sides) (numbers_are s (range_with_len (s.near_number + 1) (length s.fronts + length s.backs)))
-    ∙ ap (λ t. text_of_lines (numbers_words s) ++ t) (side_lines_are s.sides) ∙ sym (joined (numbers_words s) (sides_words s)))
+    (ap (λ t. t ++ flat_map side_line s.sides)
+    (numbers_are s (range_with_len (s.near_number + 1) (length s.fronts + length s.backs)))
+    ∙ ap (λ t. text_of_lines (numbers_words s) ++ t) (side_lines_are s.sides)
+    ∙ sym (joined (numbers_words s) (sides_words s)))
     ∙ sym (joined (head_words s ∷ []) (numbers_words s ++ sides_words s))
 
 solids_are : (ss : List SolidView) → flat_map solid_lines ss ≡ text_of_lines (flat_map solid_words ss)
 solids_are [] = refl
-solids_are (s ∷ ss) = ap (λ t. t ++ flat_map solid_lines ss) (solid_lines_are s) ∙ ap (λ t. text_of_lines (solid_words s) ++ t) (solids_are ss) ∙ sym (joined (solid_words s) (flat_map solid_words ss))
+solids_are (s ∷ ss) = ap (λ t. t ++ flat_map solid_lines ss) (solid_lines_are s)
+    ∙ ap (λ t. text_of_lines (solid_words s) ++ t) (solids_are ss)
+    ∙ sym (joined (solid_words s) (flat_map solid_words ss))
 
 abbrev pub end_words : SceneView → List Words
 end_words scene = (codes "show" ∷ shown_text scene ∷ []) ∷ (codes "end" ∷ []) ∷ []
 
-three_lines : (a b c : Words) (u v w : List ℕ) → u ≡ text_of_lines (a ∷ []) → v ≡ text_of_lines (b ∷ []) → w ≡ text_of_lines (c ∷ []) → u ++ v ++ w ≡ text_of_lines (a ∷ b ∷ c ∷ [])
+three_lines : (a b c : Words) (u v w : List ℕ) → u ≡ text_of_lines (a ∷ []) → v ≡ text_of_lines (b ∷ [])
+    → w ≡ text_of_lines (c ∷ []) → u ++ v ++ w ≡ text_of_lines (a ∷ b ∷ c ∷ [])
 three_lines a b c u v w one two three =
-    ap (λ t. t ++ v ++ w) one ∙ ap (λ t. text_of_lines (a ∷ []) ++ t ++ w) two ∙ ap (λ t. text_of_lines (a ∷ []) ++ text_of_lines (b ∷ []) ++ t) three
+    ap (λ t. t ++ v ++ w) one ∙ ap (λ t. text_of_lines (a ∷ []) ++ t ++ w) two
+    ∙ ap (λ t. text_of_lines (a ∷ []) ++ text_of_lines (b ∷ []) ++ t) three
     ∙ ap (λ t. t ++ text_of_lines (c ∷ [])) (sym (joined (a ∷ []) (b ∷ []))) ∙ sym (joined (a ∷ b ∷ []) (c ∷ []))
 
-four_parts : (f s : List Words) (a b : Words) (t u v w : List ℕ) → t ≡ text_of_lines f → u ≡ text_of_lines s → v ≡ text_of_lines (a ∷ []) → w ≡ text_of_lines (b ∷ [])
+four_parts : (f s : List Words) (a b : Words) (t u v w : List ℕ) → t ≡ text_of_lines f → u ≡ text_of_lines s
+    → v ≡ text_of_lines (a ∷ []) → w ≡ text_of_lines (b ∷ [])
     → t ++ u ++ v ++ w ≡ text_of_lines (f ++ (s ++ a ∷ b ∷ []))
 four_parts f s a b t u v w one two three four =
-    ap (λ x. x ++ u ++ v ++ w) one ∙ ap (λ x. text_of_lines f ++ x ++ v ++ w) two ∙ ap (λ x. text_of_lines f ++ text_of_lines s ++ x ++ w) three ∙ ap (λ x. text_of_lines f ++ text_of_lines s ++ text_of_lines (a ∷ []) ++ x) four
+    ap (λ x. x ++ u ++ v ++ w) one ∙ ap (λ x. text_of_lines f ++ x ++ v ++ w) two
+    ∙ ap (λ x. text_of_lines f ++ text_of_lines s ++ x ++ w) three
+    ∙ ap (λ x. text_of_lines f ++ text_of_lines s ++ text_of_lines (a ∷ []) ++ x) four
     ∙ ap (λ x. x ++ text_of_lines (a ∷ []) ++ text_of_lines (b ∷ [])) (sym (joined f s))
     ∙ ap (λ x. x ++ text_of_lines (b ∷ [])) (sym (joined (f ++ s) (a ∷ [])))
     ∙ sym (joined ((f ++ s) ++ a ∷ []) (b ∷ []))
     ∙ ap text_of_lines (append_assoc (f ++ s) (a ∷ []) (b ∷ []) ∙ append_assoc f s (a ∷ b ∷ []))
 
-pub text_is : (scene : SceneView) → canonical_text scene ≡ text_of_lines (first_words scene ++ (flat_map solid_words scene.solids ++ end_words scene))
+pub text_is : (scene : SceneView)
+    → canonical_text scene ≡ text_of_lines (first_words scene ++ (flat_map solid_words scene.solids ++ end_words scene))
 text_is scene =
-    four_parts (first_words scene) (flat_map solid_words scene.solids) (codes "show" ∷ shown_text scene ∷ []) (codes "end" ∷ []) _ _ _ _
-    (three_lines (codes "pxscene" ∷ codes "1" ∷ []) (codes "picture" ∷ decimal scene.width ∷ decimal scene.height ∷ []) (codes "depth" ∷ decimal scene.depth_bits ∷ []) _ _ _ (one_line (codes "pxscene") (codes "1" ∷ [])) (one_line (codes "picture") (decimal scene.width ∷ decimal scene.height ∷ [])) (one_line (codes "depth") (decimal scene.depth_bits ∷ [])))
+    four_parts (first_words scene) (flat_map solid_words scene.solids) (codes "show" ∷ shown_text scene ∷ [])
+    (codes "end" ∷ []) _ _ _ _
+    (three_lines (codes "pxscene" ∷ codes "1" ∷ []) (codes "picture" ∷ decimal scene.width ∷ decimal scene.height ∷ [])
+    (codes "depth" ∷ decimal scene.depth_bits ∷ []) _ _ _ (one_line (codes "pxscene") (codes "1" ∷ []))
+    (one_line (codes "picture") (decimal scene.width ∷ decimal scene.height ∷ []))
+    (one_line (codes "depth") (decimal scene.depth_bits ∷ [])))
     (solids_are scene.solids) (one_line (codes "show") (shown_text scene ∷ [])) (one_line (codes "end") [])
 
 -- what is read of plain words

@@ -50,7 +50,8 @@ pub record IsCut (m : ℕ) (faces : List Face) : Type 0 where
 
 pub cut : (m : ℕ) (faces : List Face) → AllPairs (λ f g. f.number < g.number) faces → IsCut m faces
 cut m [] order = record { grown = refl; absent = λ e. refl; present = λ e. cc }
-cut m (f ∷ fs) order = by_test (nat_lt f.number m) (f.number == m) refl refl (cut m fs (λ i j d lt le. order (suc i) (suc j) d (omega arith) (omega arith)))
+cut m (f ∷ fs) order = by_test (nat_lt f.number m) (f.number == m) refl refl
+    (cut m fs (λ i j d lt le. order (suc i) (suc j) d (omega arith) (omega arith)))
   where
     above : m ≤ f.number → All (λ g. m < g.number) fs
     above le k d lt = let first = order 0 (suc k) d (omega arith) (omega arith) in omega arith
@@ -62,7 +63,16 @@ cut m (f ∷ fs) order = by_test (nat_lt f.number m) (f.number == m) refl refl (
         in record {
           grown = rw (p, q, r) (ap (λ gs. f ∷ gs) later.grown);
           absent = λ e. rw q (later.absent (rw q at e));
-          present = λ e. let found = later.present (rw q at e) in record { face = found.face; place = suc found.place; only = rw q found.only; number = found.number; within = let w = found.within in omega arith; read = found.read };
+          present = λ e. let found = later.present (rw q at e)
+              in record {
+                face = found.face;
+                place = suc found.place;
+                only = rw q found.only;
+                number =
+                    found.number;
+                within = let w = found.within in omega arith;
+                read = found.read;
+              };
         }
     by_test false true p q later =
         let r : nat_lt f.number (m + 1) ≡ true = grind (arith, nat_tests)
@@ -71,7 +81,15 @@ cut m (f ∷ fs) order = by_test (nat_lt f.number m) (f.number == m) refl refl (
         in record {
           grown = rw (p, q, r, rest.before, rest.upto, rest.at) refl;
           absent = λ e. let no = rw q at e in cc;
-          present = λ e. record { face = f; place = 0; only = rw (q, rest.at) refl; number = is; within = omega arith; read = λ d. refl };
+          present = λ e. record {
+            face = f;
+            place = 0;
+            only = rw (q, rest.at) refl;
+            number = is;
+            within =
+                omega arith;
+            read = λ d. refl;
+          };
         }
     by_test false false p q later =
         let r : nat_lt f.number (m + 1) ≡ false = grind (arith, nat_tests)
@@ -98,6 +116,7 @@ pub few_below : (m : ℕ) (faces : List Face) → length (below m faces) ≤ len
 few_below m [] = omega arith
 few_below m (f ∷ fs) = by_test (nat_lt f.number m) refl (few_below m fs)
   where
-    by_test : (under : Bool) → nat_lt f.number m ≡ under → length (below m fs) ≤ length fs → length (below m (f ∷ fs)) ≤ length (f ∷ fs)
+    by_test : (under : Bool) → nat_lt f.number m ≡ under → length (below m fs) ≤ length fs
+        → length (below m (f ∷ fs)) ≤ length (f ∷ fs)
     by_test true p later = rw p (omega arith)
     by_test false p later = rw p (omega arith)

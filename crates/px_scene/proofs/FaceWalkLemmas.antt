@@ -5,9 +5,8 @@ use Rattle.std.specs.List.{All, flat_map, range_with_len}
 use Rattle.px_num.specs.declared.linear.Linear.{Linear}
 use Rattle.px_scene.specs.declared.solid.Face.{Face}
 use Rattle.px_scene.specs.Text.{Words}
-use Rattle.px_scene.specs.Solids.{SolidView, IsPlane, AreFaces}
+use Rattle.px_scene.specs.Solids.{SolidView, IsColour, IsLawfulSolid, IsPlane, AreFaces}
 use Rattle.px_scene.specs.Scenes.{has_number}
-use Rattle.px_scene.specs.Writable.{IsColour, IsWritableSolid}
 use Rattle.px_scene.specs.Canonical.{plane_words}
 use Rattle.px_scene.proofs.CutLemmas.{below, at_number, HasOne, cut, few_below}
 use Rattle.px_scene.proofs.WalkLemmas.{Walk, walk_both}
@@ -15,7 +14,15 @@ use Rattle.px_scene.proofs.RoundLemmas.{open_solid, face_words, IsWritableFace, 
 
 -- a solid with its faces below a number, and no side
 abbrev pub part : SolidView → ℕ → SolidView
-part s m = record { name = s.name; colour = s.colour; near_number = s.near_number; fronts = below m s.fronts; backs = below m s.backs; sides = [] }
+part s m = record {
+  name = s.name;
+  colour = s.colour;
+  near_number = s.near_number;
+  fronts = below m s.fronts;
+  backs =
+      below m s.backs;
+  sides = [];
+}
 
 abbrev pub words_at : List ℕ → List Face → ℕ → List Words
 words_at kind faces m = map (λ f. kind ∷ face_words f) (at_number m faces)
@@ -23,7 +30,8 @@ words_at kind faces m = map (λ f. kind ∷ face_words f) (at_number m faces)
 abbrev pub words_of_number : SolidView → ℕ → List Words
 words_of_number s m = words_at (codes "front") s.fronts m ++ words_at (codes "back") s.backs m
 
-writable : (near m : ℕ) (faces : List Face) → AreFaces near faces → All (λ f. IsColour f.colour) faces → (one : HasOne m faces) → IsWritableFace one.face
+writable : (near m : ℕ) (faces : List Face) → AreFaces near faces → All (λ f. IsColour f.colour) faces
+    → (one : HasOne m faces) → IsWritableFace one.face
 writable near m faces are colours one =
     let plane = are.planes one.place one.face one.within
     in let colour = colours one.place one.face one.within
@@ -33,41 +41,73 @@ writable near m faces are colours one =
     }
 
 -- the words of one number's line
-face_walk : (width height bits : ℕ) (done : List SolidView) (s : SolidView) (n : ℕ) (is : Bool) → IsWritableSolid s → n < 4095
+face_walk : (width height bits : ℕ) (done : List SolidView) (s : SolidView) (n : ℕ) (is : Bool) → IsLawfulSolid s
+    → n < 4095
     → has_number s.fronts (n + 1) ≡ is → has_number s.backs (n + 1) ≡ not is
-    → Walk (open_solid width height bits done (part s (n + 1)) n) (words_of_number s (n + 1)) (open_solid width height bits done (part s (n + 1 + 1)) (n + 1))
+    → Walk (open_solid width height bits done (part s (n + 1)) n) (words_of_number s (n + 1))
+    (open_solid width height bits done (part s (n + 1 + 1)) (n + 1))
 face_walk width height bits done s n true ok more front back =
-    let fronts = cut (n + 1) s.fronts ok.lawful.fronts.order
-    in let backs = cut (n + 1) s.backs ok.lawful.backs.order
+    let fronts = cut (n + 1) s.fronts ok.fronts.order
+    in let backs = cut (n + 1) s.backs ok.backs.order
     in let one = fronts.present front
     in let none = backs.absent back
-    in let grown : below (n + 1 + 1) s.fronts ≡ below (n + 1) s.fronts ++ one.face ∷ [] = fronts.grown ∙ ap (λ fs. below (n + 1) s.fronts ++ fs) one.only
-    in let kept : below (n + 1 + 1) s.backs ≡ below (n + 1) s.backs = backs.grown ∙ ap (λ fs. below (n + 1) s.backs ++ fs) none ∙ append-nil (below (n + 1) s.backs)
-    in let room : length (below (n + 1) s.fronts) < 32 = let few = ok.lawful.fronts.few in omega (arith, ap length grown, length-append (below (n + 1) s.fronts) (one.face ∷ []), few_below (n + 1 + 1) s.fronts)
-    in rw (one.only, none, grown, kept) (front_walk width height bits done (part s (n + 1)) n one.face (writable s.near_number (n + 1) s.fronts ok.lawful.fronts ok.fronts one) one.number room more)
+    in let grown : below (n + 1 + 1) s.fronts ≡ below (n + 1) s.fronts ++ one.face ∷ [] = fronts.grown
+    ∙ ap (λ fs. below (n + 1) s.fronts ++ fs) one.only
+    in let kept : below (n + 1 + 1) s.backs ≡ below (n + 1) s.backs = backs.grown
+    ∙ ap (λ fs. below (n + 1) s.backs ++ fs) none ∙ append-nil (below (n + 1) s.backs)
+    in let room : length (below (n + 1) s.fronts) < 32 = let few = ok.fronts.few
+    in omega (
+      arith,
+      ap length grown,
+      length-append (below (n + 1) s.fronts) (one.face ∷ []),
+      few_below (n + 1 + 1) s.fronts,
+    )
+    in rw (one.only, none, grown, kept)
+    (front_walk width height bits done (part s (n + 1)) n one.face
+    (writable s.near_number (n + 1) s.fronts ok.fronts ok.fronts.colours one) one.number room more)
 face_walk width height bits done s n false ok more front back =
-    let fronts = cut (n + 1) s.fronts ok.lawful.fronts.order
-    in let backs = cut (n + 1) s.backs ok.lawful.backs.order
+    let fronts = cut (n + 1) s.fronts ok.fronts.order
+    in let backs = cut (n + 1) s.backs ok.backs.order
     in let one = backs.present back
     in let none = fronts.absent front
-    in let grown : below (n + 1 + 1) s.backs ≡ below (n + 1) s.backs ++ one.face ∷ [] = backs.grown ∙ ap (λ fs. below (n + 1) s.backs ++ fs) one.only
-    in let kept : below (n + 1 + 1) s.fronts ≡ below (n + 1) s.fronts = fronts.grown ∙ ap (λ fs. below (n + 1) s.fronts ++ fs) none ∙ append-nil (below (n + 1) s.fronts)
-    in let room : length (below (n + 1) s.backs) < 32 = let few = ok.lawful.backs.few in omega (arith, ap length grown, length-append (below (n + 1) s.backs) (one.face ∷ []), few_below (n + 1 + 1) s.backs)
-    in rw (one.only, none, grown, kept) (back_walk width height bits done (part s (n + 1)) n one.face (writable s.near_number (n + 1) s.backs ok.lawful.backs ok.backs one) one.number room more)
+    in let grown : below (n + 1 + 1) s.backs ≡ below (n + 1) s.backs ++ one.face ∷ [] = backs.grown
+    ∙ ap (λ fs. below (n + 1) s.backs ++ fs) one.only
+    in let kept : below (n + 1 + 1) s.fronts ≡ below (n + 1) s.fronts = fronts.grown
+    ∙ ap (λ fs. below (n + 1) s.fronts ++ fs) none ∙ append-nil (below (n + 1) s.fronts)
+    in let room : length (below (n + 1) s.backs) < 32 = let few = ok.backs.few
+    in omega (
+      arith,
+      ap length grown,
+      length-append (below (n + 1) s.backs) (one.face ∷ []),
+      few_below (n + 1 + 1) s.backs,
+    )
+    in rw (one.only, none, grown, kept)
+    (back_walk width height bits done (part s (n + 1)) n one.face
+    (writable s.near_number (n + 1) s.backs ok.backs ok.backs.colours one) one.number room more)
 
 -- so many numbers from one on, each of which some face has
-pub faces_walk : (width height bits : ℕ) (done : List SolidView) (s : SolidView) (count n : ℕ) → IsWritableSolid s → n + count ≤ 4095
+pub faces_walk : (width height bits : ℕ) (done : List SolidView) (s : SolidView) (count n : ℕ) → IsLawfulSolid s
+    → n + count ≤ 4095
     → ((m : ℕ) → n < m → m ≤ n + count → has_number s.fronts m ≡ not (has_number s.backs m))
-    → Walk (open_solid width height bits done (part s (n + 1)) n) (flat_map (words_of_number s) (range_with_len (n + 1) count)) (open_solid width height bits done (part s (n + count + 1)) (n + count))
+    → Walk (open_solid width height bits done (part s (n + 1)) n)
+    (flat_map (words_of_number s) (range_with_len (n + 1) count))
+    (open_solid width height bits done (part s (n + count + 1)) (n + count))
 faces_walk width height bits done s zero n ok most once =
     let same : n ≡ n + 0 = omega arith
     in ap (λ m. open_solid width height bits done (part s (m + 1)) m) same
 faces_walk width height bits done s (suc count) n ok most once =
-    let first = face_walk width height bits done s n (has_number s.fronts (n + 1)) ok (omega arith) refl (other (has_number s.fronts (n + 1)) (has_number s.backs (n + 1)) (once (n + 1) (omega arith) (omega arith)))
-    in let later = faces_walk width height bits done s count (n + 1) ok (omega arith) (λ m over under. once m (omega arith) (omega arith))
+    let first = face_walk width height bits done s n (has_number s.fronts (n + 1)) ok (omega arith) refl
+    (other (has_number s.fronts (n + 1)) (has_number s.backs (n + 1)) (once (n + 1) (omega arith) (omega arith)))
+    in let later = faces_walk width height bits done s count (n + 1) ok (omega arith)
+    (λ m over under. once m (omega arith) (omega arith))
     in let same : n + 1 + count ≡ n + suc count = omega arith
-    in subst (λ (m : ℕ). Walk (open_solid width height bits done (part s (n + 1)) n) (flat_map (words_of_number s) (range_with_len (n + 1) (suc count))) (open_solid width height bits done (part s (m + 1)) m)) same
-    (walk_both (open_solid width height bits done (part s (n + 1)) n) (open_solid width height bits done (part s (n + 1 + 1)) (n + 1)) (open_solid width height bits done (part s (n + 1 + count + 1)) (n + 1 + count)) (words_of_number s (n + 1)) (flat_map (words_of_number s) (range_with_len (n + 1 + 1) count)) first later)
+    in subst (λ (m : ℕ). Walk (open_solid width height bits done (part s (n + 1)) n)
+    (flat_map (words_of_number s) (range_with_len (n + 1) (suc count)))
+    (open_solid width height bits done (part s (m + 1)) m)) same
+    (walk_both (open_solid width height bits done (part s (n + 1)) n)
+    (open_solid width height bits done (part s (n + 1 + 1)) (n + 1))
+    (open_solid width height bits done (part s (n + 1 + count + 1)) (n + 1 + count)) (words_of_number s (n + 1))
+    (flat_map (words_of_number s) (range_with_len (n + 1 + 1) count)) first later)
   where
     other : (a b : Bool) → a ≡ not b → b ≡ not a
     other true false e = refl
@@ -76,10 +116,19 @@ faces_walk width height bits done s (suc count) n ok most once =
     other false false e = cc
 
 -- sides behind others
-pub sides_walk : (width height bits : ℕ) (done : List SolidView) (s : SolidView) (n : ℕ) (ps before : List Linear) → All IsPlane ps → length before + length ps ≤ 32
-    → Walk (open_solid width height bits done (record s { sides = before }) n) (map (λ p. codes "side" ∷ plane_words p) ps) (open_solid width height bits done (record s { sides = before ++ ps }) n)
-sides_walk width height bits done s n [] before all few = ap (λ ps. open_solid width height bits done (record s { sides = ps }) n) (sym (append-nil before))
+pub sides_walk : (width height bits : ℕ) (done : List SolidView) (s : SolidView) (n : ℕ) (ps before : List Linear)
+    → All IsPlane ps → length before + length ps ≤ 32
+    → Walk (open_solid width height bits done (record s { sides = before }) n)
+    (map (λ p. codes "side" ∷ plane_words p) ps)
+    (open_solid width height bits done (record s { sides = before ++ ps }) n)
+sides_walk width height bits done s n [] before all few =
+    ap (λ ps. open_solid width height bits done (record s { sides = ps }) n) (sym (append-nil before))
 sides_walk width height bits done s n (p ∷ ps) before all few =
     let first = side_walk width height bits done (record s { sides = before }) n p (all 0 p (omega arith)) (omega arith)
-    in let later = sides_walk width height bits done s n ps (before ++ p ∷ []) (λ k d lt. all (suc k) d (omega arith)) (omega (arith, length-append before (p ∷ [])))
-    in rw (append_assoc before (p ∷ []) ps) at (walk_both (open_solid width height bits done (record s { sides = before }) n) (open_solid width height bits done (record s { sides = before ++ p ∷ [] }) n) (open_solid width height bits done (record s { sides = (before ++ p ∷ []) ++ ps }) n) ((codes "side" ∷ plane_words p) ∷ []) (map (λ q. codes "side" ∷ plane_words q) ps) first later)
+    in let later = sides_walk width height bits done s n ps (before ++ p ∷ []) (λ k d lt. all (suc k) d (omega arith))
+    (omega (arith, length-append before (p ∷ [])))
+    in rw (append_assoc before (p ∷ []) ps) at
+    (walk_both (open_solid width height bits done (record s { sides = before }) n)
+    (open_solid width height bits done (record s { sides = before ++ p ∷ [] }) n)
+    (open_solid width height bits done (record s { sides = (before ++ p ∷ []) ++ ps }) n)
+    ((codes "side" ∷ plane_words p) ∷ []) (map (λ q. codes "side" ∷ plane_words q) ps) first later)

@@ -29,16 +29,23 @@ some_last [] d = refl
 some_last (c ∷ ds) d = refl
 
 some_digit : (n : ℕ) → 0 < n → is_some_byte (map (λ c. 48 + c) (digits_of 10 n)) ≡ true
-some_digit n some = ap (λ ds. is_some_byte (map (λ c. 48 + c) ds)) (digits_of_step 10 n (omega arith) some) ∙ some_last _ _
+some_digit n some = ap (λ ds. is_some_byte (map (λ c. 48 + c) ds)) (digits_of_step 10 n (omega arith) some)
+    ∙ some_last _ _
 
 size_digits : (n : ℕ) → 0 < n → n ≤ 10 ^ 18 → size_of (map (λ d. 48 + d) (digits_of 10 n)) ≡ Some n
 size_digits n some most =
     let least : min n (10 ^ 18) ≡ n = omega arith
-    in rw (some_digit n some, digits_all (digits_of 10 n) (all_below_base_digits_of 10 n (omega arith)), digits_back (digits_of 10 n), number_digits_of 10 n (omega arith)) (ap Some least)
+    in rw (
+      some_digit n some,
+      digits_all (digits_of 10 n) (all_below_base_digits_of 10 n (omega arith)),
+      digits_back (digits_of 10 n),
+      number_digits_of 10 n (omega arith),
+    ) (ap Some least)
 
 pub size_read : (n : ℕ) → n ≤ 10 ^ 18 → size_of (decimal n) ≡ Some n
 size_read zero most = ap size_of (decimal_digit 0 (omega arith))
-size_read (suc n) most = ap size_of (decimal-digits_of (suc n) (omega arith) (omega arith)) ∙ size_digits (suc n) (omega arith) most
+size_read (suc n) most = ap size_of (decimal-digits_of (suc n) (omega arith) (omega arith))
+    ∙ size_digits (suc n) (omega arith) most
 
 no_digits : (b : ℕ) (bs : List ℕ) → is_digit b ≡ false → size_of (b ∷ bs) ≡ None
 no_digits b bs other = rw other refl

@@ -21,7 +21,8 @@ one_bracket_more : (n : ℕ) → replicate {A = ℕ} (n + 1) 40 ≡ replicate n 
 one_bracket_more n = sym (replicate-append-replicate n 1 40)
 
 -- a bracket and two gaps in place of one
-split_text : (names : Words) (op : Op) (trees : List Tree) (gap : Gap) (gaps : List Gap) (back : List ℕ) → 2 ≤ length trees
+split_text : (names : Words) (op : Op) (trees : List Tree) (gap : Gap) (gaps : List Gap) (back : List ℕ)
+    → 2 ≤ length trees
     → spread names trees (split_gap op (gap ∷ gaps)) ++ 41 ∷ back ≡ spread names (joined op trees) (gap ∷ gaps) ++ back
 split_text names op [] gap gaps back two = absurd (omega arith)
 split_text names op (right ∷ []) gap gaps back two = absurd (omega arith)
@@ -37,28 +38,36 @@ record IsSplit (names : Words) (op : Op) (trees : List Tree) (gaps : List Gap) (
   text : spread names trees (split_gap op gaps) ++ 41 ∷ back ≡ spread names (joined op trees) gaps ++ back
   count : length (split_gap op gaps) ≡ length trees
 
-split : (names : Words) (op : Op) (trees : List Tree) (gaps : List Gap) (back : List ℕ) → 2 ≤ length trees → length gaps ≡ length (joined op trees)
+split : (names : Words) (op : Op) (trees : List Tree) (gaps : List Gap) (back : List ℕ) → 2 ≤ length trees
+    → length gaps ≡ length (joined op trees)
     → IsSplit names op trees gaps back
 split names op trees [] back two count = absurd (omega (arith, joined_count op trees two))
-split names op trees (gap ∷ gaps) back two count = record { text = split_text names op trees gap gaps back two; count = omega (arith, joined_count op trees two) }
+split names op trees (gap ∷ gaps) back two count =
+    record { text = split_text names op trees gap gaps back two; count = omega (arith, joined_count op trees two) }
 
-leaf_text : (names : Words) (place : ℕ) (trees : List Tree) (gaps : List Gap) (back : List ℕ) → length gaps ≡ length trees + 1
-    → spread names trees (other_gaps gaps) ++ ((first_gap gaps ++ get_or names place []) ++ back) ≡ spread names (leaf place ∷ trees) gaps ++ back
+leaf_text : (names : Words) (place : ℕ) (trees : List Tree) (gaps : List Gap) (back : List ℕ)
+    → length gaps ≡ length trees + 1
+    → spread names trees (other_gaps gaps) ++ ((first_gap gaps ++ get_or names place []) ++ back)
+    ≡ spread names (leaf place ∷ trees) gaps ++ back
 leaf_text names place trees [] back count = absurd (omega arith)
 leaf_text names place trees (gap ∷ gaps) back count = simp append_assoc
 
-leaf_count : (trees : List Tree) (gaps : List Gap) → length gaps ≡ length trees + 1 → length (other_gaps gaps) ≡ length trees
+leaf_count : (trees : List Tree) (gaps : List Gap) → length gaps ≡ length trees + 1
+    → length (other_gaps gaps) ≡ length trees
 leaf_count trees [] count = absurd (omega arith)
 leaf_count trees (gap ∷ gaps) count = omega arith
 
-same_text : (names : Words) (node : Node) (trees : List Tree) (gaps : List Gap) (back : List ℕ) → length gaps ≡ length (placed trees node) → CanPlace (length trees) node
-    → spread names trees (gaps_before node gaps) ++ (text_of names node gaps ++ back) ≡ spread names (placed trees node) gaps ++ back
+same_text : (names : Words) (node : Node) (trees : List Tree) (gaps : List Gap) (back : List ℕ)
+    → length gaps ≡ length (placed trees node) → CanPlace (length trees) node
+    → spread names trees (gaps_before node gaps) ++ (text_of names node gaps ++ back)
+    ≡ spread names (placed trees node) gaps ++ back
 same_text names (n.Leaf place) trees gaps back count can = leaf_text names place trees gaps back (omega arith)
 same_text names (n.Union left right) trees gaps back count can = (split names o.Union trees gaps back can.0 count).text
 same_text names (n.Meet left right) trees gaps back count can = (split names o.Meet trees gaps back can.0 count).text
 same_text names (n.Minus left right) trees gaps back count can = (split names o.Minus trees gaps back can.0 count).text
 
-same_count : (names : Words) (node : Node) (trees : List Tree) (gaps : List Gap) → length gaps ≡ length (placed trees node) → CanPlace (length trees) node
+same_count : (names : Words) (node : Node) (trees : List Tree) (gaps : List Gap)
+    → length gaps ≡ length (placed trees node) → CanPlace (length trees) node
     → length (gaps_before node gaps) ≡ length trees
 same_count names (n.Leaf place) trees gaps count can = leaf_count trees gaps (omega arith)
 same_count names (n.Union left right) trees gaps count can = (split names o.Union trees gaps [] can.0 count).count
@@ -85,14 +94,16 @@ same_few (n.Meet l r) left gaps few = split_few o.Meet left gaps few
 same_few (n.Minus l r) left gaps few = split_few o.Minus left gaps few
 
 -- printed back to the first of some nodes
-pub record IsPrintedTo (names : Words) (tree : Tree) (nodes rest : List Node) (gaps : List Gap) (back : List ℕ) : Type 0 where
+pub record IsPrintedTo (names : Words) (tree : Tree) (nodes rest : List Node) (gaps : List Gap)
+    (back : List ℕ) : Type 0 where
   pub after : List Node
   pub front : nodes ≡ rest ++ after
   pub count : length gaps ≡ length (trees_after rest)
   pub few : All (λ g. g.opens + length rest ≤ 1023) gaps
   pub text : spread names (trees_after rest) gaps ++ back ≡ printed (named_by names tree)
 
-pub starts : (names : Words) (tree : Tree) (nodes : List Node) (gap : Gap) → trees_after nodes ≡ tree ∷ [] → length nodes ≤ 1023 → gap.sign ≡ None → gap.opens ≡ 0
+pub starts : (names : Words) (tree : Tree) (nodes : List Node) (gap : Gap) → trees_after nodes ≡ tree ∷ []
+    → length nodes ≤ 1023 → gap.sign ≡ None → gap.opens ≡ 0
     → IsPrintedTo names tree nodes nodes (gap ∷ []) []
 starts names tree nodes gap is most none opens = record {
   after = [];
@@ -106,21 +117,26 @@ starts names tree nodes gap is most none opens = record {
     first zero d lt = omega arith
     first (suc k) d lt = absurd (omega arith)
 
-parted : (before after rest nodes : List Node) (node : Node) → nodes ≡ rest ++ after → rest ≡ before ++ node ∷ [] → nodes ≡ before ++ node ∷ after
+parted : (before after rest nodes : List Node) (node : Node) → nodes ≡ rest ++ after → rest ≡ before ++ node ∷ []
+    → nodes ≡ before ++ node ∷ after
 parted before after rest nodes node is last = is ∙ ap (λ ns. ns ++ after) last ∙ append_assoc before (node ∷ []) after
 
-is_below : (before after nodes : List Node) (node : Node) → nodes ≡ before ++ node ∷ after → length before < length nodes
+is_below : (before after nodes : List Node) (node : Node) → nodes ≡ before ++ node ∷ after
+    → length before < length nodes
 is_below before after nodes node is = omega (arith, ap length is, length-append before (node ∷ after))
 
 -- what is known of each node, of the last one of a front
-pub leaf_here : (count : ℕ) (nodes all rest before after : List Node) (node : Node) → all ≡ nodes → nodes ≡ rest ++ after → rest ≡ before ++ node ∷ []
+pub leaf_here : (count : ℕ) (nodes all rest before after : List Node) (node : Node) → all ≡ nodes
+    → nodes ≡ rest ++ after → rest ≡ before ++ node ∷ []
     → All (IsLeafBelow count) all → IsLeafBelow count node
 leaf_here count nodes all rest before after node same is last each =
     let part = same ∙ parted before after rest nodes node is last
-    in subst (λ (m : Node). IsLeafBelow count m) (ap (λ ns. get_or ns (length before) node) part ∙ get_or-append_seam before node after node)
+    in subst (λ (m : Node). IsLeafBelow count m)
+    (ap (λ ns. get_or ns (length before) node) part ∙ get_or-append_seam before node after node)
     (each (length before) node (is_below before after all node part))
 
-pub place_here : (nodes all rest before after : List Node) (node : Node) → all ≡ nodes → nodes ≡ rest ++ after → rest ≡ before ++ node ∷ []
+pub place_here : (nodes all rest before after : List Node) (node : Node) → all ≡ nodes → nodes ≡ rest ++ after
+    → rest ≡ before ++ node ∷ []
     → ((i : ℕ) (any : Node) → i < length all → CanPlace (length (trees_after (take i all))) (get_or all i any))
     → CanPlace (length (trees_after before)) node
 place_here nodes all rest before after node same is last each =
@@ -141,23 +157,29 @@ some_wait (n.Meet left right) trees can = some_join o.Meet trees can.0
 some_wait (n.Minus left right) trees can = some_join o.Minus trees can.0
 
 -- a gap is left for each node
-pub some_gap : (rest before : List Node) (node : Node) (gaps : List Gap) → length (reverse gaps) ≡ length (trees_after rest) → rest ≡ before ++ node ∷ []
+pub some_gap : (rest before : List Node) (node : Node) (gaps : List Gap)
+    → length (reverse gaps) ≡ length (trees_after rest) → rest ≡ before ++ node ∷ []
     → CanPlace (length (trees_after before)) node → 0 < length gaps
 some_gap rest before node gaps count last can =
-    let waiting : trees_after rest ≡ placed (trees_after before) node = ap trees_after last ∙ fold-append placed [] before (node ∷ [])
+    let waiting : trees_after rest ≡ placed (trees_after before) node = ap trees_after last
+    ∙ fold-append placed [] before (node ∷ [])
     in omega (arith, length-reverse gaps, count, ap length waiting, some_wait node (trees_after before) can)
 
-pub steps : (names : Words) (tree : Tree) (nodes rest before : List Node) (node : Node) (gaps next : List Gap) (back text : List ℕ)
-    → IsPrintedTo names tree nodes rest gaps back → rest ≡ before ++ node ∷ [] → length before + 1 ≡ length rest → CanPlace (length (trees_after before)) node
+pub steps : (names : Words) (tree : Tree) (nodes rest before : List Node) (node : Node) (gaps next : List Gap)
+    (back text : List ℕ)
+    → IsPrintedTo names tree nodes rest gaps back → rest ≡ before ++ node ∷ [] → length before + 1 ≡ length rest
+    → CanPlace (length (trees_after before)) node
     → next ≡ gaps_before node gaps → text ≡ text_of names node gaps ++ back
     → IsPrintedTo names tree nodes before next text
 steps names tree nodes rest before node gaps next back text is last shorter can kept more =
-    let waiting : trees_after rest ≡ placed (trees_after before) node = ap trees_after last ∙ fold-append placed [] before (node ∷ [])
+    let waiting : trees_after rest ≡ placed (trees_after before) node = ap trees_after last
+    ∙ fold-append placed [] before (node ∷ [])
     in let counted : length gaps ≡ length (placed (trees_after before) node) = is.count ∙ ap length waiting
     in record {
       after = node ∷ is.after;
       front = is.front ∙ ap (λ ns. ns ++ is.after) last ∙ append_assoc before (node ∷ []) is.after;
       count = ap length kept ∙ same_count names node (trees_after before) gaps counted can;
       few = rw kept (same_few node (length before) gaps (rw shorter is.few));
-      text = rw (kept, more) (same_text names node (trees_after before) gaps back counted can ∙ ap (λ ts. spread names ts gaps ++ back) (sym waiting) ∙ is.text);
+      text = rw (kept, more) (same_text names node (trees_after before) gaps back counted can
+          ∙ ap (λ ts. spread names ts gaps ++ back) (sym waiting) ∙ is.text);
     }

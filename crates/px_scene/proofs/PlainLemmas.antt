@@ -52,7 +52,9 @@ decimal_plain n most = size_plain (decimal n) n (size_read n most)
 
 pub signed_plain : (z : ℤ) → mag z < 10 ^ 18 → is_plain (signed_decimal z) ≡ true
 signed_plain (pos n) most = decimal_plain n (omega arith)
-signed_plain (negsuc n) most = (both (is_some_byte (decimal (suc n))) (list_all is_plain_byte (decimal (suc n))) (decimal_plain (suc n) (omega arith))).1
+signed_plain (negsuc n) most =
+    (both (is_some_byte (decimal (suc n))) (list_all is_plain_byte (decimal (suc n)))
+    (decimal_plain (suc n) (omega arith))).1
 
 pub name_is_plain : (w : List ℕ) → is_name w ≡ true → is_plain w ≡ true
 name_is_plain [] e = cc
@@ -79,7 +81,8 @@ bare_fed (w ∷ ws) e =
     in let first = both (is_some_byte w) (list_all is_plain_byte w) each.0
     in list_all-append is_no_feed w (spaced ws) ∙ rw (plain_fed w first.1, spaced_fed ws each.1) refl
 
-pub bares_fed : (ls : List Words) → list_all is_written ls ≡ true → list_all (λ l. list_all is_no_feed l) (map bare ls) ≡ true
+pub bares_fed : (ls : List Words) → list_all is_written ls ≡ true
+    → list_all (λ l. list_all is_no_feed l) (map bare ls) ≡ true
 bares_fed [] all = refl
 bares_fed (l ∷ ls) all =
     let each = both (is_written l) (list_all is_written ls) all
@@ -103,10 +106,12 @@ printed_fed (join op left right) names =
     ) refl
 
 -- the words behind `show`
-pub show_words : (tree : Named) → has_names tree ≡ true → words_of (bare (codes "show" ∷ printed tree ∷ [])) ≡ codes "show" ∷ words_of (printed tree)
+pub show_words : (tree : Named) → has_names tree ≡ true
+    → words_of (bare (codes "show" ∷ printed tree ∷ [])) ≡ codes "show" ∷ words_of (printed tree)
 show_words tree names =
     let plain = printed_uncommented tree names
-    in let same : bare (codes "show" ∷ printed tree ∷ []) ≡ codes "show" ++ 32 ∷ printed tree = ap (λ t. codes "show" ++ 32 ∷ t) (append-nil (printed tree))
+    in let same : bare (codes "show" ∷ printed tree ∷ []) ≡ codes "show" ++ 32 ∷ printed tree =
+    ap (λ t. codes "show" ++ 32 ∷ t) (append-nil (printed tree))
     in let whole : list_all is_no_comment (codes "show" ++ 32 ∷ printed tree) ≡ true = plain
     in ap words_of same
     ∙ ap (λ bs. filter is_some_byte (slice_split is_blank bs)) (before_none (codes "show" ++ 32 ∷ printed tree) whole)

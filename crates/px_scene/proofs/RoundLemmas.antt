@@ -22,8 +22,7 @@ use Rattle.px_scene.specs.Printed.{AreDistinctNames, printed, named_by}
 use Rattle.px_scene.proofs.PrintedLemmas.{printed_tree, printed_good}
 use Rattle.px_scene.specs.Faults.{judged, is_among}
 use Rattle.px_scene.specs.Lines.{numeric, solid_form, three_past, fault_of, are_numbers, numbers_of, past, most, size_past, plane_past, colour_past, face_past, face_limit}
-use Rattle.px_scene.specs.Solids.{SolidView, IsPlane, names_of}
-use Rattle.px_scene.specs.Writable.{IsColour}
+use Rattle.px_scene.specs.Solids.{SolidView, IsColour, IsPlane, names_of}
 use Rattle.px_scene.specs.Drafts.{DraftView, with_front, with_back, with_side, with_last, in_last, tally_of, fresh_solid, new_solid}
 use Rattle.px_scene.specs.Canonical.{plane_words, colour_words}
 use Rattle.px_scene.proofs.FigureLemmas.{number_read, signed_read}
@@ -39,7 +38,8 @@ record AreFigures (ws : Words) (zs : List ℤ) : Type 0 where
 no_figure : AreFigures [] []
 no_figure = record { are = refl; is = refl }
 
-one_figure : (w : List ℕ) (z : ℤ) (ws : Words) (zs : List ℤ) → number_of w ≡ Some z → AreFigures ws zs → AreFigures (w ∷ ws) (z ∷ zs)
+one_figure : (w : List ℕ) (z : ℤ) (ws : Words) (zs : List ℤ) → number_of w ≡ Some z → AreFigures ws zs
+    → AreFigures (w ∷ ws) (z ∷ zs)
 one_figure w z ws zs read are = record { are = rw (read, are.are) refl; is = rw (read, are.is) refl }
 
 -- a number within limits
@@ -54,10 +54,12 @@ small n (pos m) most within = let high = within.1 in omega (arith, ints)
 small n (negsuc m) most within = let low = within.0 in omega (arith, ints)
 
 abbrev pub opened : ℕ → ℕ → ℕ → DraftView
-opened width height bits = record { due = d.Solid; numbered = 0; width = width; height = height; depth_bits = bits; solids = []; show = None }
+opened width height bits =
+    record { due = d.Solid; numbered = 0; width = width; height = height; depth_bits = bits; solids = []; show = None }
 
 pub first_walk : (width height bits : ℕ) → 1 ≤ width → width ≤ 512 → 1 ≤ height → height ≤ 512 → 1 ≤ bits → bits ≤ 24
-    → Walk blank ((codes "pxscene" ∷ codes "1" ∷ []) ∷ (codes "picture" ∷ decimal width ∷ decimal height ∷ []) ∷ (codes "depth" ∷ decimal bits ∷ []) ∷ []) (opened width height bits)
+    → Walk blank ((codes "pxscene" ∷ codes "1" ∷ []) ∷ (codes "picture" ∷ decimal width ∷ decimal height ∷ []) ∷
+    (codes "depth" ∷ decimal bits ∷ []) ∷ []) (opened width height bits)
 first_walk width height bits w1 w2 h1 h2 b1 b2 =
     let w = number_read width (omega arith)
     in let h = number_read height (omega arith)
@@ -82,7 +84,8 @@ colour_figures c is =
     (one_figure _ _ _ _ (number_read c.green (let m = is.green in omega arith))
     (one_figure _ _ _ _ (number_read c.blue (let m = is.blue in omega arith)) no_figure))
 
-plane_figures : (p : Linear) (ws : Words) (zs : List ℤ) → IsPlane p → AreFigures ws zs → AreFigures (plane_words p ++ ws) (plane_numbers p zs)
+plane_figures : (p : Linear) (ws : Words) (zs : List ℤ) → IsPlane p → AreFigures ws zs
+    → AreFigures (plane_words p ++ ws) (plane_numbers p zs)
 plane_figures p ws zs is are =
     one_figure _ _ _ _ (signed_read p.a (small (2 ^ 23) p.a (omega arith) is.a))
     (one_figure _ _ _ _ (signed_read p.b (small (2 ^ 23) p.b (omega arith) is.b))
@@ -94,7 +97,10 @@ plane_in p is = rw (size_in (2 ^ 23) p.a is.a, size_in (2 ^ 23) p.b is.b) (size_
 colour_in : (c : Colour) → IsColour c → colour_past (pos c.red) (pos c.green) (pos c.blue) ≡ None
 colour_in c is =
     let red = is.red in let green = is.green in let blue = is.blue
-    in rw (past_in kind.Colour 0 255 c.red (omega arith) (omega arith), past_in kind.Colour 0 255 c.green (omega arith) (omega arith))
+    in rw (
+      past_in kind.Colour 0 255 c.red (omega arith) (omega arith),
+      past_in kind.Colour 0 255 c.green (omega arith) (omega arith),
+    )
     (past_in kind.Colour 0 255 c.blue (omega arith) (omega arith))
 
 last_end : (ss : List SolidView) (s : SolidView) → slice_get (ss ++ s ∷ []) (length ss) ≡ Some s
@@ -108,7 +114,17 @@ in_last-end count ss s =
 
 -- what stands while solids are written
 abbrev pub written_so_far : ℕ → ℕ → ℕ → List SolidView → ℕ → DraftView
-written_so_far width height bits solids n = record { due = d.Plane; numbered = n; width = width; height = height; depth_bits = bits; solids = solids; show = None }
+written_so_far width height bits solids n =
+    record {
+      due = d.Plane;
+      numbered = n;
+      width = width;
+      height = height;
+      depth_bits = bits;
+      solids = solids;
+      show =
+          None;
+    }
 
 abbrev pub open_solid : ℕ → ℕ → ℕ → List SolidView → SolidView → ℕ → DraftView
 open_solid width height bits done s n = written_so_far width height bits (done ++ s ∷ []) n
@@ -125,70 +141,92 @@ pub record IsWritableFace (f : Face) : Type 0 where
   pub colour : IsColour f.colour
 
 face_figures : (f : Face) → IsWritableFace f → AreFigures (face_words f) (face_numbers f)
-face_figures f is = plane_figures f.plane (colour_words f.colour) (colour_numbers f.colour) is.plane (colour_figures f.colour is.colour)
+face_figures f is = plane_figures f.plane (colour_words f.colour) (colour_numbers f.colour) is.plane
+    (colour_figures f.colour is.colour)
 
 face_in : (f : Face) → IsWritableFace f → face_past (face_numbers f) ≡ None
 face_in f is = rw (plane_in f.plane is.plane) (colour_in f.colour is.colour)
 
-limits_in : (limit : LimitKind) (f : Face) (faces n : ℕ) → IsWritableFace f → faces < 32 → n < 4095 → face_limit limit faces n (face_numbers f) ≡ None
+limits_in : (limit : LimitKind) (f : Face) (faces n : ℕ) → IsWritableFace f → faces < 32 → n < 4095
+    → face_limit limit faces n (face_numbers f) ≡ None
 limits_in limit f faces n is few more =
-    rw (face_in f is, past_in limit 0 32 (faces + 1) (omega arith) (omega arith)) (past_in kind.Faces 0 4095 (n + 1) (omega arith) (omega arith))
+    rw (face_in f is, past_in limit 0 32 (faces + 1) (omega arith) (omega arith))
+    (past_in kind.Faces 0 4095 (n + 1) (omega arith) (omega arith))
 
-three_or_six : (ws : Words) (zs : List ℤ) (counted : Bool) → AreFigures ws zs → counted ≡ true → numeric counted ws ≡ None
+three_or_six : (ws : Words) (zs : List ℤ) (counted : Bool) → AreFigures ws zs → counted ≡ true
+    → numeric counted ws ≡ None
 three_or_six ws zs counted are e = rw (e, are.are) refl
 
-front_good : (names ws : Words) (t : Tally) (zs : List ℤ) → AreFigures ws zs → (length ws == 3 || length ws == 6) ≡ true → face_limit kind.Fronts t.fronts t.numbered zs ≡ None
+front_good : (names ws : Words) (t : Tally) (zs : List ℤ) → AreFigures ws zs → (length ws == 3 || length ws == 6) ≡ true
+    → face_limit kind.Fronts t.fronts t.numbered zs ≡ None
     → fault_of d.Plane names t (codes "front" ∷ ws) ≡ None
 front_good names ws t zs are counted within =
-    ap (λ c. judged c (face_limit kind.Fronts t.fronts t.numbered (numbers_of ws))) (three_or_six ws zs (length ws == 3 || length ws == 6) are counted)
+    ap (λ c. judged c (face_limit kind.Fronts t.fronts t.numbered (numbers_of ws)))
+    (three_or_six ws zs (length ws == 3 || length ws == 6) are counted)
     ∙ ap (λ ns. face_limit kind.Fronts t.fronts t.numbered ns) are.is ∙ within
 
-back_good : (names ws : Words) (t : Tally) (zs : List ℤ) → AreFigures ws zs → (length ws == 3 || length ws == 6) ≡ true → face_limit kind.Backs t.backs t.numbered zs ≡ None
+back_good : (names ws : Words) (t : Tally) (zs : List ℤ) → AreFigures ws zs → (length ws == 3 || length ws == 6) ≡ true
+    → face_limit kind.Backs t.backs t.numbered zs ≡ None
     → fault_of d.Plane names t (codes "back" ∷ ws) ≡ None
 back_good names ws t zs are counted within =
-    ap (λ c. judged c (face_limit kind.Backs t.backs t.numbered (numbers_of ws))) (three_or_six ws zs (length ws == 3 || length ws == 6) are counted)
+    ap (λ c. judged c (face_limit kind.Backs t.backs t.numbered (numbers_of ws)))
+    (three_or_six ws zs (length ws == 3 || length ws == 6) are counted)
     ∙ ap (λ ns. face_limit kind.Backs t.backs t.numbered ns) are.is ∙ within
 
-side_good : (names ws : Words) (t : Tally) (zs : List ℤ) → AreFigures ws zs → (length ws == 3) ≡ true → option_or (face_past zs) (most kind.Sides 32 (t.sides + 1)) ≡ None
+side_good : (names ws : Words) (t : Tally) (zs : List ℤ) → AreFigures ws zs → (length ws == 3) ≡ true
+    → option_or (face_past zs) (most kind.Sides 32 (t.sides + 1)) ≡ None
     → fault_of d.Plane names t (codes "side" ∷ ws) ≡ None
 side_good names ws t zs are counted within =
-    ap (λ c. judged c (option_or (face_past (numbers_of ws)) (most kind.Sides 32 (t.sides + 1)))) (three_or_six ws zs (length ws == 3) are counted)
+    ap (λ c. judged c (option_or (face_past (numbers_of ws)) (most kind.Sides 32 (t.sides + 1))))
+    (three_or_six ws zs (length ws == 3) are counted)
     ∙ ap (λ ns. option_or (face_past ns) (most kind.Sides 32 (t.sides + 1))) are.is ∙ within
 
-pub front_walk : (width height bits : ℕ) (done : List SolidView) (s : SolidView) (n : ℕ) (f : Face) → IsWritableFace f → f.number ≡ n + 1 → length s.fronts < 32 → n < 4095
-    → Walk (open_solid width height bits done s n) ((codes "front" ∷ face_words f) ∷ []) (open_solid width height bits done (record s { fronts = s.fronts ++ f ∷ [] }) (n + 1))
+pub front_walk : (width height bits : ℕ) (done : List SolidView) (s : SolidView) (n : ℕ) (f : Face) → IsWritableFace f
+    → f.number ≡ n + 1 → length s.fronts < 32 → n < 4095
+    → Walk (open_solid width height bits done s n) ((codes "front" ∷ face_words f) ∷ [])
+    (open_solid width height bits done (record s { fronts = s.fronts ++ f ∷ [] }) (n + 1))
 front_walk width height bits done s n f is number few more =
     let figures = face_figures f is
     in let after = λ (ss : List SolidView). written_so_far width height bits ss (n + 1)
     in (
-      front_good (names_of (done ++ s ∷ [])) (face_words f) (tally_of (open_solid width height bits done s n)) (face_numbers f) figures refl
-          (ap (λ m. face_limit kind.Fronts m n (face_numbers f)) (in_last-end (λ q. length q.fronts) done s) ∙ limits_in kind.Fronts f (length s.fronts) n is few more),
+      front_good (names_of (done ++ s ∷ [])) (face_words f) (tally_of (open_solid width height bits done s n))
+          (face_numbers f) figures refl
+          (ap (λ m. face_limit kind.Fronts m n (face_numbers f)) (in_last-end (λ q. length q.fronts) done s)
+          ∙ limits_in kind.Fronts f (length s.fronts) n is few more),
       ap (λ zs. after (with_last (with_front (n + 1) zs) (done ++ s ∷ []))) figures.is
           ∙ ap after (with_last-append (with_front (n + 1) (face_numbers f)) done s)
           ∙ ap (λ m. after (done ++ record s { fronts = s.fronts ++ record f { number = m } ∷ [] } ∷ [])) (sym number),
     )
 
-pub back_walk : (width height bits : ℕ) (done : List SolidView) (s : SolidView) (n : ℕ) (f : Face) → IsWritableFace f → f.number ≡ n + 1 → length s.backs < 32 → n < 4095
-    → Walk (open_solid width height bits done s n) ((codes "back" ∷ face_words f) ∷ []) (open_solid width height bits done (record s { backs = s.backs ++ f ∷ [] }) (n + 1))
+pub back_walk : (width height bits : ℕ) (done : List SolidView) (s : SolidView) (n : ℕ) (f : Face) → IsWritableFace f
+    → f.number ≡ n + 1 → length s.backs < 32 → n < 4095
+    → Walk (open_solid width height bits done s n) ((codes "back" ∷ face_words f) ∷ [])
+    (open_solid width height bits done (record s { backs = s.backs ++ f ∷ [] }) (n + 1))
 back_walk width height bits done s n f is number few more =
     let figures = face_figures f is
     in let after = λ (ss : List SolidView). written_so_far width height bits ss (n + 1)
     in (
-      back_good (names_of (done ++ s ∷ [])) (face_words f) (tally_of (open_solid width height bits done s n)) (face_numbers f) figures refl
-          (ap (λ m. face_limit kind.Backs m n (face_numbers f)) (in_last-end (λ q. length q.backs) done s) ∙ limits_in kind.Backs f (length s.backs) n is few more),
+      back_good (names_of (done ++ s ∷ [])) (face_words f) (tally_of (open_solid width height bits done s n))
+          (face_numbers f) figures refl
+          (ap (λ m. face_limit kind.Backs m n (face_numbers f)) (in_last-end (λ q. length q.backs) done s)
+          ∙ limits_in kind.Backs f (length s.backs) n is few more),
       ap (λ zs. after (with_last (with_back (n + 1) zs) (done ++ s ∷ []))) figures.is
           ∙ ap after (with_last-append (with_back (n + 1) (face_numbers f)) done s)
           ∙ ap (λ m. after (done ++ record s { backs = s.backs ++ record f { number = m } ∷ [] } ∷ [])) (sym number),
     )
 
-pub side_walk : (width height bits : ℕ) (done : List SolidView) (s : SolidView) (n : ℕ) (p : Linear) → IsPlane p → length s.sides < 32
-    → Walk (open_solid width height bits done s n) ((codes "side" ∷ plane_words p) ∷ []) (open_solid width height bits done (record s { sides = s.sides ++ p ∷ [] }) n)
+pub side_walk : (width height bits : ℕ) (done : List SolidView) (s : SolidView) (n : ℕ) (p : Linear) → IsPlane p
+    → length s.sides < 32
+    → Walk (open_solid width height bits done s n) ((codes "side" ∷ plane_words p) ∷ [])
+    (open_solid width height bits done (record s { sides = s.sides ++ p ∷ [] }) n)
 side_walk width height bits done s n p is few =
     let figures = plane_figures p [] [] is no_figure
     in let after = λ (ss : List SolidView). written_so_far width height bits ss n
     in (
-      side_good (names_of (done ++ s ∷ [])) (plane_words p) (tally_of (open_solid width height bits done s n)) (plane_numbers p []) figures refl
-          (ap (λ m. option_or (face_past (plane_numbers p [])) (most kind.Sides 32 (m + 1))) (in_last-end (λ q. length q.sides) done s)
+      side_good (names_of (done ++ s ∷ [])) (plane_words p) (tally_of (open_solid width height bits done s n))
+          (plane_numbers p []) figures refl
+          (ap (λ m. option_or (face_past (plane_numbers p [])) (most kind.Sides 32 (m + 1)))
+          (in_last-end (λ q. length q.sides) done s)
           ∙ rw (plane_in p is) (past_in kind.Sides 0 32 (length s.sides + 1) (omega arith) (omega arith))),
       ap (λ zs. after (with_last (with_side zs) (done ++ s ∷ []))) figures.is
           ∙ ap after (with_last-append (with_side (plane_numbers p [])) done s),
@@ -200,24 +238,41 @@ due_behind_solids [] = d.Solid
 due_behind_solids (s ∷ ss) = d.Plane
 
 abbrev pub standing : ℕ → ℕ → ℕ → List SolidView → ℕ → DraftView
-standing width height bits done n = record { due = due_behind_solids done; numbered = n; width = width; height = height; depth_bits = bits; solids = done; show = None }
+standing width height bits done n =
+    record {
+      due = due_behind_solids done;
+      numbered = n;
+      width = width;
+      height = height;
+      depth_bits = bits;
+      solids =
+          done;
+      show = None;
+    }
 
-solid_formed : (names : Words) (name : List ℕ) (ws : Words) (c : Colour) → ws ≡ colour_words c → are_numbers ws ≡ true → is_name name ≡ true → is_among names name ≡ false → solid_form names (name ∷ ws) ≡ None
+solid_formed : (names : Words) (name : List ℕ) (ws : Words) (c : Colour) → ws ≡ colour_words c → are_numbers ws ≡ true
+    → is_name name ≡ true → is_among names name ≡ false → solid_form names (name ∷ ws) ≡ None
 solid_formed names name ws c e are lawful fresh = rw e (rw (lawful, rw e at are, fresh) refl)
 
 abbrev solid_limit : Tally → List ℤ → Option LineFault
-solid_limit t zs = option_or (option_or (three_past zs) (most kind.Solids 255 (t.solids + 1))) (most kind.Faces 4095 (t.numbered + 1))
+solid_limit t zs = option_or (option_or (three_past zs) (most kind.Solids 255 (t.solids + 1)))
+    (most kind.Faces 4095 (t.numbered + 1))
 
-solid_judged : (names : Words) (t : Tally) (name : List ℕ) (c : Colour) → IsColour c → is_name name ≡ true → is_among names name ≡ false → t.solids < 255 → t.numbered < 4095
+solid_judged : (names : Words) (t : Tally) (name : List ℕ) (c : Colour) → IsColour c → is_name name ≡ true
+    → is_among names name ≡ false → t.solids < 255 → t.numbered < 4095
     → judged (solid_form names (name ∷ colour_words c)) (solid_limit t (numbers_of (colour_words c))) ≡ None
 solid_judged names t name c is lawful fresh few more =
     let figures = colour_figures c is
-    in ap (λ cause. judged cause (solid_limit t (numbers_of (colour_words c)))) (solid_formed names name (colour_words c) c refl figures.are lawful fresh)
+    in ap (λ cause. judged cause (solid_limit t (numbers_of (colour_words c))))
+    (solid_formed names name (colour_words c) c refl figures.are lawful fresh)
     ∙ ap (solid_limit t) figures.is
-    ∙ rw (colour_in c is, past_in kind.Solids 0 255 (t.solids + 1) (omega arith) (omega arith)) (past_in kind.Faces 0 4095 (t.numbered + 1) (omega arith) (omega arith))
+    ∙ rw (colour_in c is, past_in kind.Solids 0 255 (t.solids + 1) (omega arith) (omega arith))
+    (past_in kind.Faces 0 4095 (t.numbered + 1) (omega arith) (omega arith))
 
-pub solid_walk : (width height bits : ℕ) (done : List SolidView) (n : ℕ) (name : List ℕ) (c : Colour) → IsColour c → is_name name ≡ true → is_among (names_of done) name ≡ false → length done < 255 → n < 4095
-    → Walk (standing width height bits done n) ((codes "solid" ∷ name ∷ colour_words c) ∷ []) (open_solid width height bits done (fresh_solid name (n + 1) c) (n + 1))
+pub solid_walk : (width height bits : ℕ) (done : List SolidView) (n : ℕ) (name : List ℕ) (c : Colour) → IsColour c
+    → is_name name ≡ true → is_among (names_of done) name ≡ false → length done < 255 → n < 4095
+    → Walk (standing width height bits done n) ((codes "solid" ∷ name ∷ colour_words c) ∷ [])
+    (open_solid width height bits done (fresh_solid name (n + 1) c) (n + 1))
 solid_walk width height bits [] n name c is lawful fresh few more = (
   solid_judged [] (tally_of (standing width height bits [] n)) name c is lawful fresh few more,
   ap (λ zs. written_so_far width height bits (new_solid name (n + 1) zs) (n + 1)) (colour_figures c is).is,
@@ -228,11 +283,15 @@ solid_walk width height bits (s ∷ ss) n name c is lawful fresh few more = (
 )
 
 abbrev pub shown_draft : ℕ → ℕ → ℕ → List SolidView → ℕ → Due → Option Tree → DraftView
-shown_draft width height bits done n due show = record { due = due; numbered = n; width = width; height = height; depth_bits = bits; solids = done; show = show }
+shown_draft width height bits done n due show =
+    record { due = due; numbered = n; width = width; height = height; depth_bits = bits; solids = done; show = show }
 
 -- the last two lines
-pub last_walk : (width height bits : ℕ) (done : List SolidView) (n : ℕ) (tree : Tree) → AreDistinctNames (names_of done) → HasLeavesBelow (length (names_of done)) tree → IsLawful tree → 0 < length done
-    → Walk (standing width height bits done n) ((codes "show" ∷ words_of (printed (named_by (names_of done) tree))) ∷ (codes "end" ∷ []) ∷ []) (shown_draft width height bits done n d.Nothing (Some tree))
+pub last_walk : (width height bits : ℕ) (done : List SolidView) (n : ℕ) (tree : Tree) → AreDistinctNames (names_of done)
+    → HasLeavesBelow (length (names_of done)) tree → IsLawful tree → 0 < length done
+    → Walk (standing width height bits done n)
+    ((codes "show" ∷ words_of (printed (named_by (names_of done) tree))) ∷ (codes "end" ∷ []) ∷ [])
+    (shown_draft width height bits done n d.Nothing (Some tree))
 last_walk width height bits [] n tree names below lawful some = absurd (omega arith)
 last_walk width height bits (s ∷ ss) n tree names below lawful some = (
   printed_good (names_of (s ∷ ss)) tree names below lawful,

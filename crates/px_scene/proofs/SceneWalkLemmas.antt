@@ -12,9 +12,9 @@ use Rattle.px_scene.specs.Text.{Words, words_of}
 use Rattle.px_scene.specs.Word.{is_name}
 use Rattle.px_scene.specs.Faults.{is_among}
 use Rattle.px_scene.specs.Printed.{printed, named_by}
-use Rattle.px_scene.specs.Solids.{SolidView, faces_in, names_of}
+use Rattle.px_scene.specs.Solids.{SolidView, IsLawfulSolid, faces_in, names_of}
 use Rattle.px_scene.specs.Scenes.{SceneView, IsNumberedFrom, AreNumberedFrom, faces_of}
-use Rattle.px_scene.specs.Writable.{IsWritableSolid, IsWritable}
+use Rattle.px_scene.specs.Writable.{IsWritable}
 use Rattle.px_scene.specs.Drafts.{DraftView, fresh_solid}
 use Rattle.px_scene.specs.Canonical.{plane_words, colour_words}
 use Rattle.px_scene.proofs.NumberLemmas.{faces_of-cons}
@@ -36,42 +36,66 @@ sides_words s = map (λ p. codes "side" ∷ plane_words p) s.sides
 abbrev pub solid_words : SolidView → List Words
 solid_words s = (head_words s ∷ []) ++ (numbers_words s ++ sides_words s)
 
-begun : (s : SolidView) (n : ℕ) → IsWritableSolid s → s.near_number ≡ n + 1 → fresh_solid s.name (n + 1) s.colour ≡ part s (s.near_number + 1)
-begun s n ok near = rw (none_below s.near_number s.fronts ok.lawful.fronts.numbers, none_below s.near_number s.backs ok.lawful.backs.numbers, near) refl
+begun : (s : SolidView) (n : ℕ) → IsLawfulSolid s → s.near_number ≡ n + 1
+    → fresh_solid s.name (n + 1) s.colour ≡ part s (s.near_number + 1)
+begun s n ok near = rw (
+  none_below s.near_number s.fronts ok.fronts.numbers,
+  none_below s.near_number s.backs ok.backs.numbers,
+  near,
+) refl
 
-ended : (s : SolidView) (m : ℕ) → All (λ f. f.number < m) s.fronts → All (λ f. f.number < m) s.backs → part s m ≡ record s { sides = [] }
+ended : (s : SolidView) (m : ℕ) → All (λ f. f.number < m) s.fronts → All (λ f. f.number < m) s.backs
+    → part s m ≡ record s { sides = [] }
 ended s m fronts backs = rw (all_below m s.fronts fronts, all_below m s.backs backs) refl
 
-stands : (width height bits : ℕ) (done : List SolidView) (s : SolidView) (n : ℕ) → written_so_far width height bits (done ++ s ∷ []) n ≡ standing width height bits (done ++ s ∷ []) n
+stands : (width height bits : ℕ) (done : List SolidView) (s : SolidView) (n : ℕ)
+    → written_so_far width height bits (done ++ s ∷ []) n ≡ standing width height bits (done ++ s ∷ []) n
 stands width height bits [] s n = refl
 stands width height bits (q ∷ done) s n = refl
 
-whole_solid : (width height bits : ℕ) (done : List SolidView) (s : SolidView) (n : ℕ) → IsWritableSolid s → IsNumberedFrom (n + 1) s → n + faces_in s ≤ 4095
+whole_solid : (width height bits : ℕ) (done : List SolidView) (s : SolidView) (n : ℕ) → IsLawfulSolid s
+    → IsNumberedFrom (n + 1) s → n + faces_in s ≤ 4095
     → is_name s.name ≡ true → is_among (names_of done) s.name ≡ false → length done < 255
-    → Walk (standing width height bits done n) (solid_words s) (standing width height bits (done ++ s ∷ []) (n + faces_in s))
+    → Walk (standing width height bits done n) (solid_words s)
+    (standing width height bits (done ++ s ∷ []) (n + faces_in s))
 whole_solid width height bits done s n ok is most lawful fresh few =
     let near = is.near
     in let count = length s.fronts + length s.backs
     in let draft = λ (q : SolidView) (m : ℕ). open_solid width height bits done q m
     in let head = solid_walk width height bits done n s.name s.colour ok.colour lawful fresh few (omega arith)
-    in let from : draft (fresh_solid s.name (n + 1) s.colour) (n + 1) ≡ draft (part s (s.near_number + 1)) s.near_number = ap (λ q. draft q (n + 1)) (begun s n ok near) ∙ ap (draft (part s (s.near_number + 1))) (sym near)
-    in let faces = faces_walk width height bits done s count s.near_number ok (omega arith) (λ m over under. is.once m (omega arith) (omega arith))
+    in let from : draft (fresh_solid s.name (n + 1) s.colour) (n + 1)
+    ≡ draft (part s (s.near_number + 1)) s.near_number = ap (λ q. draft q (n + 1)) (begun s n ok near)
+    ∙ ap (draft (part s (s.near_number + 1))) (sym near)
+    in let faces = faces_walk width height bits done s count s.near_number ok (omega arith)
+    (λ m over under. is.once m (omega arith) (omega arith))
     in let last : n + 1 + faces_in s ≡ s.near_number + count + 1 = omega arith
-    in let whole = ended s (s.near_number + count + 1) (subst (λ (m : ℕ). All (λ f. f.number < m) s.fronts) last is.fronts) (subst (λ (m : ℕ). All (λ f. f.number < m) s.backs) last is.backs)
-    in let sides = sides_walk width height bits done s (s.near_number + count) s.sides [] ok.lawful.sides (let few_sides = ok.lawful.few_sides in omega arith)
+    in let whole = ended s (s.near_number + count + 1) (subst
+    (λ (m : ℕ). All (λ f. f.number < m) s.fronts) last is.fronts)
+    (subst (λ (m : ℕ). All (λ f. f.number < m) s.backs) last is.backs)
+    in let sides = sides_walk width height bits done s (s.near_number + count) s.sides [] ok.sides
+    (let few_sides = ok.few_sides in omega arith)
     in let sum : s.near_number + count ≡ n + faces_in s = omega arith
-    in subst (λ (after : DraftView). Walk (standing width height bits done n) (solid_words s) after) (ap (draft s) sum ∙ stands width height bits done s (n + faces_in s))
-    (walk_both (standing width height bits done n) (draft (part s (s.near_number + 1)) s.near_number) (draft s (s.near_number + count)) (head_words s ∷ []) (numbers_words s ++ sides_words s)
+    in subst (λ (after : DraftView). Walk (standing width height bits done n) (solid_words s) after)
+    (ap (draft s) sum ∙ stands width height bits done s (n + faces_in s))
+    (walk_both (standing width height bits done n) (draft (part s (s.near_number + 1)) s.near_number)
+    (draft s (s.near_number + count)) (head_words s ∷ []) (numbers_words s ++ sides_words s)
     (subst (λ (after : DraftView). Walk (standing width height bits done n) (head_words s ∷ []) after) from head)
-    (walk_both (draft (part s (s.near_number + 1)) s.near_number) (draft (record s { sides = [] }) (s.near_number + count)) (draft s (s.near_number + count)) (numbers_words s) (sides_words s)
-    (subst (λ (q : SolidView). Walk (draft (part s (s.near_number + 1)) s.near_number) (numbers_words s) (draft q (s.near_number + count))) whole faces)
+    (walk_both (draft (part s (s.near_number + 1)) s.near_number)
+    (draft (record s { sides = [] }) (s.near_number + count)) (draft s (s.near_number + count)) (numbers_words s)
+    (sides_words s)
+    (subst (λ (q : SolidView). Walk (draft (part s (s.near_number + 1)) s.near_number) (numbers_words s)
+    (draft q (s.near_number + count))) whole faces)
     sides))
 
-fresh_name : (names : Words) (name : List ℕ) (others : Words) → AllPairs (λ m n. m ≢ n) (names ++ name ∷ others) → is_among names name ≡ false
+fresh_name : (names : Words) (name : List ℕ) (others : Words) → AllPairs (λ m n. m ≢ n) (names ++ name ∷ others)
+    → is_among names name ≡ false
 fresh_name [] name others different = refl
-fresh_name (n ∷ ns) name others different = by_test (bytes_eq n name) refl (fresh_name ns name others (λ i j e lt le. different (suc i) (suc j) e (omega arith) (omega arith)))
+fresh_name (n ∷ ns) name others different =
+    by_test (bytes_eq n name) refl
+    (fresh_name ns name others (λ i j e lt le. different (suc i) (suc j) e (omega arith) (omega arith)))
   where
-    by_test : (same : Bool) → bytes_eq n name ≡ same → is_among ns name ≡ false → (bytes_eq n name || is_among ns name) ≡ false
+    by_test : (same : Bool) → bytes_eq n name ≡ same → is_among ns name ≡ false
+        → (bytes_eq n name || is_among ns name) ≡ false
     by_test true e later =
         let apart = different 0 (suc (length ns)) [] (omega arith) (omega (arith, length-append ns (name ∷ others)))
         in absurd (apart ((bytes_eq-Decides n name).0 e ∙ sym (get_or-append_seam ns name others [])))
@@ -81,27 +105,40 @@ names_end : (done : List SolidView) (s : SolidView) → names_of (done ++ s ∷ 
 names_end [] s = refl
 names_end (q ∷ done) s = ap (λ ns. q.name ∷ ns) (names_end done s)
 
-pub solids_walk : (width height bits : ℕ) (ss done : List SolidView) (n : ℕ) → All IsWritableSolid ss → AreNumberedFrom (n + 1) ss → n + faces_of ss ≤ 4095
-    → AllPass is_name (names_of ss) → AllPairs (λ m n. m ≢ n) (names_of done ++ names_of ss) → length done + length ss ≤ 255
-    → Walk (standing width height bits done n) (flat_map solid_words ss) (standing width height bits (done ++ ss) (n + faces_of ss))
+pub solids_walk : (width height bits : ℕ) (ss done : List SolidView) (n : ℕ) → All IsLawfulSolid ss
+    → AreNumberedFrom (n + 1) ss → n + faces_of ss ≤ 4095
+    → AllPass is_name (names_of ss) → AllPairs (λ m n. m ≢ n) (names_of done ++ names_of ss)
+    → length done + length ss ≤ 255
+    → Walk (standing width height bits done n) (flat_map solid_words ss)
+    (standing width height bits (done ++ ss) (n + faces_of ss))
 solids_walk width height bits [] done n ok are most lawful different few =
     let same : n ≡ n + 0 = omega arith
-    in ap (standing width height bits done) same ∙ ap (λ ss. standing width height bits ss (n + 0)) (sym (append-nil done))
+    in ap (standing width height bits done) same
+    ∙ ap (λ ss. standing width height bits ss (n + 0)) (sym (append-nil done))
 solids_walk width height bits (s ∷ ss) done n ok are most lawful different few =
     let counted = faces_of-cons s ss
-    in let first = whole_solid width height bits done s n (ok 0 s (omega arith)) are.0 (omega arith) (lawful 0 [] (omega arith)) (fresh_name (names_of done) s.name (names_of ss) different) (omega arith)
+    in let first = whole_solid width height bits done s n (ok 0 s (omega arith)) are.0 (omega arith)
+    (lawful 0 [] (omega arith)) (fresh_name (names_of done) s.name (names_of ss) different) (omega arith)
     in let next : n + 1 + faces_in s ≡ n + faces_in s + 1 = omega arith
-    in let later = solids_walk width height bits ss (done ++ s ∷ []) (n + faces_in s) (λ k e lt. ok (suc k) e (omega arith)) (subst (λ (m : ℕ). AreNumberedFrom m ss) next are.1) (omega arith)
+    in let later = solids_walk width height bits ss (done ++ s ∷ []) (n + faces_in s)
+    (λ k e lt. ok (suc k) e (omega arith)) (subst (λ (m : ℕ). AreNumberedFrom m ss) next are.1) (omega arith)
     (λ k e lt. lawful (suc k) e (omega arith))
-    (subst (λ (ns : Words). AllPairs (λ m n. m ≢ n) ns) (sym (append_assoc (names_of done) (s.name ∷ []) (names_of ss)) ∙ ap (λ ns. ns ++ names_of ss) (sym (names_end done s))) different)
+    (subst (λ (ns : Words). AllPairs (λ m n. m ≢ n) ns)
+    (sym (append_assoc (names_of done) (s.name ∷ []) (names_of ss))
+    ∙ ap (λ ns. ns ++ names_of ss) (sym (names_end done s))) different)
     (omega (arith, length-append done (s ∷ [])))
-    in let end : standing width height bits ((done ++ s ∷ []) ++ ss) (n + faces_in s + faces_of ss) ≡ standing width height bits (done ++ s ∷ ss) (n + faces_of (s ∷ ss)) =
-    ap (λ qs. standing width height bits qs (n + faces_in s + faces_of ss)) (append_assoc done (s ∷ []) ss) ∙ ap (standing width height bits (done ++ s ∷ ss)) (omega arith)
+    in let end : standing width height bits ((done ++ s ∷ []) ++ ss) (n + faces_in s + faces_of ss)
+    ≡ standing width height bits (done ++ s ∷ ss) (n + faces_of (s ∷ ss)) =
+    ap (λ qs. standing width height bits qs (n + faces_in s + faces_of ss)) (append_assoc done (s ∷ []) ss)
+    ∙ ap (standing width height bits (done ++ s ∷ ss)) (omega arith)
     in subst (λ (after : DraftView). Walk (standing width height bits done n) (flat_map solid_words (s ∷ ss)) after) end
-    (walk_both (standing width height bits done n) (standing width height bits (done ++ s ∷ []) (n + faces_in s)) (standing width height bits ((done ++ s ∷ []) ++ ss) (n + faces_in s + faces_of ss)) (solid_words s) (flat_map solid_words ss) first later)
+    (walk_both (standing width height bits done n) (standing width height bits (done ++ s ∷ []) (n + faces_in s))
+    (standing width height bits ((done ++ s ∷ []) ++ ss) (n + faces_in s + faces_of ss)) (solid_words s)
+    (flat_map solid_words ss) first later)
 
 abbrev pub first_words : SceneView → List Words
-first_words scene = (codes "pxscene" ∷ codes "1" ∷ []) ∷ (codes "picture" ∷ decimal scene.width ∷ decimal scene.height ∷ []) ∷ (codes "depth" ∷ decimal scene.depth_bits ∷ []) ∷ []
+first_words scene = (codes "pxscene" ∷ codes "1" ∷ []) ∷ (codes "picture" ∷ decimal scene.width ∷ decimal scene.height ∷
+    []) ∷ (codes "depth" ∷ decimal scene.depth_bits ∷ []) ∷ []
 
 abbrev pub shown_text : SceneView → List ℕ
 shown_text scene = printed (named_by (names_of scene.solids) scene.show)
@@ -114,7 +151,8 @@ abbrev pub scene_words : SceneView → List Words
 scene_words scene = first_words scene ++ (flat_map solid_words scene.solids ++ last_words scene)
 
 abbrev pub final_draft : SceneView → DraftView
-final_draft scene = shown_draft scene.width scene.height scene.depth_bits scene.solids (faces_of scene.solids) d.Nothing (Some scene.show)
+final_draft scene = shown_draft scene.width scene.height scene.depth_bits scene.solids (faces_of scene.solids) d.Nothing
+    (Some scene.show)
 
 some_solid : (tree : Tree) (count : ℕ) → HasLeavesBelow count tree → 0 < count
 some_solid (leaf place) count below = omega arith
@@ -123,12 +161,20 @@ some_solid (join op left right) count below = some_solid left count below.0
 pub scene_walk : (scene : SceneView) → IsWritable scene → Walk blank (scene_words scene) (final_draft scene)
 scene_walk scene is =
     let law = is.lawful
-    in let names : length (names_of scene.solids) ≡ length scene.solids = length-map scene.solids (λ (s : SolidView). s.name)
+    in let names : length (names_of scene.solids) ≡ length scene.solids =
+    length-map scene.solids (λ (s : SolidView). s.name)
     in let below = subst (λ (n : ℕ). HasLeavesBelow n scene.show) (sym names) law.shown
     in let stand = λ (ss : List SolidView) (n : ℕ). standing scene.width scene.height scene.depth_bits ss n
-    in let first = first_walk scene.width scene.height scene.depth_bits law.some_width law.width law.some_height law.height law.some_depth law.depth
-    in let solids = solids_walk scene.width scene.height scene.depth_bits scene.solids [] 0 is.solids law.numbers (let faces = law.faces in omega arith) law.names law.different (let few = law.solids in omega arith)
-    in let last = last_walk scene.width scene.height scene.depth_bits scene.solids (faces_of scene.solids) scene.show (record { lawful = law.names; different = law.different }) below is.show (some_solid scene.show (length scene.solids) law.shown)
-    in walk_both blank (stand [] 0) (final_draft scene) (first_words scene) (flat_map solid_words scene.solids ++ last_words scene) first
-    (walk_both (stand [] 0) (stand scene.solids (faces_of scene.solids)) (final_draft scene) (flat_map solid_words scene.solids) (last_words scene)
-    (subst (λ (n : ℕ). Walk (stand [] 0) (flat_map solid_words scene.solids) (stand scene.solids n)) (zero-add (faces_of scene.solids)) solids) last)
+    in let first = first_walk scene.width scene.height scene.depth_bits law.some_width law.width law.some_height
+    law.height law.some_depth law.depth
+    in let solids = solids_walk scene.width scene.height scene.depth_bits scene.solids [] 0 is.solids law.numbers
+    (let faces = law.faces in omega arith) law.names law.different (let few = law.solids in omega arith)
+    in let last = last_walk scene.width scene.height scene.depth_bits scene.solids (faces_of scene.solids) scene.show
+    (record { lawful = law.names; different = law.different }) below is.show
+    (some_solid scene.show (length scene.solids) law.shown)
+    in walk_both blank (stand [] 0) (final_draft scene) (first_words scene)
+    (flat_map solid_words scene.solids ++ last_words scene) first
+    (walk_both (stand [] 0) (stand scene.solids (faces_of scene.solids)) (final_draft scene)
+    (flat_map solid_words scene.solids) (last_words scene)
+    (subst (λ (n : ℕ). Walk (stand [] 0) (flat_map solid_words scene.solids) (stand scene.solids n))
+    (zero-add (faces_of scene.solids)) solids) last)

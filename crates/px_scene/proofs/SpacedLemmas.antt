@@ -16,7 +16,8 @@ pub record IsPlainByte (b : ℕ) : Type 0 where
   pub no_comment : is_no_comment b ≡ true
   pub no_feed : is_no_feed b ≡ true
 
-by_tests : (b : ℕ) (blank comment feed : Bool) → is_blank b ≡ blank → (b == 35) ≡ comment → (b == 10) ≡ feed → not (blank || comment || feed) ≡ true → IsPlainByte b
+by_tests : (b : ℕ) (blank comment feed : Bool) → is_blank b ≡ blank → (b == 35) ≡ comment → (b == 10) ≡ feed
+    → not (blank || comment || feed) ≡ true → IsPlainByte b
 by_tests b false false false p q r is = record { no_blank = p; no_comment = ap not q; no_feed = ap not r }
 by_tests b true comment feed p q r is = cc
 by_tests b false true feed p q r is = cc
@@ -28,14 +29,17 @@ plain_byte b is = by_tests b (is_blank b) (b == 35) (b == 10) refl refl refl is
 no_blanks : (w : List ℕ) → list_all is_plain_byte w ≡ true → All (λ b. is_blank b ≡ false) w
 no_blanks [] all k d lt = absurd (omega arith)
 no_blanks (b ∷ w) all zero d lt = (plain_byte b (both (is_plain_byte b) (list_all is_plain_byte w) all).0).no_blank
-no_blanks (b ∷ w) all (suc k) d lt = no_blanks w (both (is_plain_byte b) (list_all is_plain_byte w) all).1 k d (omega arith)
+no_blanks (b ∷ w) all (suc k) d lt =
+    no_blanks w (both (is_plain_byte b) (list_all is_plain_byte w) all).1 k d (omega arith)
 
-split_words : (w : List ℕ) (ws : Words) → list_all is_plain_byte w ≡ true → are_plain ws ≡ true → slice_split is_blank (w ++ spaced ws) ≡ w ∷ ws
+split_words : (w : List ℕ) (ws : Words) → list_all is_plain_byte w ≡ true → are_plain ws ≡ true
+    → slice_split is_blank (w ++ spaced ws) ≡ w ∷ ws
 split_words w [] all plain = ap (slice_split is_blank) (append-nil w) ∙ slice_split_none is_blank w (no_blanks w all)
 split_words w (v ∷ ws) all plain =
     let each = both (is_plain v) (are_plain ws) plain
     in let first = both (is_some_byte v) (list_all is_plain_byte v) each.0
-    in slice_split_at is_blank w 32 (v ++ spaced ws) (no_blanks w all) refl ∙ ap (λ vs. w ∷ vs) (split_words v ws first.1 each.1)
+    in slice_split_at is_blank w 32 (v ++ spaced ws) (no_blanks w all) refl
+    ∙ ap (λ vs. w ∷ vs) (split_words v ws first.1 each.1)
 
 no_comments : (w : List ℕ) → list_all is_plain_byte w ≡ true → list_all is_no_comment w ≡ true
 no_comments [] all = refl
@@ -56,7 +60,8 @@ some_words (w ∷ ws) plain =
     let each = both (is_plain w) (are_plain ws) plain
     in rw ((both (is_some_byte w) (list_all is_plain_byte w) each.0).0, some_words ws each.1) refl
 
-pub words_read : (w : List ℕ) (ws : Words) → is_plain w ≡ true → are_plain ws ≡ true → words_of (w ++ spaced ws) ≡ w ∷ ws
+pub words_read : (w : List ℕ) (ws : Words) → is_plain w ≡ true → are_plain ws ≡ true
+    → words_of (w ++ spaced ws) ≡ w ∷ ws
 words_read w ws here plain =
     let first = both (is_some_byte w) (list_all is_plain_byte w) here
     in let uncommented : list_all is_no_comment (w ++ spaced ws) ≡ true =
@@ -82,11 +87,14 @@ no_feeds (b ∷ l) all zero d lt = by_test (b == 10) (both (is_no_feed b) (list_
     by_test true is = cc
 no_feeds (b ∷ l) all (suc k) d lt = no_feeds l (both (is_no_feed b) (list_all is_no_feed l) all).1 k d (omega arith)
 
-split_lines : (l : List ℕ) (ls : List (List ℕ)) → list_all is_no_feed l ≡ true → list_all (λ m. list_all is_no_feed m) ls ≡ true → slice_split (λ b. b == 10) (l ++ between ls) ≡ l ∷ ls
-split_lines l [] all each = ap (slice_split (λ b. b == 10)) (append-nil l) ∙ slice_split_none (λ b. b == 10) l (no_feeds l all)
+split_lines : (l : List ℕ) (ls : List (List ℕ)) → list_all is_no_feed l ≡ true
+    → list_all (λ m. list_all is_no_feed m) ls ≡ true → slice_split (λ b. b == 10) (l ++ between ls) ≡ l ∷ ls
+split_lines l [] all each = ap (slice_split (λ b. b == 10)) (append-nil l)
+    ∙ slice_split_none (λ b. b == 10) l (no_feeds l all)
 split_lines l (m ∷ ls) all each =
     let next = both (list_all is_no_feed m) (list_all (λ n. list_all is_no_feed n) ls) each
-    in slice_split_at (λ b. b == 10) l 10 (m ++ between ls) (no_feeds l all) refl ∙ ap (λ ms. l ∷ ms) (split_lines m ls next.0 next.1)
+    in slice_split_at (λ b. b == 10) l 10 (m ++ between ls) (no_feeds l all) refl
+    ∙ ap (λ ms. l ∷ ms) (split_lines m ls next.0 next.1)
 
 last_feed : (t : List ℕ) → slice_get (t ++ 10 ∷ []) (length t) ≡ Some 10
 last_feed [] = refl
@@ -101,7 +109,8 @@ lines_fed t =
     let count : length (t ++ 10 ∷ []) - 1 ≡ length t = omega (arith, length-append t (10 ∷ []))
     in rw (some_fed t, count, last_feed t, take-append_seam t (10 ∷ [])) refl
 
-pub lines_read : (lines : List (List ℕ)) → list_all (λ l. list_all is_no_feed l) lines ≡ true → lines_of (fed lines) ≡ lines
+pub lines_read : (lines : List (List ℕ)) → list_all (λ l. list_all is_no_feed l) lines ≡ true
+    → lines_of (fed lines) ≡ lines
 lines_read [] each = refl
 lines_read (l ∷ ls) each =
     let all = both (list_all is_no_feed l) (list_all (λ m. list_all is_no_feed m) ls) each

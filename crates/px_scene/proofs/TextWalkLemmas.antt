@@ -1,5 +1,5 @@
 -- The words of the canonical text's lines, and so what is read of it.
-use Rattle.std.proofs.Common.{◌≡◌, ℕ, ◌+◌, ◌≤◌, ◌^◌, List, [], ◌∷◌, ◌++◌, length, Bool, true, false, map, codes, ◌==◌, refl, ap, sym, subst, ◌∙◌, arith, append_assoc, append-nil}
+use Rattle.std.proofs.Common.{◌≡◌, ℕ, ◌+◌, ◌≤◌, ◌^◌, List, [], ◌∷◌, ◌++◌, length, take, Bool, true, false, map, codes, ◌==◌, refl, ap, sym, subst, ◌∙◌, arith, append_assoc, append-nil}
 use Prim.Native.Nat.{suc}
 use Rattle.std.specs.List.{All, flat_map, range_with_len, list_all}
 use Rattle.std.proofs.lemmas.List.Folds.{list_all-append}
@@ -8,10 +8,10 @@ use Rattle.px_scene.specs.declared.solid.Colour.{Colour}
 use Rattle.px_scene.specs.declared.solid.Face.{Face}
 use Rattle.px_scene.specs.Text.{Words, words_of, lines_of, worded}
 use Rattle.px_scene.specs.Word.{is_name}
-use Rattle.px_scene.specs.Solids.{SolidView, IsPlane, names_of}
-use Rattle.px_scene.specs.Scenes.{SceneView}
-use Rattle.px_scene.specs.Writable.{IsColour, IsWritableSolid, IsWritable}
-use Rattle.px_scene.specs.Canonical.{plane_words, colour_words, canonical_text, is_plain, are_plain, is_no_feed, fed}
+use Rattle.px_scene.specs.Solids.{SolidView, IsColour, IsLawfulSolid, IsPlane, names_of}
+use Rattle.px_scene.specs.Scenes.{SceneView, IsLawfulScene}
+use Rattle.px_scene.specs.Writable.{IsWritable, IsReadAs}
+use Rattle.px_scene.specs.Canonical.{plane_words, colour_words, written_line, first_lines, solid_lines, show_line, canonical_text, is_plain, are_plain, is_no_feed, fed}
 use Rattle.px_scene.proofs.RoundLemmas.{face_words, small}
 use Rattle.px_scene.proofs.FaceWalkLemmas.{words_at, words_of_number}
 use Rattle.px_scene.proofs.SceneWalkLemmas.{numbers_words, sides_words, solid_words, first_words, last_words, scene_words, final_draft, shown_text, scene_walk}
@@ -19,58 +19,99 @@ use Rattle.px_scene.proofs.CanonicalLemmas.{is_written, bare, end_words, text_is
 use Rattle.px_scene.proofs.PlainLemmas.{decimal_plain, signed_plain, name_is_plain, bares_fed, printed_fed, show_words}
 use Rattle.px_scene.proofs.SpacedLemmas.{lines_read}
 use Rattle.px_scene.proofs.PrintedLemmas.{names_lawful}
-use Rattle.px_scene.proofs.WalkLemmas.{Walk, IsReadAs, read_by_walk}
+use Rattle.px_scene.proofs.WalkLemmas.{Walk, read_by_walk}
 use Rattle.px_scene.proofs.ReadLemmas.{blank}
 use Rattle.px_scene.specs.Printed.{named_by}
 use Rattle.px_scene.specs.Expressions.{has_names}
-use Rattle.px_expr.specs.Tree.{HasLeavesBelow}
-use Rattle.std.proofs.lemmas.List.{length-map}
+use Rattle.px_expr.specs.Tree.{HasLeavesBelow, IsLawful}
+use Rattle.std.proofs.lemmas.List.{length-map, take_all}
 
 colour_plain : (c : Colour) → IsColour c → are_plain (colour_words c) ≡ true
 colour_plain c is =
     let red = is.red in let green = is.green in let blue = is.blue
-    in rw (decimal_plain c.red (omega arith), decimal_plain c.green (omega arith), decimal_plain c.blue (omega arith)) refl
+    in rw (decimal_plain c.red (omega arith), decimal_plain c.green (omega arith), decimal_plain c.blue (omega arith))
+    refl
 
 plane_plain : (p : Linear) → IsPlane p → are_plain (plane_words p) ≡ true
 plane_plain p is =
-    rw (signed_plain p.a (small (2 ^ 23) p.a (omega arith) is.a), signed_plain p.b (small (2 ^ 23) p.b (omega arith) is.b), signed_plain p.c (small (2 ^ 33) p.c (omega arith) is.c)) refl
+    rw (
+      signed_plain p.a (small (2 ^ 23) p.a (omega arith) is.a),
+      signed_plain p.b (small (2 ^ 23) p.b (omega arith) is.b),
+      signed_plain p.c (small (2 ^ 33) p.c (omega arith) is.c),
+    ) refl
 
-face_plain : (kind : List ℕ) (f : Face) → is_plain kind ≡ true → IsPlane f.plane → IsColour f.colour → is_written (kind ∷ face_words f) ≡ true
-face_plain kind f plain plane colour = rw (plain, list_all-append is_plain (plane_words f.plane) (colour_words f.colour), plane_plain f.plane plane, colour_plain f.colour colour) refl
+face_plain : (kind : List ℕ) (f : Face) → is_plain kind ≡ true → IsPlane f.plane → IsColour f.colour
+    → is_written (kind ∷ face_words f) ≡ true
+face_plain kind f plain plane colour =
+    rw (
+      plain,
+      list_all-append is_plain (plane_words f.plane) (colour_words f.colour),
+      plane_plain f.plane plane,
+      colour_plain f.colour colour,
+    ) refl
 
-faces_plain : (kind : List ℕ) (m : ℕ) (fs : List Face) → is_plain kind ≡ true → All (λ f. IsPlane f.plane) fs → All (λ f. IsColour f.colour) fs → list_all is_written (words_at kind fs m) ≡ true
+faces_plain : (kind : List ℕ) (m : ℕ) (fs : List Face) → is_plain kind ≡ true → All (λ f. IsPlane f.plane) fs
+    → All (λ f. IsColour f.colour) fs → list_all is_written (words_at kind fs m) ≡ true
 faces_plain kind m [] plain planes colours = refl
 faces_plain kind m (f ∷ fs) plain planes colours =
-    by_test (f.number == m) refl (faces_plain kind m fs plain (λ k d lt. planes (suc k) d (omega arith)) (λ k d lt. colours (suc k) d (omega arith)))
+    by_test (f.number == m) refl
+    (faces_plain kind m fs plain (λ k d lt. planes (suc k) d (omega arith))
+    (λ k d lt. colours (suc k) d (omega arith)))
   where
-    by_test : (same : Bool) → (f.number == m) ≡ same → list_all is_written (words_at kind fs m) ≡ true → list_all is_written (words_at kind (f ∷ fs) m) ≡ true
-    by_test true e later = rw e (rw (face_plain kind f plain (planes 0 f (omega arith)) (colours 0 f (omega arith)), later) refl)
+    by_test : (same : Bool) → (f.number == m) ≡ same → list_all is_written (words_at kind fs m) ≡ true
+        → list_all is_written (words_at kind (f ∷ fs) m) ≡ true
+    by_test true e later = rw e (rw (
+      face_plain kind f plain (planes 0 f (omega arith)) (colours 0 f (omega arith)),
+      later,
+    ) refl)
     by_test false e later = rw e later
 
-number_plain : (s : SolidView) → IsWritableSolid s → (ms : List ℕ) → list_all is_written (flat_map (words_of_number s) ms) ≡ true
+number_plain : (s : SolidView) → IsLawfulSolid s → (ms : List ℕ)
+    → list_all is_written (flat_map (words_of_number s) ms) ≡ true
 number_plain s is [] = refl
 number_plain s is (m ∷ ms) =
     list_all-append is_written (words_of_number s m) (flat_map (words_of_number s) ms)
-    ∙ rw (list_all-append is_written (words_at (codes "front") s.fronts m) (words_at (codes "back") s.backs m), faces_plain (codes "front") m s.fronts refl is.lawful.fronts.planes is.fronts, faces_plain (codes "back") m s.backs refl is.lawful.backs.planes is.backs, number_plain s is ms) refl
+    ∙ rw (
+      list_all-append is_written (words_at (codes "front") s.fronts m) (words_at (codes "back") s.backs m),
+      faces_plain (codes "front") m s.fronts refl is.fronts.planes is.fronts.colours,
+      faces_plain (codes "back") m s.backs refl is.backs.planes is.backs.colours,
+      number_plain s is ms,
+    ) refl
 
-side_plain : (ps : List Linear) → All IsPlane ps → list_all is_written (map (λ p. codes "side" ∷ plane_words p) ps) ≡ true
+side_plain : (ps : List Linear) → All IsPlane ps
+    → list_all is_written (map (λ p. codes "side" ∷ plane_words p) ps) ≡ true
 side_plain [] all = refl
-side_plain (p ∷ ps) all = rw (plane_plain p (all 0 p (omega arith)), side_plain ps (λ k d lt. all (suc k) d (omega arith))) refl
+side_plain (p ∷ ps) all =
+    rw (plane_plain p (all 0 p (omega arith)), side_plain ps (λ k d lt. all (suc k) d (omega arith))) refl
 
-solid_plain : (s : SolidView) → IsWritableSolid s → is_name s.name ≡ true → list_all is_written (solid_words s) ≡ true
+solid_plain : (s : SolidView) → IsLawfulSolid s → is_name s.name ≡ true → list_all is_written (solid_words s) ≡ true
 solid_plain s is name =
-    rw (name_is_plain s.name name, colour_plain s.colour is.colour, list_all-append is_written (numbers_words s) (sides_words s), number_plain s is (range_with_len (s.near_number + 1) (length s.fronts + length s.backs)), side_plain s.sides is.lawful.sides) refl
+    rw (
+      name_is_plain s.name name,
+      colour_plain s.colour is.colour,
+      list_all-append is_written (numbers_words s) (sides_words s),
+      number_plain s is (range_with_len (s.near_number + 1) (length s.fronts + length s.backs)),
+      side_plain s.sides is.sides,
+    ) refl
 
-pub solids_plain : (ss : List SolidView) → All IsWritableSolid ss → All (λ n. is_name n ≡ true) (names_of ss) → list_all is_written (flat_map solid_words ss) ≡ true
+pub solids_plain : (ss : List SolidView) → All IsLawfulSolid ss → All (λ n. is_name n ≡ true) (names_of ss)
+    → list_all is_written (flat_map solid_words ss) ≡ true
 solids_plain [] all names = refl
 solids_plain (s ∷ ss) all names =
     list_all-append is_written (solid_words s) (flat_map solid_words ss)
-    ∙ rw (solid_plain s (all 0 s (omega arith)) (names 0 [] (omega arith)), solids_plain ss (λ k d lt. all (suc k) d (omega arith)) (λ k d lt. names (suc k) d (omega arith))) refl
+    ∙ rw (
+      solid_plain s (all 0 s (omega arith)) (names 0 [] (omega arith)),
+      solids_plain ss (λ k d lt. all (suc k) d (omega arith)) (λ k d lt. names (suc k) d (omega arith)),
+    ) refl
 
 first_plain : (scene : SceneView) → IsWritable scene → list_all is_written (first_words scene) ≡ true
 first_plain scene is =
     let w = is.lawful.width in let h = is.lawful.height in let b = is.lawful.depth
-    in rw (decimal_plain scene.width (omega arith), decimal_plain scene.height (omega arith), decimal_plain scene.depth_bits (omega arith)) refl
+    in rw (
+      decimal_plain scene.width (omega arith),
+      decimal_plain scene.height (omega arith),
+      decimal_plain scene.depth_bits (omega arith),
+    ) refl
 
 map_joined : (ls ms : List Words) → map bare (ls ++ ms) ≡ map bare ls ++ map bare ms
 map_joined [] ms = refl
@@ -84,31 +125,63 @@ abbrev has_no_feed : List ℕ → Bool
 has_no_feed l = list_all is_no_feed l
 
 -- plain lines, and then others, of which the words are known
-read_both : (ls ms ns : List Words) → list_all is_written ls ≡ true → list_all has_no_feed (map bare ms) ≡ true → map words_of (map bare ms) ≡ ns → map words_of (lines_of (fed (map bare (ls ++ ms)))) ≡ ls ++ ns
+read_both : (ls ms ns : List Words) → list_all is_written ls ≡ true → list_all has_no_feed (map bare ms) ≡ true
+    → map words_of (map bare ms) ≡ ns → map words_of (lines_of (fed (map bare (ls ++ ms)))) ≡ ls ++ ns
 read_both ls ms ns plain fed_only known =
     let none : list_all has_no_feed (map bare (ls ++ ms)) ≡ true =
-    ap (list_all has_no_feed) (map_joined ls ms) ∙ list_all-append has_no_feed (map bare ls) (map bare ms) ∙ rw (bares_fed ls plain, fed_only) refl
+    ap (list_all has_no_feed) (map_joined ls ms) ∙ list_all-append has_no_feed (map bare ls) (map bare ms)
+    ∙ rw (bares_fed ls plain, fed_only) refl
     in ap (map words_of) (lines_read (map bare (ls ++ ms)) none ∙ map_joined ls ms)
     ∙ words_joined (map bare ls) (map bare ms)
     ∙ rw (read_plain ls plain, known) refl
 
 named : (scene : SceneView) → IsWritable scene → has_names (named_by (names_of scene.solids) scene.show) ≡ true
 named scene is = names_lawful (names_of scene.solids) scene.show is.lawful.names
-    (subst (λ (n : ℕ). HasLeavesBelow n scene.show) (sym (length-map scene.solids (λ (s : SolidView). s.name))) is.lawful.shown)
+    (subst (λ (n : ℕ). HasLeavesBelow n scene.show)
+    (sym (length-map scene.solids (λ (s : SolidView). s.name))) is.lawful.shown)
 
 end_fed : (scene : SceneView) → IsWritable scene → list_all has_no_feed (map bare (end_words scene)) ≡ true
-end_fed scene is = rw (append-nil (shown_text scene), printed_fed (named_by (names_of scene.solids) scene.show) (named scene is)) refl
+end_fed scene is = rw (
+  append-nil (shown_text scene),
+  printed_fed (named_by (names_of scene.solids) scene.show)
+      (named scene is),
+) refl
 
 end_read : (scene : SceneView) → IsWritable scene → map words_of (map bare (end_words scene)) ≡ last_words scene
-end_read scene is = ap (λ ws. ws ∷ (codes "end" ∷ []) ∷ []) (show_words (named_by (names_of scene.solids) scene.show) (named scene is))
+end_read scene is = ap (λ ws. ws ∷ (codes "end" ∷ []) ∷ []) (show_words (named_by (names_of scene.solids) scene.show)
+    (named scene is))
 
 words_are : (scene : SceneView) → IsWritable scene → worded (canonical_text scene) ≡ scene_words scene
 words_are scene is =
-    let plain = list_all-append is_written (first_words scene) (flat_map solid_words scene.solids) ∙ rw (first_plain scene is, solids_plain scene.solids is.solids is.lawful.names) refl
-    in ap worded (text_is scene ∙ ap (λ ls. fed (map bare ls)) (sym (append_assoc (first_words scene) (flat_map solid_words scene.solids) (end_words scene))))
-    ∙ read_both (first_words scene ++ flat_map solid_words scene.solids) (end_words scene) (last_words scene) plain (end_fed scene is) (end_read scene is)
+    let plain = list_all-append is_written (first_words scene) (flat_map solid_words scene.solids)
+    ∙ rw (first_plain scene is, solids_plain scene.solids is.solids is.lawful.names) refl
+    in ap worded (text_is scene ∙ ap (λ ls. fed (map bare ls))
+    (sym (append_assoc (first_words scene) (flat_map solid_words scene.solids) (end_words scene))))
+    ∙ read_both (first_words scene ++ flat_map solid_words scene.solids) (end_words scene) (last_words scene) plain
+    (end_fed scene is) (end_read scene is)
     ∙ append_assoc (first_words scene) (flat_map solid_words scene.solids) (last_words scene)
 
-pub canonical_read : (scene : SceneView) → IsWritable scene → length (canonical_text scene) ≤ 2 ^ 20 → IsReadAs (canonical_text scene) (final_draft scene)
+pub canonical_read : (scene : SceneView) → IsWritable scene → length (canonical_text scene) ≤ 2 ^ 20
+    → IsReadAs (canonical_text scene) scene
 canonical_read scene is short =
-    read_by_walk (canonical_text scene) (final_draft scene) short (subst (λ (ls : List Words). Walk blank ls (final_draft scene)) (sym (words_are scene is)) (scene_walk scene is)) refl
+    read_by_walk (canonical_text scene) (final_draft scene) short
+    (subst (λ (ls : List Words). Walk blank ls (final_draft scene)) (sym (words_are scene is)) (scene_walk scene is))
+    refl
+
+-- a text that is put together of the parts of a lawful scene
+pub parts_read : (scene : SceneView) (count : ℕ) (begun shown text : List ℕ) → length scene.solids ≤ count
+    → begun ≡ first_lines scene ++ flat_map solid_lines (take count scene.solids) → shown ≡ begun ++ show_line scene
+    → text ≡ shown ++ written_line (codes "end") []
+    → IsLawfulScene scene → All IsLawfulSolid (take count scene.solids) → IsLawful scene.show → length text ≤ 2 ^ 20
+    → IsReadAs text scene
+parts_read scene count begun shown text every first next last law solids show short =
+    let all = take_all count scene.solids every
+    in let start = first_lines scene
+    in let end = written_line (codes "end") []
+    in let is : text ≡ canonical_text scene =
+    last ∙ ap (λ t. t ++ end) (next ∙ ap (λ t. t ++ show_line scene)
+    (first ∙ ap (λ ss. start ++ flat_map solid_lines ss) all))
+    in let writable : IsWritable scene =
+    record { lawful = law; solids = subst (All IsLawfulSolid) all solids; show = show }
+    in subst (λ (t : List ℕ). IsReadAs t scene) (sym is)
+    (canonical_read scene writable (subst (λ (t : List ℕ). length t ≤ 2 ^ 20) is short))

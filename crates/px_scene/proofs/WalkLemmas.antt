@@ -9,9 +9,10 @@ use Rattle.px_scene.specs.Faults.{judged}
 use Rattle.px_scene.specs.Lines.{keyword_of, numbers_of, figures, fault_of, cause_of, limit_on, limit_of}
 use Rattle.px_scene.specs.Solids.{names_of}
 use Rattle.px_scene.specs.Drafts.{DraftView, IsLawfulDraft, tally_of, taken, drawn}
-use Rattle.px_scene.specs.Reading.{first_bad, at_line, scene_of}
-use Rattle.px_scene.specs.Refusals.{refusal_of, is_nothing}
+use Rattle.px_scene.specs.Reading.{first_bad, at_line}
+use Rattle.px_scene.specs.Refusals.{is_nothing}
 use Rattle.px_scene.specs.Tells.{Tells}
+use Rattle.px_scene.specs.Writable.{IsReadAs}
 use Rattle.px_scene.proofs.TakenLemmas.{good_form}
 use Rattle.px_scene.proofs.LawfulLemmas.{of_form, lawful_line}
 use Rattle.px_scene.proofs.TellsLemmas.{tells_taken, fault_told}
@@ -24,7 +25,8 @@ of_limit : (cause : Option Cause) (limit : Option LineFault) → judged cause li
 of_limit None limit e = e
 of_limit (Some cause) limit e = cc
 
-limit_only : (draft : DraftView) (ws : Words) (key : Keyword) → limit_on key (tally_of draft) ws ≡ None → limit_of key (tally_of draft) (numbers_of (figures key ws)) ≡ None
+limit_only : (draft : DraftView) (ws : Words) (key : Keyword) → limit_on key (tally_of draft) ws ≡ None
+    → limit_of key (tally_of draft) (numbers_of (figures key ws)) ≡ None
 limit_only draft ws k.Show e = refl
 limit_only draft ws k.Pxscene e = e
 limit_only draft ws k.Picture e = e
@@ -36,19 +38,23 @@ limit_only draft ws k.Side e = e
 limit_only draft ws k.End e = e
 limit_only draft ws k.Other e = e
 
-pub lawful_taken : (draft : DraftView) (l : Words) → IsLawfulDraft draft → IsGood draft l → IsLawfulDraft (taken draft l)
+pub lawful_taken : (draft : DraftView) (l : Words) → IsLawfulDraft draft → IsGood draft l
+    → IsLawfulDraft (taken draft l)
 lawful_taken draft [] is good = is
 lawful_taken draft (w ∷ ws) is good =
     let cause = cause_of draft.due (names_of draft.solids) w ws
     in let limit = limit_on (keyword_of w) (tally_of draft) ws
-    in lawful_line draft (keyword_of w) ws is (good_form draft.due (names_of draft.solids) w ws (of_form cause limit good)) (limit_only draft ws (keyword_of w) (of_limit cause limit good))
+    in lawful_line draft (keyword_of w) ws is
+    (good_form draft.due (names_of draft.solids) w ws (of_form cause limit good))
+    (limit_only draft ws (keyword_of w) (of_limit cause limit good))
 
 -- from one draft to another by good lines
 abbrev pub Walk : DraftView → List Words → DraftView → Type 0
 Walk draft [] last = draft ≡ last
 Walk draft (l ∷ ls) last = IsGood draft l × Walk (taken draft l) ls last
 
-pub walk_both : (first middle last : DraftView) (ls ms : List Words) → Walk first ls middle → Walk middle ms last → Walk first (ls ++ ms) last
+pub walk_both : (first middle last : DraftView) (ls ms : List Words) → Walk first ls middle → Walk middle ms last
+    → Walk first (ls ++ ms) last
 walk_both first middle last [] ms one two = rw one two
 walk_both first middle last (l ∷ ls) ms one two = (one.0, walk_both (taken first l) middle last ls ms one.1 two)
 
@@ -57,29 +63,30 @@ record IsWalked (before ls : List Words) (last : DraftView) : Type 0 where
   tells : Tells last (before ++ ls)
   lawful : IsLawfulDraft last
 
-walked : (draft last : DraftView) (before ls : List Words) → Tells draft before → IsLawfulDraft draft → Walk draft ls last → IsWalked before ls last
+walked : (draft last : DraftView) (before ls : List Words) → Tells draft before → IsLawfulDraft draft
+    → Walk draft ls last → IsWalked before ls last
 walked draft last before [] tells is walk = record {
   good = refl;
   tells = rw (append-nil before, ← walk) tells;
   lawful = rw (← walk) is;
 }
 walked draft last before (l ∷ ls) tells is walk =
-    let more = walked (taken draft l) last (before ++ l ∷ []) ls (tells_taken draft before l tells is walk.0) (lawful_taken draft l is walk.0) walk.1
+    let more = walked (taken draft l) last (before ++ l ∷ []) ls (tells_taken draft before l tells is walk.0)
+    (lawful_taken draft l is walk.0) walk.1
     in record {
-      good = ap (λ f. at_line (length before + 1) f (first_bad (before ++ l ∷ []) ls)) (sym (fault_told draft before l tells) ∙ walk.0) ∙ more.good;
+      good = ap (λ f. at_line (length before + 1) f (first_bad (before ++ l ∷ []) ls))
+          (sym (fault_told draft before l tells) ∙ walk.0) ∙ more.good;
       tells = rw (append_assoc before (l ∷ []) ls) at more.tells;
       lawful = more.lawful;
     }
 
-pub record IsReadAs (text : List ℕ) (draft : DraftView) : Type 0 where
-  pub good : refusal_of text ≡ None
-  pub scene : scene_of (worded text) ≡ drawn draft
-
-pub read_by_walk : (text : List ℕ) (last : DraftView) → length text ≤ 2 ^ 20 → Walk blank (worded text) last → is_nothing last.due ≡ true → IsReadAs text last
+pub read_by_walk : (text : List ℕ) (last : DraftView) → length text ≤ 2 ^ 20 → Walk blank (worded text) last
+    → is_nothing last.due ≡ true → IsReadAs text (drawn last)
 read_by_walk text last short walk ended =
     let start = read_start blank [] refl
     in let all = walked blank last [] (worded text) start.tells start.lawful walk
     in record {
-      good = accepted text (worded text) last short refl (record { good = all.good; tells = all.tells; lawful = all.lawful }) ended;
-      scene = sym (drawn_is last (worded text) all.tells);
+      good = accepted text (worded text) last short refl (record
+          { good = all.good; tells = all.tells; lawful = all.lawful }) ended;
+      read = sym (drawn_is last (worded text) all.tells);
     }

@@ -26,7 +26,8 @@ spread names (tree ∷ trees) (gap ∷ gaps) = spread names trees gaps ++ gap_te
 -- the last gap is split: a right side stands behind the sign, a left side behind one more bracket
 abbrev pub split_gap : Op → List Gap → List Gap
 split_gap op [] = []
-split_gap op (gap ∷ gaps) = record { sign = Some op; opens = 0 } ∷ record { sign = gap.sign; opens = gap.opens + 1 } ∷ gaps
+split_gap op (gap ∷ gaps) =
+    record { sign = Some op; opens = 0 } ∷ record { sign = gap.sign; opens = gap.opens + 1 } ∷ gaps
 
 abbrev pub first_gap : List Gap → List ℕ
 first_gap [] = []

@@ -23,14 +23,22 @@ pub record IsPlane (form : Linear) : Type 0 where
   pub b : IsWithin (2 ^ 23) form.b
   pub c : IsWithin (2 ^ 33) form.c
 
+-- each part of a colour is a byte
+pub record IsColour (c : Colour) : Type 0 where
+  pub red : c.red < 256
+  pub green : c.green < 256
+  pub blue : c.blue < 256
+
 -- faces of one kind: few, within the limits, their numbers above the near face's and growing
 pub record AreFaces (near_number : ℕ) (faces : List Face) : Type 0 where
   pub few : length faces ≤ 32
   pub planes : All (λ f. IsPlane f.plane) faces
+  pub colours : All (λ f. IsColour f.colour) faces
   pub numbers : All (λ f. near_number < f.number) faces
   pub order : AllPairs (λ f g. f.number < g.number) faces
 
 pub record IsLawfulSolid (s : SolidView) : Type 0 where
+  pub colour : IsColour s.colour
   pub fronts : AreFaces s.near_number s.fronts
   pub backs : AreFaces s.near_number s.backs
   pub few_sides : length s.sides ≤ 32

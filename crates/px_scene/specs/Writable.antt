@@ -1,23 +1,18 @@
 -- What every scene keeps, of which the canonical text is read as it.
-use Rattle.std.specs.Prelude.{◌<◌, All}
+use Rattle.std.specs.Prelude.{◌≡◌, ℕ, List, All, None}
 use Rattle.px_expr.specs.Tree.{IsLawful}
-use Rattle.px_scene.specs.declared.solid.Colour.{Colour}
-use Rattle.px_scene.specs.Solids.{SolidView, IsLawfulSolid}
+use Rattle.px_scene.specs.Text.{worded}
+use Rattle.px_scene.specs.Reading.{scene_of}
+use Rattle.px_scene.specs.Refusals.{refusal_of}
+use Rattle.px_scene.specs.Solids.{IsLawfulSolid}
 use Rattle.px_scene.specs.Scenes.{SceneView, IsLawfulScene}
-
--- each part of a colour is a byte
-pub record IsColour (c : Colour) : Type 0 where
-  pub red : c.red < 256
-  pub green : c.green < 256
-  pub blue : c.blue < 256
-
-pub record IsWritableSolid (s : SolidView) : Type 0 where
-  pub lawful : IsLawfulSolid s
-  pub colour : IsColour s.colour
-  pub fronts : All (λ f. IsColour f.colour) s.fronts
-  pub backs : All (λ f. IsColour f.colour) s.backs
 
 pub record IsWritable (scene : SceneView) : Type 0 where
   pub lawful : IsLawfulScene scene
-  pub solids : All IsWritableSolid scene.solids
+  pub solids : All IsLawfulSolid scene.solids
   pub show : IsLawful scene.show
+
+-- a text that is not refused, and whose scene is this one
+pub record IsReadAs (text : List ℕ) (scene : SceneView) : Type 0 where
+  pub good : refusal_of text ≡ None
+  pub read : scene_of (worded text) ≡ scene

@@ -1,6 +1,6 @@
 //! Printing an expression, from its last byte to its first.
 ghost use Rattle.std.specs.Prelude.{◌≡◌, ◌<◌, ◌≤◌, ◌++◌, ◌∷◌, [], List, OnOk, IfOk, All, length, reverse};
-ghost use Rattle.px_expr.specs.Tree.{HasLeavesBelow};
+ghost use Rattle.px_expr.specs.Tree.{HasLeavesBelow, IsLawful};
 ghost use Rattle.px_expr.specs.Postorder.{IsLeafBelow};
 ghost use Rattle.px_scene.specs.Solids.{names_of};
 ghost use Rattle.px_scene.specs.Printed.{printed, named_by, sign_byte};
@@ -34,8 +34,9 @@ pub(crate) fn put_expression(
     expr: &Expr,
 ) -> Result<(), Memory>
     requires { HasLeavesBelow (length solids.now) expr.now }
-    ensures { OnOk result (text.new.items ≡ text.old.items
+    ensures text { OnOk result (text.new.items ≡ text.old.items
         ++ printed (named_by (names_of solids.now) expr.now)) }
+    ensures lawful { OnOk result (IsLawful expr.now) }
 {
     let mut back = printed_back(alloc, solids, expr)?;
     back.as_mut_slice().reverse();
@@ -46,8 +47,9 @@ pub(crate) fn put_expression(
 /// The bytes of an expression, the last one first.
 fn printed_back(alloc: Global, solids: &[Solid], expr: &Expr) -> Result<Vec<u8>, Memory>
     requires { HasLeavesBelow (length solids.now) expr.now }
-    ensures { IfOk result (λ back. reverse back.items
+    ensures text { IfOk result (λ back. reverse back.items
         ≡ printed (named_by (names_of solids.now) expr.now)) }
+    ensures lawful { OnOk result (IsLawful expr.now) }
 {
     let mut back = Vec::new(alloc);
     let mut gaps = Vec::new(alloc);

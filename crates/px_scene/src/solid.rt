@@ -1,5 +1,5 @@
 //! One convex solid: the planes that bound it, with its limits kept in its type.
-ghost use Rattle.std.specs.Prelude.{◌≡◌, ◌<◌, ◌≤◌, ◌++◌, ◌∷◌, [], length, OnOk, OnErr, All, vec_len};
+ghost use Rattle.std.specs.Prelude.{◌≡◌, ◌<◌, ◌≤◌, ◌++◌, ◌∷◌, [], length, OnOk, OnErr, All};
 ghost use Rattle.px_scene.specs.Solids.{SolidView, IsLawfulSolid, IsPlane, AreFaces, colour_in, colour_among, faces_in};
 
 use arrayvec::ArrayVec;
@@ -207,10 +207,9 @@ fn colour_among(faces: &[Face], number: u32) -> Option<Colour>
 }
 
 /// Adds a face of one kind behind the others.
-#[tactic(auto, using(crate::proofs::SolidLemmas::faces_pushed))]
 fn push_face(faces: &mut Vec<Face>, near_number: u32, face: Face) -> Result<(), Memory>
     requires are { AreFaces near_number faces.old.items }
-    requires room { vec_len faces.old < 32 }
+    requires room { length faces.old.items < 32 }
     requires plane { IsPlane face.plane }
     requires near { near_number < face.number }
     requires order { All (λ f. f.number < face.number) faces.old.items }

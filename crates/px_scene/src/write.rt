@@ -1,11 +1,11 @@
 //! Writing a scene's canonical text (docs/SCENES.md, "Canonical text").
 ghost use Rattle.std.specs.Prelude.{◌≡◌, ◌<◌, ◌≤◌, ◌^◌, None, length, ◌++◌, ◌∷◌, [], ℕ, ℤ, List, Some, true, codes, decimal, OnOk, IfOk};
 ghost use lib.Signed.{mag};
+ghost use Rattle.px_expr.specs.Tree.{IsLawful};
+ghost use Rattle.px_scene.specs.Solids.{IsLawfulSolid};
 ghost use Rattle.px_scene.specs.Scenes.{SceneView};
-ghost use Rattle.px_scene.specs.Writable.{IsWritable};
-ghost use Rattle.px_scene.specs.Refusals.{refusal_of};
-ghost use Rattle.px_scene.specs.Reading.{scene_of};
-ghost use Rattle.px_scene.specs.Text.{Words, words_of, lines_of, worded};
+ghost use Rattle.px_scene.specs.Writable.{IsWritable, IsReadAs};
+ghost use Rattle.px_scene.specs.Text.{Words, words_of, lines_of};
 ghost use Rattle.px_scene.specs.Word.{number_of};
 ghost use Rattle.std.specs.Fmt.{signed_decimal};
 ghost use Rattle.std.specs.List.{list_all};
@@ -37,8 +37,12 @@ use px_num::{Linear, Memory};
 use std::alloc::Global;
 
 /// The canonical text of a scene (docs/SCENES.md, "Canonical text").
+///
+/// Where it is no longer than a text may be, reading it gives the scene again.
 pub fn write_scene(alloc: Global, scene: &Scene) -> Result<Vec<u8>, Memory>
-    ensures { IfOk result (λ text. text.items ≡ canonical_text scene.now) }
+    ensures text { IfOk result (λ text. text.items ≡ canonical_text scene.now) }
+    ensures again { IfOk result (λ text. length text.items ≤ 2 ^ 20 →
+        IsReadAs text.items scene.now) }
 {
     let mut text = Vec::new(alloc);
     put_first_lines(&mut text, scene)?;
@@ -88,7 +92,8 @@ fn put_depth(text: &mut Vec<u8>, bits: u32) -> Result<(), Memory>
 }
 
 fn put_solid(text: &mut Vec<u8>, solid: &Solid) -> Result<(), Memory>
-    ensures { OnOk result (text.new.items ≡ text.old.items ++ solid_lines solid.now) }
+    ensures text { OnOk result (text.new.items ≡ text.old.items ++ solid_lines solid.now) }
+    ensures lawful { OnOk result (IsLawfulSolid solid.now) }
 {
     put_head(text, solid.name(), solid.colour())?;
     put_faces(text, solid)?;
@@ -167,7 +172,8 @@ fn put_side(text: &mut Vec<u8>, side: &Linear) -> Result<(), Memory>
 
 #[tactic(auto, unfolding(crate::specs::Canonical::written_line))]
 fn put_show(alloc: Global, text: &mut Vec<u8>, scene: &Scene) -> Result<(), Memory>
-    ensures { OnOk result (text.new.items ≡ text.old.items ++ show_line scene.now) }
+    ensures text { OnOk result (text.new.items ≡ text.old.items ++ show_line scene.now) }
+    ensures lawful { OnOk result (IsLawful scene.now.show) }
 {
     put(text, b"show ")?;
     put_expression(alloc, text, scene.solids(), scene.show())?;
@@ -233,11 +239,8 @@ pub fn written_law()
 
 /// The canonical text of a scene, within the limit of texts, is read as the scene.
 pub fn canonical_law()
-    ensures good { (scene : SceneView) → IsWritable scene →
-        length (canonical_text scene) ≤ 2 ^ 20 → refusal_of (canonical_text scene) ≡ None }
-    ensures scene { (scene : SceneView) → IsWritable scene →
-        length (canonical_text scene) ≤ 2 ^ 20 →
-        scene_of (worded (canonical_text scene)) ≡ scene }
+    ensures { (scene : SceneView) → IsWritable scene →
+        length (canonical_text scene) ≤ 2 ^ 20 → IsReadAs (canonical_text scene) scene }
 {}
 
 #[cfg(test)]
