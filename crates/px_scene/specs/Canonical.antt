@@ -62,7 +62,9 @@ face_lines s = flat_map (lines_of_number s) (range_with_len (s.near_number + 1) 
 
 -- a solid: its line, its fronts and backs, and its sides
 abbrev pub solid_lines : SolidView → List ℕ
-solid_lines s = written_line (codes "solid") (s.name ∷ colour_words s.colour) ++ face_lines s
+solid_lines s =
+    written_line (codes "solid") (s.name ∷ colour_words s.colour)
+    ++ face_lines s
     ++ flat_map side_line s.sides
 
 abbrev pub first_lines : SceneView → List ℕ
@@ -76,5 +78,8 @@ show_line scene = written_line (codes "show") (printed (named_by (names_of scene
 
 -- the size of the picture, the solids, what is shown, and the end
 abbrev pub canonical_text : SceneView → List ℕ
-canonical_text scene = first_lines scene ++ flat_map solid_lines scene.solids ++ show_line scene
+canonical_text scene =
+    first_lines scene
+    ++ flat_map solid_lines scene.solids
+    ++ show_line scene
     ++ written_line (codes "end") []

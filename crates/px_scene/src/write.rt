@@ -8,7 +8,7 @@ ghost use Rattle.px_scene.specs.Writable.{IsWritable, IsReadAs};
 ghost use Rattle.px_scene.specs.Text.{Words, words_of, lines_of};
 ghost use Rattle.px_scene.specs.Word.{number_of};
 ghost use Rattle.std.specs.Fmt.{signed_decimal};
-ghost use Rattle.std.specs.List.{list_all};
+ghost use Rattle.std.specs.List.{list_all, flat_map};
 ghost use Rattle.px_scene.specs.Canonical.{
   spaced,
   written_line,
@@ -97,10 +97,7 @@ fn put_solid(text: &mut Vec<u8>, solid: &Solid) -> Result<(), Memory>
 {
     put_head(text, solid.name(), solid.colour())?;
     put_faces(text, solid)?;
-    for side in solid.sides() {
-        put_side(text, side)?;
-    }
-    Ok(())
+    put_sides(text, solid.sides())
 }
 
 #[tactic(auto, unfolding(crate::specs::Canonical::written_line))]
@@ -159,6 +156,15 @@ fn put_face(text: &mut Vec<u8>, keyword: &[u8], face: &Face) -> Result<(), Memor
     put_plane(text, &face.plane)?;
     put_colour(text, face.colour)?;
     put(text, b"\n")
+}
+
+fn put_sides(text: &mut Vec<u8>, sides: &[Linear]) -> Result<(), Memory>
+    ensures { OnOk result (text.new.items ≡ text.old.items ++ flat_map side_line sides.now) }
+{
+    for side in sides {
+        put_side(text, side)?;
+    }
+    Ok(())
 }
 
 #[tactic(auto, unfolding(crate::specs::Canonical::written_line))]
