@@ -7,6 +7,7 @@ use Rattle.px_program.specs.declared.command.Command.TheVariants as c
 abbrev pub word_of : List ℕ → Option Command
 word_of w =
     if bytes_eq w (codes "render") then Some c.Render
+    else if bytes_eq w (codes "tidy") then Some c.Tidy
     else if bytes_eq w (codes "plan") then Some c.Plan
     else None
 

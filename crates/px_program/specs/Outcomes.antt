@@ -4,6 +4,7 @@ use Rattle.px_scene.specs.declared.read.SceneFault.{SceneFault}
 use Rattle.px_scene.specs.declared.read.SceneFault.TheVariants as f
 use Rattle.px_scene.specs.declared.line.LimitKind.TheVariants as kind
 use Rattle.px_scene.specs.Solids.{names_of}
+use Rattle.px_scene.specs.Canonical.{canonical_text}
 use Rattle.px_normal.specs.declared.product.Product.{Product}
 use Rattle.px_normal.specs.Forms.{sum_of_products}
 use Rattle.px_normal.specs.Counting.{capped}
@@ -38,6 +39,7 @@ planned scene products =
 -- what a command makes of a scene
 abbrev pub made : Command → SceneView → Outcome
 made c.Render scene = done (depth_image scene ++ face_image scene)
+made c.Tidy scene = done (canonical_text scene)
 made c.Plan scene = planned scene (sum_of_products scene.show)
 
 abbrev pub judged : Command → List ℕ → Option SceneFault → Outcome

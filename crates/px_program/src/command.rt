@@ -7,6 +7,8 @@ ghost use Rattle.px_program.specs.Commands.{command_of, word_of};
 pub(crate) enum Command {
     /// Draws the depth image and the face image.
     Render,
+    /// Writes the scene's canonical text.
+    Tidy,
     /// Prints the products of the shown expression.
     Plan,
 }
@@ -27,6 +29,8 @@ fn word_of(word: &[u8]) -> Option<Command>
 {
     if word == b"render".as_slice() {
         Some(Command::Render)
+    } else if word == b"tidy".as_slice() {
+        Some(Command::Tidy)
     } else if word == b"plan".as_slice() {
         Some(Command::Plan)
     } else {

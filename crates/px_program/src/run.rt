@@ -21,7 +21,7 @@ use px_frame::draw;
 use px_io::{Failed, ReadError, Sink, Source, read_whole, write_whole};
 use px_normal::{NormalFault, normalise};
 use px_prune::prune;
-use px_scene::{LimitKind, Scene, SceneFault, read_scene};
+use px_scene::{LimitKind, Scene, SceneFault, read_scene, write_scene};
 use std::alloc::Global;
 
 /// One byte more than a text may have.
@@ -138,7 +138,25 @@ fn make<O: Sink>(command: Command, alloc: Global, scene: &Scene, out: &mut O) ->
 {
     match command {
         Command::Render => render(alloc, scene, out),
+        Command::Tidy => tidy(alloc, scene, out),
         Command::Plan => plan(alloc, scene, out),
+    }
+}
+
+fn tidy<O: Sink>(alloc: Global, scene: &Scene, out: &mut O) -> Result<(), Stop>
+    ensures meets { Meets result (made Command.Tidy scene.now) }
+    ensures writes { Writes result (made Command.Tidy scene.now) (O.written out.old) (O.written
+        out.new) }
+    ensures causes { (n : ℕ) → HasCauses result n n (O.faults out.old) (O.faults out.new) }
+    ensures finishes { Finishes result (O.finished out.new) }
+    ensures other { (result ≢ Err Stop.Usage) × (result ≢ Err Stop.ReadFault) }
+{
+    let Ok(text) = write_scene(alloc, scene) else {
+        return Err(Stop::Memory);
+    };
+    match deliver(text.as_slice(), out) {
+        Ok(()) => Ok(()),
+        Err(_) => Err(Stop::WriteFault),
     }
 }
 
