@@ -6,6 +6,7 @@ pub mod FaceWalkLemmas
 pub mod FigureLemmas
 pub mod GapLemmas
 pub mod LawfulLemmas
+pub mod LengthLemmas
 pub mod LineLemmas
 pub mod NumberLemmas
 pub mod PlainLemmas

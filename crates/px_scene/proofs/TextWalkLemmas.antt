@@ -19,6 +19,7 @@ use Rattle.px_scene.proofs.CanonicalLemmas.{is_written, bare, end_words, text_is
 use Rattle.px_scene.proofs.PlainLemmas.{decimal_plain, signed_plain, name_is_plain, bares_fed, printed_fed, show_words}
 use Rattle.px_scene.proofs.SpacedLemmas.{lines_read}
 use Rattle.px_scene.proofs.PrintedLemmas.{names_lawful}
+use Rattle.px_scene.proofs.LengthLemmas.{canonical_short}
 use Rattle.px_scene.proofs.WalkLemmas.{Walk, read_by_walk}
 use Rattle.px_scene.proofs.ReadLemmas.{blank}
 use Rattle.px_scene.specs.Printed.{named_by}
@@ -161,10 +162,9 @@ words_are scene is =
     (end_fed scene is) (end_read scene is)
     ∙ append_assoc (first_words scene) (flat_map solid_words scene.solids) (last_words scene)
 
-pub canonical_read : (scene : SceneView) → IsWritable scene → length (canonical_text scene) ≤ 2 ^ 20
-    → IsReadAs (canonical_text scene) scene
-canonical_read scene is short =
-    read_by_walk (canonical_text scene) (final_draft scene) short
+pub canonical_read : (scene : SceneView) → IsWritable scene → IsReadAs (canonical_text scene) scene
+canonical_read scene is =
+    read_by_walk (canonical_text scene) (final_draft scene) (canonical_short scene is)
     (subst (λ (ls : List Words). Walk blank ls (final_draft scene)) (sym (words_are scene is)) (scene_walk scene is))
     refl
 
@@ -172,9 +172,8 @@ canonical_read scene is short =
 pub parts_read : (scene : SceneView) (count : ℕ) (begun shown text : List ℕ) → length scene.solids ≤ count
     → begun ≡ first_lines scene ++ flat_map solid_lines (take count scene.solids) → shown ≡ begun ++ show_line scene
     → text ≡ shown ++ written_line (codes "end") []
-    → IsLawfulScene scene → All IsLawfulSolid (take count scene.solids) → IsLawful scene.show → length text ≤ 2 ^ 20
-    → IsReadAs text scene
-parts_read scene count begun shown text every first next last law solids show short =
+    → IsLawfulScene scene → All IsLawfulSolid (take count scene.solids) → IsLawful scene.show → IsReadAs text scene
+parts_read scene count begun shown text every first next last law solids show =
     let all = take_all count scene.solids every
     in let start = first_lines scene
     in let end = written_line (codes "end") []
@@ -183,5 +182,4 @@ parts_read scene count begun shown text every first next last law solids show sh
     (first ∙ ap (λ ss. start ++ flat_map solid_lines ss) all))
     in let writable : IsWritable scene =
     record { lawful = law; solids = subst (All IsLawfulSolid) all solids; show = show }
-    in subst (λ (t : List ℕ). IsReadAs t scene) (sym is)
-    (canonical_read scene writable (subst (λ (t : List ℕ). length t ≤ 2 ^ 20) is short))
+    in subst (λ (t : List ℕ). IsReadAs t scene) (sym is) (canonical_read scene writable)

@@ -38,11 +38,10 @@ use std::alloc::Global;
 
 /// The canonical text of a scene (docs/SCENES.md, "Canonical text").
 ///
-/// Where it is no longer than a text may be, reading it gives the scene again.
+/// It is no longer than a text may be, and reading it gives the scene again.
 pub fn write_scene(alloc: Global, scene: &Scene) -> Result<Vec<u8>, Memory>
     ensures text { IfOk result (λ text. text.items ≡ canonical_text scene.now) }
-    ensures again { IfOk result (λ text. length text.items ≤ 2 ^ 20 →
-        IsReadAs text.items scene.now) }
+    ensures again { IfOk result (λ text. IsReadAs text.items scene.now) }
 {
     let mut text = Vec::new(alloc);
     put_first_lines(&mut text, scene)?;
@@ -243,10 +242,9 @@ pub fn written_law()
         lines_of (fed lines) ≡ lines }
 {}
 
-/// The canonical text of a scene, within the limit of texts, is read as the scene.
+/// The canonical text of a scene is within the limit of texts, and is read as the scene.
 pub fn canonical_law()
-    ensures { (scene : SceneView) → IsWritable scene →
-        length (canonical_text scene) ≤ 2 ^ 20 → IsReadAs (canonical_text scene) scene }
+    ensures { (scene : SceneView) → IsWritable scene → IsReadAs (canonical_text scene) scene }
 {}
 
 #[cfg(test)]

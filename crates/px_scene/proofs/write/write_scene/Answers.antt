@@ -17,8 +17,8 @@ loop-solid-preserved c = record {
 }
 
 pub returns-clause-again : goal.returns-clause-again
-returns-clause-again c short =
+returns-clause-again c =
     parts_read c.args.scene.now c.loop-solid.solid-index _ _ _
     (rw c.solids-solid-items.ensures.value at c.loop-solid-test.false) c.loop-solid.invariant.text
     c.in_ok-put_show.ensures.text c.in_ok-put_line.ensures
-    c.solids-solid-items.ensures.lawful c.loop-solid.invariant.lawful c.in_ok-put_show.ensures.lawful short
+    c.solids-solid-items.ensures.lawful c.loop-solid.invariant.lawful c.in_ok-put_show.ensures.lawful
