@@ -7,8 +7,8 @@ use Rattle.px_scene.specs.Scenes.{SceneView}
 use Rattle.px_scene.specs.Solids.{SolidView}
 use Rattle.px_prune.specs.declared.cell_box.CellBox.{CellBox}
 use Rattle.px_prune.specs.Boxes.{is_part}
-use Rattle.px_prune.specs.Bounding.{IsBoxOf, IsBoundingBox, at_pixel, in_row, in_rows, cells_of, cell_box, pixel_hull, row_hull, rows_hull, bounding_box}
-use Rattle.px_prune.proofs.HullLemmas.{joined_box, same_box, no_box, no_row, no_rows, pixel_box, no_pixel, next_pixel, next_row}
+use Rattle.px_prune.specs.Bounding.{IsBoxOf, IsBoundingBox, in_rows, cells_of, cell_box, pixel_hull, row_hull, rows_hull, bounding_box}
+use Rattle.px_prune.proofs.HullLemmas.{at_pixel, in_row, joined_box, same_box, no_box, no_row, no_rows, pixel_box, no_pixel, next_pixel, next_row}
 
 -- the cells before a depth
 abbrev before : (ℕ → ℕ → ℕ → Bool) → ℕ → ℕ → ℕ → ℕ → Bool

@@ -1,8 +1,15 @@
 -- Boxes of cells that are joined to one.
-use Rattle.std.proofs.Common.{ℕ, ◌≡◌, ◌<◌, ◌+◌, ◌-◌, ◌==◌, ◌||◌, ◌&&◌, nat_le, nat_lt, Bool, true, false, refl, sym, ◌∙◌, arith, inl, inr, ◌⊎◌, Option, Some, None}
+use Rattle.std.proofs.Common.{ℕ, ◌≡◌, ◌<◌, ◌≤◌, ◌+◌, ◌-◌, ◌==◌, ◌||◌, ◌&&◌, nat_le, nat_lt, Bool, true, false, refl, sym, ◌∙◌, arith, inl, inr, ◌⊎◌, Option, Some, None}
 use Rattle.px_prune.specs.declared.cell_box.CellBox.{CellBox}
 use Rattle.px_prune.specs.Boxes.{lies_in, is_in, hull, is_part}
-use Rattle.px_prune.specs.Bounding.{IsBoxOf, at_pixel, in_row, in_rows}
+use Rattle.px_prune.specs.Bounding.{IsBoxOf, in_rows}
+
+-- the cells of a pixel, and of the first pixels of a row
+abbrev pub at_pixel : (ℕ → ℕ → ℕ → Bool) → ℕ → ℕ → ℕ → ℕ → ℕ → Bool
+at_pixel cells x y a b z = (a == x) && (b == y) && cells a b z
+
+abbrev pub in_row : (ℕ → ℕ → ℕ → Bool) → ℕ → ℕ → ℕ → ℕ → ℕ → Bool
+in_row cells width y a b z = nat_lt a width && (b == y) && cells a b z
 
 in_hull_left : (x y z : ℕ) (o u : Option CellBox) → is_in o x y z ≡ true → is_in (hull o u) x y z ≡ true
 in_hull_left x y z None u p = grind arith
@@ -18,6 +25,12 @@ part_hull : (b : CellBox) (o u : Option CellBox) → is_part o b ≡ true → is
 part_hull b None u p q = q
 part_hull b (Some a) None p q = p
 part_hull b (Some a) (Some c) p q = grind arith
+
+within_ends : (b : CellBox) (x y z : ℕ) → b.x0 ≤ x → x ≤ b.x1 → b.y0 ≤ y → y ≤ b.y1 → b.z0 ≤ z → z ≤ b.z1 → lies_in b x y z ≡ true
+within_ends b x y z left right top bottom near behind = grind arith
+
+pub in_part : (a b : CellBox) (x y z : ℕ) → is_part (Some a) b ≡ true → lies_in a x y z ≡ true → lies_in b x y z ≡ true
+in_part a b x y z e h = within_ends b x y z (grind arith) (grind arith) (grind arith) (grind arith) (grind arith) (grind arith)
 
 or_cases : (a b : Bool) → a || b ≡ true → (a ≡ true) ⊎ (b ≡ true)
 or_cases true b e = inl refl
@@ -55,6 +68,15 @@ joined_box c d e o u same p q = box_is e (hull o u)
     (λ b h. part_hull b o u
     (p.least b (λ x y z l. h x y z (same x y z ∙ or_left (c x y z) (d x y z) l)))
     (q.least b (λ x y z r. h x y z (same x y z ∙ or_right (c x y z) (d x y z) r))))
+
+-- cells that lie in the box already leave it as it is
+pub covered_box : (c d : ℕ → ℕ → ℕ → Bool) (o : Option CellBox) → IsBoxOf c o → ((x y z : ℕ) → d x y z ≡ true → is_in o x y z ≡ true) → IsBoxOf (λ x y z. c x y z || d x y z) o
+covered_box c d o p inside = box_is (λ x y z. c x y z || d x y z) o
+    (λ x y z h. elim (or_cases (c x y z) (d x y z) h) [
+      | inl l ↦ p.holds x y z l
+      | inr r ↦ inside x y z r
+    ])
+    (λ b h. p.least b (λ x y z l. h x y z (or_left (c x y z) (d x y z) l)))
 
 pub same_box : (c d : ℕ → ℕ → ℕ → Bool) (o : Option CellBox) → ((x y z : ℕ) → c x y z ≡ d x y z) → IsBoxOf c o → IsBoxOf d o
 same_box c d o same p = box_is d o (λ x y z h. p.holds x y z (same x y z ∙ h)) (λ b h. p.least b (λ x y z k. h x y z (sym (same x y z) ∙ k)))

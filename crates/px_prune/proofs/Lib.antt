@@ -1,7 +1,9 @@
 pub mod RangeLemmas
 pub mod HullLemmas
 pub mod BoundingLemmas
-pub mod PixelLemmas
+pub mod DepthLemmas
+pub mod BlockLemmas
+pub mod ReachLemmas
 pub mod BehindLemmas
 pub mod WithinLemmas
 pub mod PruningLemmas

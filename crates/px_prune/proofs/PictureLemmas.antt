@@ -14,7 +14,9 @@ use Rattle.px_prune.specs.declared.cell_box.CellBox.{CellBox}
 use Rattle.px_prune.specs.Boxes.{is_in}
 use Rattle.px_normal.specs.declared.product.Product.{Product}
 use Rattle.px_prune.specs.Kept.{kept_of, kept_products}
-use Rattle.px_prune.specs.Bounding.{IsBoundingBox, IsBoxOf, cells_of, in_rows}
+use Rattle.px_prune.specs.declared.block.Block.{Block}
+use Rattle.px_prune.specs.Blocks.{has_pixel, with_block}
+use Rattle.px_prune.specs.Bounding.{IsBoundingBox, IsBoxOf, cells_of}
 use Rattle.px_prune.proofs.HullLemmas.{no_box, same_box}
 use Rattle.px_prune.proofs.BoundingLemmas.{bounding_boxes}
 use Rattle.px_prune.proofs.BehindLemmas.{HasCells, is_in_or_behind}
@@ -54,11 +56,15 @@ module _ (scene : SceneView) (boxes : ℕ → Option CellBox) (bounding : (q : �
   boxes_have_cells z = record { members = member_in z; hidden = hidden_in z }
 
 -- the box of a scene's solid
-pub known : (scene : SceneView) (q : ℕ) (ss : List SolidView) (s : SolidView) (box : Option CellBox) (far width height : ℕ) → q < length scene.solids → ss ≡ scene.solids → s ≡ get_or ss q s
-    → far ≡ far_of scene → width ≡ scene.width → height ≡ scene.height → IsBoxOf (in_rows (is_inside s far) width height) box → IsBoundingBox scene q box
-known scene q ss s box far width height there solids read is_far is_width is_height p =
+pub known : (scene : SceneView) (q : ℕ) (ss : List SolidView) (s : SolidView) (b : Block) (box : Option CellBox) (far width height : ℕ) → q < length scene.solids → ss ≡ scene.solids → s ≡ get_or ss q s
+    → far ≡ far_of scene → width ≡ scene.width → height ≡ scene.height → ((x y : ℕ) → has_pixel b x y ≡ (nat_lt x width && nat_lt y height))
+    → ((cells : ℕ → ℕ → ℕ → Bool) → IsBoxOf cells None → IsBoxOf (with_block cells (is_inside s far) b) box) → IsBoundingBox scene q box
+known scene q ss s b box far width height there solids read is_far is_width is_height pixels grown =
     let found : slice_get scene.solids q ≡ Some s = slice_get_read scene.solids (length scene.solids) q s refl there (read ∙ ap (λ ts. get_or ts q s) solids)
-    in same_box (in_rows (is_inside s far) width height) (cells_of scene q) box (λ x y z. rw (found, is_far, is_width, is_height) refl) p
+    in let none : ℕ → ℕ → ℕ → Bool = λ x y z. false
+    in same_box (with_block none (is_inside s far) b) (cells_of scene q) box
+    (λ x y z. ap (λ there. there && is_inside s far x y z) (pixels x y) ∙ rw (found, is_far, is_width, is_height) refl)
+    (grown none (no_box none (λ x y z. refl)))
 
 -- no cell of a scene is past the places that a box can hold
 pub small_far : (bits : ℕ) → bits ≤ 24 → 2 ^ bits - 1 < 2 ^ 32

@@ -8,6 +8,7 @@ ghost use Rattle.std.specs.Prelude.{
   ◌<ℤ◌,
   ◌&&◌,
   ℕ,
+  Bool,
   nat_le,
   nat_lt,
   pos,
@@ -23,14 +24,15 @@ ghost use Rattle.std.specs.Prelude.{
 ghost use Rattle.std.specs.Int.{int_max, int_min};
 ghost use Rattle.std.specs.List.{list_all};
 ghost use Rattle.std.specs.Int.Signed.{le_z, lt_z};
-ghost use Rattle.px_num.specs.Forms.{value_at};
 ghost use Rattle.px_scene.specs.Solids.{IsPlane};
 ghost use Rattle.px_scene.specs.Scenes.{IsLawfulScene};
 ghost use Rattle.px_scene.specs.Cells.{is_inside};
-ghost use Rattle.px_prune.specs.Bounding.{IsBoxOf, IsBoundingBox, at_pixel, in_row, in_rows};
+ghost use Rattle.px_prune.specs.Blocks.{greatest_in, least_in, with_block};
+ghost use Rattle.px_prune.specs.Bounding.{IsBoundingBox, IsBoxOf, IsReachOf};
 
 use crate::CellBox;
-use crate::cell_box::hull;
+use crate::block::Block;
+use crate::cell_box::{hull, is_covered};
 use px_num::Linear;
 use px_scene::{Face, Scene, Solid};
 use std::alloc::{AllocError, Global};
@@ -41,12 +43,8 @@ pub fn box_of(scene: &Scene, solid: usize) -> Option<CellBox>
     requires { solid < length scene.now.solids }
     ensures { IsBoundingBox scene.now solid result }
 {
-    rows_box(
-        &scene.solids()[solid],
-        scene.far(),
-        scene.width(),
-        scene.height(),
-    )
+    let picture = Block::of_picture(scene.width(), scene.height());
+    grown(None, &scene.solids()[solid], scene.far(), &picture)
 }
 
 /// The boxes of the solids, in their order.
@@ -62,119 +60,100 @@ pub(crate) fn boxes_of(alloc: Global, scene: &Scene) -> Result<Vec<Option<CellBo
     Ok(boxes)
 }
 
-/// The box of a solid's cells at the pixels of the first `height` rows.
-fn rows_box(solid: &Solid, far: u32, width: u32, height: u32) -> Option<CellBox>
-    requires width { width ≤ 512 }
-    requires height { height ≤ 512 }
-    ensures { IsBoxOf (in_rows (is_inside solid.now far) width height) result }
+/// The least box of some cells, whose box is `found`, and of a solid's cells in a block.
+///
+/// Where the cells that the solid can have in the block lie in `found`, its pixels are passed over.
+fn grown(found: Option<CellBox>, solid: &Solid, far: u32, block: &Block) -> Option<CellBox>
+    ensures { (cells : ℕ → ℕ → ℕ → Bool) → IsBoxOf cells found
+        → IsBoxOf (with_block cells (is_inside solid.now far) block.now) result }
 {
-    let mut rows = None;
-    for y in 0..height {
-        rows = hull(rows, row_box(solid, far, width, y));
+    let reach = reach(solid, far, block);
+    if is_covered(reach, found) {
+        return found;
     }
-    rows
+    if block.is_pixel() {
+        return hull(found, reach);
+    }
+    let (first, second) = block.halves();
+    let half_grown = grown(found, solid, far, &first);
+    grown(half_grown, solid, far, &second)
 }
 
-/// The box of a solid's cells at the first `width` pixels of a row.
-fn row_box(solid: &Solid, far: u32, width: u32, y: u32) -> Option<CellBox>
-    requires width { width ≤ 512 }
-    requires y { y ≤ 511 }
-    ensures { IsBoxOf (in_row (is_inside solid.now far) width y) result }
+/// A box that holds a solid's cells in a block, and is their least box where that is one pixel.
+fn reach(solid: &Solid, far: u32, block: &Block) -> Option<CellBox>
+    ensures { IsReachOf (is_inside solid.now far) block.now result }
 {
-    let mut row = None;
-    for x in 0..width {
-        row = hull(row, pixel_box(solid, far, x, y));
-    }
-    row
-}
-
-/// The box of a solid's cells at a pixel.
-fn pixel_box(solid: &Solid, far: u32, x: u32, y: u32) -> Option<CellBox>
-    requires x { x ≤ 511 }
-    requires y { y ≤ 511 }
-    ensures { IsBoxOf (at_pixel (is_inside solid.now far) x y) result }
-{
-    if !sides_hold(solid.sides(), x, y) {
+    if !sides_reach(solid.sides(), block) {
         return None;
     }
-    let first = first_depth(solid.fronts(), x, y);
-    let end = end_depth(solid.backs(), far, x, y);
+    let first = first_depth(solid.fronts(), block);
+    let end = end_depth(solid.backs(), far, block);
     if first >= u64::from(end) {
         return None;
     }
     Some(CellBox {
-        x0: x,
-        x1: x,
-        y0: y,
-        y1: y,
+        x0: block.x0,
+        x1: block.x1,
+        y0: block.y0,
+        y1: block.y1,
         z0: first as u32,
         z1: end - 1,
     })
 }
 
-#[tactic(auto, using(crate::proofs::RangeLemmas::plane_range))]
-fn sides_hold(sides: &[Linear], x: u32, y: u32) -> bool
-    requires planes { All IsPlane sides.now }
-    requires x { x ≤ 511 }
-    requires y { y ≤ 511 }
-    ensures { result ≡ list_all (λ side. le_z (pos 0) (value_at side x y)) sides.now }
+/// Whether each side holds somewhere in a block.
+fn sides_reach(sides: &[Linear], block: &Block) -> bool
+    requires { All IsPlane sides.now }
+    ensures { result ≡ list_all (λ side. le_z (pos 0) (greatest_in block.now side)) sides.now }
 {
-    sides.iter().all(|side| side.value(x, y) >= 0)
+    sides.iter().all(|side| block.greatest(side) >= 0)
 }
 
-/// The first depth that no front is behind, the near face among them.
-fn first_depth(fronts: &[Face], x: u32, y: u32) -> u64
-    requires planes { All (λ f. IsPlane f.plane) fronts.now }
-    requires x { x ≤ 511 }
-    requires y { y ≤ 511 }
-    ensures { (z : ℕ) → list_all (λ f. le_z (value_at f.plane x y) (pos z)) fronts.now
+/// The first depth that each front, the near face among them, is at or before somewhere in a block.
+fn first_depth(fronts: &[Face], block: &Block) -> u64
+    requires { All (λ f. IsPlane f.plane) fronts.now }
+    ensures { (z : ℕ) → list_all (λ f. le_z (least_in block.now f.plane) (pos z)) fronts.now
         ≡ nat_le result z }
 {
-    greatest_front(fronts, x, y) as u64
+    greatest_front(fronts, block) as u64
 }
 
-/// The first depth that is not before every back, the far limit among them.
-fn end_depth(backs: &[Face], far: u32, x: u32, y: u32) -> u32
-    requires planes { All (λ f. IsPlane f.plane) backs.now }
-    requires x { x ≤ 511 }
-    requires y { y ≤ 511 }
+/// The first depth from which some back, the far limit among them, is passed all over a block.
+fn end_depth(backs: &[Face], far: u32, block: &Block) -> u32
+    requires { All (λ f. IsPlane f.plane) backs.now }
     ensures { (z : ℕ) →
-        (nat_lt z far && list_all (λ f. lt_z (pos z) (value_at f.plane x y)) backs.now)
+        (nat_lt z far && list_all (λ f. lt_z (pos z) (greatest_in block.now f.plane)) backs.now)
         ≡ nat_lt z result }
 {
-    let least = least_back(backs, far, x, y);
+    let least = least_back(backs, far, block);
     if least <= 0 { 0 } else { least as u32 }
 }
 
-/// The greatest value of the near face, which is 0, and of the fronts.
-#[tactic(auto, using(crate::proofs::RangeLemmas::plane_range))]
-fn greatest_front(fronts: &[Face], x: u32, y: u32) -> i64
-    requires planes { All (λ f. IsPlane f.plane) fronts.now }
-    requires x { x ≤ 511 }
-    requires y { y ≤ 511 }
-    ensures value { result ≡ fold int_max (pos 0) (map (λ f. value_at f.plane x y) fronts.now) }
+/// The greatest of the near face's value, which is 0, and the least values of the fronts in a block.
+fn greatest_front(fronts: &[Face], block: &Block) -> i64
+    requires { All (λ f. IsPlane f.plane) fronts.now }
+    ensures value { result ≡
+        fold int_max (pos 0) (map (λ f. least_in block.now f.plane) fronts.now) }
     ensures low { pos 0 ≤ℤ result }
     ensures high { result <ℤ pos (2 ^ 39) }
 {
     let mut greatest = 0;
     for face in fronts {
-        greatest = face.plane.value(x, y).max(greatest);
+        greatest = block.least(&face.plane).max(greatest);
     }
     greatest
 }
 
-/// The least value of the far limit and of the backs.
-#[tactic(auto, using(crate::proofs::RangeLemmas::plane_range))]
-fn least_back(backs: &[Face], far: u32, x: u32, y: u32) -> i64
-    requires planes { All (λ f. IsPlane f.plane) backs.now }
-    requires x { x ≤ 511 }
-    requires y { y ≤ 511 }
-    ensures value { result ≡ fold int_min (pos far) (map (λ f. value_at f.plane x y) backs.now) }
+/// The least of the far limit's value and the greatest values of the backs in a block.
+fn least_back(backs: &[Face], far: u32, block: &Block) -> i64
+    requires { All (λ f. IsPlane f.plane) backs.now }
+    ensures value { result ≡
+        fold int_min (pos far) (map (λ f. greatest_in block.now f.plane) backs.now) }
     ensures high { result ≤ℤ pos far }
 {
     let mut least = i64::from(far);
     for face in backs {
-        least = face.plane.value(x, y).min(least);
+        least = block.greatest(&face.plane).min(least);
     }
     least
 }

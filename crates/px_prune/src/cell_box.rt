@@ -1,6 +1,6 @@
 //! Boxes of cells.
 ghost use Rattle.std.specs.Prelude.{◌≡◌, Option, Some, None};
-ghost use Rattle.px_prune.specs.Boxes.{common_part, has_cell, hull, narrowed};
+ghost use Rattle.px_prune.specs.Boxes.{common_part, has_cell, hull, is_covered, narrowed};
 
 /// Cells from one corner to the other, both included: pixels `x0` to `x1` of the rows `y0` to
 /// `y1`, at the depths `z0` to `z1`.
@@ -68,5 +68,23 @@ pub(crate) fn hull(a: Option<CellBox>, b: Option<CellBox>) -> Option<CellBox>
             z0: a.z0.min(b.z0),
             z1: a.z1.max(b.z1),
         }),
+    }
+}
+
+/// Whether the first box, where it is there, lies in the second.
+pub(crate) fn is_covered(a: Option<CellBox>, b: Option<CellBox>) -> bool
+    ensures { result ≡ is_covered a b }
+{
+    match (a, b) {
+        (None, _) => true,
+        (Some(_), None) => false,
+        (Some(a), Some(b)) => {
+            b.x0 <= a.x0
+                && a.x1 <= b.x1
+                && b.y0 <= a.y0
+                && a.y1 <= b.y1
+                && b.z0 <= a.z0
+                && a.z1 <= b.z1
+        }
     }
 }

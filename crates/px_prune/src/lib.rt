@@ -1,6 +1,7 @@
 //! Boxes of solids, and the products that can show anything in the picture.
 #![tactic(auto)]
 
+mod block;
 mod bounds;
 mod cell_box;
 mod plan;

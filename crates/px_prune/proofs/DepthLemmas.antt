@@ -1,15 +1,10 @@
--- The cells of a solid at a pixel run from its first depth to just before its end.
-use Rattle.std.proofs.Common.{ℕ, ℤ, pos, ◌≡◌, ◌<◌, ◌≤◌, ◌-◌, ◌^◌, ◌≤ℤ◌, ◌<ℤ◌, ◌&&◌, Bool, true, false, nat_le, nat_lt, List, [], ◌∷◌, refl, ap, sym, ◌∙◌, arith, map, fold, Some, None, w64, to_z, of_z}
+-- The depths that the greatest front and the least back leave.
+use Rattle.std.proofs.Common.{ℕ, ℤ, pos, ◌≡◌, ◌^◌, ◌≤ℤ◌, ◌<ℤ◌, ◌&&◌, Bool, true, false, nat_le, nat_lt, List, [], ◌∷◌, refl, ap, sym, ◌∙◌, arith, map, fold, w64, to_z, of_z}
 use Rattle.std.specs.Int.{int_max, int_min}
 use Rattle.std.specs.List.{list_all}
 use Rattle.std.proofs.lemmas.Int.{ints}
 use lib.Signed.{lt_z, le_z}
 use lib.IntN.{nat_abs}
-use Rattle.px_num.specs.Forms.{value_at}
-use Rattle.px_scene.specs.Solids.{SolidView}
-use Rattle.px_scene.specs.Cells.{is_inside}
-use Rattle.px_prune.specs.Bounding.{IsBoxOf, at_pixel}
-use Rattle.px_prune.proofs.HullLemmas.{no_pixel, pixel_box}
 
 and_max : (a b z : ℤ) → le_z (int_max a b) z ≡ (le_z a z && le_z b z)
 and_max a b z = grind (arith, ints)
@@ -62,23 +57,3 @@ module _ {X : Type 0} (v : X → ℤ) (xs : List X) (m : ℤ) (far : ℕ) (is : 
 
   pub none_before : m ≤ℤ pos 0 → (z : ℕ) → (nat_lt z far && list_all (λ x. lt_z (pos z) (v x)) xs) ≡ nat_lt z 0
   none_before low z = before_none m z far (list_all (λ x. lt_z (pos z) (v x)) xs) low (all_before z)
-
--- where the sides hold, and these are the first depth and the end
-module _ (s : SolidView) (far x y : ℕ) where
-  inside : (n s f b g h : Bool) → s ≡ true → f ≡ g → n && b ≡ h → ((n && s) && f) && b ≡ g && h
-  inside n s f b g h e p q = grind arith
-
-  module _ (first end : ℕ) (sides : list_all (λ side. le_z (pos 0) (value_at side x y)) s.sides ≡ true)
-      (fronts : (z : ℕ) → list_all (λ front. le_z (value_at front.plane x y) (pos z)) s.fronts ≡ nat_le first z)
-      (backs : (z : ℕ) → (nat_lt z far && list_all (λ back. lt_z (pos z) (value_at back.plane x y)) s.backs) ≡ nat_lt z end) where
-    cells : (z : ℕ) → is_inside s far x y z ≡ nat_le first z && nat_lt z end
-    cells z = inside (nat_lt z far) _ _ _ (nat_le first z) (nat_lt z end) sides (fronts z) (backs z)
-
-    apart : (z : ℕ) → end ≤ first → nat_le first z && nat_lt z end ≡ false
-    apart z h = grind arith
-
-    pub no_depth : end ≤ first → IsBoxOf (at_pixel (is_inside s far) x y) None
-    no_depth h = no_pixel (is_inside s far) x y (λ z. cells z ∙ apart z h)
-
-    pub some_depth : first < end → IsBoxOf (at_pixel (is_inside s far) x y) (Some (record { x0 = x; x1 = x; y0 = y; y1 = y; z0 = first; z1 = end - 1 }))
-    some_depth h = pixel_box (is_inside s far) x y first end h cells

@@ -1,0 +1,152 @@
+-- What a solid can have in a block: depths from the least that its fronts allow to the greatest that its backs do.
+use Rattle.std.proofs.Common.{ℕ, ℤ, pos, ◌≡◌, ◌<◌, ◌≤◌, ◌-◌, ◌≤ℤ◌, ◌&&◌, ◌||◌, ◌==◌, Bool, true, false, nat_le, nat_lt, List, [], ◌∷◌, refl, ap, sym, ◌∙◌, arith, Some, None, Option}
+use Rattle.std.proofs.Math.Path.{fun_ext}
+use Rattle.std.specs.List.{list_all}
+use Rattle.std.proofs.lemmas.Int.{ints}
+use lib.Signed.{lt_z, le_z}
+use Rattle.px_num.specs.Forms.{value_at}
+use Rattle.px_scene.specs.Solids.{SolidView}
+use Rattle.px_scene.specs.Cells.{is_inside}
+use Rattle.px_prune.specs.declared.block.Block.{Block}
+use Rattle.px_prune.specs.declared.cell_box.CellBox.{CellBox}
+use Rattle.px_prune.specs.Boxes.{hull, is_covered, is_in, lies_in}
+use Rattle.px_prune.specs.Blocks.{greatest_in, has_pixel, in_block, is_pixel, least_in, with_block}
+use Rattle.px_prune.specs.Bounding.{IsBoxOf, IsReachOf}
+use Rattle.px_prune.proofs.BlockLemmas.{greatest_at_pixel, greatest_bounds, least_at_pixel, least_bounds, one_column, one_row}
+use Rattle.px_prune.proofs.HullLemmas.{at_pixel, covered_box, in_part, joined_box, no_box, pixel_box, same_box}
+
+all_pass : {X : Type 0} (p q : X → Bool) → ((x : X) → p x ≡ true → q x ≡ true) → (xs : List X) → list_all p xs ≡ true → list_all q xs ≡ true
+all_pass p q h [] all = refl
+all_pass p q h (x ∷ xs) all = both (q x) (list_all q xs) (h x (left (p x) (list_all p xs) all)) (all_pass p q h xs (right (p x) (list_all p xs) all)) where
+  left : (a b : Bool) → a && b ≡ true → a ≡ true
+  left a b e = grind arith
+
+  right : (a b : Bool) → a && b ≡ true → b ≡ true
+  right a b e = grind arith
+
+  both : (a b : Bool) → a ≡ true → b ≡ true → a && b ≡ true
+  both a b e f = grind arith
+
+all_same : {X : Type 0} (p q : X → Bool) → ((x : X) → p x ≡ q x) → (xs : List X) → list_all p xs ≡ list_all q xs
+all_same p q h xs = ap (λ test. list_all test xs) (fun_ext h)
+
+le_below : (a b c : ℤ) → a ≤ℤ b → le_z b c ≡ true → le_z a c ≡ true
+le_below a b c h e = grind (arith, ints)
+
+le_above : (a b c : ℤ) → b ≤ℤ c → le_z a b ≡ true → le_z a c ≡ true
+le_above a b c h e = grind (arith, ints)
+
+lt_above : (a b c : ℤ) → b ≤ℤ c → lt_z a b ≡ true → lt_z a c ≡ true
+lt_above a b c h e = grind (arith, ints)
+
+same_pixel : (b : Block) → is_pixel b ≡ true → (x y : ℕ) (v : Bool) → (x == b.x0) && (y == b.y0) && v ≡ has_pixel b x y && v
+same_pixel b one x y v = grind arith
+
+-- a box whose last column and row are its first
+ending_there : (f : ℕ → ℕ → ℕ → Bool) (x x1 y y1 s t : ℕ) → x1 ≡ x → y1 ≡ y → IsBoxOf (at_pixel f x y) (Some (record { x0 = x; x1 = x; y0 = y; y1 = y; z0 = s; z1 = t - 1 }))
+    → IsBoxOf (at_pixel f x y) (Some (record { x0 = x; x1 = x1; y0 = y; y1 = y1; z0 = s; z1 = t - 1 }))
+ending_there f x x1 y y1 s t e d is = rw (e, d) is
+
+module _ (s : SolidView) (far : ℕ) (b : Block) where
+  abbrev sides_can : Bool
+  sides_can = list_all (λ side. le_z (pos 0) (greatest_in b side)) s.sides
+
+  abbrev fronts_can : ℕ → Bool
+  fronts_can z = list_all (λ front. le_z (least_in b front.plane) (pos z)) s.fronts
+
+  abbrev backs_can : ℕ → Bool
+  backs_can z = list_all (λ back. lt_z (pos z) (greatest_in b back.plane)) s.backs
+
+  -- each half-space has the depth somewhere in the block
+  abbrev can_reach : ℕ → Bool
+  can_reach z = nat_lt z far && sides_can && fronts_can z && backs_can z
+
+  inside_reaches : (x y z : ℕ) → in_block (is_inside s far) b x y z ≡ true → can_reach z ≡ true
+  inside_reaches x y z h = step (has_pixel b x y) (nat_lt z far) _ _ _ sides_can (fronts_can z) (backs_can z) h
+      (λ there. all_pass _ _ (λ side e. le_above (pos 0) (value_at side x y) (greatest_in b side) (greatest_bounds b side x y there) e) s.sides)
+      (λ there. all_pass _ _ (λ f e. le_below (least_in b f.plane) (value_at f.plane x y) (pos z) (least_bounds b f.plane x y there) e) s.fronts)
+      (λ there. all_pass _ _ (λ f e. lt_above (pos z) (value_at f.plane x y) (greatest_in b f.plane) (greatest_bounds b f.plane x y there) e) s.backs) where
+        step : (t n p q r u v w : Bool) → t && (n && p && q && r) ≡ true → (t ≡ true → p ≡ true → u ≡ true) → (t ≡ true → q ≡ true → v ≡ true) → (t ≡ true → r ≡ true → w ≡ true) → n && u && v && w ≡ true
+        step t n p q r u v w h f g k = grind arith
+
+  inside_pixel : is_pixel b ≡ true → (z : ℕ) → is_inside s far b.x0 b.y0 z ≡ can_reach z
+  inside_pixel one z = parts (nat_lt z far) _ _ _ sides_can (fronts_can z) (backs_can z)
+      (all_same _ _ (λ side. ap (le_z (pos 0)) (sym (greatest_at_pixel b side one))) s.sides)
+      (all_same _ _ (λ f. ap (λ v. le_z v (pos z)) (sym (least_at_pixel b f.plane one))) s.fronts)
+      (all_same _ _ (λ f. ap (lt_z (pos z)) (sym (greatest_at_pixel b f.plane one))) s.backs) where
+        parts : (n p q r u v w : Bool) → p ≡ u → q ≡ v → r ≡ w → n && p && q && r ≡ n && u && v && w
+        parts n p q r u v w e f g = grind arith
+
+  none_inside : ((z : ℕ) → can_reach z ≡ false) → (x y z : ℕ) → in_block (is_inside s far) b x y z ≡ true → is_in None x y z ≡ true
+  none_inside none x y z h = cc (none z, inside_reaches x y z h)
+
+  -- where it can have none
+  no_reach : ((z : ℕ) → can_reach z ≡ false) → IsReachOf (is_inside s far) b None
+  no_reach none = record {
+    holds = none_inside none;
+    least = λ one. no_box (in_block (is_inside s far) b) (λ x y z. step (in_block (is_inside s far) b x y z) (none_inside none x y z));
+  } where
+    step : (v : Bool) → (v ≡ true → false ≡ true) → v ≡ false
+    step true k = sym (k refl)
+    step false k = refl
+
+  side_missed : sides_can ≡ false → (z : ℕ) → can_reach z ≡ false
+  side_missed e z = grind arith
+
+  pub no_side : sides_can ≡ false → IsReachOf (is_inside s far) b None
+  no_side e = no_reach (side_missed e)
+
+  module _ (first end : ℕ) (fronts : (z : ℕ) → fronts_can z ≡ nat_le first z) (backs : (z : ℕ) → (nat_lt z far && backs_can z) ≡ nat_lt z end) where
+    depth_missed : end ≤ first → (z : ℕ) → can_reach z ≡ false
+    depth_missed h z = step (nat_lt z far) sides_can (fronts_can z) (backs_can z) (fronts z) (backs z) where
+      step : (n p q r : Bool) → q ≡ nat_le first z → (n && r) ≡ nat_lt z end → n && p && q && r ≡ false
+      step n p q r e f = grind arith
+
+    pub no_depth : end ≤ first → IsReachOf (is_inside s far) b None
+    no_depth h = no_reach (depth_missed h)
+
+    module _ (sides : sides_can ≡ true) where
+      depths : (z : ℕ) → can_reach z ≡ nat_le first z && nat_lt z end
+      depths z = step (nat_lt z far) sides_can (fronts_can z) (backs_can z) sides (fronts z) (backs z) where
+        step : (n p q r : Bool) → p ≡ true → q ≡ nat_le first z → (n && r) ≡ nat_lt z end → n && p && q && r ≡ nat_le first z && nat_lt z end
+        step n p q r d e f = grind arith
+
+      abbrev reached : CellBox
+      reached = record { x0 = b.x0; x1 = b.x1; y0 = b.y0; y1 = b.y1; z0 = first; z1 = end - 1 }
+
+      some_inside : (x y z : ℕ) → in_block (is_inside s far) b x y z ≡ true → is_in (Some reached) x y z ≡ true
+      some_inside x y z h = step (is_inside s far x y z) h (sym (depths z) ∙ inside_reaches x y z h) where
+        step : (v : Bool) → has_pixel b x y && v ≡ true → nat_le first z && nat_lt z end ≡ true → lies_in reached x y z ≡ true
+        step v e f = grind arith
+
+      pub some_reach : first < end → IsReachOf (is_inside s far) b (Some reached)
+      some_reach lt = record {
+        holds = some_inside;
+        least = λ one. same_box (at_pixel (is_inside s far) b.x0 b.y0) (in_block (is_inside s far) b) (Some reached)
+            (λ x y z. same_pixel b one x y (is_inside s far x y z))
+            (ending_there (is_inside s far) b.x0 b.x1 b.y0 b.y1 first end (one_column b one) (one_row b one)
+            (pixel_box (is_inside s far) b.x0 b.y0 first end lt (λ z. inside_pixel one z ∙ depths z)));
+      }
+
+in_cover : (o u : Option CellBox) (x y z : ℕ) → is_covered o u ≡ true → is_in o x y z ≡ true → is_in u x y z ≡ true
+in_cover None u x y z e h = cc
+in_cover (Some a) None x y z e h = e
+in_cover (Some a) (Some c) x y z e h = in_part a c x y z e h
+
+-- a box that grows by a block
+module _ (found inside : ℕ → ℕ → ℕ → Bool) (b : Block) (box : Option CellBox) (is : IsBoxOf found box) where
+  module _ (reach : Option CellBox) (near : IsReachOf inside b reach) where
+    pub passed_over : is_covered reach box ≡ true → IsBoxOf (with_block found inside b) box
+    passed_over inner = covered_box found (in_block inside b) box is (λ x y z h. in_cover reach box x y z inner (near.holds x y z h))
+
+    pub joined_on : is_pixel b ≡ true → IsBoxOf (with_block found inside b) (hull box reach)
+    joined_on one = joined_box found (in_block inside b) (with_block found inside b) box reach (λ x y z. refl) is (near.least one)
+
+both_halves : (f v p q r : Bool) → r ≡ (p || q) → (f || (p && v)) || (q && v) ≡ f || (r && v)
+both_halves f v p q r e = grind arith
+
+-- the two halves of a block, one after the other
+pub by_halves : (found inside : ℕ → ℕ → ℕ → Bool) (b first second : Block) (box : Option CellBox) → ((x y : ℕ) → has_pixel b x y ≡ (has_pixel first x y || has_pixel second x y))
+    → IsBoxOf (with_block (with_block found inside first) inside second) box → IsBoxOf (with_block found inside b) box
+by_halves found inside b first second box parts is = same_box (with_block (with_block found inside first) inside second) (with_block found inside b) box
+    (λ x y z. both_halves (found x y z) (inside x y z) (has_pixel first x y) (has_pixel second x y) (has_pixel b x y) (parts x y)) is

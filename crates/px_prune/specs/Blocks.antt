@@ -1,0 +1,35 @@
+-- Blocks of pixels, and the values of linear forms in them.
+use Rattle.std.specs.Prelude.{ℕ, ℤ, pos, ◌+◌, ◌-◌, ◌==◌, Bool, ◌&&◌, ◌||◌, nat_le, if◌then◌else◌}
+use Rattle.std.specs.Int.Signed.{lt_z}
+use Rattle.px_num.specs.declared.linear.Linear.{Linear}
+use Rattle.px_num.specs.Forms.{value_at}
+use Rattle.px_prune.specs.declared.block.Block.{Block}
+
+-- the pixel (x, y) is one of the block's
+abbrev pub has_pixel : Block → ℕ → ℕ → Bool
+has_pixel b x y = nat_le b.x0 x && nat_le x b.x1 && nat_le b.y0 y && nat_le y b.y1
+
+-- the block is one pixel
+abbrev pub is_pixel : Block → Bool
+is_pixel b = (b.x0 == b.x1) && (b.y0 == b.y1)
+
+-- how far a block is from being one pixel
+abbrev pub extent : Block → ℕ
+extent b = (b.x1 - b.x0) + (b.y1 - b.y0)
+
+-- the least and the greatest value of a form in a block: each is at a corner, by the signs of a and b
+unfoldable pub least_in : Block → Linear → ℤ
+least_in b form =
+    value_at form (if lt_z form.a (pos 0) then b.x1 else b.x0) (if lt_z form.b (pos 0) then b.y1 else b.y0)
+
+unfoldable pub greatest_in : Block → Linear → ℤ
+greatest_in b form =
+    value_at form (if lt_z form.a (pos 0) then b.x0 else b.x1) (if lt_z form.b (pos 0) then b.y0 else b.y1)
+
+-- cells at the pixels of a block
+abbrev pub in_block : (ℕ → ℕ → ℕ → Bool) → Block → ℕ → ℕ → ℕ → Bool
+in_block cells b x y z = has_pixel b x y && cells x y z
+
+-- the cells found, and those at the pixels of a block
+abbrev pub with_block : (ℕ → ℕ → ℕ → Bool) → (ℕ → ℕ → ℕ → Bool) → Block → ℕ → ℕ → ℕ → Bool
+with_block found cells b x y z = found x y z || in_block cells b x y z

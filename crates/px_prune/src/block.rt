@@ -1,0 +1,117 @@
+//! Blocks of pixels, and the values of linear forms in them.
+ghost use Rattle.std.specs.Prelude.{◌≤◌};
+
+use px_num::Linear;
+
+/// The pixels `x0` to `x1` of the rows `y0` to `y1`, both ends included.
+#[derive(Clone, Copy, Debug)]
+pub(crate) struct Block {
+    pub x0: u32,
+    pub x1: u32,
+    pub y0: u32,
+    pub y1: u32,
+    ghost columns: { x0 ≤ x1 },
+    ghost rows: { y0 ≤ y1 },
+    ghost in_width: { x1 ≤ 511 },
+    ghost in_height: { y1 ≤ 511 },
+}
+
+impl Block {
+    ghost use Rattle.std.specs.Prelude.{◌≡◌, ◌<◌, ◌-◌, ◌^◌, ◌≤ℤ◌, ◌&&◌, ◌||◌, nat_lt, ℕ, true, false};
+    ghost use Rattle.px_num.specs.Forms.{IsWithin, value_at};
+    ghost use Rattle.px_scene.specs.Solids.{IsPlane};
+    ghost use Rattle.px_prune.specs.Blocks.{
+      extent,
+      greatest_in,
+      has_pixel,
+      is_pixel,
+      least_in,
+    };
+
+    /// All pixels of a picture.
+    pub(crate) fn of_picture(width: u32, height: u32) -> Block
+        requires some_width { 1 ≤ width }
+        requires width { width ≤ 512 }
+        requires some_height { 1 ≤ height }
+        requires height { height ≤ 512 }
+        ensures { (x y : ℕ) → has_pixel result x y ≡ (nat_lt x width && nat_lt y height) }
+    {
+        Block {
+            x0: 0,
+            x1: width - 1,
+            y0: 0,
+            y1: height - 1,
+        }
+    }
+
+    pub(crate) fn is_pixel(&self) -> bool
+        ensures { result ≡ is_pixel self.now }
+    {
+        self.x0 == self.x1 && self.y0 == self.y1
+    }
+
+    /// Its two halves, across the longer side.
+    pub(crate) fn halves(&self) -> (Block, Block)
+        requires { is_pixel self.now ≡ false }
+        ensures parts { (x y : ℕ) → has_pixel self.now x y
+            ≡ (has_pixel result.0 x y || has_pixel result.1 x y) }
+        ensures first { extent result.0 < extent self.now }
+        ensures second { extent result.1 < extent self.now }
+    {
+        let Block { x0, x1, y0, y1 } = *self;
+        if x1 - x0 < y1 - y0 {
+            let middle = (y0 + y1) / 2;
+            let top = Block {
+                x0,
+                x1,
+                y0,
+                y1: middle,
+            };
+            let bottom = Block {
+                x0,
+                x1,
+                y0: middle + 1,
+                y1,
+            };
+            (top, bottom)
+        } else {
+            let middle = (x0 + x1) / 2;
+            let left = Block {
+                x0,
+                x1: middle,
+                y0,
+                y1,
+            };
+            let right = Block {
+                x0: middle + 1,
+                x1,
+                y0,
+                y1,
+            };
+            (left, right)
+        }
+    }
+
+    /// The least value of a form in the block, which it has at a corner.
+    pub(crate) fn least(&self, form: &Linear) -> i64
+        requires { IsPlane form.now }
+        ensures value { result ≡ least_in self.now form.now }
+        ensures bound { (x y : ℕ) → has_pixel self.now x y ≡ true → result ≤ℤ value_at form.now x y }
+        ensures size { IsWithin (2 ^ 39 - 1) result }
+    {
+        let x = if form.a < 0 { self.x1 } else { self.x0 };
+        let y = if form.b < 0 { self.y1 } else { self.y0 };
+        form.value(x, y)
+    }
+
+    /// The greatest value of a form in the block, which it has at a corner.
+    pub(crate) fn greatest(&self, form: &Linear) -> i64
+        requires { IsPlane form.now }
+        ensures value { result ≡ greatest_in self.now form.now }
+        ensures bound { (x y : ℕ) → has_pixel self.now x y ≡ true → value_at form.now x y ≤ℤ result }
+    {
+        let x = if form.a < 0 { self.x0 } else { self.x1 };
+        let y = if form.b < 0 { self.y0 } else { self.y1 };
+        form.value(x, y)
+    }
+}
