@@ -1,12 +1,12 @@
 -- All and some solids of a set.
-use Rattle.std.proofs.Common.{ℕ, suc, zero, ◌≡◌, ◌<◌, ◌==◌, ◌||◌, ◌&&◌, not, Bool, true, false, List, [], ◌∷◌, ◌++◌, refl, ap, ◌∙◌, arith, inl, inr}
+use Rattle.std.proofs.Common.{ℕ, suc, zero, ◌≡◌, ◌<◌, ◌↔◌, ◌==◌, ◌||◌, ◌&&◌, not, Bool, true, false, List, [], ◌∷◌, ◌++◌, refl, ap, ◌∙◌, arith, inl, inr}
 use Rattle.std.specs.List.{list_all, list_any, filter}
 use Rattle.std.proofs.lemmas.Bool.{cases_eq}
 use Rattle.px_normal.specs.declared.set.SolidSet.{SolidSet}
 use Rattle.px_normal.specs.Sets.{has, empty, one, joined, below, solids}
 use Rattle.px_normal.proofs.BitsLemmas.{has-joined, has-one, has-empty, same_test, other_test}
 
-pub all_last : (P h : ℕ → Bool) (xs : List ℕ) (n : ℕ) → list_all P (filter h (xs ++ n ∷ [])) ≡ list_all P (filter h xs) && (not (h n) || P n)
+all_last : (P h : ℕ → Bool) (xs : List ℕ) (n : ℕ) → list_all P (filter h (xs ++ n ∷ [])) ≡ list_all P (filter h xs) && (not (h n) || P n)
 all_last P h [] n = last (h n) refl where
   last : (b : Bool) → h n ≡ b → list_all P (filter h (n ∷ [])) ≡ not (h n) || P n
   last true e = grind arith
@@ -16,7 +16,7 @@ all_last P h (x ∷ xs) n = step (h x) refl (all_last P h xs n) where
   step true e ih = grind arith
   step false e ih = grind arith
 
-pub any_last : (P h : ℕ → Bool) (xs : List ℕ) (n : ℕ) → list_any P (filter h (xs ++ n ∷ [])) ≡ list_any P (filter h xs) || (h n && P n)
+any_last : (P h : ℕ → Bool) (xs : List ℕ) (n : ℕ) → list_any P (filter h (xs ++ n ∷ [])) ≡ list_any P (filter h xs) || (h n && P n)
 any_last P h [] n = last (h n) refl where
   last : (b : Bool) → h n ≡ b → list_any P (filter h (n ∷ [])) ≡ h n && P n
   last true e = grind arith
@@ -72,7 +72,34 @@ module _ (P h : ℕ → Bool) where
     or_false : (b : Bool) → b || false ≡ b
     or_false b = grind arith
 
+-- a test of each solid
+module _ (P h : ℕ → Bool) where
+  each_passes : (n : ℕ) → list_all P (filter h (below n)) ≡ true → (q : ℕ) → q < n → h q ≡ true → P q ≡ true
+  each_passes zero all q lt there = absurd (omega arith)
+  each_passes (suc n) all q lt there =
+      let both : list_all P (filter h (below n)) && (not (h n) || P n) ≡ true = rw (← all_last P h (below n) n) all
+      in elim (cases_eq q n) [
+        | inl last ↦ rw last (of_last (list_all P (filter h (below n))) (h n) (P n) both (rw last at there))
+        | inr before ↦ each_passes n (of_rest (list_all P (filter h (below n))) (not (h n) || P n) both) q (omega arith) there
+      ] where
+        of_last : (a b p : Bool) → a && (not b || p) ≡ true → b ≡ true → p ≡ true
+        of_last a b p e f = grind arith
+
+        of_rest : (a b : Bool) → a && b ≡ true → a ≡ true
+        of_rest a b e = grind arith
+
+  all_pass : (n : ℕ) → ((q : ℕ) → q < n → h q ≡ true → P q ≡ true) → list_all P (filter h (below n)) ≡ true
+  all_pass zero each = refl
+  all_pass (suc n) each = all_last P h (below n) n ∙ rw (all_pass n (λ q lt. each q (omega arith))) (last (h n) (P n) (each n (omega arith))) where
+    last : (b p : Bool) → (b ≡ true → p ≡ true) → true && (not b || p) ≡ true
+    last true p e = e refl
+    last false p e = refl
+
 module _ (P : ℕ → Bool) where
+  pub all-each : (s : SolidSet) → (list_all P (solids s) ≡ true) ↔ ((q : ℕ) → q < 256 → has s q ≡ true → P q ≡ true)
+  unfolding solids
+  all-each s = (each_passes P (has s) 256, all_pass P (has s) 256)
+
   pub all-joined : (a b : SolidSet) → list_all P (solids (joined a b)) ≡ list_all P (solids a) && list_all P (solids b)
   unfolding solids
   all-joined a b = all_joined P (has (joined a b)) (has a) (has b) 256 (has-joined a b)

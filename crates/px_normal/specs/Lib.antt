@@ -1,4 +1,5 @@
 pub mod Sets
+pub mod SetLaws
 pub mod Forms
 pub mod NormalLaw
 pub mod Counting

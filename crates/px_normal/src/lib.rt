@@ -13,4 +13,4 @@ pub use count::count_products;
 pub use fault::NormalFault;
 pub use normal::normalise;
 pub use product::{Product, Products};
-pub use set::SolidSet;
+pub use set::{SolidSet, laws_of_sets};

@@ -1,6 +1,7 @@
 //! Sets of solids.
 ghost use Rattle.std.specs.Prelude.{◌≡◌, ◌<◌, ◌||◌, ◌==◌, ℕ, false};
 ghost use Rattle.px_normal.specs.Sets.{has, empty, one, joined, solids};
+ghost use Rattle.px_normal.specs.SetLaws.{LawsOfSets};
 
 use arrayvec::ArrayVec;
 
@@ -67,3 +68,8 @@ impl SolidSet {
         SolidSet { words }
     }
 }
+
+/// The laws of sets, for whoever reasons of several of them: how a test goes over their solids.
+pub fn laws_of_sets()
+    ensures { LawsOfSets }
+{}
