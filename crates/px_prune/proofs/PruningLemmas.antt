@@ -4,6 +4,7 @@ use Rattle.std.specs.List.{list_all, list_any, filter, filter_map}
 use Rattle.px_expr.specs.Cells.{Cell, has_face}
 use Rattle.px_normal.specs.declared.product.Product.{Product}
 use Rattle.px_normal.specs.Sets.{solids}
+use Rattle.px_normal.specs.SetLaws.{LawsOfSets}
 use Rattle.px_normal.specs.NormalLaw.{holds, shows, some_holds, some_shows}
 use Rattle.px_prune.specs.declared.cell_box.CellBox.{CellBox}
 use Rattle.px_prune.specs.Boxes.{lies_in, has_cell, everything, is_in}
@@ -28,7 +29,7 @@ record IsSame (at : ℕ → Cell) (p : Product) (o : Option Product) : Type 0 wh
   holding : of_kept (holds at) o ≡ holds at p
   showing : (n : ℕ) → of_kept (λ u. holds at u && shows at n u) o ≡ holds at p && shows at n p
 
-module _ (boxes : ℕ → Option CellBox) (at : ℕ → Cell) (x y z : ℕ) (fits : HasCells boxes x y z at) where
+module _ (laws : LawsOfSets) (boxes : ℕ → Option CellBox) (at : ℕ → Cell) (x y z : ℕ) (fits : HasCells boxes x y z at) where
   -- where no product holds
   none_hold : (p : Product) (o : Option Product) → of_kept (holds at) o ≡ false → holds at p ≡ false → IsSame at p o
   none_hold p None e h = record { holding = sym h; showing = λ n. rw h refl }
@@ -58,14 +59,14 @@ module _ (boxes : ℕ → Option CellBox) (at : ℕ → Cell) (x y z : ℕ) (fit
   plain_there p None i e = cc
   plain_there p (Some c) i e = step (is_void p) refl where
     step : (b : Bool) → is_void p ≡ b → IsSame at p (pruned_within boxes p (Some c))
-    step true v = none_hold p (pruned_within boxes p (Some c)) (rw (inside_has x y z c i, v) refl) (rw (e, void_solids (λ q. (at q).member) p.plain p.barred e v) refl)
+    step true v = none_hold p (pruned_within boxes p (Some c)) (rw (inside_has x y z c i, v) refl) (rw (e, void_solids laws (λ q. (at q).member) p.plain p.barred e v) refl)
     step false v =
         let qs = filter (λ q. meets (boxes q) c) (solids p.barred)
-        in let s = filtered_solids (λ q. meets (boxes q) c) p.barred
+        in let s = filtered_solids laws (λ q. meets (boxes q) c) p.barred
         in let same : list_all (λ q. not (at q).member) (solids (set_of qs)) ≡ list_all (λ q. not (at q).member) (solids p.barred)
-        = all-set_of (λ q. not (at q).member) qs s ∙ all_filter (λ q. not (at q).member) (λ q. meets (boxes q) c) (member_meets c i) (solids p.barred)
+        = all-set_of laws (λ q. not (at q).member) qs s ∙ all_filter (λ q. not (at q).member) (λ q. meets (boxes q) c) (member_meets c i) (solids p.barred)
         in let faces : (n : ℕ) → list_any (λ q. has_face n (at q).hidden) (solids (set_of qs)) ≡ list_any (λ q. has_face n (at q).hidden) (solids p.barred)
-        = λ n. any-set_of (λ q. has_face n (at q).hidden) qs s ∙ any_filter (λ q. has_face n (at q).hidden) (λ q. meets (boxes q) c) (hidden_meets n c i) (solids p.barred)
+        = λ n. any-set_of laws (λ q. has_face n (at q).hidden) qs s ∙ any_filter (λ q. has_face n (at q).hidden) (λ q. meets (boxes q) c) (hidden_meets n c i) (solids p.barred)
         in rw (inside_has x y z c i, v) (record { holding = rw same refl; showing = λ n. rw (same, faces n) refl })
 
   is_same : x < 2 ^ 32 → y < 2 ^ 32 → z < 2 ^ 32 → (p : Product) → IsSame at p (pruned boxes p)
@@ -74,13 +75,13 @@ module _ (boxes : ℕ → Option CellBox) (at : ℕ → Cell) (x y z : ℕ) (fit
     step true e = plain_there p (box_of_all boxes (solids p.plain)) (in_fold x y z boxes (λ q. (at q).member) fits.members (solids p.plain) (Some everything) (inside_everything x y z hx hy hz) e) e
     step false e = none_hold p (pruned boxes p) (plain_missing p (box_of_all boxes (solids p.plain)) e) (rw e refl)
 
-pub kept_holds : (boxes : ℕ → Option CellBox) (at : ℕ → Cell) (x y z : ℕ) → x < 2 ^ 32 → y < 2 ^ 32 → z < 2 ^ 32 → HasCells boxes x y z at → (ps : List Product)
+pub kept_holds : (laws : LawsOfSets) (boxes : ℕ → Option CellBox) (at : ℕ → Cell) (x y z : ℕ) → x < 2 ^ 32 → y < 2 ^ 32 → z < 2 ^ 32 → HasCells boxes x y z at → (ps : List Product)
     → some_holds at (kept_products boxes ps) ≡ some_holds at ps
-kept_holds boxes at x y z hx hy hz fits ps = any_kept (holds at) (pruned boxes) (λ p. (is_same boxes at x y z fits hx hy hz p).holding) ps
+kept_holds laws boxes at x y z hx hy hz fits ps = any_kept (holds at) (pruned boxes) (λ p. (is_same laws boxes at x y z fits hx hy hz p).holding) ps
 
-pub kept_shows : (boxes : ℕ → Option CellBox) (at : ℕ → Cell) (x y z : ℕ) → x < 2 ^ 32 → y < 2 ^ 32 → z < 2 ^ 32 → HasCells boxes x y z at → (ps : List Product) (n : ℕ)
+pub kept_shows : (laws : LawsOfSets) (boxes : ℕ → Option CellBox) (at : ℕ → Cell) (x y z : ℕ) → x < 2 ^ 32 → y < 2 ^ 32 → z < 2 ^ 32 → HasCells boxes x y z at → (ps : List Product) (n : ℕ)
     → some_shows at n (kept_products boxes ps) ≡ some_shows at n ps
-kept_shows boxes at x y z hx hy hz fits ps n = any_kept (λ u. holds at u && shows at n u) (pruned boxes) (λ p. (is_same boxes at x y z fits hx hy hz p).showing n) ps
+kept_shows laws boxes at x y z hx hy hz fits ps n = any_kept (λ u. holds at u && shows at n u) (pruned boxes) (λ p. (is_same laws boxes at x y z fits hx hy hz p).showing n) ps
 
 -- products are left out, and none is added
 fewer : {X Y : Type 0} (g : X → Option Y) (xs : List X) → length (filter_map g xs) ≤ length xs

@@ -1,9 +1,9 @@
 -- Cells in boxes, and solids of filtered sets.
-use Rattle.std.proofs.Common.{ℕ, suc, zero, ◌≡◌, ◌≤◌, ◌<◌, ◌^◌, ◌||◌, ◌&&◌, not, nat_lt, Bool, true, false, List, [], ◌∷◌, refl, ap, sym, ◌∙◌, arith, Option, Some, None, fold}
+use Rattle.std.proofs.Common.{ℕ, ◌≡◌, ◌<◌, ◌^◌, ◌||◌, ◌&&◌, not, nat_lt, Bool, true, false, List, [], ◌∷◌, refl, ap, sym, ◌∙◌, arith, Option, Some, None, fold}
 use Rattle.std.specs.List.{list_all, list_any, filter}
 use Rattle.px_normal.specs.declared.set.SolidSet.{SolidSet}
-use Rattle.px_normal.specs.Sets.{has, empty, one, joined, solids, below}
-use Rattle.px_normal.proofs.SolidsLemmas.{all-joined, any-joined, all-empty, any-empty, all-one, any-one, all_last, any_last}
+use Rattle.px_normal.specs.Sets.{has, empty, one, joined, solids}
+use Rattle.px_normal.specs.SetLaws.{LawsOfSets}
 use Rattle.px_prune.specs.declared.cell_box.CellBox.{CellBox}
 use Rattle.px_prune.specs.Boxes.{lies_in, has_cell, common_part, with_cells_behind, everything, narrowed, is_in}
 use Rattle.px_prune.proofs.BehindLemmas.{is_in_or_behind}
@@ -64,12 +64,6 @@ any_filter P f h (q ∷ qs) = step (f q) refl (any_filter P f h qs) where
 abbrev pub is_solid : ℕ → Bool
 is_solid q = nat_lt q 256
 
-are_solids : (f : ℕ → Bool) (n : ℕ) → n ≤ 256 → list_all is_solid (filter f (below n)) ≡ true
-are_solids f zero h = refl
-are_solids f (suc n) h = all_last is_solid f (below n) n ∙ rw (are_solids f n (omega arith)) (last (f n) n (omega arith)) where
-  last : (b : Bool) (n : ℕ) → n < 256 → true && (not b || is_solid n) ≡ true
-  last b n lt = grind arith
-
 still_solids : (f : ℕ → Bool) (qs : List ℕ) → list_all is_solid qs ≡ true → list_all is_solid (filter f qs) ≡ true
 still_solids f [] h = refl
 still_solids f (q ∷ qs) h = step (f q) refl (still_solids f qs (rest (is_solid q) _ h)) where
@@ -82,57 +76,64 @@ still_solids f (q ∷ qs) h = step (f q) refl (still_solids f qs (rest (is_solid
     here a b e = grind arith
   step false e ih = rw e ih
 
-pub filtered_solids : (f : ℕ → Bool) (s : SolidSet) → list_all is_solid (filter f (solids s)) ≡ true
-unfolding solids
-filtered_solids f s = still_solids f (filter (has s) (below 256)) (are_solids (has s) 256 (omega arith))
+none_passes : (p : ℕ → Bool) (qs : List ℕ) → list_all (λ q. not (p q)) qs ≡ true → list_any p qs ≡ false
+none_passes p [] e = refl
+none_passes p (q ∷ qs) e = step (p q) _ _ e (none_passes p qs) where
+  step : (v all any : Bool) → not v && all ≡ true → (all ≡ true → any ≡ false) → v || any ≡ false
+  step true all any e h = sym e
+  step false all any e h = h e
 
--- the solids of a set that is made of a list
-all_fold : (P : ℕ → Bool) (qs : List ℕ) (s : SolidSet) → list_all is_solid qs ≡ true → list_all P (solids (fold (λ s q. joined s (one q)) s qs)) ≡ list_all P (solids s) && list_all P qs
-all_fold P [] s h = sym (and_true (list_all P (solids s))) where
-  and_true : (a : Bool) → a && true ≡ a
-  and_true a = grind arith
-all_fold P (q ∷ qs) s h = all_fold P qs (joined s (one q)) (rest (is_solid q) _ h)
-    ∙ rw (all-joined P s (one q), all-one P q (below_256 q _ h)) (turned (list_all P (solids s)) (P q) (list_all P qs)) where
-      rest : (a b : Bool) → a && b ≡ true → b ≡ true
-      rest a b e = grind arith
+module _ (laws : LawsOfSets) where
+  pub filtered_solids : (f : ℕ → Bool) (s : SolidSet) → list_all is_solid (filter f (solids s)) ≡ true
+  filtered_solids f s = still_solids f (solids s) ((laws.each is_solid s).1 (λ q lt has. small q lt)) where
+    small : (q : ℕ) → q < 256 → is_solid q ≡ true
+    small q lt = grind arith
 
-      below_256 : (q : ℕ) (b : Bool) → is_solid q && b ≡ true → q < 256
-      below_256 q b e = grind arith
+  -- the solids of a set that is made of a list
+  all_fold : (P : ℕ → Bool) (qs : List ℕ) (s : SolidSet) → list_all is_solid qs ≡ true → list_all P (solids (fold (λ s q. joined s (one q)) s qs)) ≡ list_all P (solids s) && list_all P qs
+  all_fold P [] s h = sym (and_true (list_all P (solids s))) where
+    and_true : (a : Bool) → a && true ≡ a
+    and_true a = grind arith
+  all_fold P (q ∷ qs) s h = all_fold P qs (joined s (one q)) (rest (is_solid q) _ h)
+      ∙ rw (laws.all_of_joined P s (one q), laws.all_of_one P q (below_256 q _ h)) (turned (list_all P (solids s)) (P q) (list_all P qs)) where
+        rest : (a b : Bool) → a && b ≡ true → b ≡ true
+        rest a b e = grind arith
 
-      turned : (a b c : Bool) → (a && b) && c ≡ a && (b && c)
-      turned a b c = grind arith
+        below_256 : (q : ℕ) (b : Bool) → is_solid q && b ≡ true → q < 256
+        below_256 q b e = grind arith
 
-any_fold : (P : ℕ → Bool) (qs : List ℕ) (s : SolidSet) → list_all is_solid qs ≡ true → list_any P (solids (fold (λ s q. joined s (one q)) s qs)) ≡ list_any P (solids s) || list_any P qs
-any_fold P [] s h = sym (or_false (list_any P (solids s))) where
-  or_false : (a : Bool) → a || false ≡ a
-  or_false a = grind arith
-any_fold P (q ∷ qs) s h = any_fold P qs (joined s (one q)) (rest (is_solid q) _ h)
-    ∙ rw (any-joined P s (one q), any-one P q (below_256 q _ h)) (turned (list_any P (solids s)) (P q) (list_any P qs)) where
-      rest : (a b : Bool) → a && b ≡ true → b ≡ true
-      rest a b e = grind arith
+        turned : (a b c : Bool) → (a && b) && c ≡ a && (b && c)
+        turned a b c = grind arith
 
-      below_256 : (q : ℕ) (b : Bool) → is_solid q && b ≡ true → q < 256
-      below_256 q b e = grind arith
+  any_fold : (P : ℕ → Bool) (qs : List ℕ) (s : SolidSet) → list_all is_solid qs ≡ true → list_any P (solids (fold (λ s q. joined s (one q)) s qs)) ≡ list_any P (solids s) || list_any P qs
+  any_fold P [] s h = sym (or_false (list_any P (solids s))) where
+    or_false : (a : Bool) → a || false ≡ a
+    or_false a = grind arith
+  any_fold P (q ∷ qs) s h = any_fold P qs (joined s (one q)) (rest (is_solid q) _ h)
+      ∙ rw (laws.some_of_joined P s (one q), laws.some_of_one P q (below_256 q _ h)) (turned (list_any P (solids s)) (P q) (list_any P qs)) where
+        rest : (a b : Bool) → a && b ≡ true → b ≡ true
+        rest a b e = grind arith
 
-      turned : (a b c : Bool) → (a || b) || c ≡ a || (b || c)
-      turned a b c = grind arith
+        below_256 : (q : ℕ) (b : Bool) → is_solid q && b ≡ true → q < 256
+        below_256 q b e = grind arith
 
-pub all-set_of : (P : ℕ → Bool) (qs : List ℕ) → list_all is_solid qs ≡ true → list_all P (solids (set_of qs)) ≡ list_all P qs
-all-set_of P qs h = all_fold P qs empty h ∙ rw (all-empty P) refl
+        turned : (a b c : Bool) → (a || b) || c ≡ a || (b || c)
+        turned a b c = grind arith
 
-pub any-set_of : (P : ℕ → Bool) (qs : List ℕ) → list_all is_solid qs ≡ true → list_any P (solids (set_of qs)) ≡ list_any P qs
-any-set_of P qs h = any_fold P qs empty h ∙ rw (any-empty P) refl
+  pub all-set_of : (P : ℕ → Bool) (qs : List ℕ) → list_all is_solid qs ≡ true → list_all P (solids (set_of qs)) ≡ list_all P qs
+  all-set_of P qs h = all_fold P qs empty h ∙ rw (laws.all_of_none P) refl
 
--- a solid that is plain and barred has no cell in both parts
-void_below : (m h g : ℕ → Bool) (n : ℕ) → list_all m (filter h (below n)) ≡ true → list_any g (filter h (below n)) ≡ true → list_all (λ q. not (m q)) (filter g (below n)) ≡ false
-void_below m h g zero p q = sym q
-void_below m h g (suc n) p q =
-    all_last (λ q. not (m q)) g (below n) n
-    ∙ step (list_all m (filter h (below n))) (list_any g (filter h (below n))) (list_all (λ q. not (m q)) (filter g (below n))) (h n) (g n) (m n)
-    (sym (all_last m h (below n) n) ∙ p) (sym (any_last g h (below n) n) ∙ q) (void_below m h g n) where
-      step : (a b c h g m : Bool) → a && (not h || m) ≡ true → b || (h && g) ≡ true → (a ≡ true → b ≡ true → c ≡ false) → c && (not g || not m) ≡ false
-      step a b c h g m p q ih = grind arith
+  pub any-set_of : (P : ℕ → Bool) (qs : List ℕ) → list_all is_solid qs ≡ true → list_any P (solids (set_of qs)) ≡ list_any P qs
+  any-set_of P qs h = any_fold P qs empty h ∙ rw (laws.some_of_none P) refl
 
-pub void_solids : (m : ℕ → Bool) (s t : SolidSet) → list_all m (solids s) ≡ true → list_any (has t) (solids s) ≡ true → list_all (λ q. not (m q)) (solids t) ≡ false
-unfolding solids
-void_solids m s t p q = void_below m (has s) (has t) 256 p q
+  -- a solid that is plain and barred has no cell in both parts
+  pub void_solids : (m : ℕ → Bool) (s t : SolidSet) → list_all m (solids s) ≡ true → list_any (has t) (solids s) ≡ true → list_all (λ q. not (m q)) (solids t) ≡ false
+  void_solids m s t plain void = step (list_all (λ q. not (m q)) (solids t)) refl where
+    apart : (m h : Bool) → m ≡ true → (h ≡ true → not m ≡ true) → not h ≡ true
+    apart m true e f = sym (ap not e) ∙ f refl
+    apart m false e f = refl
+
+    step : (v : Bool) → list_all (λ q. not (m q)) (solids t) ≡ v → v ≡ false
+    step false e = refl
+    step true barred = sym void ∙ none_passes (has t) (solids s)
+        ((laws.each (λ q. not (has t q)) s).1 (λ q lt there. apart (m q) (has t q) ((laws.each m s).0 plain q lt there) ((laws.each (λ q. not (m q)) t).0 barred q lt)))

@@ -1,8 +1,15 @@
 //! The products that can show anything.
-ghost use Rattle.std.specs.Prelude.{◌≡◌, ◌≤◌, ℕ, List, Option, None, slice_index_or, IfOk, filter, length};
-ghost use Rattle.std.specs.List.{list_any};
-ghost use Rattle.px_normal.specs.Sets.{empty, has, solids};
-ghost use Rattle.px_prune.specs.Kept.{box_of_all, kept_products, kept_of, meets, pruned, set_of};
+ghost use Rattle.std.specs.Prelude.{◌≡◌, ◌≤◌, ℕ, List, Option, None, slice_index_or, IfOk, length};
+ghost use Rattle.px_normal.specs.Sets.{empty, solids};
+ghost use Rattle.px_prune.specs.Kept.{
+  box_of_all,
+  is_void,
+  kept_of,
+  kept_products,
+  meets,
+  pruned,
+  staying,
+};
 ghost use Rattle.px_prune.specs.PruningLaw.{PruningLaw};
 ghost use Rattle.px_normal.specs.declared.product.Product.{Product};
 ghost use Rattle.px_scene.specs.Scenes.{SceneView, IsLawfulScene};
@@ -10,7 +17,7 @@ ghost use Rattle.px_scene.specs.Scenes.{SceneView, IsLawfulScene};
 use crate::CellBox;
 use crate::bounds::boxes_of;
 use crate::cell_box::{EVERYTHING, common_part, has_cell, narrowed};
-use px_normal::{Product, Products, SolidSet};
+use px_normal::{Product, Products, SolidSet, laws_of_sets};
 use px_num::Memory;
 use px_scene::Scene;
 use std::alloc::{AllocError, Global};
@@ -46,7 +53,9 @@ pub fn prune(alloc: Global, scene: &Scene, products: &Products) -> Result<Plan, 
 fn pruning_law()
     ensures { (scene : SceneView) → IsLawfulScene scene → (products : List Product)
         → PruningLaw scene products (kept_of scene products) }
-{}
+{
+    laws_of_sets();
+}
 
 fn kept_products(
     alloc: Global,
@@ -66,39 +75,43 @@ fn kept_products(
 fn pruned(boxes: &[Option<CellBox>], product: &Product) -> Option<Product>
     ensures { result ≡ pruned (λ q. slice_index_or boxes.now q None) product.now }
 {
-    let plain = product.plain.solids();
-    let barred = product.barred.solids();
-    match box_of_all(boxes, &plain) {
-        Some(part) if has_cell(&part) && !is_void(product, &plain) => Some(Product {
-            plain: product.plain,
-            barred: staying(boxes, part, &barred),
-        }),
-        _ => None,
+    if is_void(product) {
+        return None;
     }
+    let part = box_of_all(boxes, &product.plain)?;
+    if !has_cell(&part) {
+        return None;
+    }
+    Some(Product {
+        plain: product.plain,
+        barred: staying(boxes, part, &product.barred),
+    })
+}
+
+/// Whether a solid is both plain and barred.
+fn is_void(product: &Product) -> bool
+    ensures { result ≡ is_void product.now }
+{
+    let plain = product.plain.solids();
+    plain.iter().any(|q| product.barred.has(*q))
 }
 
 /// The common part of the boxes of some solids, if each has one.
-fn box_of_all(boxes: &[Option<CellBox>], plain: &[u8]) -> Option<CellBox>
-    ensures { result ≡ box_of_all (λ q. slice_index_or boxes.now q None) plain.now }
+fn box_of_all(boxes: &[Option<CellBox>], plain: &SolidSet) -> Option<CellBox>
+    ensures { result ≡ box_of_all (λ q. slice_index_or boxes.now q None) (solids plain.now) }
 {
+    let plain = plain.solids();
     plain.iter().fold(
         Some(EVERYTHING),
         |part, q| narrowed(part, box_at(boxes, *q)),
     )
 }
 
-/// Whether a plain solid is barred too.
-fn is_void(product: &Product, plain: &[u8]) -> bool
-    ensures { result ≡ list_any (λ q. has product.now.barred q) plain.now }
-{
-    plain.iter().any(|q| product.barred.has(*q))
-}
-
 /// The barred solids that can take a cell from the product's box, or show a back in it.
-fn staying(boxes: &[Option<CellBox>], part: CellBox, barred: &[u8]) -> SolidSet
-    ensures { result ≡
-        set_of (filter (λ q. meets (slice_index_or boxes.now q None) part) barred.now) }
+fn staying(boxes: &[Option<CellBox>], part: CellBox, barred: &SolidSet) -> SolidSet
+    ensures { result ≡ staying (λ q. slice_index_or boxes.now q None) part barred.now }
 {
+    let barred = barred.solids();
     barred
         .iter()
         .filter(|q| meets(box_at(boxes, **q), part))

@@ -14,6 +14,6 @@ returns c scene lawful products x y z left up before =
     in let at = leaf_cell scene.solids (far_of scene) x y z
     in let fits = boxes_have_cells scene (bounding_box scene) (bounding_is scene) x y left up z
     in record {
-      members = kept_holds (bounding_box scene) at x y z near_x near_y near_z fits products;
-      faces = λ face. kept_shows (bounding_box scene) at x y z near_x near_y near_z fits products face;
+      members = kept_holds c.laws_of_sets.ensures (bounding_box scene) at x y z near_x near_y near_z fits products;
+      faces = λ face. kept_shows c.laws_of_sets.ensures (bounding_box scene) at x y z near_x near_y near_z fits products face;
     }
