@@ -5,6 +5,8 @@ mod block;
 mod bounds;
 mod cell_box;
 mod plan;
+#[cfg(test)]
+mod tests;
 
 pub use bounds::box_of;
 pub use cell_box::CellBox;
