@@ -13,11 +13,13 @@ use Rattle.px_prune.specs.Blocks.{greatest_in, has_pixel, is_pixel, least_in}
 not_below : (a : ℕ) → nat_lt a 0 ≡ false
 not_below a = grind arith
 
-low : (a : ℤ) (first last n : ℕ) → first ≤ n → n ≤ last → (a *ℤ pos (if lt_z a (pos 0) then last else first)) ≤ℤ (a *ℤ pos n)
+low : (a : ℤ) (first last n : ℕ) → first ≤ n → n ≤ last
+    → (a *ℤ pos (if lt_z a (pos 0) then last else first)) ≤ℤ (a *ℤ pos n)
 low (pos a) first last n p q = rw (not_below a) (omega (arith, ints, mul-le-mul_left a p))
 low (negsuc a) first last n p q = omega (arith, ints, mul-le-mul_left (suc a) q)
 
-high : (a : ℤ) (first last n : ℕ) → first ≤ n → n ≤ last → (a *ℤ pos n) ≤ℤ (a *ℤ pos (if lt_z a (pos 0) then first else last))
+high : (a : ℤ) (first last n : ℕ) → first ≤ n → n ≤ last
+    → (a *ℤ pos n) ≤ℤ (a *ℤ pos (if lt_z a (pos 0) then first else last))
 high (pos a) first last n p q = rw (not_below a) (omega (arith, ints, mul-le-mul_left a q))
 high (negsuc a) first last n p q = omega (arith, ints, mul-le-mul_left (suc a) p)
 
@@ -29,7 +31,8 @@ same true m n k e d = e
 same false m n k e d = d
 
 -- where both columns that may be chosen are one, and both rows
-at_corners : (form : Linear) (s t : Bool) (m n i j : ℕ) {x y : ℕ} → m ≡ x → n ≡ x → i ≡ y → j ≡ y → value_at form (if s then m else n) (if t then i else j) ≡ value_at form x y
+at_corners : (form : Linear) (s t : Bool) (m n i j : ℕ) {x y : ℕ} → m ≡ x → n ≡ x → i ≡ y → j ≡ y
+    → value_at form (if s then m else n) (if t then i else j) ≡ value_at form x y
 at_corners form s t m n i j {x = x} {y = y} p q u v = rw (same s m n x p q, same t i j y u v) refl
 
 pub one_column : (b : Block) → is_pixel b ≡ true → b.x1 ≡ b.x0
@@ -54,17 +57,23 @@ module _ (b : Block) (form : Linear) where
 
     pub least_bounds : least_in b form ≤ℤ value_at form x y
     unfolding least_in
-    least_bounds = sums _ _ _ _ form.c (low form.a b.x0 b.x1 x from_left to_right) (low form.b b.y0 b.y1 y from_top to_bottom)
+    least_bounds = sums _ _ _ _ form.c
+        (low form.a b.x0 b.x1 x from_left to_right)
+        (low form.b b.y0 b.y1 y from_top to_bottom)
 
     pub greatest_bounds : value_at form x y ≤ℤ greatest_in b form
     unfolding greatest_in
-    greatest_bounds = sums _ _ _ _ form.c (high form.a b.x0 b.x1 x from_left to_right) (high form.b b.y0 b.y1 y from_top to_bottom)
+    greatest_bounds = sums _ _ _ _ form.c
+        (high form.a b.x0 b.x1 x from_left to_right)
+        (high form.b b.y0 b.y1 y from_top to_bottom)
 
   module _ (one : is_pixel b ≡ true) where
     pub least_at_pixel : least_in b form ≡ value_at form b.x0 b.y0
     unfolding least_in
-    least_at_pixel = at_corners form (lt_z form.a (pos 0)) (lt_z form.b (pos 0)) b.x1 b.x0 b.y1 b.y0 (one_column b one) refl (one_row b one) refl
+    least_at_pixel = at_corners form (lt_z form.a (pos 0)) (lt_z form.b (pos 0)) b.x1 b.x0 b.y1 b.y0
+        (one_column b one) refl (one_row b one) refl
 
     pub greatest_at_pixel : greatest_in b form ≡ value_at form b.x0 b.y0
     unfolding greatest_in
-    greatest_at_pixel = at_corners form (lt_z form.a (pos 0)) (lt_z form.b (pos 0)) b.x0 b.x1 b.y0 b.y1 refl (one_column b one) refl (one_row b one)
+    greatest_at_pixel = at_corners form (lt_z form.a (pos 0)) (lt_z form.b (pos 0)) b.x0 b.x1 b.y0 b.y1
+        refl (one_column b one) refl (one_row b one)

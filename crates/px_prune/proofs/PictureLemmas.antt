@@ -56,9 +56,12 @@ module _ (scene : SceneView) (boxes : ℕ → Option CellBox) (bounding : (q : �
   boxes_have_cells z = record { members = member_in z; hidden = hidden_in z }
 
 -- the box of a scene's solid
-pub known : (scene : SceneView) (q : ℕ) (ss : List SolidView) (s : SolidView) (b : Block) (box : Option CellBox) (far width height : ℕ) → q < length scene.solids → ss ≡ scene.solids → s ≡ get_or ss q s
-    → far ≡ far_of scene → width ≡ scene.width → height ≡ scene.height → ((x y : ℕ) → has_pixel b x y ≡ (nat_lt x width && nat_lt y height))
-    → ((cells : ℕ → ℕ → ℕ → Bool) → IsBoxOf cells None → IsBoxOf (with_block cells (is_inside s far) b) box) → IsBoundingBox scene q box
+pub known : (scene : SceneView) (q : ℕ) (ss : List SolidView) (s : SolidView) (b : Block) (box : Option CellBox)
+    (far width height : ℕ) → q < length scene.solids → ss ≡ scene.solids → s ≡ get_or ss q s
+    → far ≡ far_of scene → width ≡ scene.width → height ≡ scene.height
+    → ((x y : ℕ) → has_pixel b x y ≡ (nat_lt x width && nat_lt y height))
+    → ((cells : ℕ → ℕ → ℕ → Bool) → IsBoxOf cells None → IsBoxOf (with_block cells (is_inside s far) b) box)
+    → IsBoundingBox scene q box
 known scene q ss s b box far width height there solids read is_far is_width is_height pixels grown =
     let found : slice_get scene.solids q ≡ Some s = slice_get_read scene.solids (length scene.solids) q s refl there (read ∙ ap (λ ts. get_or ts q s) solids)
     in let none : ℕ → ℕ → ℕ → Bool = λ x y z. false

@@ -15,17 +15,12 @@ use Rattle.px_prune.specs.Bounding.{IsBoxOf, IsReachOf}
 use Rattle.px_prune.proofs.BlockLemmas.{greatest_at_pixel, greatest_bounds, least_at_pixel, least_bounds, one_column, one_row}
 use Rattle.px_prune.proofs.HullLemmas.{at_pixel, covered_box, in_part, joined_box, no_box, pixel_box, same_box}
 
-all_pass : {X : Type 0} (p q : X → Bool) → ((x : X) → p x ≡ true → q x ≡ true) → (xs : List X) → list_all p xs ≡ true → list_all q xs ≡ true
+all_pass : {X : Type 0} (p q : X → Bool) → ((x : X) → p x ≡ true → q x ≡ true) → (xs : List X)
+    → list_all p xs ≡ true → list_all q xs ≡ true
 all_pass p q h [] all = refl
-all_pass p q h (x ∷ xs) all = both (q x) (list_all q xs) (h x (left (p x) (list_all p xs) all)) (all_pass p q h xs (right (p x) (list_all p xs) all)) where
-  left : (a b : Bool) → a && b ≡ true → a ≡ true
-  left a b e = grind arith
-
-  right : (a b : Bool) → a && b ≡ true → b ≡ true
-  right a b e = grind arith
-
-  both : (a b : Bool) → a ≡ true → b ≡ true → a && b ≡ true
-  both a b e f = grind arith
+all_pass p q h (x ∷ xs) all = step (p x) (q x) (list_all p xs) (list_all q xs) all (h x) (all_pass p q h xs) where
+  step : (a b c d : Bool) → a && c ≡ true → (a ≡ true → b ≡ true) → (c ≡ true → d ≡ true) → b && d ≡ true
+  step a b c d e f g = grind arith
 
 all_same : {X : Type 0} (p q : X → Bool) → ((x : X) → p x ≡ q x) → (xs : List X) → list_all p xs ≡ list_all q xs
 all_same p q h xs = ap (λ test. list_all test xs) (fun_ext h)
@@ -39,15 +34,20 @@ le_above a b c h e = grind (arith, ints)
 lt_above : (a b c : ℤ) → b ≤ℤ c → lt_z a b ≡ true → lt_z a c ≡ true
 lt_above a b c h e = grind (arith, ints)
 
-same_pixel : (b : Block) → is_pixel b ≡ true → (x y : ℕ) (v : Bool) → (x == b.x0) && (y == b.y0) && v ≡ has_pixel b x y && v
+same_pixel : (b : Block) → is_pixel b ≡ true → (x y : ℕ) (v : Bool)
+    → (x == b.x0) && (y == b.y0) && v ≡ has_pixel b x y && v
 same_pixel b one x y v = grind arith
 
 -- a box whose last column and row are its first
-ending_there : (f : ℕ → ℕ → ℕ → Bool) (x x1 y y1 s t : ℕ) → x1 ≡ x → y1 ≡ y → IsBoxOf (at_pixel f x y) (Some (record { x0 = x; x1 = x; y0 = y; y1 = y; z0 = s; z1 = t - 1 }))
+ending_there : (f : ℕ → ℕ → ℕ → Bool) (x x1 y y1 s t : ℕ) → x1 ≡ x → y1 ≡ y
+    → IsBoxOf (at_pixel f x y) (Some (record { x0 = x; x1 = x; y0 = y; y1 = y; z0 = s; z1 = t - 1 }))
     → IsBoxOf (at_pixel f x y) (Some (record { x0 = x; x1 = x1; y0 = y; y1 = y1; z0 = s; z1 = t - 1 }))
 ending_there f x x1 y y1 s t e d is = rw (e, d) is
 
 module _ (s : SolidView) (far : ℕ) (b : Block) where
+  abbrev inside : ℕ → ℕ → ℕ → Bool
+  inside = is_inside s far
+
   abbrev sides_can : Bool
   sides_can = list_all (λ side. le_z (pos 0) (greatest_in b side)) s.sides
 
@@ -61,15 +61,16 @@ module _ (s : SolidView) (far : ℕ) (b : Block) where
   abbrev can_reach : ℕ → Bool
   can_reach z = nat_lt z far && sides_can && fronts_can z && backs_can z
 
-  inside_reaches : (x y z : ℕ) → in_block (is_inside s far) b x y z ≡ true → can_reach z ≡ true
+  inside_reaches : (x y z : ℕ) → in_block inside b x y z ≡ true → can_reach z ≡ true
   inside_reaches x y z h = step (has_pixel b x y) (nat_lt z far) _ _ _ sides_can (fronts_can z) (backs_can z) h
-      (λ there. all_pass _ _ (λ side e. le_above (pos 0) (value_at side x y) (greatest_in b side) (greatest_bounds b side x y there) e) s.sides)
-      (λ there. all_pass _ _ (λ f e. le_below (least_in b f.plane) (value_at f.plane x y) (pos z) (least_bounds b f.plane x y there) e) s.fronts)
-      (λ there. all_pass _ _ (λ f e. lt_above (pos z) (value_at f.plane x y) (greatest_in b f.plane) (greatest_bounds b f.plane x y there) e) s.backs) where
-        step : (t n p q r u v w : Bool) → t && (n && p && q && r) ≡ true → (t ≡ true → p ≡ true → u ≡ true) → (t ≡ true → q ≡ true → v ≡ true) → (t ≡ true → r ≡ true → w ≡ true) → n && u && v && w ≡ true
+      (λ there. all_pass _ _ (λ side e. le_above (pos 0) (value_at side x y) _ (greatest_bounds b side x y there) e) s.sides)
+      (λ there. all_pass _ _ (λ f e. le_below _ (value_at f.plane x y) (pos z) (least_bounds b f.plane x y there) e) s.fronts)
+      (λ there. all_pass _ _ (λ f e. lt_above (pos z) (value_at f.plane x y) _ (greatest_bounds b f.plane x y there) e) s.backs) where
+        step : (t n p q r u v w : Bool) → t && (n && p && q && r) ≡ true → (t ≡ true → p ≡ true → u ≡ true)
+            → (t ≡ true → q ≡ true → v ≡ true) → (t ≡ true → r ≡ true → w ≡ true) → n && u && v && w ≡ true
         step t n p q r u v w h f g k = grind arith
 
-  inside_pixel : is_pixel b ≡ true → (z : ℕ) → is_inside s far b.x0 b.y0 z ≡ can_reach z
+  inside_pixel : is_pixel b ≡ true → (z : ℕ) → inside b.x0 b.y0 z ≡ can_reach z
   inside_pixel one z = parts (nat_lt z far) _ _ _ sides_can (fronts_can z) (backs_can z)
       (all_same _ _ (λ side. ap (le_z (pos 0)) (sym (greatest_at_pixel b side one))) s.sides)
       (all_same _ _ (λ f. ap (λ v. le_z v (pos z)) (sym (least_at_pixel b f.plane one))) s.fronts)
@@ -77,14 +78,14 @@ module _ (s : SolidView) (far : ℕ) (b : Block) where
         parts : (n p q r u v w : Bool) → p ≡ u → q ≡ v → r ≡ w → n && p && q && r ≡ n && u && v && w
         parts n p q r u v w e f g = grind arith
 
-  none_inside : ((z : ℕ) → can_reach z ≡ false) → (x y z : ℕ) → in_block (is_inside s far) b x y z ≡ true → is_in None x y z ≡ true
+  none_inside : ((z : ℕ) → can_reach z ≡ false) → (x y z : ℕ) → in_block inside b x y z ≡ true → is_in None x y z ≡ true
   none_inside none x y z h = cc (none z, inside_reaches x y z h)
 
   -- where it can have none
-  no_reach : ((z : ℕ) → can_reach z ≡ false) → IsReachOf (is_inside s far) b None
+  no_reach : ((z : ℕ) → can_reach z ≡ false) → IsReachOf inside b None
   no_reach none = record {
     holds = none_inside none;
-    least = λ one. no_box (in_block (is_inside s far) b) (λ x y z. step (in_block (is_inside s far) b x y z) (none_inside none x y z));
+    least = λ one. no_box (in_block inside b) (λ x y z. step (in_block inside b x y z) (none_inside none x y z));
   } where
     step : (v : Bool) → (v ≡ true → false ≡ true) → v ≡ false
     step true k = sym (k refl)
@@ -93,39 +94,41 @@ module _ (s : SolidView) (far : ℕ) (b : Block) where
   side_missed : sides_can ≡ false → (z : ℕ) → can_reach z ≡ false
   side_missed e z = grind arith
 
-  pub no_side : sides_can ≡ false → IsReachOf (is_inside s far) b None
+  pub no_side : sides_can ≡ false → IsReachOf inside b None
   no_side e = no_reach (side_missed e)
 
-  module _ (first end : ℕ) (fronts : (z : ℕ) → fronts_can z ≡ nat_le first z) (backs : (z : ℕ) → (nat_lt z far && backs_can z) ≡ nat_lt z end) where
+  module _ (first end : ℕ) (fronts : (z : ℕ) → fronts_can z ≡ nat_le first z)
+      (backs : (z : ℕ) → (nat_lt z far && backs_can z) ≡ nat_lt z end) where
     depth_missed : end ≤ first → (z : ℕ) → can_reach z ≡ false
     depth_missed h z = step (nat_lt z far) sides_can (fronts_can z) (backs_can z) (fronts z) (backs z) where
       step : (n p q r : Bool) → q ≡ nat_le first z → (n && r) ≡ nat_lt z end → n && p && q && r ≡ false
       step n p q r e f = grind arith
 
-    pub no_depth : end ≤ first → IsReachOf (is_inside s far) b None
+    pub no_depth : end ≤ first → IsReachOf inside b None
     no_depth h = no_reach (depth_missed h)
 
     module _ (sides : sides_can ≡ true) where
       depths : (z : ℕ) → can_reach z ≡ nat_le first z && nat_lt z end
       depths z = step (nat_lt z far) sides_can (fronts_can z) (backs_can z) sides (fronts z) (backs z) where
-        step : (n p q r : Bool) → p ≡ true → q ≡ nat_le first z → (n && r) ≡ nat_lt z end → n && p && q && r ≡ nat_le first z && nat_lt z end
+        step : (n p q r : Bool) → p ≡ true → q ≡ nat_le first z → (n && r) ≡ nat_lt z end
+            → n && p && q && r ≡ nat_le first z && nat_lt z end
         step n p q r d e f = grind arith
 
       abbrev reached : CellBox
       reached = record { x0 = b.x0; x1 = b.x1; y0 = b.y0; y1 = b.y1; z0 = first; z1 = end - 1 }
 
-      some_inside : (x y z : ℕ) → in_block (is_inside s far) b x y z ≡ true → is_in (Some reached) x y z ≡ true
-      some_inside x y z h = step (is_inside s far x y z) h (sym (depths z) ∙ inside_reaches x y z h) where
+      some_inside : (x y z : ℕ) → in_block inside b x y z ≡ true → is_in (Some reached) x y z ≡ true
+      some_inside x y z h = step (inside x y z) h (sym (depths z) ∙ inside_reaches x y z h) where
         step : (v : Bool) → has_pixel b x y && v ≡ true → nat_le first z && nat_lt z end ≡ true → lies_in reached x y z ≡ true
         step v e f = grind arith
 
-      pub some_reach : first < end → IsReachOf (is_inside s far) b (Some reached)
+      pub some_reach : first < end → IsReachOf inside b (Some reached)
       some_reach lt = record {
         holds = some_inside;
-        least = λ one. same_box (at_pixel (is_inside s far) b.x0 b.y0) (in_block (is_inside s far) b) (Some reached)
-            (λ x y z. same_pixel b one x y (is_inside s far x y z))
-            (ending_there (is_inside s far) b.x0 b.x1 b.y0 b.y1 first end (one_column b one) (one_row b one)
-            (pixel_box (is_inside s far) b.x0 b.y0 first end lt (λ z. inside_pixel one z ∙ depths z)));
+        least = λ one. same_box (at_pixel inside b.x0 b.y0) (in_block inside b) (Some reached)
+            (λ x y z. same_pixel b one x y (inside x y z))
+            (ending_there inside b.x0 b.x1 b.y0 b.y1 first end (one_column b one) (one_row b one)
+            (pixel_box inside b.x0 b.y0 first end lt (λ z. inside_pixel one z ∙ depths z)));
       }
 
 in_cover : (o u : Option CellBox) (x y z : ℕ) → is_covered o u ≡ true → is_in o x y z ≡ true → is_in u x y z ≡ true
@@ -146,7 +149,13 @@ both_halves : (f v p q r : Bool) → r ≡ (p || q) → (f || (p && v)) || (q &&
 both_halves f v p q r e = grind arith
 
 -- the two halves of a block, one after the other
-pub by_halves : (found inside : ℕ → ℕ → ℕ → Bool) (b first second : Block) (box : Option CellBox) → ((x y : ℕ) → has_pixel b x y ≡ (has_pixel first x y || has_pixel second x y))
-    → IsBoxOf (with_block (with_block found inside first) inside second) box → IsBoxOf (with_block found inside b) box
-by_halves found inside b first second box parts is = same_box (with_block (with_block found inside first) inside second) (with_block found inside b) box
-    (λ x y z. both_halves (found x y z) (inside x y z) (has_pixel first x y) (has_pixel second x y) (has_pixel b x y) (parts x y)) is
+module _ (found inside : ℕ → ℕ → ℕ → Bool) (b first second : Block)
+    (parts : (x y : ℕ) → has_pixel b x y ≡ (has_pixel first x y || has_pixel second x y)) where
+  abbrev by_turns : ℕ → ℕ → ℕ → Bool
+  by_turns = with_block (with_block found inside first) inside second
+
+  same_cells : (x y z : ℕ) → by_turns x y z ≡ with_block found inside b x y z
+  same_cells x y z = both_halves (found x y z) (inside x y z) (has_pixel first x y) (has_pixel second x y) (has_pixel b x y) (parts x y)
+
+  pub by_halves : (box : Option CellBox) → IsBoxOf by_turns box → IsBoxOf (with_block found inside b) box
+  by_halves box is = same_box by_turns (with_block found inside b) box same_cells is

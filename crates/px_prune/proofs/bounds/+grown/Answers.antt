@@ -6,13 +6,17 @@ use Rattle.px_prune.proofs.bounds.+grown.Goals as goal
 
 pub returns-then-is_covered : goal.returns-then-is_covered
 returns-then-is_covered t c cells is =
-    passed_over cells (is_inside c.args.solid.now c.args.far) c.args.block.now c.args.found is c.reach-reach.result c.reach-reach.ensures (sym c.is_covered.ensures ∙ c.if-is_covered.true)
+    passed_over cells (is_inside c.args.solid.now c.args.far) c.args.block.now c.args.found is
+    c.reach-reach.result c.reach-reach.ensures (sym c.is_covered.ensures ∙ c.if-is_covered.true)
 
 pub returns-then-is_pixel : goal.returns-then-is_pixel
-returns-then-is_pixel t c cells is =
-    rw c.hull.ensures (joined_on cells (is_inside c.args.solid.now c.args.far) c.args.block.now c.args.found is c.reach-reach.result c.reach-reach.ensures (sym c.is_pixel.ensures ∙ c.if-is_pixel.true))
+returns-then-is_pixel t c cells is = rw c.hull.ensures
+    (joined_on cells (is_inside c.args.solid.now c.args.far) c.args.block.now c.args.found is
+    c.reach-reach.result c.reach-reach.ensures (sym c.is_pixel.ensures ∙ c.if-is_pixel.true))
 
 pub returns : goal.returns
 returns t c cells is =
     let inside = is_inside c.args.solid.now c.args.far
-    in by_halves cells inside c.args.block.now c.halves.result.0 c.halves.result.1 _ c.halves.ensures.parts (c.grown.ensures (with_block cells inside c.halves.result.0) (c.grown-half_grown.ensures cells is))
+    in let half_grown = c.grown-half_grown.ensures cells is
+    in by_halves cells inside c.args.block.now c.halves.result.0 c.halves.result.1 c.halves.ensures.parts _
+    (c.grown.ensures (with_block cells inside c.halves.result.0) half_grown)

@@ -6,7 +6,9 @@ pub returns-then-not-sides_reach : goal.returns-then-not-sides_reach
 returns-then-not-sides_reach c = no_side c.args.solid.now c.args.far c.args.block.now (grind arith)
 
 pub returns-then-first-from : goal.returns-then-first-from
-returns-then-first-from c = no_depth c.args.solid.now c.args.far c.args.block.now c.first_depth-first.result c.end_depth-end.result (grind arith) (grind arith) (grind arith)
+returns-then-first-from c = no_depth c.args.solid.now c.args.far c.args.block.now c.first_depth-first.result
+    c.end_depth-end.result (grind arith) (grind arith) (grind arith)
 
 pub returns : goal.returns
-returns c = some_reach c.args.solid.now c.args.far c.args.block.now c.first_depth-first.result c.end_depth-end.result (grind arith) (grind arith) (grind arith) (grind arith)
+returns c = some_reach c.args.solid.now c.args.far c.args.block.now c.first_depth-first.result
+    c.end_depth-end.result (grind arith) (grind arith) (grind arith) (grind arith)
