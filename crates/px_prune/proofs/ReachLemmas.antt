@@ -10,8 +10,8 @@ use Rattle.px_scene.specs.Cells.{is_inside}
 use Rattle.px_prune.specs.declared.block.Block.{Block}
 use Rattle.px_prune.specs.declared.cell_box.CellBox.{CellBox}
 use Rattle.px_prune.specs.Boxes.{hull, is_covered, is_in, lies_in}
-use Rattle.px_prune.specs.Blocks.{greatest_in, has_pixel, in_block, is_pixel, least_in, with_block}
-use Rattle.px_prune.specs.Bounding.{IsBoxOf, IsReachOf}
+use Rattle.px_prune.specs.Blocks.{IsReachOf, greatest_in, has_pixel, in_block, is_pixel, least_in, with_block}
+use Rattle.px_prune.specs.Bounding.{IsBoxOf}
 use Rattle.px_prune.proofs.BlockLemmas.{greatest_at_pixel, greatest_bounds, least_at_pixel, least_bounds, one_column, one_row}
 use Rattle.px_prune.proofs.HullLemmas.{at_pixel, covered_box, in_part, joined_box, no_box, pixel_box, same_box}
 

@@ -1,9 +1,12 @@
--- Blocks of pixels, and the values of linear forms in them.
-use Rattle.std.specs.Prelude.{ℕ, ℤ, pos, ◌+◌, ◌-◌, ◌==◌, Bool, ◌&&◌, ◌||◌, nat_le, if◌then◌else◌}
+-- What a contract sees of a block of pixels: the values of linear forms in it, and the cells of a solid.
+use Rattle.std.specs.Prelude.{ℕ, ℤ, pos, ◌≡◌, ◌+◌, ◌-◌, ◌==◌, Bool, true, ◌&&◌, ◌||◌, nat_le, Option, if◌then◌else◌}
 use Rattle.std.specs.Int.Signed.{lt_z}
 use Rattle.px_num.specs.declared.linear.Linear.{Linear}
 use Rattle.px_num.specs.Forms.{value_at}
 use Rattle.px_prune.specs.declared.block.Block.{Block}
+use Rattle.px_prune.specs.declared.cell_box.CellBox.{CellBox}
+use Rattle.px_prune.specs.Boxes.{is_in}
+use Rattle.px_prune.specs.Bounding.{IsBoxOf}
 
 -- the pixel (x, y) is one of the block's
 abbrev pub has_pixel : Block → ℕ → ℕ → Bool
@@ -29,6 +32,11 @@ greatest_in b form =
 -- cells at the pixels of a block
 abbrev pub in_block : (ℕ → ℕ → ℕ → Bool) → Block → ℕ → ℕ → ℕ → Bool
 in_block cells b x y z = has_pixel b x y && cells x y z
+
+-- the box holds the cells at the pixels of a block, and is their least box where the block is one pixel
+pub record IsReachOf (cells : ℕ → ℕ → ℕ → Bool) (block : Block) (box : Option CellBox) : Type 0 where
+  pub holds : (x y z : ℕ) → in_block cells block x y z ≡ true → is_in box x y z ≡ true
+  pub least : is_pixel block ≡ true → IsBoxOf (in_block cells block) box
 
 -- the cells found, and those at the pixels of a block
 abbrev pub with_block : (ℕ → ℕ → ℕ → Bool) → (ℕ → ℕ → ℕ → Bool) → Block → ℕ → ℕ → ℕ → Bool

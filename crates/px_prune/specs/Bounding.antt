@@ -4,9 +4,7 @@ use Prim.Native.Nat.{zero, suc}
 use Rattle.px_scene.specs.Scenes.{SceneView}
 use Rattle.px_scene.specs.Cells.{leaf_cell, far_of}
 use Rattle.px_prune.specs.declared.cell_box.CellBox.{CellBox}
-use Rattle.px_prune.specs.declared.block.Block.{Block}
 use Rattle.px_prune.specs.Boxes.{lies_in, is_in, is_part, hull}
-use Rattle.px_prune.specs.Blocks.{in_block, is_pixel}
 
 -- the box holds all the cells, and each box that does has it as a part;
 -- none comes exactly where there is no cell
@@ -15,11 +13,6 @@ pub record IsBoxOf (cells : ℕ → ℕ → ℕ → Bool) (box : Option CellBox)
   pub least : (b : CellBox) →
       ((x y z : ℕ) → cells x y z ≡ true → lies_in b x y z ≡ true) → is_part box b ≡ true
   pub none : (box ≡ None) ↔ ((x y z : ℕ) → cells x y z ≡ false)
-
--- the box holds the cells at the pixels of a block, and is their least box where the block is one pixel
-pub record IsReachOf (cells : ℕ → ℕ → ℕ → Bool) (block : Block) (box : Option CellBox) : Type 0 where
-  pub holds : (x y z : ℕ) → in_block cells block x y z ≡ true → is_in box x y z ≡ true
-  pub least : is_pixel block ≡ true → IsBoxOf (in_block cells block) box
 
 -- the cells at the pixels of the first rows
 abbrev pub in_rows : (ℕ → ℕ → ℕ → Bool) → ℕ → ℕ → ℕ → ℕ → ℕ → Bool

@@ -1,7 +1,7 @@
 pub use Rattle.px_scene.specs.Cells
 pub use Rattle.px_scene.specs.Scenes
 pub mod Boxes
-pub mod Blocks
 pub mod Bounding
+pub mod Blocks
 pub mod Kept
 pub mod PruningLaw

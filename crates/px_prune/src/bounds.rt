@@ -27,8 +27,8 @@ ghost use Rattle.std.specs.Int.Signed.{le_z, lt_z};
 ghost use Rattle.px_scene.specs.Solids.{IsPlane};
 ghost use Rattle.px_scene.specs.Scenes.{IsLawfulScene};
 ghost use Rattle.px_scene.specs.Cells.{is_inside};
-ghost use Rattle.px_prune.specs.Blocks.{greatest_in, least_in, with_block};
-ghost use Rattle.px_prune.specs.Bounding.{IsBoundingBox, IsBoxOf, IsReachOf};
+ghost use Rattle.px_prune.specs.Blocks.{IsReachOf, greatest_in, least_in, with_block};
+ghost use Rattle.px_prune.specs.Bounding.{IsBoundingBox, IsBoxOf};
 
 use crate::CellBox;
 use crate::block::Block;
