@@ -58,38 +58,16 @@ impl Block {
         ensures first { extent result.0 < extent self.now }
         ensures second { extent result.1 < extent self.now }
     {
-        let Block { x0, x1, y0, y1 } = *self;
-        if x1 - x0 < y1 - y0 {
-            let middle = (y0 + y1) / 2;
-            let top = Block {
-                x0,
-                x1,
-                y0,
-                y1: middle,
-            };
-            let bottom = Block {
-                x0,
-                x1,
-                y0: middle + 1,
-                y1,
-            };
-            (top, bottom)
+        let mut first = *self;
+        let mut second = *self;
+        if self.x1 - self.x0 < self.y1 - self.y0 {
+            first.y1 = (self.y0 + self.y1) / 2;
+            second.y0 = first.y1 + 1;
         } else {
-            let middle = (x0 + x1) / 2;
-            let left = Block {
-                x0,
-                x1: middle,
-                y0,
-                y1,
-            };
-            let right = Block {
-                x0: middle + 1,
-                x1,
-                y0,
-                y1,
-            };
-            (left, right)
+            first.x1 = (self.x0 + self.x1) / 2;
+            second.x0 = first.x1 + 1;
         }
+        (first, second)
     }
 
     /// The least value of a form in the block, which it has at a corner.
