@@ -11,6 +11,6 @@ mod step;
 
 pub use count::count_products;
 pub use fault::NormalFault;
-pub use normal::normalise;
+pub use normal::{laws_of_normal_forms, normalise};
 pub use product::{Product, Products};
 pub use set::{SolidSet, laws_of_sets};

@@ -1,6 +1,6 @@
 //! The normal form of an expression.
 ghost use Rattle.std.specs.Prelude.{◌≡◌, ◌<◌, ◌≤◌, ℕ, All, length, IfOk, IfErr};
-ghost use Rattle.px_expr.specs.Tree.{HasLeavesBelow};
+ghost use Rattle.px_expr.specs.Tree.{Tree, HasLeavesBelow};
 ghost use Rattle.px_expr.specs.Cells.{Cell, cell};
 ghost use Rattle.px_normal.specs.Counting.{capped};
 ghost use Rattle.px_normal.specs.Forms.{forms, sum_of_products, HasPlain, HasSolidsBelow};
@@ -52,7 +52,7 @@ fn products_of(alloc: Global, expr: &Expr) -> Result<Vec<Product>, AllocError>
     Ok(lists.finish())
 }
 
-/// What is known of the products of every expression.
+/// What is known of the products of an expression.
 fn normal_form_law(expr: &Expr)
     ensures law { (solid_at : ℕ → Cell) →
         IsNormalForm solid_at (forms expr.now) (cell solid_at expr.now) }
@@ -60,8 +60,18 @@ fn normal_form_law(expr: &Expr)
     ensures known { (count : ℕ) → HasLeavesBelow count expr.now →
         All (HasSolidsBelow count) (sum_of_products expr.now) }
 {
+    laws_of_normal_forms();
     let _ = expr.nodes();
 }
+
+/// What is known of the products of every tree over at most 256 solids.
+pub fn laws_of_normal_forms()
+    ensures law { (tree : Tree) → HasLeavesBelow 256 tree → (solid_at : ℕ → Cell) →
+        IsNormalForm solid_at (forms tree) (cell solid_at tree) }
+    ensures plain { (tree : Tree) → HasLeavesBelow 256 tree → All HasPlain (sum_of_products tree) }
+    ensures known { (count : ℕ) (tree : Tree) → HasLeavesBelow 256 tree →
+        HasLeavesBelow count tree → All (HasSolidsBelow count) (sum_of_products tree) }
+{}
 
 #[cfg(test)]
 mod tests {

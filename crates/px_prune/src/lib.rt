@@ -10,4 +10,4 @@ mod tests;
 
 pub use bounds::box_of;
 pub use cell_box::CellBox;
-pub use plan::{Plan, prune};
+pub use plan::{Plan, laws_of_pruning, prune};

@@ -1,5 +1,6 @@
 //! The products that can show anything.
-ghost use Rattle.std.specs.Prelude.{◌≡◌, ◌≤◌, ℕ, List, Option, None, slice_index_or, IfOk, length};
+ghost use Rattle.std.specs.Prelude.{◌≡◌, ◌≤◌, ℕ, false, All, List, Option, None, slice_index_or, IfOk, length};
+ghost use Rattle.px_normal.specs.Forms.{HasSolidsBelow};
 ghost use Rattle.px_normal.specs.Sets.{empty, solids};
 ghost use Rattle.px_prune.specs.Kept.{
   box_of_all,
@@ -10,7 +11,7 @@ ghost use Rattle.px_prune.specs.Kept.{
   pruned,
   staying,
 };
-ghost use Rattle.px_prune.specs.PruningLaw.{PruningLaw};
+ghost use Rattle.px_prune.specs.PruningLaw.{PlainIsKept, PruningLaw};
 ghost use Rattle.px_normal.specs.declared.product.Product.{Product};
 ghost use Rattle.px_scene.specs.Scenes.{SceneView, IsLawfulScene};
 
@@ -42,17 +43,23 @@ pub fn prune(alloc: Global, scene: &Scene, products: &Products) -> Result<Plan, 
 {
     let boxes = boxes_of(alloc, scene)?;
     let kept = kept_products(alloc, boxes.as_slice(), products.as_slice())?;
-    pruning_law();
+    laws_of_pruning();
     Ok(Plan {
         whole: products.as_slice().len() as u32,
         products: kept,
     })
 }
 
-/// What is kept by the boxes of the solids shows the same as the whole.
-fn pruning_law()
-    ensures { (scene : SceneView) → IsLawfulScene scene → (products : List Product)
+/// What is kept by the boxes of the solids shows the same as the whole. No product of it has a solid
+/// both plain and barred, and its solids are below each count that those of the whole are below.
+pub fn laws_of_pruning()
+    ensures law { (scene : SceneView) → IsLawfulScene scene → (products : List Product)
         → PruningLaw scene products (kept_of scene products) }
+    ensures apart { (scene : SceneView) (products : List Product) →
+        All (λ product. is_void product ≡ false) (kept_of scene products) }
+    ensures plain { PlainIsKept }
+    ensures known { (count : ℕ) (scene : SceneView) (products : List Product) →
+        All (HasSolidsBelow count) products → All (HasSolidsBelow count) (kept_of scene products) }
 {
     laws_of_sets();
 }

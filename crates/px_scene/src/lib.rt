@@ -17,7 +17,7 @@ mod write;
 
 pub use line::{Cause, LimitKind};
 pub use read::{SceneFault, read_scene};
-pub use scene::Scene;
+pub use scene::{Scene, laws_of_scenes};
 pub use show::{expression_law, printed_law};
 pub use solid::{Colour, Face, Solid};
 pub use write::{canonical_law, write_scene, written_law};

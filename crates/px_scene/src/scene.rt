@@ -169,6 +169,14 @@ impl Scene {
     }
 }
 
+/// What every scene keeps, for whoever reasons of it.
+pub fn laws_of_scenes(scene: &Scene)
+    ensures scene { IsLawfulScene scene.now }
+    ensures solids { All IsLawfulSolid scene.now.solids }
+{
+    scene.solids();
+}
+
 /// The greatest face number of these solids.
 fn faces_among(solids: &[Solid]) -> u32
     requires { faces_of solids.now ≤ 4095 }

@@ -4,10 +4,11 @@ use Rattle.px_prune.specs.Bounding.{bounding_box}
 use Rattle.px_prune.proofs.BoundingLemmas.{bounding_is}
 use Rattle.px_prune.proofs.PictureLemmas.{boxes_have_cells, small_far}
 use Rattle.px_prune.proofs.PruningLemmas.{kept_holds, kept_shows}
-use Rattle.px_prune.proofs.plan.pruning_law.Goals as goal
+use Rattle.px_prune.proofs.StayingLemmas.{kept_apart, kept_below, kept_plain}
+use Rattle.px_prune.proofs.plan.laws_of_pruning.Goals as goal
 
-pub returns : goal.returns
-returns c scene lawful products x y z left up before =
+pub returns-clause-law : goal.returns-clause-law
+returns-clause-law c scene lawful products x y z left up before =
     let near_x : x < 2 ^ 32 = omega (arith, left, lawful.width)
     in let near_y : y < 2 ^ 32 = omega (arith, up, lawful.height)
     in let near_z : z < 2 ^ 32 = omega (arith, before, small_far scene.depth_bits lawful.depth)
@@ -17,3 +18,12 @@ returns c scene lawful products x y z left up before =
       members = kept_holds c.laws_of_sets.ensures (bounding_box scene) at x y z near_x near_y near_z fits products;
       faces = λ face. kept_shows c.laws_of_sets.ensures (bounding_box scene) at x y z near_x near_y near_z fits products face;
     }
+
+pub returns-clause-apart : goal.returns-clause-apart
+returns-clause-apart c scene products = kept_apart c.laws_of_sets.ensures (bounding_box scene) products
+
+pub returns-clause-known : goal.returns-clause-known
+returns-clause-known c count scene products known = kept_below c.laws_of_sets.ensures count (bounding_box scene) products known
+
+pub returns-clause-plain : goal.returns-clause-plain
+returns-clause-plain c = λ scene products all. kept_plain (bounding_box scene) products all
