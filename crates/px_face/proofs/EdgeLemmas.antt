@@ -1,55 +1,174 @@
--- The forms that are pushed one part after another, as the edges of a face.
-use Rattle.std.proofs.Common.{◌≡◌, ◌<◌, ◌≤◌, ◌+◌, ◌-◌, ℕ, zero, suc, List, [], ◌∷◌, ◌++◌, length, map, take, drop, refl, ap, sym, ◌∙◌, arith, append_assoc, append-nil}
-use Rattle.std.proofs.lemmas.List.{take-map, drop-map, length-map, take-append-le, drop-append-le, map-append}
-use Rattle.std.proofs.Math.Seq.{drop-append-add, take-append_seam}
-use Rattle.std.specs.List.{between}
-use Rattle.std.proofs.lemmas.Slice.{between_to_end}
+-- The edges of a face one by one, how many there are, and their range.
+use Rattle.std.proofs.Common.{◌≡◌, ◌<◌, ◌≤◌, ◌+◌, ◌-◌, ◌^◌, All, ℕ, List, [], ◌∷◌, ◌++◌, length, map, take, drop, get_or, refl, ap, sym, ◌∙◌, arith, append_assoc, length-append, inl, inr}
+use Rattle.std.proofs.lemmas.Bool.{cases_lt}
+use Rattle.std.proofs.lemmas.List.{length-map, length-drop, length-take-le, get_or_append_left, get_or-append_right, get_or-drop, get_or-map, get_or-take, take_all, take_more}
+use Rattle.std.proofs.lemmas.List.Elements.{All-get_or}
 use Rattle.px_num.specs.declared.linear.Linear.{Linear}
-use Rattle.px_scene.specs.declared.solid.Face.{Face}
-use Rattle.px_face.specs.Edges.{above, at_least, leads, trails}
-use Rattle.px_face.specs.Faces.{back_planes, front_planes, level, planes_of}
+use Rattle.px_num.specs.Forms.{IsInTreeRange}
+use Rattle.px_scene.specs.Solids.{IsLawfulSolid, SolidView}
+use Rattle.px_face.specs.Edges.{above, at_least, back_edges, back_orders, edge_count, edges, front_edges, front_orders, leads, trails}
+use Rattle.px_face.specs.Faces.{back_planes, face_count, front_planes, level}
+use Rattle.px_face.proofs.RangeLemmas.{back_range, backs_size, front_range, fronts_size, lt_false, lt_true}
 
-planes_from : (i : ℕ) (fs : List Face) → planes_of (between i (length fs) fs) ≡ drop i (planes_of fs)
-planes_from i fs = ap planes_of (between_to_end fs i (length fs) (omega arith)) ∙ sym (drop-map (λ f. f.plane) i fs)
+-- a form among those before place i, those after it, and those of the other kind
+module _ (f g h : Linear → Linear) (ps qs : List Linear) (n i : ℕ) (size : length ps ≡ n + 1) (there : i ≤ n) where
+  abbrev before : List Linear
+  before = map f (take i ps)
 
--- one form and two parts
-three_parts : (old a b : List Linear) (u : Linear) → old ++ u ∷ [] ++ a ++ b ≡ old ++ (u ∷ a ++ b)
-three_parts old a b u = append_assoc (old ++ u ∷ []) a b ∙ append_assoc old (u ∷ []) (a ++ b)
+  abbrev after : List Linear
+  after = map g (drop (i + 1) ps)
 
-pub front_leads : (old a b c : List Linear) (p u : Linear) (fs : List Face) (i : ℕ) → 0 < i → u ≡ above p (level 0) → a ≡ old ++ u ∷ []
-    → b ≡ a ++ map (λ q. above p q) (planes_of (take (i - 1) fs)) → c ≡ b ++ map (λ q. at_least p q) (planes_of (between i (length fs) fs))
-    → c ≡ old ++ leads p (front_planes fs) i
-front_leads old a b c p u fs zero some is first before after = absurd (omega arith)
-front_leads old a b c p u fs (suc j) some is first before after =
-    let back : suc j - 1 ≡ j = omega arith in
-    let next : suc j + 1 ≡ suc (suc j) = omega arith in
-    rw (after, before, first, is, back, next, planes_from (suc j) fs, take-map (λ f. f.plane) j fs)
-    (three_parts old (map (λ q. above p q) (planes_of (take j fs))) (map (λ q. at_least p q) (drop (suc j) (planes_of fs))) (above p (level 0)))
+  before_size : length before ≡ i
+  before_size = length-map (take i ps) f ∙ length-take-le i ps (omega (arith, size))
 
-pub limit_trails : (old : List Linear) (p : Linear) (fs : List Face) (far i : ℕ) → i ≡ length fs
-    → old ++ map (λ q. above q p) (planes_of fs) ≡ old ++ trails p (back_planes fs far) i
-limit_trails old p fs far i e =
-    let n : i ≡ length (planes_of fs) = e ∙ sym (length-map fs (λ f. f.plane)) in
-    rw (n, take-append_seam (planes_of fs) (level far ∷ []), drop-append-add (planes_of fs) (level far ∷ []) 1, append-nil (map (λ q. above q p) (planes_of fs))) refl
+  after_size : length after ≡ n - i
+  after_size = length-map (drop (i + 1) ps) g ∙ length-drop (i + 1) ps ∙ omega (arith, size)
 
-pub back_trails : (old a b c : List Linear) (p u : Linear) (fs : List Face) (far i : ℕ) → i < length fs → u ≡ at_least (level far) p
-    → a ≡ old ++ map (λ q. above q p) (planes_of (take i fs)) → b ≡ a ++ map (λ q. at_least q p) (planes_of (between (i + 1) (length fs) fs)) → c ≡ b ++ u ∷ []
-    → c ≡ old ++ trails p (back_planes fs far) i
-back_trails old a b c p u fs far i low is before after last =
-    let n : length (planes_of fs) ≡ length fs = length-map fs (λ f. f.plane) in
-    let here : i ≤ length (planes_of fs) = omega arith in
-    let next : i + 1 ≤ length (planes_of fs) = omega arith in
-    let nearer = map (λ q. above q p) (planes_of (take i fs)) in
-    let farther = map (λ q. at_least q p) (drop (i + 1) (planes_of fs)) in
-    rw (
-      last,
-      after,
-      before,
-      is,
-      planes_from (i + 1) fs,
-      take-append-le i (planes_of fs) (level far ∷ []) here,
-      drop-append-le (i + 1) (planes_of fs) (level far ∷ []) next,
-      take-map (λ f. f.plane) i fs,
-      map-append (λ q. at_least q p) (drop (i + 1) (planes_of fs)) (level far ∷ []),
-    )
-    (append_assoc (old ++ nearer) farther (at_least (level far) p ∷ []) ∙ append_assoc old nearer (farther ++ at_least (level far) p ∷ []))
+  kind_size : length (before ++ after) ≡ n
+  kind_size = length-append before after ∙ omega (arith, before_size, after_size)
+
+  pub form_before : (k : ℕ) (d : Linear) → k < i → get_or (before ++ after ++ map h qs) k d ≡ f (get_or ps k d)
+  form_before k d low =
+      get_or_append_left (before ++ after) (map h qs) d k (omega (arith, kind_size))
+      ∙ get_or_append_left before after d k (omega (arith, before_size))
+      ∙ get_or-map f (take i ps) k d d (omega (arith, length-take-le i ps (omega (arith, size))))
+      ∙ ap f (get_or-take i ps k d low)
+
+  pub form_after : (k : ℕ) (d : Linear) → i ≤ k → k < n → get_or (before ++ after ++ map h qs) k d ≡ g (get_or ps (k + 1) d)
+  form_after k d low high =
+      let moved : i + 1 + (k - i) ≡ k + 1 = omega arith in
+      get_or_append_left (before ++ after) (map h qs) d k (omega (arith, kind_size))
+      ∙ get_or-append_right before after i k d before_size low
+      ∙ get_or-map g (drop (i + 1) ps) (k - i) d d (omega (arith, length-drop (i + 1) ps, size))
+      ∙ ap g (get_or-drop (i + 1) ps (k - i) d ∙ ap (λ j. get_or ps j d) moved)
+
+  pub form_beyond : (k : ℕ) (d : Linear) → n ≤ k → k < n + length qs → get_or (before ++ after ++ map h qs) k d ≡ h (get_or qs (k - n) d)
+  form_beyond k d low high =
+      get_or-append_right (before ++ after) (map h qs) n k d kind_size low
+      ∙ get_or-map h qs (k - n) d d (omega arith)
+
+-- one form of a front, or of a back, from what was compared
+module _ (s : SolidView) (far i k : ℕ) (r p q : Linear) where
+  pub front_form_beyond : i ≤ length s.fronts → length s.fronts ≤ k → k < length s.fronts + length s.backs + 1 → p ≡ get_or (front_planes s.fronts) i (level 0)
+      → q ≡ get_or (back_planes s.backs far) (k - length s.fronts) (level 0) → r ≡ above q p → r ≡ get_or (front_orders s far i) k (level 0)
+  front_form_beyond there low high e f g =
+      let o = get_or (front_planes s.fronts) i (level 0) in
+      rw (g, f, e)
+      (sym (form_beyond (λ q. above o q) (λ q. at_least o q) (λ q. above q o) (front_planes s.fronts) (back_planes s.backs far) (length s.fronts) i (fronts_size s) there k (level 0) low (omega (arith, backs_size s far))))
+
+  pub front_form_before : i ≤ length s.fronts → k < i → p ≡ get_or (front_planes s.fronts) i (level 0)
+      → q ≡ get_or (front_planes s.fronts) k (level 0) → r ≡ above p q → r ≡ get_or (front_orders s far i) k (level 0)
+  front_form_before there low e f g =
+      let o = get_or (front_planes s.fronts) i (level 0) in
+      rw (g, f, e)
+      (sym (form_before (λ q. above o q) (λ q. at_least o q) (λ q. above q o) (front_planes s.fronts) (back_planes s.backs far) (length s.fronts) i (fronts_size s) there k (level 0) low))
+
+  pub front_form_after : i ≤ length s.fronts → i ≤ k → k < length s.fronts → p ≡ get_or (front_planes s.fronts) i (level 0)
+      → q ≡ get_or (front_planes s.fronts) (k + 1) (level 0) → r ≡ at_least p q → r ≡ get_or (front_orders s far i) k (level 0)
+  front_form_after there low high e f g =
+      let o = get_or (front_planes s.fronts) i (level 0) in
+      rw (g, f, e)
+      (sym (form_after (λ q. above o q) (λ q. at_least o q) (λ q. above q o) (front_planes s.fronts) (back_planes s.backs far) (length s.fronts) i (fronts_size s) there k (level 0) low high))
+
+  pub back_form_beyond : i ≤ length s.backs → length s.backs ≤ k → k < length s.fronts + length s.backs + 1 → p ≡ get_or (back_planes s.backs far) i (level 0)
+      → q ≡ get_or (front_planes s.fronts) (k - length s.backs) (level 0) → r ≡ above p q → r ≡ get_or (back_orders s far i) k (level 0)
+  back_form_beyond there low high e f g =
+      let o = get_or (back_planes s.backs far) i (level 0) in
+      rw (g, f, e)
+      (sym (form_beyond (λ q. above q o) (λ q. at_least q o) (λ q. above o q) (back_planes s.backs far) (front_planes s.fronts) (length s.backs) i (backs_size s far) there k (level 0) low (omega (arith, fronts_size s))))
+
+  pub back_form_before : i ≤ length s.backs → k < i → p ≡ get_or (back_planes s.backs far) i (level 0)
+      → q ≡ get_or (back_planes s.backs far) k (level 0) → r ≡ above q p → r ≡ get_or (back_orders s far i) k (level 0)
+  back_form_before there low e f g =
+      let o = get_or (back_planes s.backs far) i (level 0) in
+      rw (g, f, e)
+      (sym (form_before (λ q. above q o) (λ q. at_least q o) (λ q. above o q) (back_planes s.backs far) (front_planes s.fronts) (length s.backs) i (backs_size s far) there k (level 0) low))
+
+  pub back_form_after : i ≤ length s.backs → i ≤ k → k < length s.backs → p ≡ get_or (back_planes s.backs far) i (level 0)
+      → q ≡ get_or (back_planes s.backs far) (k + 1) (level 0) → r ≡ at_least q p → r ≡ get_or (back_orders s far i) k (level 0)
+  back_form_after there low high e f g =
+      let o = get_or (back_planes s.backs far) i (level 0) in
+      rw (g, f, e)
+      (sym (form_after (λ q. above q o) (λ q. at_least q o) (λ q. above o q) (back_planes s.backs far) (front_planes s.fronts) (length s.backs) i (backs_size s far) there k (level 0) low high))
+
+module _ (s : SolidView) (far i : ℕ) where
+  pub front_beyond : (k : ℕ) (d : Linear) → length s.sides ≤ k → get_or (front_edges s far i) k d ≡ get_or (front_orders s far i) (k - length s.sides) d
+  front_beyond k d low =
+      let p = get_or (front_planes s.fronts) i (level 0) in
+      let a = leads p (front_planes s.fronts) i in
+      let b = map (λ q. above q p) (back_planes s.backs far) in
+      ap (λ l. get_or l k d) (append_assoc s.sides a b) ∙ get_or-append_right s.sides (a ++ b) (length s.sides) k d refl low
+
+  pub back_beyond : (k : ℕ) (d : Linear) → length s.sides ≤ k → get_or (back_edges s far i) k d ≡ get_or (back_orders s far i) (k - length s.sides) d
+  back_beyond k d low =
+      let p = get_or (back_planes s.backs far) i (level 0) in
+      let a = trails p (back_planes s.backs far) i in
+      let b = map (λ q. above p q) (front_planes s.fronts) in
+      ap (λ l. get_or l k d) (append_assoc s.sides a b) ∙ get_or-append_right s.sides (a ++ b) (length s.sides) k d refl low
+
+  front_count : i ≤ length s.fronts → length (front_edges s far i) ≡ edge_count s
+  front_count there =
+      let p = get_or (front_planes s.fronts) i (level 0) in
+      let a = leads p (front_planes s.fronts) i in
+      let b = map (λ q. above q p) (back_planes s.backs far) in
+      let kind : length a ≡ length s.fronts =
+      kind_size (λ q. above p q) (λ q. at_least p q) (λ q. above q p) (front_planes s.fronts) (back_planes s.backs far) (length s.fronts) i (fronts_size s) there in
+      length-append (s.sides ++ a) b ∙ omega (arith, length-append s.sides a, kind, length-map (back_planes s.backs far) (λ q. above q p), backs_size s far)
+
+  back_count : i ≤ length s.backs → length (back_edges s far i) ≡ edge_count s
+  back_count there =
+      let p = get_or (back_planes s.backs far) i (level 0) in
+      let a = trails p (back_planes s.backs far) i in
+      let b = map (λ q. above p q) (front_planes s.fronts) in
+      let kind : length a ≡ length s.backs =
+      kind_size (λ q. above q p) (λ q. at_least q p) (λ q. above p q) (back_planes s.backs far) (front_planes s.fronts) (length s.backs) i (backs_size s far) there in
+      length-append (s.sides ++ a) b ∙ omega (arith, length-append s.sides a, kind, length-map (front_planes s.fronts) (λ q. above p q), fronts_size s)
+
+pub edges_count : (s : SolidView) (far face : ℕ) → face < face_count s → length (edges s far face) ≡ edge_count s
+edges_count s far face there = elim (cases_lt face (length s.fronts + 1)) [
+  | inl front ↦ rw (lt_true face (length s.fronts + 1) front) (front_count s far face (omega arith))
+  | inr back ↦ rw (lt_false face (length s.fronts + 1) back) (back_count s far (face - (length s.fronts + 1)) (omega arith))
+]
+
+-- an edge among the sides
+pub edge_side : (s : SolidView) (far face k : ℕ) (d : Linear) → k < length s.sides → get_or (edges s far face) k d ≡ get_or s.sides k d
+edge_side s far face k d low = elim (cases_lt face (length s.fronts + 1)) [
+  | inl front ↦
+      let p = get_or (front_planes s.fronts) face (level 0) in
+      let a = leads p (front_planes s.fronts) face in
+      rw (lt_true face (length s.fronts + 1) front)
+      (ap (λ l. get_or l k d) (append_assoc s.sides a (map (λ q. above q p) (back_planes s.backs far))) ∙ get_or_append_left s.sides (a ++ map (λ q. above q p) (back_planes s.backs far)) d k low)
+  | inr back ↦
+      let i = face - (length s.fronts + 1) in
+      let p = get_or (back_planes s.backs far) i (level 0) in
+      let a = trails p (back_planes s.backs far) i in
+      rw (lt_false face (length s.fronts + 1) back)
+      (ap (λ l. get_or l k d) (append_assoc s.sides a (map (λ q. above p q) (front_planes s.fronts))) ∙ get_or_append_left s.sides (a ++ map (λ q. above p q) (front_planes s.fronts)) d k low)
+]
+
+pub front_form : (s : SolidView) (far face k : ℕ) (r : Linear) → face < length s.fronts + 1 → length s.sides ≤ k → r ≡ get_or (front_orders s far face) (k - length s.sides) (level 0)
+    → r ≡ get_or (edges s far face) k (level 0)
+front_form s far face k r front low is = rw (lt_true face (length s.fronts + 1) front) (is ∙ sym (front_beyond s far face k (level 0) low))
+
+pub back_form : (s : SolidView) (far face k : ℕ) (r : Linear) → length s.fronts + 1 ≤ face → length s.sides ≤ k
+    → r ≡ get_or (back_orders s far (face - (length s.fronts + 1))) (k - length s.sides) (level 0) → r ≡ get_or (edges s far face) k (level 0)
+back_form s far face k r back low is = rw (lt_false face (length s.fronts + 1) back) (is ∙ sym (back_beyond s far (face - (length s.fronts + 1)) k (level 0) low))
+
+pub edges_range : (s : SolidView) → IsLawfulSolid s → (far : ℕ) → far < 2 ^ 32 → (face : ℕ) → face < face_count s → All IsInTreeRange (edges s far face)
+edges_range s lawful far small face there = elim (cases_lt face (length s.fronts + 1)) [
+  | inl front ↦ rw (lt_true face (length s.fronts + 1) front) (front_range s lawful far small face (omega arith))
+  | inr back ↦ rw (lt_false face (length s.fronts + 1) back) (back_range s lawful far small (face - (length s.fronts + 1)) (omega arith))
+]
+
+pub edge_range : (s : SolidView) → IsLawfulSolid s → (far : ℕ) → far < 2 ^ 32 → (face k : ℕ) (r : Linear) → face < face_count s → k < edge_count s
+    → r ≡ get_or (edges s far face) k (level 0) → IsInTreeRange r
+edge_range s lawful far small face k r there low is =
+    rw is (All-get_or IsInTreeRange (edges s far face) k (level 0) (omega (arith, edges_count s far face there)) (edges_range s lawful far small face there))
+
+pub edges_more : (s : SolidView) (far face k : ℕ) (old new : List Linear) (r : Linear) → face < face_count s → old ≡ take k (edges s far face) → r ≡ get_or (edges s far face) k (level 0)
+    → new ≡ old ++ r ∷ [] → k < edge_count s → new ≡ take (k + 1) (edges s far face)
+edges_more s far face k old new r there is this more low =
+    more ∙ rw (is, this) (sym (take_more (edges s far face) k (level 0) (omega (arith, edges_count s far face there))))
+
+pub all_edges : (s : SolidView) (far face k : ℕ) → face < face_count s → edge_count s ≤ k → take k (edges s far face) ≡ edges s far face
+all_edges s far face k there high = take_all k (edges s far face) (omega (arith, edges_count s far face there))

@@ -8,7 +8,7 @@ use Rattle.px_num.specs.declared.linear.Linear.{Linear}
 use Rattle.px_num.specs.Forms.{IsInTreeRange, IsWithin}
 use Rattle.px_scene.specs.Solids.{IsLawfulSolid, IsPlane, SolidView}
 use Rattle.px_face.specs.Edges.{above, at_least, back_edges, front_edges, leads, trails}
-use Rattle.px_face.specs.Faces.{back_planes, front_planes, level, planes_of}
+use Rattle.px_face.specs.Faces.{back_planes, face_count, front_planes, level, plane_of, planes_of}
 
 pub fronts_size : (s : SolidView) → length (front_planes s.fronts) ≡ length s.fronts + 1
 fronts_size s = rw (length-map s.fronts (λ f. f.plane)) (omega arith)
@@ -94,3 +94,10 @@ module _ (s : SolidView) (lawful : IsLawfulSolid s) (far : ℕ) (small : far < 2
       three_range s.sides (trails p (back_planes s.backs far) i) (map (λ q. above p q) (front_planes s.fronts)) sides_range
       (trails_range p (back_planes s.backs far) i plane backs_planes)
       (part (λ q. above p q) (λ q h. above_range p q plane h) (front_planes s.fronts) fronts_planes)
+
+  pub plane_of_range : (face : ℕ) → face < face_count s → IsInTreeRange (plane_of s far face)
+  plane_of_range face there =
+      let planes = front_planes s.fronts ++ back_planes s.backs far in
+      plane_range (plane_of s far face)
+      (All-get_or IsPlane planes face (level 0) (omega (arith, length-append (front_planes s.fronts) (back_planes s.backs far), fronts_size s, backs_size s far))
+      (All-append IsPlane (front_planes s.fronts) (back_planes s.backs far) fronts_planes backs_planes))

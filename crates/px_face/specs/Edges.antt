@@ -43,6 +43,21 @@ back_edges s far i =
     let p = get_or (back_planes s.backs far) i (level 0)
     in s.sides ++ trails p (back_planes s.backs far) i ++ over p (front_planes s.fronts)
 
+-- the edges of a front, or of a back, but for the sides
+abbrev pub front_orders : SolidView → (far i : ℕ) → List Linear
+front_orders s far i =
+    let p = get_or (front_planes s.fronts) i (level 0)
+    in leads p (front_planes s.fronts) i ++ under p (back_planes s.backs far)
+
+abbrev pub back_orders : SolidView → (far i : ℕ) → List Linear
+back_orders s far i =
+    let p = get_or (back_planes s.backs far) i (level 0)
+    in trails p (back_planes s.backs far) i ++ over p (front_planes s.fronts)
+
+-- a face is compared with each side, and with each of the other faces
+abbrev pub edge_count : SolidView → ℕ
+edge_count s = length s.sides + length s.fronts + length s.backs + 1
+
 abbrev pub edges : SolidView → (far face : ℕ) → List Linear
 edges s far face =
     if is_front s face then front_edges s far face

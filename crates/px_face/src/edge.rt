@@ -1,34 +1,22 @@
 //! The edges of a face, which are at least 0 where the face bounds its solid.
-ghost use Rattle.std.specs.Prelude.{◌≡◌, ◌+◌, ◌<◌, ◌≤◌, ◌++◌, ◌∷◌, [], All, length, map};
-ghost use Rattle.arrayvec.specs.ArrayVec.{array_vec_len};
+ghost use Rattle.std.specs.Prelude.{◌≡◌, ◌+◌, ◌<◌, ◌≤◌, All, get_or, length};
 ghost use Rattle.px_num.specs.Forms.{IsInTreeRange};
 ghost use Rattle.px_scene.specs.Solids.{IsPlane};
-ghost use Rattle.px_face.specs.Edges.{
-  above,
-  at_least,
-  back_edges,
-  edges,
-  front_edges,
-  leads,
-  over,
-  trails,
-  under,
-};
-ghost use Rattle.px_face.specs.Faces.{back_planes, face_count, front_planes, level, planes_of};
-ghost use Rattle.px_face.specs.Orders.{form_of};
+ghost use Rattle.px_face.specs.EdgeLaws.{EdgesAreCounted, EdgesAreInRange, PlanesAreInRange};
+ghost use Rattle.px_face.specs.Edges.{above, at_least, back_orders, edge_count, edges, front_orders};
+ghost use Rattle.px_face.specs.Faces.{face_count, level};
 
-use crate::face::{back_plane, front_plane, level};
+use crate::face::{back_plane, front_plane};
 use arrayvec::ArrayVec;
 use px_num::Linear;
-use px_scene::{Face, Solid};
+use px_scene::Solid;
 
-/// How a plane stands to another one.
-#[derive(Clone, Copy, Debug, PartialEq, Eq)]
-enum Order {
-    Above,
-    AtLeast,
-    AtMost,
-    Below,
+/// How many edges each face of a solid has: the solid's sides, and each of the other faces.
+pub fn edge_count(solid: &Solid) -> usize
+    ensures count { result ≡ edge_count solid.now }
+    ensures few { result ≤ 97 }
+{
+    solid.sides().len() + solid.fronts().len() + solid.backs().len() + 1
 }
 
 /// Puts the edges of a face into `buf`, in the place of what it held.
@@ -42,140 +30,70 @@ pub fn edges(solid: &Solid, far: u32, face: usize, buf: &mut ArrayVec<Linear, 97
     ensures range { All IsInTreeRange buf.new.items }
 {
     buf.clear();
-    let fronts = solid.fronts().len() + 1;
-    if face < fronts {
-        push_front_edges(buf, solid, far, face);
-    } else {
-        push_back_edges(buf, solid, far, face - fronts);
+    for place in 0..edge_count(solid) {
+        buf.push(edge_at(solid, far, face, place));
     }
 }
 
-/// The edges of a front; the near face is front 0.
-fn push_front_edges(edges: &mut ArrayVec<Linear, 97>, solid: &Solid, far: u32, i: usize)
+/// One edge of a face, by its place among `edges`.
+pub fn edge_at(solid: &Solid, far: u32, face: usize, place: usize) -> Linear
+    requires face { face < face_count solid.now }
+    requires place { place < edge_count solid.now }
+    ensures form { result ≡ get_or (edges solid.now far face) place (level 0) }
+    ensures range { IsInTreeRange result }
+{
+    let sides = solid.sides();
+    let fronts = solid.fronts().len() + 1;
+    if place < sides.len() {
+        sides[place]
+    } else if face < fronts {
+        front_edge(solid, far, face, place - sides.len())
+    } else {
+        back_edge(solid, far, face - fronts, place - sides.len())
+    }
+}
+
+/// The laws of edges and planes, for the crates that prove passes over faces.
+pub fn laws_of_edges()
+    ensures count { EdgesAreCounted }
+    ensures range { EdgesAreInRange }
+    ensures planes { PlanesAreInRange }
+{}
+
+/// A front against the other fronts, then against the backs. The near face is front 0.
+fn front_edge(solid: &Solid, far: u32, i: usize, place: usize) -> Linear
     requires there { i ≤ length solid.now.fronts }
-    requires empty { edges.old.items ≡ [] }
-    ensures { edges.new.items ≡ front_edges solid.now far i }
+    requires place { place < length solid.now.fronts + length solid.now.backs + 1 }
+    ensures { result ≡ get_or (front_orders solid.now far i) place (level 0) }
 {
     let fronts = solid.fronts();
     let plane = front_plane(fronts, i);
-    push_all(edges, solid.sides());
-    push_other_fronts(edges, fronts, i, &plane);
-    push_backs_above(edges, solid.backs(), far, &plane);
+    if place >= fronts.len() {
+        above(
+            &back_plane(solid.backs(), far, place - fronts.len()),
+            &plane,
+        )
+    } else if place < i {
+        above(&plane, &front_plane(fronts, place))
+    } else {
+        at_least(&plane, &front_plane(fronts, place + 1))
+    }
 }
 
-/// The edges of a back; the far limit is the last one.
-fn push_back_edges(edges: &mut ArrayVec<Linear, 97>, solid: &Solid, far: u32, i: usize)
+/// A back against the other backs, then against the fronts. The far limit is the last back.
+fn back_edge(solid: &Solid, far: u32, i: usize, place: usize) -> Linear
     requires there { i ≤ length solid.now.backs }
-    requires empty { edges.old.items ≡ [] }
-    ensures { edges.new.items ≡ back_edges solid.now far i }
+    requires place { place < length solid.now.fronts + length solid.now.backs + 1 }
+    ensures { result ≡ get_or (back_orders solid.now far i) place (level 0) }
 {
     let backs = solid.backs();
     let plane = back_plane(backs, far, i);
-    push_all(edges, solid.sides());
-    push_other_backs(edges, backs, far, i, &plane);
-    push_fronts_below(edges, solid.fronts(), &plane);
-}
-
-/// A front against the other fronts.
-fn push_other_fronts(edges: &mut ArrayVec<Linear, 97>, fronts: &[Face], i: usize, plane: &Linear)
-    requires there { i ≤ length fronts.now }
-    requires room { array_vec_len edges.old + length fronts.now ≤ 97 }
-    requires planes { All (λ f. IsPlane f.plane) fronts.now }
-    requires plane { IsPlane plane.now }
-    ensures items { edges.new.items ≡
-        edges.old.items ++ leads plane.now (front_planes fronts.now) i }
-    ensures len { array_vec_len edges.new ≡ array_vec_len edges.old + length fronts.now }
-{
-    if i == 0 {
-        push_forms(edges, Order::AtLeast, plane, fronts);
+    if place >= backs.len() {
+        above(&plane, &front_plane(solid.fronts(), place - backs.len()))
+    } else if place < i {
+        above(&back_plane(backs, far, place), &plane)
     } else {
-        edges.push(above(plane, &level(0)));
-        push_forms(edges, Order::Above, plane, &fronts[..i - 1]);
-        push_forms(edges, Order::AtLeast, plane, &fronts[i..]);
-    }
-}
-
-/// A back against the other backs.
-fn push_other_backs(
-    edges: &mut ArrayVec<Linear, 97>,
-    backs: &[Face],
-    far: u32,
-    i: usize,
-    plane: &Linear,
-)
-    requires there { i ≤ length backs.now }
-    requires room { array_vec_len edges.old + length backs.now ≤ 97 }
-    requires planes { All (λ f. IsPlane f.plane) backs.now }
-    requires plane { IsPlane plane.now }
-    ensures items { edges.new.items ≡
-        edges.old.items ++ trails plane.now (back_planes backs.now far) i }
-    ensures len { array_vec_len edges.new ≡ array_vec_len edges.old + length backs.now }
-{
-    if i < backs.len() {
-        push_forms(edges, Order::Below, plane, &backs[..i]);
-        push_forms(edges, Order::AtMost, plane, &backs[i + 1..]);
-        edges.push(at_least(&level(far), plane));
-    } else {
-        push_forms(edges, Order::Below, plane, backs);
-    }
-}
-
-/// Every back against a front, the far limit last.
-fn push_backs_above(edges: &mut ArrayVec<Linear, 97>, backs: &[Face], far: u32, plane: &Linear)
-    requires room { array_vec_len edges.old + length backs.now < 97 }
-    requires planes { All (λ f. IsPlane f.plane) backs.now }
-    requires plane { IsPlane plane.now }
-    ensures { edges.new.items ≡ edges.old.items ++ under plane.now (back_planes backs.now far) }
-{
-    push_forms(edges, Order::Below, plane, backs);
-    edges.push(above(&level(far), plane));
-}
-
-/// Every front against a back, the near face first.
-fn push_fronts_below(edges: &mut ArrayVec<Linear, 97>, fronts: &[Face], plane: &Linear)
-    requires room { array_vec_len edges.old + length fronts.now < 97 }
-    requires planes { All (λ f. IsPlane f.plane) fronts.now }
-    requires plane { IsPlane plane.now }
-    ensures { edges.new.items ≡ edges.old.items ++ over plane.now (front_planes fronts.now) }
-{
-    edges.push(above(plane, &level(0)));
-    push_forms(edges, Order::Above, plane, fronts);
-}
-
-fn push_all(edges: &mut ArrayVec<Linear, 97>, forms: &[Linear])
-    requires { array_vec_len edges.old + length forms.now ≤ 97 }
-    ensures items { edges.new.items ≡ edges.old.items ++ forms.now }
-    ensures len { array_vec_len edges.new ≡ array_vec_len edges.old + length forms.now }
-{
-    for form in forms {
-        edges.push(*form);
-    }
-}
-
-/// A plane in one order against each of these faces.
-fn push_forms(edges: &mut ArrayVec<Linear, 97>, order: Order, plane: &Linear, faces: &[Face])
-    requires room { array_vec_len edges.old + length faces.now ≤ 97 }
-    requires plane { IsPlane plane.now }
-    requires planes { All (λ f. IsPlane f.plane) faces.now }
-    ensures items { edges.new.items ≡
-        edges.old.items ++ map (form_of order plane.now) (planes_of faces.now) }
-    ensures len { array_vec_len edges.new ≡ array_vec_len edges.old + length faces.now }
-{
-    for face in faces {
-        edges.push(form_of(order, plane, &face.plane));
-    }
-}
-
-fn form_of(order: Order, p: &Linear, q: &Linear) -> Linear
-    requires p { IsPlane p.now }
-    requires q { IsPlane q.now }
-    ensures { result ≡ form_of order p.now q.now }
-{
-    match order {
-        Order::Above => above(p, q),
-        Order::AtLeast => at_least(p, q),
-        Order::AtMost => at_least(q, p),
-        Order::Below => above(q, p),
+        at_least(&back_plane(backs, far, place + 1), &plane)
     }
 }
 

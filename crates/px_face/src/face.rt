@@ -16,11 +16,12 @@ ghost use Rattle.px_face.specs.Faces.{
 use px_num::Linear;
 use px_scene::{Face, Solid};
 
-/// How many faces there are: the near face, the fronts, the backs and the far limit.
+/// How many faces there are, at most 66: the near face, the fronts, the backs and the far limit.
 ///
 /// A face's index is its place in this order (docs/PICTURE.md, "Faces").
 pub fn face_count(solid: &Solid) -> usize
-    ensures { result ≡ face_count solid.now }
+    ensures count { result ≡ face_count solid.now }
+    ensures few { result ≤ 66 }
 {
     solid.fronts().len() + solid.backs().len() + 2
 }

@@ -8,5 +8,5 @@ mod face;
 mod tests;
 
 pub use cover::{covered, laws_of_covering};
-pub use edge::edges;
+pub use edge::{edge_at, edge_count, edges, laws_of_edges};
 pub use face::{face_count, is_front, number_of, plane_of};

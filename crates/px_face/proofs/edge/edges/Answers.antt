@@ -1,11 +1,17 @@
-use Rattle.std.proofs.Common.{◌+◌, ◌-◌, arith, ap, length}
-use Rattle.px_face.proofs.RangeLemmas.{back_range, front_range}
+use Rattle.std.proofs.Common.{arith, ◌∙◌}
+use Rattle.std.proofs.lemmas.List.Elements.{All-push}
+use Rattle.px_num.specs.Forms.{IsInTreeRange}
+use Rattle.px_face.proofs.EdgeLemmas.{all_edges, edges_more}
 use Rattle.px_face.proofs.edge.edges.Goals as goal
 
-pub returns-then-face-fronts-clause-range : goal.returns-then-face-fronts-clause-range
-returns-then-face-fronts-clause-range c =
-    rw c.push_front_edges.ensures (front_range c.args.solid.now c.fronts.ensures.lawful c.args.far (omega arith) c.args.face (omega (arith, ap length c.fronts.ensures.value)))
+pub loop-place-preserved : goal.loop-place-preserved
+loop-place-preserved c = record {
+  forms = edges_more c.args.solid.now c.args.far c.args.face c.loop-place.place c.loop-place.buf.items c.push.new.self.items c.edge_at.result c.requires c.loop-place.invariant.forms c.edge_at.ensures.form
+      c.push.ensures.items (omega (arith, c.loop-place-test.true, c.edge_count-place-end.ensures.count));
+  count = omega (arith, c.push.ensures.len, c.loop-place.invariant.count);
+  range = rw c.push.ensures.items (All-push IsInTreeRange c.loop-place.buf.items c.edge_at.result c.loop-place.invariant.range c.edge_at.ensures.range);
+}
 
-pub returns-else-face-fronts-clause-range : goal.returns-else-face-fronts-clause-range
-returns-else-face-fronts-clause-range c =
-    rw c.push_back_edges.ensures (back_range c.args.solid.now c.fronts.ensures.lawful c.args.far (omega arith) (c.args.face - (length c.fronts.result.now + 1)) (omega (arith, ap length c.fronts.ensures.value, c.requires)))
+pub returns-clause-forms : goal.returns-clause-forms
+returns-clause-forms c =
+    c.loop-place.invariant.forms ∙ all_edges c.args.solid.now c.args.far c.args.face c.loop-place.place c.requires (omega (arith, c.loop-place-test.false, c.edge_count-place-end.ensures.count))

@@ -1,0 +1,12 @@
+use Rattle.std.proofs.Common.{◌≡◌, All, take}
+use Rattle.arrayvec.specs.ArrayVec.{array_vec_len}
+use Rattle.px_num.specs.Forms.{IsInTreeRange}
+use Rattle.px_face.specs.Edges.{edges}
+use Rattle.px_face.proofs.edge.edges.Given as goal
+
+abbrev pub invariant-loop-place : goal.invariant-loop-place
+invariant-loop-place l = record {
+  forms : l.buf.items ≡ take l.place (edges l.solid l.far l.face);
+  count : array_vec_len l.buf ≡ l.place;
+  range : All IsInTreeRange l.buf.items;
+}
