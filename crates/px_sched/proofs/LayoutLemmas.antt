@@ -1,0 +1,61 @@
+-- The layout of a scene is one.
+use Rattle.std.proofs.Common.{◌≡◌, ℕ, ◌+◌, ◌^◌, ◌<◌, ◌≤◌, Bool, true, false, List, [], ◌∷◌, ◌++◌, length, nat_le, count_by, filter, length-append, refl, ap, sym, ◌∙◌, arith}
+use Prim.Native.Nat.{zero, suc}
+use Rattle.std.specs.List.{range_with_len}
+use Rattle.std.proofs.lemmas.Bool.Decides.{nat_tests}
+use Rattle.std.proofs.lemmas.List.Sums.{count_by-le-length, length-filter, sum_by-cons}
+use Rattle.std.proofs.lemmas.List.Elements.{filter-append}
+use Rattle.px_expr.specs.Tree.{HasLeavesBelow, Tree, join, leaf}
+use Rattle.px_scene.specs.Scenes.{IsLawfulScene, SceneView, faces_of}
+use Rattle.px_scene.specs.Solids.{SolidView, faces_in}
+use Rattle.px_sched.specs.Layouts.{IsLayout, bit_length, layout_of}
+
+-- an expression over no solid has no leaf, and each has one
+some_solid : (tree : Tree) (count : ℕ) → HasLeavesBelow count tree → 0 < count
+some_solid (leaf solid) count below = omega (arith, below)
+some_solid (join op left right) count (in_left, in_right) = some_solid left count in_left
+
+some_face : (solids : List SolidView) → 0 < length solids → 1 ≤ faces_of solids
+some_face [] some = absurd (omega (arith, some))
+some_face (s ∷ ss) some = omega (arith, sum_by-cons faces_in s ss)
+
+pub le_false : (m n : ℕ) → n < m → nat_le m n ≡ false
+le_false m n h = grind (arith, nat_tests)
+
+pub le_true : (m n : ℕ) → m ≤ n → nat_le m n ≡ true
+le_true m n h = grind (arith, nat_tests)
+
+pub bit_length_most : (n : ℕ) → bit_length n ≤ 12
+bit_length_most n = count_by-le-length (λ t. nat_le (2 ^ t) n) (range_with_len 0 12)
+
+pub bit_length_some : (n : ℕ) → 1 ≤ n → 1 ≤ bit_length n
+bit_length_some n some = let first : nat_le (2 ^ 0) n ≡ true = le_true 1 n some in rw first (omega arith)
+
+pub scene_layout : (scene : SceneView) → IsLawfulScene scene → IsLayout (layout_of scene)
+scene_layout scene lawful = record {
+  some_depth = lawful.some_depth;
+  depth = lawful.depth;
+  some_number = bit_length_some (faces_of scene.solids) (some_face scene.solids (some_solid scene.show (length scene.solids) lawful.shown));
+  number = bit_length_most (faces_of scene.solids);
+  fields = refl;
+}
+
+range_more : (a n : ℕ) → range_with_len a (n + 1) ≡ range_with_len a n ++ (a + n) ∷ []
+range_more a zero = let e : a + 0 ≡ a = omega arith in rw e refl
+range_more a (suc n) =
+    let e : a + 1 + n ≡ a + suc n = omega arith in
+    let more : suc n + 1 ≡ suc (n + 1) = omega arith in
+    rw more (ap (λ l. a ∷ l) (range_more (a + 1) n ∙ ap (λ k. range_with_len (a + 1) n ++ k ∷ []) e))
+
+pub count_more : (p : ℕ → Bool) (n : ℕ) → count_by p (range_with_len 0 (n + 1)) ≡ count_by p (range_with_len 0 n) + length (filter p (n ∷ []))
+count_more p n =
+    let before = range_with_len 0 n in
+    let plain : 0 + n ≡ n = omega arith in
+    sym (length-filter p (range_with_len 0 (n + 1))) ∙ ap (λ l. length (filter p l)) (range_more 0 n ∙ ap (λ k. before ++ k ∷ []) plain) ∙ ap length (filter-append p before (n ∷ []))
+    ∙ length-append (filter p before) (filter p (n ∷ [])) ∙ ap (λ m. m + length (filter p (n ∷ []))) (length-filter p before)
+
+pub counted : (p : ℕ → Bool) (n m : ℕ) → m ≡ count_by p (range_with_len 0 n) → p n ≡ true → m + 1 ≡ count_by p (range_with_len 0 (n + 1))
+counted p n m is here = rw (count_more p n, is, here) refl
+
+pub passed_over : (p : ℕ → Bool) (n m : ℕ) → m ≡ count_by p (range_with_len 0 n) → p n ≡ false → m ≡ count_by p (range_with_len 0 (n + 1))
+passed_over p n m is here = rw (count_more p n, is, here) (omega arith)

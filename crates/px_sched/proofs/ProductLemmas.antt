@@ -1,0 +1,164 @@
+-- The literals of a product, and what it shows where it holds.
+use Rattle.std.proofs.Common.{◌≡◌, ◌<◌, ◌≤◌, ◌+◌, ◌||◌, ℕ, zero, suc, Bool, true, false, not, List, [], ◌∷◌, length, get_or, refl, ap, sym, ◌∙◌, subst, arith, inl, inr, if◌then◌else◌}
+use Rattle.std.specs.List.{filter, list_all, list_any}
+use Rattle.std.specs.Option.{option_map_or}
+use Rattle.std.proofs.lemmas.Bool.{cases_Bool}
+use Rattle.std.proofs.lemmas.List.Sums.{sum_by-cons}
+use Rattle.std.proofs.lemmas.Option.{slice_get-get_or}
+use Rattle.px_expr.specs.Cells.{Cell, has_face}
+use Rattle.px_scene.specs.Scenes.{AreNumberedFrom, IsNumberedFrom, SceneView, faces_of}
+use Rattle.px_scene.specs.Solids.{SolidView, faces_in}
+use Rattle.px_scene.specs.Cells.{backs_at, far_of, fronts_at, leaf_cell, no_cell, solid_cell}
+use Rattle.px_normal.specs.declared.set.SolidSet.{SolidSet}
+use Rattle.px_normal.specs.declared.product.Product.{Product}
+use Rattle.px_normal.specs.Sets.{below, has, solids}
+use Rattle.px_normal.specs.Forms.{HasSolidsBelow}
+use Rattle.px_normal.specs.NormalLaw.{holds, shows}
+use Rattle.px_prune.specs.Kept.{is_void}
+use Rattle.px_sched.specs.declared.literal.Literal.{Literal}
+use Rattle.px_sched.specs.Numbers.{Place}
+use Rattle.px_sched.specs.Passes.{literals, literals_of, no_solid, solid_of}
+use Rattle.px_sched.proofs.RunLemmas.{and_left, and_right}
+use Rattle.px_sched.proofs.BlockLemmas.{suited}
+use Rattle.px_sched.proofs.MemberLemmas.{From, In, all_of, any_in, any_out, face_in, in_either, in_face, in_left, in_map, in_right, one_of, out_filter, out_map}
+
+in_below : (n q : ℕ) → In q (below n) → q < n
+in_below zero q h = absurd h
+in_below (suc n) q h = elim (in_either q (below n) (n ∷ []) h) [
+  | inl a ↦ let low = in_below n q a in omega arith
+  | inr b ↦ elim b [ inl e ↦ omega arith | inr c ↦ absurd c ]
+]
+
+in_filtered : (f : ℕ → Bool) (n q : ℕ) → In q (filter f (below n)) → (q < n) × (f q ≡ true)
+in_filtered f n q h = let r = out_filter f (below n) q h in (in_below n q r.0, r.1)
+
+in_solids : (set : SolidSet) (q : ℕ) → In q (solids set) → (q < 256) × (has set q ≡ true)
+unfolding solids
+in_solids set q h = in_filtered (has set) 256 q h
+
+abbrev pub literal : Bool → ℕ → Literal
+literal plain solid = record { solid = solid; plain = plain }
+
+module _ (p : Product) where
+  pub plain_literal : (q : ℕ) → In q (solids p.plain) → In (literal true q) (literals p)
+  plain_literal q h = in_left (literal true q) (literals_of true (solids p.plain)) (literals_of false (solids p.barred)) (in_map (literal true) (solids p.plain) q h)
+
+  pub barred_literal : (q : ℕ) → In q (solids p.barred) → In (literal false q) (literals p)
+  barred_literal q h = in_right (literal false q) (literals_of true (solids p.plain)) (literals_of false (solids p.barred)) (in_map (literal false) (solids p.barred) q h)
+
+  -- what holds of each plain literal and each barred one
+  pub each_literal : (P : Literal → Type 0) → ((q : ℕ) → In q (solids p.plain) → P (literal true q))
+      → ((q : ℕ) → In q (solids p.barred) → P (literal false q))
+      → (r : Literal) → In r (literals p) → P r
+  each_literal P plain barred r h = elim (in_either r (literals_of true (solids p.plain)) (literals_of false (solids p.barred)) h) [
+    | inl a ↦ let o = out_map (literal true) (solids p.plain) r a in subst P o.gives (plain o.from o.there)
+    | inr b ↦ let o = out_map (literal false) (solids p.barred) r b in subst P o.gives (barred o.from o.there)
+  ]
+
+-- the literals are solids of the scene, and no two of one solid
+pub record IsFit (count : ℕ) (p : Product) : Type 0 where
+  pub known : (q : Literal) → In q (literals p) → q.solid < count
+  pub once : (q r : Literal) → In q (literals p) → In r (literals p) → r.solid ≡ q.solid → r ≡ q
+
+pub fit : (count : ℕ) (p : Product) → HasSolidsBelow count p → is_void p ≡ false → IsFit count p
+fit count p low apart = record {
+  known = each_literal p (λ q. q.solid < count)
+      (λ q h. let i = in_solids p.plain q h in low.0 q i.0 i.1)
+      (λ q h. let i = in_solids p.barred q h in low.1 q i.0 i.1);
+  once = λ q r at_q at_r.
+      each_literal p (λ q. (r : Literal) → In r (literals p) → r.solid ≡ q.solid → r ≡ q)
+      (λ q h. each_literal p (λ r. r.solid ≡ q → r ≡ literal true q)
+      (λ r g e. ap (literal true) e) (λ r g e. absurd (never q h (subst (λ s. In s (solids p.barred)) e g))))
+      (λ q h. each_literal p (λ r. r.solid ≡ q → r ≡ literal false q)
+      (λ r g e. absurd (never r g (subst (λ s. In s (solids p.barred)) (sym e) h))) (λ r g e. ap (literal false) e))
+      q at_q r at_r;
+}
+  where
+    never : (q : ℕ) → In q (solids p.plain) → In q (solids p.barred) → ⊥
+    never q h g =
+        let both : is_void p ≡ true = any_in (has p.barred) (solids p.plain) q h (in_solids p.barred q g).1 in
+        absurd (cc)
+
+pub leaf_is : (scene : SceneView) (far x y z q : ℕ) → q < length scene.solids
+    → leaf_cell scene.solids far x y z q ≡ solid_cell far x y z (solid_of scene q)
+leaf_is scene far x y z q h = ap (λ found. option_map_or (solid_cell far x y z) found no_cell) (slice_get-get_or scene.solids q no_solid h)
+
+-- what a literal shows at a cell
+abbrev pub shown_of : SolidView → (plain : Bool) → (far x y z : ℕ) → List ℕ
+shown_of s plain far x y z = if plain then fronts_at s x y z else backs_at s far x y z
+
+module _ (scene : SceneView) (l : Place) (p : Product) (whole : IsFit (length scene.solids) p) (z : ℕ) where
+  abbrev far : ℕ
+  far = far_of scene
+
+  abbrev at : ℕ → Cell
+  at = leaf_cell scene.solids far l.x l.y z
+
+  plain_at : (q : ℕ) → In q (solids p.plain) → at q ≡ solid_cell far l.x l.y z (solid_of scene q)
+  plain_at q h = leaf_is scene far l.x l.y z q (whole.known (literal true q) (plain_literal p q h))
+
+  barred_at : (q : ℕ) → In q (solids p.barred) → at q ≡ solid_cell far l.x l.y z (solid_of scene q)
+  barred_at q h = leaf_is scene far l.x l.y z q (whole.known (literal false q) (barred_literal p q h))
+
+  -- a product holds where each literal has its cell
+  pub holds_there : ((r : Literal) → In r (literals p) → suited scene l z r ≡ true) → holds at p ≡ true
+  holds_there each =
+      rw (all_of (λ q. (at q).member) (solids p.plain) (λ q h. ap (λ c. c.member) (plain_at q h)
+      ∙ each (literal true q) (plain_literal p q h)))
+      (all_of (λ q. not (at q).member) (solids p.barred) (λ q h. ap (λ c. not c.member) (barred_at q h)
+      ∙ each (literal false q) (barred_literal p q h)))
+
+  pub each_holds : holds at p ≡ true → (r : Literal) → In r (literals p) → suited scene l z r ≡ true
+  each_holds h =
+      let plain = list_all (λ q. (at q).member) (solids p.plain) in
+      let barred = list_all (λ q. not (at q).member) (solids p.barred) in
+      each_literal p (λ r. suited scene l z r ≡ true)
+      (λ q i. sym (ap (λ c. c.member) (plain_at q i))
+      ∙ one_of (λ q. (at q).member) (solids p.plain) q i (and_left plain barred h))
+      (λ q i. sym (ap (λ c. not c.member) (barred_at q i))
+      ∙ one_of (λ q. not (at q).member) (solids p.barred) q i (and_right plain barred h))
+
+  -- a product shows what a literal shows
+  abbrev pub Gives : ℕ → Literal → Type 0
+  Gives n r = In n (shown_of (solid_of scene r.solid) r.plain far l.x l.y z)
+
+  pub shows_there : (n : ℕ) (r : Literal) → In r (literals p) → Gives n r → shows at n p ≡ true
+  shows_there n =
+      each_literal p (λ r. Gives n r → shows at n p ≡ true)
+      (λ q i g. first _ _ (any_in (λ q. has_face n (at q).shown) (solids p.plain) q i (ap (λ c. has_face n c.shown) (plain_at q i)
+      ∙ in_face n _ g)))
+      (λ q i g. second _ _ (any_in (λ q. has_face n (at q).hidden) (solids p.barred) q i (ap (λ c. has_face n c.hidden) (barred_at q i)
+      ∙ in_face n _ g)))
+    where
+      first : (a b : Bool) → a ≡ true → a || b ≡ true
+      first a b e = rw e refl
+
+      second : (a b : Bool) → b ≡ true → a || b ≡ true
+      second true b e = refl
+      second false b e = e
+
+  pub shows_out : (n : ℕ) → shows at n p ≡ true → From (Gives n) (literals p)
+  shows_out n h = elim (cases_Bool (list_any (λ q. has_face n (at q).shown) (solids p.plain))) [
+    | inl yea ↦ by_plain (any_out (λ q. has_face n (at q).shown) (solids p.plain) yea)
+    | inr nay ↦ by_barred (any_out (λ q. has_face n (at q).hidden) (solids p.barred) (rw nay at h))
+  ]
+    where
+      by_plain : From (λ q. has_face n (at q).shown ≡ true) (solids p.plain) → From (Gives n) (literals p)
+      by_plain o = record { from = literal true o.from; there = plain_literal p o.from o.there; gives = face_in n _ (sym (ap (λ c. has_face n c.shown) (plain_at o.from o.there)) ∙ o.gives) }
+
+      by_barred : From (λ q. has_face n (at q).hidden ≡ true) (solids p.barred) → From (Gives n) (literals p)
+      by_barred o = record { from = literal false o.from; there = barred_literal p o.from o.there; gives = face_in n _ (sym (ap (λ c. has_face n c.hidden) (barred_at o.from o.there)) ∙ o.gives) }
+
+-- the numbers of one of the solids
+pub record IsNumberedIn (bound : ℕ) (s : SolidView) : Type 0 where
+  pub first : ℕ
+  pub numbers : IsNumberedFrom first s
+  pub within : first + faces_in s ≤ bound
+
+pub numbered_at : (ss : List SolidView) (first q : ℕ) → AreNumberedFrom first ss → q < length ss
+    → IsNumberedIn (first + faces_of ss) (get_or ss q no_solid)
+numbered_at [] first q numbered h = absurd (omega arith)
+numbered_at (s ∷ ss) first zero numbered h = record { first = first; numbers = numbered.0; within = omega (arith, sum_by-cons faces_in s ss) }
+numbered_at (s ∷ ss) first (suc q) numbered h =
+    let rest = numbered_at ss (first + faces_in s) q numbered.1 (omega arith) in
+    record { first = rest.first; numbers = rest.numbers; within = omega (arith, rest.within, sum_by-cons faces_in s ss) }

@@ -1,0 +1,133 @@
+-- Each number that the passes load has room.
+use Rattle.std.proofs.Common.{◌≡◌, ℕ, suc, zero, ◌+◌, ◌*◌, ◌^◌, ◌<◌, Bool, true, false, not, List, [], ◌∷◌, ◌++◌, All, map, get_or, refl, arith}
+use Rattle.std.specs.List.{flat_map, range_with_len}
+use Rattle.std.proofs.lemmas.List.Elements.{All-append, All-cons, All-head, All-nil, All-tail}
+use Rattle.std.proofs.lemmas.List.Sums.{sum_by-append}
+use Rattle.std.proofs.lemmas.Nat.{pow-add}
+use Rattle.px_num.specs.BitLaws.{pow_above}
+use Rattle.px_num.specs.declared.linear.Linear.{Linear}
+use Rattle.px_scene.specs.Scenes.{SceneView, AreNumberedFrom, IsNumberedFrom, faces_of}
+use Rattle.px_scene.specs.Solids.{SolidView, faces_in}
+use Rattle.px_scene.specs.Cells.{far_of}
+use Rattle.px_scene.specs.declared.solid.Face.{Face}
+use Rattle.px_face.specs.Edges.{edges}
+use Rattle.px_face.specs.Faces.{face_count, number_of, numbers_of, plane_of}
+use Rattle.px_normal.specs.declared.product.Product.{Product}
+use Rattle.px_sched.specs.declared.literal.Literal.{Literal}
+use Rattle.px_sched.specs.Numbers.{Pass, candidate_on_numbers, classify_on_numbers, keep_covered_on_numbers, literal_on_numbers, merge_on_numbers, passes_on_numbers, turn_on_numbers, all, keep_sign, load_depth, load_number, load_best, set_alive, set_par, keep_par, keep_alive, keep_at_most, keep_less, toggle_par, copy}
+use Rattle.px_sched.specs.Passes.{candidate_faces, literals, no_solid, others, solid_of}
+use Rattle.px_sched.proofs.BridgeLemmas.{HasRoom}
+
+All-flat_map : {X Y : Type 0} (P : Y → Type 0) (f : X → List Y) → ((x : X) → All P (f x)) → (xs : List X) → All P (flat_map f xs)
+All-flat_map P f each [] = All-nil P
+All-flat_map P f each (x ∷ xs) = All-append P (f x) (flat_map f xs) (each x) (All-flat_map P f each xs)
+
+-- the numbers of some faces, or 0 past them
+number_among : (faces : List Face) (bound place : ℕ) → 0 < bound → All (λ f. f.number < bound) faces → get_or (numbers_of faces ++ 0 ∷ []) place 0 < bound
+number_among [] bound zero some below = some
+number_among [] bound (suc place) some below = some
+number_among (f ∷ faces) bound zero some below = All-head (λ f. f.number < bound) f faces below
+number_among (f ∷ faces) bound (suc place) some below = number_among faces bound place some (All-tail (λ f. f.number < bound) f faces below)
+
+number_behind : (fronts : List Face) (others : List ℕ) (bound place : ℕ) → All (λ f. f.number < bound) fronts →
+    ((place : ℕ) → get_or others place 0 < bound) → get_or (numbers_of fronts ++ others) place 0 < bound
+number_behind [] others bound place below rest = rest place
+number_behind (f ∷ faces) others bound zero below rest = All-head (λ f. f.number < bound) f faces below
+number_behind (f ∷ faces) others bound (suc place) below rest = number_behind faces others bound place (All-tail (λ f. f.number < bound) f faces below) rest
+
+number_below : (first : ℕ) (s : SolidView) → IsNumberedFrom first s → (face : ℕ) → number_of s face < first + faces_in s
+number_below first s h zero = omega (arith, h.near)
+number_below first s h (suc face) =
+    number_behind s.fronts (numbers_of s.backs ++ 0 ∷ []) (first + faces_in s) face h.fronts
+    (λ place. number_among s.backs (first + faces_in s) place (omega arith) h.backs)
+
+faces_of_more : (s : SolidView) (ss : List SolidView) → faces_of (s ∷ ss) ≡ faces_in s + faces_of ss
+faces_of_more s ss = omega (arith, sum_by-append faces_in (s ∷ []) ss)
+
+no_solid_has_none : (face : ℕ) → number_of no_solid face ≡ 0
+no_solid_has_none zero = refl
+no_solid_has_none (suc zero) = refl
+no_solid_has_none (suc (suc face)) = refl
+
+pub numbers_below : (first : ℕ) (solids : List SolidView) → 0 < first → AreNumberedFrom first solids → (q face : ℕ) →
+    number_of (get_or solids q no_solid) face < first + faces_of solids
+numbers_below first [] some h q face = omega (arith, no_solid_has_none face)
+numbers_below first (s ∷ ss) some h zero face = omega (arith, number_below first s h.0 face, faces_of_more s ss)
+numbers_below first (s ∷ ss) some h (suc q) face =
+    omega (arith, numbers_below (first + faces_in s) ss (omega arith) h.1 q face, faces_of_more s ss)
+
+covered_room : (w i far : ℕ) (s : SolidView) (face : ℕ) → All (HasRoom w i) (keep_covered_on_numbers far s face)
+covered_room w i far s face = signs (edges s far face)
+  where
+    signs : (forms : List Linear) → All (HasRoom w i) (map keep_sign forms)
+    signs [] = All-nil (HasRoom w i)
+    signs (form ∷ forms) = All-cons (HasRoom w i) (keep_sign form) (map keep_sign forms) tt (signs forms)
+
+-- in the passes of a scene whose face numbers have so many bits, and its depths so many
+pub passes_have_room : (w i : ℕ) (scene : SceneView) (products : List Product) → AreNumberedFrom 1 scene.solids →
+    faces_of scene.solids < 2 ^ i → far_of scene < 2 ^ w → All (HasRoom w i) (passes_on_numbers scene i products)
+passes_have_room w i scene products numbered faces depths =
+    let of_product : Product → List Pass = λ product. flat_map (literal_on_numbers scene product) (literals product)
+    in let first = load_best (far_of scene * 2 ^ i)
+    in cons all (first ∷ flat_map of_product products) tt (cons first (flat_map of_product products) best
+    (All-flat_map P of_product (λ product. All-flat_map P (literal_on_numbers scene product) (literal product) (literals product)) products))
+  where
+    P : Pass → Type 0
+    P = HasRoom w i
+
+    cons : (p : Pass) (ps : List Pass) → P p → All P ps → All P (p ∷ ps)
+    cons p ps room rest = All-cons P p ps room rest
+
+    best : far_of scene * 2 ^ i < 2 ^ (w + i)
+    best = rw (pow-add 2 w i) (grind (arith, pow_above i, depths))
+
+    number : (q face : ℕ) → number_of (solid_of scene q) face < 2 ^ i
+    number q face = omega (arith, numbers_below 1 scene.solids (omega arith) numbered q face)
+
+    -- a short list, by its passes
+    one : (p : Pass) → P p → All P (p ∷ [])
+    one p room = All-cons P p [] room (All-nil P)
+
+    two : (p q : Pass) → P p → P q → All P (p ∷ q ∷ [])
+    two p q first second = All-cons P p (q ∷ []) first (one q second)
+
+    three : (p q r : Pass) → P p → P q → P r → All P (p ∷ q ∷ r ∷ [])
+    three p q r first second third = All-cons P p (q ∷ r ∷ []) first (two q r second third)
+
+    candidate : (q face : ℕ) → All P (candidate_on_numbers (far_of scene) (solid_of scene q) face)
+    candidate q face =
+        let s = solid_of scene q
+        in let load = load_depth (plane_of s (far_of scene) face)
+        in let label = load_number (number_of s face)
+        in cons all (keep_covered_on_numbers (far_of scene) s face ++ load ∷ label ∷ set_alive true ∷ []) tt
+        (All-append P (keep_covered_on_numbers (far_of scene) s face) (load ∷ label ∷ set_alive true ∷ [])
+        (covered_room w i (far_of scene) s face) (three load label (set_alive true) tt (number q face) tt))
+
+    turned : (s : SolidView) (face : ℕ) → All P (turn_on_numbers (far_of scene) s face)
+    turned s face =
+        let covered = keep_covered_on_numbers (far_of scene) s face
+        in let last = keep_at_most (plane_of s (far_of scene) face) ∷ toggle_par ∷ []
+        in cons all (keep_alive true ∷ covered ++ last) tt (cons (keep_alive true) (covered ++ last) tt
+        (All-append P covered last (covered_room w i (far_of scene) s face)
+        (two (keep_at_most (plane_of s (far_of scene) face)) toggle_par tt tt)))
+
+    classified : (s : SolidView) (plain : Bool) → All P (classify_on_numbers (far_of scene) s plain)
+    classified s plain =
+        let turns = flat_map (turn_on_numbers (far_of scene) s) (range_with_len 0 (face_count s))
+        in let last = all ∷ keep_par (not plain) ∷ set_alive false ∷ []
+        in cons all (set_par false ∷ turns ++ last) tt (cons (set_par false) (turns ++ last) tt
+        (All-append P turns last (All-flat_map P (turn_on_numbers (far_of scene) s) (turned s) (range_with_len 0 (face_count s)))
+        (three all (keep_par (not plain)) (set_alive false) tt tt tt)))
+
+    literal : (product : Product) (q : Literal) → All P (literal_on_numbers scene product q)
+    literal product q =
+        let s = solid_of scene q.solid
+        in let candidates = flat_map (candidate_on_numbers (far_of scene) s) (candidate_faces s q.plain)
+        in let judged : List Pass = flat_map (λ r. classify_on_numbers (far_of scene) (solid_of scene r.solid) r.plain) (others q product)
+        in cons all (set_alive false ∷ (candidates ++ judged) ++ merge_on_numbers) tt
+        (cons (set_alive false) ((candidates ++ judged) ++ merge_on_numbers) tt
+        (All-append P (candidates ++ judged) merge_on_numbers
+        (All-append P candidates judged
+        (All-flat_map P (candidate_on_numbers (far_of scene) s) (candidate q.solid) (candidate_faces s q.plain))
+        (All-flat_map P (λ r. classify_on_numbers (far_of scene) (solid_of scene r.solid) r.plain) (λ r. classified (solid_of scene r.solid) r.plain) (others q product)))
+        (cons all (keep_alive true ∷ keep_less ∷ copy ∷ []) tt (three (keep_alive true) keep_less copy tt tt tt))))

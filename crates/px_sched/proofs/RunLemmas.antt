@@ -1,0 +1,247 @@
+-- What lists of passes leave of the keys.
+use Rattle.std.proofs.Common.{◌≡◌, ◌<◌, ◌≤◌, ◌≤ℤ◌, ◌+◌, ◌*◌, ◌%◌, ◌^◌, ℕ, zero, suc, ℤ, pos, negsuc, Bool, true, false, ◌&&◌, not, nat_le, List, [], ◌∷◌, ◌++◌, map, count_by, eqb, refl, ap, sym, ◌∙◌, arith, inl, inr, if◌then◌else◌}
+use Rattle.std.specs.Bool.{beq}
+use Rattle.std.specs.Int.{is_negative}
+use Rattle.std.specs.List.{fold, flat_map, range_with_len}
+use Rattle.std.proofs.lemmas.Bool.{cases_Bool}
+use Rattle.std.proofs.lemmas.Bool.Decides.{nat_tests}
+use Rattle.std.proofs.lemmas.Int.{ints}
+use Rattle.std.proofs.lemmas.Nat.{mod-mul-add}
+use lib.Signed.{le_z}
+use Rattle.px_num.specs.Bits.{modulo}
+use Rattle.px_num.specs.Forms.{value_at}
+use Rattle.px_num.specs.declared.linear.Linear.{Linear}
+use Rattle.px_scene.specs.Solids.{SolidView}
+use Rattle.px_scene.specs.Cells.{is_inside}
+use Rattle.px_face.specs.Covering.{CoveringLaw, ParityLaw, covering_back, covering_front, enters_at, is_met, is_odd, is_passed, leaves_at}
+use Rattle.px_face.specs.Edges.{covers, edges, hold_at}
+use Rattle.px_face.specs.Faces.{face_count, is_front, number_of, plane_of}
+use Rattle.px_face.specs.ParityLaws.{turned_is_odd, turned_where}
+use Rattle.px_sched.specs.Numbers.{Keys, Numbers, Pass, Place, after, all, candidate_on_numbers, classify_on_numbers, keep_at_most, keep_covered_on_numbers, keep_par, keep_sign, load_depth, load_number, meaning, residue, set_alive, toggle_par, turn_on_numbers}
+
+abbrev pub at : Bool → Keys → Numbers
+at e k = record { enable = e; keys = k }
+
+pub after-append : (l : Place) (ms ns : List Pass) (p : Numbers) → after l (ms ++ ns) p ≡ after l ns (after l ms p)
+after-append l [] ns p = refl
+after-append l (m ∷ ms) ns p = after-append l ms ns (meaning l m p)
+
+pub and_true : (a : Bool) → a && true ≡ a
+and_true true = refl
+and_true false = refl
+
+pub and_both : (a b c : Bool) → (a && b) && c ≡ a && (b && c)
+and_both true b c = refl
+and_both false b c = refl
+
+pub and_left : (a b : Bool) → a && b ≡ true → a ≡ true
+and_left true b e = refl
+and_left false b e = e
+
+pub and_right : (a b : Bool) → a && b ≡ true → b ≡ true
+and_right true b e = e
+and_right false b e = cc
+
+and_same : (c a b : Bool) → (c ≡ true → a ≡ b) → (c && a) ≡ (c && b)
+and_same true a b h = h refl
+and_same false a b h = refl
+
+same_place : (i k : ℕ) → eqb i k ≡ true → i ≡ k
+same_place i k h = grind (arith, nat_tests)
+
+not_negative : (v : ℤ) → not (is_negative v) ≡ le_z (pos 0) v
+not_negative v = grind (arith, ints)
+
+beq_true : (a : Bool) → beq a true ≡ a
+beq_true true = refl
+beq_true false = refl
+
+signed : (l : Place) (es : List Linear) (e : Bool) (k : Keys)
+    → after l (map keep_sign es) (at e k) ≡ at (e && hold_at es l.x l.y) k
+signed l [] e k = ap (λ b. at b k) (sym (and_true e))
+signed l (f ∷ fs) e k =
+    let v = value_at f l.x l.y in
+    signed l fs (e && not (is_negative v)) k
+    ∙ ap (λ b. at b k) (and_both e (not (is_negative v)) (hold_at fs l.x l.y)
+    ∙ ap (λ b. e && (b && hold_at fs l.x l.y)) (not_negative v))
+
+-- a part of the keys after one list for each element
+pub part_along : {X Y : Type 0} (l : Place) (part : Keys → Y) (f : X → List Pass) (g : Y → X → Y)
+    → ((x : X) (e : Bool) (k : Keys) → part (after l (f x) (at e k)).keys ≡ g (part k) x)
+    → (xs : List X) (p : Numbers) → part (after l (flat_map f xs) p).keys ≡ fold g (part p.keys) xs
+part_along l part f g same [] p = refl
+part_along l part f g same (x ∷ xs) p =
+    ap (λ (q : Numbers). part q.keys) (after-append l (f x) (flat_map f xs) p)
+    ∙ part_along l part f g same xs (after l (f x) p)
+    ∙ ap (λ k. fold g k xs) (same x p.enable p.keys)
+
+-- the keys after one list for each place of a range
+pub keys_in_range : (l : Place) (f : ℕ → List Pass) (g : Keys → ℕ → Keys) (a n : ℕ)
+    → ((i : ℕ) → a ≤ i → i < a + n → (e : Bool) (k : Keys) → (after l (f i) (at e k)).keys ≡ g k i)
+    → (p : Numbers) → (after l (flat_map f (range_with_len a n)) p).keys ≡ fold g p.keys (range_with_len a n)
+keys_in_range l f g a zero same p = refl
+keys_in_range l f g a (suc n) same p =
+    ap (λ (q : Numbers). q.keys) (after-append l (f a) (flat_map f (range_with_len (a + 1) n)) p)
+    ∙ keys_in_range l f g (a + 1) n (λ i low high. same i (omega arith) (omega arith)) (after l (f a) p)
+    ∙ ap (λ k. fold g k (range_with_len (a + 1) n)) (same a (omega arith) (omega arith) p.enable p.keys)
+
+-- a value that is a depth
+pub record IsDepth (v : ℤ) (far : ℕ) : Type 0 where
+  pub depth : ℕ
+  pub is : v ≡ pos depth
+  pub below : depth ≤ far
+
+depth_of : (v : ℤ) (far : ℕ) → pos 0 ≤ℤ v → v ≤ℤ pos far → IsDepth v far
+depth_of (pos n) far low high = record { depth = n; is = refl; below = omega (arith, ints) }
+depth_of (negsuc n) far low high = absurd (omega (arith, ints))
+
+mod_small : (n m : ℕ) → n < m → n % m ≡ n
+mod_small n m h = let e : 0 * m + n ≡ n = omega arith in ap (λ k. k % m) (sym e) ∙ mod-mul-add 0 m n h
+
+-- and is kept as itself
+pub modulo_is : (v : ℤ) (far bits : ℕ) → far < 2 ^ bits → (d : IsDepth v far) → modulo v bits ≡ d.depth
+modulo_is v far bits big d = let small : d.depth < 2 ^ bits = omega (arith, d.below) in rw d.is (mod_small d.depth (2 ^ bits) small)
+
+le_same : (m n : ℕ) → nat_le m n ≡ le_z (pos m) (pos n)
+le_same m n = grind (arith, nat_tests, ints)
+
+at_most_is : (v : ℤ) (far bits z : ℕ) → far < 2 ^ bits → IsDepth v far → nat_le (modulo v bits) z ≡ le_z v (pos z)
+at_most_is v far bits z big d = rw (modulo_is v far bits big d, d.is) (le_same d.depth z)
+
+abbrev pub loaded : Place → (far : ℕ) → SolidView → Keys → (face : ℕ) → Keys
+loaded l far s k i = record k { depth = residue l (plane_of s far i); number = number_of s i; alive = true }
+
+load_where : (l : Place) (far : ℕ) (s : SolidView) (i : ℕ) (c : Bool) (k : Keys)
+    → (after l (load_depth (plane_of s far i) ∷ load_number (number_of s i) ∷ set_alive true ∷ []) (at c k)).keys ≡ (if c then loaded l far s k i else k)
+load_where l far s i true k = refl
+load_where l far s i false k = refl
+
+pub candidate_keys : (l : Place) (far : ℕ) (s : SolidView) (i : ℕ) (e : Bool) (k : Keys)
+    → (after l (candidate_on_numbers far s i) (at e k)).keys ≡ (if covers s far i l.x l.y then loaded l far s k i else k)
+candidate_keys l far s i e k =
+    let last = load_depth (plane_of s far i) ∷ load_number (number_of s i) ∷ set_alive true ∷ [] in
+    ap (λ (q : Numbers). q.keys) (after-append l (keep_covered_on_numbers far s i) last (at true k))
+    ∙ ap (λ (q : Numbers). (after l last q).keys) (signed l (edges s far i) true k)
+    ∙ load_where l far s i (covers s far i l.x l.y) k
+
+abbrev pub flipped : Keys → Keys
+flipped k = record k { par = not k.par }
+
+flip_is : (b : Bool) (k : Keys) → (if b then flipped k else k) ≡ record k { par = if b then not k.par else k.par }
+flip_is true k = refl
+flip_is false k = refl
+
+abbrev flip_step : (ℕ → ℕ → Bool) → Keys → ℕ → Keys
+flip_step t k i = if k.alive && t k.depth i then flipped k else k
+
+flips : (t : ℕ → ℕ → Bool) (k : Keys) (is : List ℕ) → fold (flip_step t) k is ≡ record k { par = fold (turned_where (λ i. k.alive && t k.depth i)) k.par is }
+flips t k [] = refl
+flips t k (i ∷ is) =
+    let b = k.alive && t k.depth i in
+    ap (λ q. fold (flip_step t) q is) (flip_is b k) ∙ flips t (record k { par = if b then not k.par else k.par }) is
+
+itself : (b : Bool) → (if b then not false else false) ≡ b
+itself true = refl
+itself false = refl
+
+alive_odd : (a : Bool) (t : ℕ → Bool) (is : List ℕ)
+    → fold (turned_where (λ i. a && t i)) false is ≡ (a && is_odd (count_by t is))
+alive_odd true t is = turned_is_odd t false is ∙ itself (is_odd (count_by t is))
+alive_odd false t [] = refl
+alive_odd false t (i ∷ is) = alive_odd false t is
+
+-- a candidate at depth z is where a literal wants it
+abbrev pub suits : SolidView → (plain : Bool) → (far x y z : ℕ) → Bool
+suits s plain far x y z = if plain then is_inside s far x y z else not (is_inside s far x y z)
+
+abbrev keys_of : ℕ → ℕ → ℕ → Bool → Bool → Keys
+keys_of b d n a p = record { best = b; depth = d; number = n; alive = a; par = p }
+
+abbrev pub classified : Place → (far : ℕ) → SolidView → (plain : Bool) → Keys → Keys
+classified l far s plain k =
+    keys_of k.best k.depth k.number (k.alive && suits s plain far l.x l.y k.depth) (k.alive && is_inside s far l.x l.y k.depth)
+
+ended : (b d n : ℕ) (a inside plain : Bool)
+    → (if true && beq (a && inside) (not plain) then keys_of b d n false (a && inside) else keys_of b d n a (a && inside))
+    ≡ keys_of b d n (a && (if plain then inside else not inside)) (a && inside)
+ended b d n true true true = refl
+ended b d n true true false = refl
+ended b d n true false true = refl
+ended b d n true false false = refl
+ended b d n false true true = refl
+ended b d n false true false = refl
+ended b d n false false true = refl
+ended b d n false false false = refl
+
+module _ (covering : CoveringLaw) (far : ℕ) (s : SolidView) (x y : ℕ) where
+  pub enters_depth : is_met s far x y ≡ true → IsDepth (enters_at s x y) far
+  enters_depth met =
+      let d = (covering s far x y).depths met in
+      depth_of (enters_at s x y) far d.0 (omega (arith, ints, d.1, d.2))
+
+  pub leaves_depth : is_met s far x y ≡ true → IsDepth (leaves_at s far x y) far
+  leaves_depth met =
+      let d = (covering s far x y).depths met in
+      depth_of (leaves_at s far x y) far (omega (arith, ints, d.0, d.1)) d.2
+
+  front_value : (i : ℕ) → (is_met s far x y && eqb i (covering_front s x y)) ≡ true
+      → IsDepth (value_at (plane_of s far i) x y) far
+  front_value i e =
+      let one = enters_depth (and_left (is_met s far x y) (eqb i (covering_front s x y)) e) in
+      let same = same_place i (covering_front s x y) (and_right (is_met s far x y) (eqb i (covering_front s x y)) e) in
+      record {
+        depth = one.depth;
+        is = ap (λ j. value_at (plane_of s far j) x y) same
+            ∙ (covering s far x y).front_value ∙ one.is;
+        below = one.below;
+      }
+
+  back_value : (i : ℕ) → (is_met s far x y && eqb i (covering_back s far x y)) ≡ true
+      → IsDepth (value_at (plane_of s far i) x y) far
+  back_value i e =
+      let one = leaves_depth (and_left (is_met s far x y) (eqb i (covering_back s far x y)) e) in
+      let same = same_place i (covering_back s far x y) (and_right (is_met s far x y) (eqb i (covering_back s far x y)) e) in
+      record {
+        depth = one.depth;
+        is = ap (λ j. value_at (plane_of s far j) x y) same
+            ∙ (covering s far x y).back_value ∙ one.is;
+        below = one.below;
+      }
+
+  -- the value of a face that covers is a depth
+  covering_value : (i : ℕ) → i < face_count s → covers s far i x y ≡ true → IsDepth (value_at (plane_of s far i) x y) far
+  covering_value i there c = elim (cases_Bool (is_front s i)) [
+    | inl front ↦ front_value i (sym ((covering s far x y).fronts i front) ∙ c)
+    | inr back ↦ back_value i (sym ((covering s far x y).backs i there back) ∙ c)
+  ]
+
+module _ (covering : CoveringLaw) (parity : ParityLaw) (far : ℕ) (l : Place) (big : far < 2 ^ l.depth_bits) (s : SolidView) where
+  turn_keys : (i : ℕ) → i < face_count s → (e : Bool) (k : Keys)
+      → (after l (turn_on_numbers far s i) (at e k)).keys ≡ (if k.alive && is_passed s far l.x l.y k.depth i then flipped k else k)
+  turn_keys i there e k =
+      let c = covers s far i l.x l.y in
+      let v = value_at (plane_of s far i) l.x l.y in
+      let last = keep_at_most (plane_of s far i) ∷ toggle_par ∷ [] in
+      ap (λ (q : Numbers). q.keys) (after-append l (keep_covered_on_numbers far s i) last (at (true && beq k.alive true) k))
+      ∙ ap (λ (q : Numbers). (after l last q).keys) (signed l (edges s far i) (true && beq k.alive true) k)
+      ∙ ap (λ b. if b then flipped k else k)
+      (ap (λ a. ((true && a) && c) && nat_le (residue l (plane_of s far i)) k.depth) (beq_true k.alive)
+      ∙ and_both k.alive c (nat_le (residue l (plane_of s far i)) k.depth)
+      ∙ ap (λ b. k.alive && b) (and_same c (nat_le (residue l (plane_of s far i)) k.depth) (le_z v (pos k.depth)) (λ h. at_most_is v far l.depth_bits k.depth big (covering_value covering far s l.x l.y i there h))))
+
+  -- a candidate that is classified
+  pub classify_keys : (plain e : Bool) (k : Keys)
+      → (after l (classify_on_numbers far s plain) (at e k)).keys ≡ classified l far s plain k
+  classify_keys plain e k =
+      let faces = flat_map (turn_on_numbers far s) (range_with_len 0 (face_count s)) in
+      let last = all ∷ keep_par (not plain) ∷ set_alive false ∷ [] in
+      let start = record k { par = false } in
+      let t : ℕ → ℕ → Bool = λ z i. is_passed s far l.x l.y z i in
+      let passed : (after l faces (at true start)).keys ≡ keys_of k.best k.depth k.number k.alive (k.alive && is_inside s far l.x l.y k.depth) =
+      keys_in_range l (turn_on_numbers far s) (flip_step t) 0 (face_count s) (λ i low high. turn_keys i (omega arith)) (at true start)
+      ∙ flips t start (range_with_len 0 (face_count s))
+      ∙ ap (λ b. keys_of k.best k.depth k.number k.alive b) (alive_odd k.alive (t k.depth) (range_with_len 0 (face_count s))
+      ∙ ap (λ b. k.alive && b) (sym (parity s far l.x l.y k.depth))) in
+      ap (λ (q : Numbers). q.keys) (after-append l faces last (at true start))
+      ∙ ap (λ (q : Keys). if true && beq q.par (not plain) then record q { alive = false } else q) passed
+      ∙ ended k.best k.depth k.number k.alive (is_inside s far l.x l.y k.depth) plain

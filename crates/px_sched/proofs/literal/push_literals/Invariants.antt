@@ -1,0 +1,10 @@
+use Rattle.std.proofs.Common.{◌≡◌, ◌+◌, ◌++◌, take}
+use Rattle.arrayvec.specs.ArrayVec.{array_vec_len}
+use Rattle.px_sched.specs.Passes.{literals_of}
+use Rattle.px_sched.proofs.literal.push_literals.Given as goal
+
+abbrev pub invariant-loop-solid : goal.invariant-loop-solid
+invariant-loop-solid l = record {
+  items : l.list.items ≡ l.initial.list.items ++ literals_of l.plain (take l.solid-index l.indices);
+  len : array_vec_len l.list ≡ array_vec_len l.initial.list + l.solid-index;
+}

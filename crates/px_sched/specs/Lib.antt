@@ -1,0 +1,14 @@
+pub use Rattle.px_macro.specs.Fields
+pub use Rattle.px_macro.specs.Macros
+pub use Rattle.px_scene.specs.Cells
+pub use Rattle.px_scene.specs.Scenes
+pub use Rattle.px_scene.specs.Solids
+pub mod Cursors
+pub mod Groups
+pub mod Layouts
+pub mod Numbers
+pub mod NumbersLaw
+pub mod Passes
+pub mod PassesFacts
+pub mod PassesLaw
+pub mod Steps

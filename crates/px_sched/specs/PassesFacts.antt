@@ -1,0 +1,19 @@
+-- What holds of the passes of every scene: that they are lawful, and how many there can be.
+use Rattle.std.specs.Prelude.{◌^◌, ◌≤◌, All, length}
+use Rattle.px_macro.specs.Macros.{IsLawful}
+use Rattle.px_scene.specs.Scenes.{IsLawfulScene, SceneView}
+use Rattle.px_scene.specs.Solids.{IsLawfulSolid}
+use Rattle.px_sched.specs.Layouts.{IsLayout, layout_of, need_of}
+use Rattle.px_sched.specs.Passes.{passes, products_of}
+
+abbrev pub LayoutsAreLawful : Type 0
+LayoutsAreLawful = (scene : SceneView) → IsLawfulScene scene → IsLayout (layout_of scene)
+
+-- pixels of as many bits as the layout needs can carry the passes out
+abbrev pub PassesAreLawful : Type 0
+PassesAreLawful = (scene : SceneView) → IsLawfulScene scene → All IsLawfulSolid scene.solids →
+    All (λ m. IsLawful m (need_of (layout_of scene))) (passes scene)
+
+abbrev pub PassesAreFew : Type 0
+PassesAreFew = (scene : SceneView) → All IsLawfulSolid scene.solids →
+    length (products_of scene) ≤ 1024 → length (passes scene) ≤ 2 ^ 43

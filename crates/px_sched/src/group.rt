@@ -1,0 +1,198 @@
+//! The groups of operations, in the order of the passes.
+ghost use Rattle.std.specs.Bool.{OnFalse, OnTrue};
+ghost use Rattle.std.specs.Prelude.{◌≡◌, ◌≢◌, ◌+◌, ◌*◌, ◌^◌, ◌<◌, ◌≤◌, All, IfSome, get_or, length};
+ghost use Rattle.px_macro.specs.declared.operation.Macro.TheVariants as m;
+ghost use Rattle.px_scene.specs.Cells.{far_of};
+ghost use Rattle.px_sched.specs.Groups.{
+  IsDrawn,
+  IsGroup,
+  IsStage,
+  behind_stage,
+  from_stage,
+  literal_of,
+  literals_from,
+  others_of,
+  product_at,
+  products_from,
+  stage_operations,
+};
+ghost use Rattle.px_sched.specs.Layouts.{LayoutView};
+ghost use Rattle.px_sched.specs.Passes.{literals};
+ghost use Rattle.px_sched.specs.Steps.{behind_step, from_step_if_any};
+ghost use Rattle.px_sched.specs.declared.group.Stage.TheVariants as s;
+
+use crate::layout::Layout;
+use crate::literal::{Literal, literals, others};
+use crate::step::Step;
+use arrayvec::ArrayVec;
+use px_macro::Macro;
+use px_normal::Product;
+use px_num::power;
+use px_scene::Scene;
+
+/// A step of the passes of one literal of a product, by their indices.
+#[derive(Clone, Copy, Debug, PartialEq, Eq)]
+pub(crate) struct Group {
+    pub product: usize,
+    pub literal: usize,
+    pub step: Step,
+}
+
+/// How far the passes are.
+#[derive(Clone, Copy, Debug, Default, PartialEq, Eq)]
+pub(crate) enum Stage {
+    /// The background becomes the best.
+    #[default]
+    Start,
+    At(Group),
+    End,
+}
+
+impl Stage {
+    /// Whether no operation is left.
+    pub(crate) fn is_end(self) -> bool
+        ensures end { OnTrue result (self ≡ s.End) }
+        ensures more { OnFalse result (self ≢ s.End) }
+    {
+        matches!(self, Stage::End)
+    }
+
+    /// How many operations there are here.
+    pub(crate) fn count(self, scene: &Scene, products: &[Product]) -> usize
+        requires { IsStage scene.now products.now self }
+        ensures count { (l : LayoutView) → length (stage_operations scene.now l self) ≡ result }
+        ensures few { result ≤ 101 }
+    {
+        match self {
+            Stage::Start => 2,
+            Stage::At(group) => group.step.count(scene),
+            Stage::End => 0,
+        }
+    }
+
+    /// One of the operations here.
+    pub(crate) fn operation(
+        self,
+        scene: &Scene,
+        products: &[Product],
+        layout: &Layout,
+        at: usize,
+    ) -> Macro
+        requires stage { IsStage scene.now products.now self }
+        requires at { at < length (stage_operations scene.now layout.now self) }
+        ensures { result ≡ get_or (stage_operations scene.now layout.now self) at m.All }
+    {
+        match self {
+            Stage::Start => [Macro::All, background(scene, layout)][at],
+            Stage::At(group) => group.step.operation(scene, layout, at),
+            Stage::End => Macro::All,
+        }
+    }
+
+    /// What comes behind these operations.
+    pub(crate) fn next(self, scene: &Scene, products: &[Product]) -> Stage
+        requires drawn { All (IsDrawn scene.now) products.now }
+        requires stage { IsStage scene.now products.now self }
+        ensures left { (l : LayoutView) → behind_stage scene.now l products.now self ≡
+            from_stage scene.now l products.now result }
+        ensures stage { IsStage scene.now products.now result }
+    {
+        match self {
+            Stage::Start => product_from(scene, products, 0),
+            Stage::At(group) => group.next(scene, products),
+            Stage::End => Stage::End,
+        }
+    }
+}
+
+impl Group {
+    /// What comes behind this group.
+    fn next(self, scene: &Scene, products: &[Product]) -> Stage
+        requires drawn { All (IsDrawn scene.now) products.now }
+        requires group { IsGroup scene.now products.now self }
+        ensures left { (l : LayoutView) → behind_stage scene.now l products.now (s.At self) ≡
+            from_stage scene.now l products.now result }
+        ensures stage { IsStage scene.now products.now result }
+    {
+        match self.next_step(scene, products) {
+            Some(step) => Stage::At(Group { step, ..self }),
+            None => literal_from(scene, products, self.product, self.literal + 1),
+        }
+    }
+
+    /// The step behind this one, of the same literal.
+    fn next_step(self, scene: &Scene, products: &[Product]) -> Option<Step>
+        requires drawn { All (IsDrawn scene.now) products.now }
+        requires group { IsGroup scene.now products.now self }
+        ensures left { (l : LayoutView) →
+            behind_step scene.now l (literal_of products.now self)
+            (others_of products.now self) self.step ≡
+            from_step_if_any scene.now l (literal_of products.now self)
+            (others_of products.now self) result }
+        ensures group { IfSome result (λ step.
+            IsGroup scene.now products.now (record self { step = step })) }
+        ensures few { self.literal < 512 }
+    {
+        let (q, rs) = self.literal_and_others(products);
+        self.step.next(scene, q, rs.as_slice())
+    }
+
+    fn literal_and_others(self, products: &[Product]) -> (Literal, ArrayVec<Literal, 512>)
+        requires product { self.product < length products.now }
+        requires literal { self.literal < length (literals (product_at products.now self.product)) }
+        ensures literal { result.0 ≡ literal_of products.now self }
+        ensures others { result.1.items ≡ others_of products.now self }
+        ensures few { self.literal < 512 }
+    {
+        let all = literals(&products[self.product]);
+        let q = all[self.literal];
+        let rs = others(q, all.as_slice());
+        (q, rs)
+    }
+}
+
+/// The literals of a product from one on, and the products behind it.
+fn literal_from(scene: &Scene, products: &[Product], product: usize, literal: usize) -> Stage
+    requires drawn { All (IsDrawn scene.now) products.now }
+    requires product { product < length products.now }
+    ensures left { (l : LayoutView) → literals_from scene.now l products.now product literal ≡
+        from_stage scene.now l products.now result }
+    ensures stage { IsStage scene.now products.now result }
+{
+    if literal < literals(&products[product]).len() {
+        Stage::At(Group {
+            product,
+            literal,
+            step: Step::Open,
+        })
+    } else {
+        product_from(scene, products, product + 1)
+    }
+}
+
+/// The products from one on.
+fn product_from(scene: &Scene, products: &[Product], product: usize) -> Stage
+    requires drawn { All (IsDrawn scene.now) products.now }
+    ensures left { (l : LayoutView) → products_from scene.now l products.now product ≡
+        from_stage scene.now l products.now result }
+    ensures stage { IsStage scene.now products.now result }
+{
+    if product < products.len() {
+        Stage::At(Group {
+            product,
+            literal: 0,
+            step: Step::Open,
+        })
+    } else {
+        Stage::End
+    }
+}
+
+/// The background becomes the best.
+fn background(scene: &Scene, layout: &Layout) -> Macro
+    ensures { result ≡
+        m.LoadConst layout.now.key_b (far_of scene.now * 2 ^ layout.now.number_bits) }
+{
+    let number = u64::from(scene.far()) * power(layout.number_bits) as u64;
+    Macro::LoadConst(layout.key_b, number)
+}

@@ -1,0 +1,17 @@
+//! The passes: the operations that draw a scene, one at a time.
+#![tactic(auto)]
+
+mod cursor;
+mod group;
+mod layout;
+mod literal;
+mod numbers;
+mod passes;
+mod step;
+#[cfg(test)]
+mod tests;
+
+pub use cursor::Cursor;
+pub use layout::{Layout, NeedBits};
+pub use literal::Literal;
+pub use passes::laws_of_passes;

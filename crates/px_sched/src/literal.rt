@@ -1,0 +1,53 @@
+//! The solids of a product.
+ghost use Rattle.std.specs.Prelude.{◌≡◌, ◌≤◌, ◌+◌, ◌++◌, ◌==◌, filter, length, not};
+ghost use Rattle.arrayvec.specs.ArrayVec.{array_vec_len};
+ghost use Rattle.px_sched.specs.Passes.{literals, literals_of};
+
+use arrayvec::ArrayVec;
+use px_normal::Product;
+
+/// A solid of a product, plain or barred.
+#[derive(Clone, Copy, Debug, Default, PartialEq, Eq)]
+pub struct Literal {
+    pub solid: u8,
+    pub plain: bool,
+}
+
+/// The literals of a product: its plain solids in scene order, then its barred ones.
+pub(crate) fn literals(product: &Product) -> ArrayVec<Literal, 512>
+    ensures { result.items ≡ literals product.now }
+{
+    let plain = product.plain.solids();
+    let barred = product.barred.solids();
+    let mut list = ArrayVec::new();
+    push_literals(&mut list, plain.as_slice(), true);
+    push_literals(&mut list, barred.as_slice(), false);
+    list
+}
+
+/// The literals that are of another solid.
+pub(crate) fn others(q: Literal, all: &[Literal]) -> ArrayVec<Literal, 512>
+    requires { length all.now ≤ 512 }
+    ensures { result.items ≡ filter (λ r. not (r.solid == q.solid)) all.now }
+{
+    let mut list = ArrayVec::new();
+    for r in all {
+        if r.solid != q.solid {
+            list.push(*r);
+        }
+    }
+    list
+}
+
+fn push_literals(list: &mut ArrayVec<Literal, 512>, indices: &[u8], plain: bool)
+    requires { array_vec_len list.old + length indices.now ≤ 512 }
+    ensures items { list.new.items ≡ list.old.items ++ literals_of plain indices.now }
+    ensures len { array_vec_len list.new ≡ array_vec_len list.old + length indices.now }
+{
+    for solid in indices {
+        list.push(Literal {
+            solid: *solid,
+            plain,
+        });
+    }
+}

@@ -1,0 +1,17 @@
+//! The passes law on numbers.
+ghost use Rattle.px_sched.specs.NumbersLaw.{NumbersShowThePicture};
+
+use px_expr::surface_law;
+use px_face::laws_of_covering;
+use px_normal::laws_of_normal_forms;
+use px_prune::laws_of_pruning;
+
+/// The passes, one after another on the numbers of a pixel, leave the key of what it shows.
+pub fn law_of_numbers()
+    ensures { NumbersShowThePicture }
+{
+    surface_law();
+    laws_of_covering();
+    laws_of_normal_forms();
+    laws_of_pruning();
+}

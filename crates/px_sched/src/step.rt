@@ -1,0 +1,250 @@
+//! The steps of a literal's passes. Each is a few operations that begin with "all".
+ghost use Rattle.std.specs.Prelude.{◌≡◌, ◌+◌, ◌<◌, ◌≤◌, ◌++◌, All, IfSome, get_or, length};
+ghost use Rattle.px_face.specs.Edges.{edge_count};
+ghost use Rattle.px_face.specs.Faces.{face_count};
+ghost use Rattle.px_macro.specs.declared.operation.Macro.TheVariants as m;
+ghost use Rattle.px_scene.specs.Cells.{far_of};
+ghost use Rattle.px_scene.specs.Scenes.{SceneView};
+ghost use Rattle.px_sched.specs.declared.literal.Literal.{Literal};
+ghost use Rattle.px_sched.specs.Layouts.{LayoutView};
+ghost use Rattle.px_sched.specs.Passes.{candidate, keep_covered, solid_of, turn};
+ghost use Rattle.px_sched.specs.Steps.{
+  AreKnown,
+  IsFace,
+  IsStep,
+  IsStepOf,
+  behind_step,
+  candidates_end,
+  candidates_from,
+  first_candidate,
+  from_step,
+  from_step_if_any,
+  judged_from,
+  literal_at,
+  step_operations,
+  turns_from,
+};
+
+use crate::layout::Layout;
+use crate::literal::Literal;
+use px_face::{edge_at, edge_count, face_count, laws_of_edges, number_of, plane_of};
+use px_macro::Macro;
+use px_scene::{Scene, Solid};
+
+/// A step of the passes of a literal (docs/PASSES.md, "Steps").
+///
+/// A solid stands by its index in the scene, and another literal by its place among the literals
+/// of the product that are of other solids.
+#[derive(Clone, Copy, Debug, PartialEq, Eq)]
+pub(crate) enum Step {
+    /// No candidate is alive.
+    Open,
+    /// A face of the literal's solid becomes the candidate where it covers.
+    Candidate(u8, usize),
+    /// Another literal begins to judge: no face was passed.
+    Begin(usize),
+    /// A face of the other literal's solid turns the parity where it is passed.
+    Turn(usize, u8, usize),
+    /// The other literal judges, as a plain or a barred one.
+    Close(usize, bool),
+    /// A live candidate takes the place of the best where it is nearer.
+    Merge,
+}
+
+impl Step {
+    /// How many operations there are.
+    pub(crate) fn count(self, scene: &Scene) -> usize
+        requires { IsStep scene.now self }
+        ensures count { (l : LayoutView) → length (step_operations scene.now l self) ≡ result }
+        ensures few { result ≤ 101 }
+    {
+        match self {
+            Step::Open | Step::Begin(_) => 2,
+            Step::Candidate(solid, _) | Step::Turn(_, solid, _) => {
+                edge_count(solid_at(scene, solid)) + 4
+            }
+            Step::Close(_, _) => 3,
+            Step::Merge => 4,
+        }
+    }
+
+    /// One of the operations.
+    pub(crate) fn operation(self, scene: &Scene, layout: &Layout, at: usize) -> Macro
+        requires step { IsStep scene.now self }
+        requires at { at < length (step_operations scene.now layout.now self) }
+        ensures { result ≡ get_or (step_operations scene.now layout.now self) at m.All }
+    {
+        match self {
+            Step::Open => [Macro::All, Macro::SetBit(layout.alive, false)][at],
+            Step::Candidate(solid, face) => {
+                candidate(solid_at(scene, solid), scene.far(), face, layout, at)
+            }
+            Step::Begin(_) => [Macro::All, Macro::SetBit(layout.par, false)][at],
+            Step::Turn(_, solid, face) => {
+                turn(solid_at(scene, solid), scene.far(), face, layout, at)
+            }
+            Step::Close(_, plain) => [
+                Macro::All,
+                Macro::KeepBit(layout.par, !plain),
+                Macro::SetBit(layout.alive, false),
+            ][at],
+            Step::Merge => [
+                Macro::All,
+                Macro::KeepBit(layout.alive, true),
+                Macro::KeepLess(layout.key_t, layout.key_b),
+                Macro::Copy(layout.key_t, layout.key_b),
+            ][at],
+        }
+    }
+
+    /// The step behind this one, where `q` is the literal and `rs` are the others.
+    pub(crate) fn next(self, scene: &Scene, q: Literal, rs: &[Literal]) -> Option<Step>
+        requires step { IsStepOf scene.now q rs.now self }
+        requires faces { IsStep scene.now self }
+        requires q { q.solid < length scene.now.solids }
+        requires rs { AreKnown scene.now rs.now }
+        ensures left { (l : LayoutView) → behind_step scene.now l q rs.now self ≡
+            from_step_if_any scene.now l q rs.now result }
+        ensures step { IfSome result (λ step. IsStepOf scene.now q rs.now step) }
+        ensures faces { IfSome result (λ step. IsStep scene.now step) }
+    {
+        match self {
+            Step::Open => Some(candidate_from(scene, q, rs, first_candidate(scene, q))),
+            Step::Candidate(_, face) => Some(candidate_from(scene, q, rs, face + 1)),
+            Step::Begin(other) => Some(turn_from(scene, rs, other, 0)),
+            Step::Turn(other, _, face) => Some(turn_from(scene, rs, other, face + 1)),
+            Step::Close(other, _) => Some(judge_from(rs, other + 1)),
+            Step::Merge => None,
+        }
+    }
+}
+
+/// The candidate faces from one on, and the other literals behind them.
+fn candidate_from(scene: &Scene, q: Literal, rs: &[Literal], face: usize) -> Step
+    requires q { q.solid < length scene.now.solids }
+    ensures left { (l : LayoutView) → candidates_from scene.now l q rs.now face ≡
+        from_step scene.now l q rs.now result }
+    ensures step { IsStepOf scene.now q rs.now result }
+    ensures faces { IsStep scene.now result }
+{
+    if face < candidates_end(scene, q) {
+        Step::Candidate(q.solid, face)
+    } else {
+        judge_from(rs, 0)
+    }
+}
+
+/// Where the candidate faces of a literal begin.
+fn first_candidate(scene: &Scene, q: Literal) -> usize
+    requires { q.solid < length scene.now.solids }
+    ensures { result ≡ first_candidate (solid_of scene.now q.solid) q.plain }
+{
+    if q.plain {
+        0
+    } else {
+        solid_at(scene, q.solid).fronts().len() + 1
+    }
+}
+
+/// Where they end: before the backs of a plain solid, and before the far limit of a barred one.
+fn candidates_end(scene: &Scene, q: Literal) -> usize
+    requires { q.solid < length scene.now.solids }
+    ensures end { result ≡ candidates_end (solid_of scene.now q.solid) q.plain }
+    ensures faces { result < face_count (solid_of scene.now q.solid) }
+    ensures few { result ≤ 65 }
+{
+    let solid = solid_at(scene, q.solid);
+    let fronts = solid.fronts().len() + 1;
+    let backs = solid.backs().len();
+    if q.plain { fronts } else { fronts + backs }
+}
+
+/// The other literals from one on, and the merge behind them.
+fn judge_from(rs: &[Literal], other: usize) -> Step
+    ensures left { (scene : SceneView) (l : LayoutView) (q : Literal) →
+        judged_from scene l rs.now other ≡ from_step scene l q rs.now result }
+    ensures step { (scene : SceneView) (q : Literal) → IsStepOf scene q rs.now result }
+    ensures faces { (scene : SceneView) → IsStep scene result }
+{
+    if other < rs.len() {
+        Step::Begin(other)
+    } else {
+        Step::Merge
+    }
+}
+
+/// The faces of another literal's solid from one on, and its judgement behind them.
+fn turn_from(scene: &Scene, rs: &[Literal], other: usize, face: usize) -> Step
+    requires other { other < length rs.now }
+    requires rs { AreKnown scene.now rs.now }
+    ensures left { (l : LayoutView) (q : Literal) → turns_from scene.now l rs.now other face ≡
+        from_step scene.now l q rs.now result }
+    ensures step { (q : Literal) → IsStepOf scene.now q rs.now result }
+    ensures faces { IsStep scene.now result }
+{
+    let r = rs[other];
+    if face < face_count(solid_at(scene, r.solid)) {
+        Step::Turn(other, r.solid, face)
+    } else {
+        Step::Close(other, r.plain)
+    }
+}
+
+fn solid_at(scene: &Scene, solid: u8) -> &Solid
+    requires { solid < length scene.now.solids }
+    ensures { result.now ≡ solid_of scene.now solid }
+{
+    &scene.solids()[usize::from(solid)]
+}
+
+/// An operation of a step that makes a face the candidate where it covers.
+fn candidate(solid: &Solid, far: u32, face: usize, layout: &Layout, at: usize) -> Macro
+    requires face { face < face_count solid.now }
+    requires at { at < length (candidate layout.now far solid.now face) }
+    ensures { result ≡ get_or (candidate layout.now far solid.now face) at m.All }
+{
+    let tail = [
+        Macro::LoadLinear(plane_of(solid, far, face), layout.t_depth()),
+        Macro::LoadConst(layout.t_number(), u64::from(number_of(solid, face))),
+        Macro::SetBit(layout.alive, true),
+    ];
+    where_covered(solid, far, face, &[Macro::All], &tail, at)
+}
+
+/// An operation of a step that turns the parity where a face is passed.
+fn turn(solid: &Solid, far: u32, face: usize, layout: &Layout, at: usize) -> Macro
+    requires face { face < face_count solid.now }
+    requires at { at < length (turn layout.now far solid.now face) }
+    ensures { result ≡ get_or (turn layout.now far solid.now face) at m.All }
+{
+    let head = [Macro::All, Macro::KeepBit(layout.alive, true)];
+    let tail = [
+        Macro::KeepAtMost(plane_of(solid, far, face), layout.t_depth()),
+        Macro::Toggle(layout.par),
+    ];
+    where_covered(solid, far, face, &head, &tail, at)
+}
+
+/// One of some operations: a head, those that keep the pixels that a face covers, and a tail.
+fn where_covered(
+    solid: &Solid,
+    far: u32,
+    face: usize,
+    head: &[Macro],
+    tail: &[Macro],
+    at: usize,
+) -> Macro
+    requires face { face < face_count solid.now }
+    requires at { at < length (head.now ++ keep_covered far solid.now face ++ tail.now) }
+    ensures { result ≡ get_or (head.now ++ keep_covered far solid.now face ++ tail.now) at m.All }
+{
+    laws_of_edges();
+    let edges = edge_count(solid);
+    if at < head.len() {
+        head[at]
+    } else if at - head.len() < edges {
+        Macro::KeepSign(edge_at(solid, far, face, at - head.len()))
+    } else {
+        tail[at - head.len() - edges]
+    }
+}
