@@ -1,0 +1,436 @@
+-- A scene of few products takes less than 2 ^ 43 clocks, and at least one for each operation.
+use Rattle.std.proofs.Common.{◌≡◌, ℕ, suc, zero, ◌+◌, ◌-◌, ◌*◌, ◌^◌, ◌<◌, ◌≤◌, Bool, true, false, not, cond, List, [], ◌∷◌, ◌++◌, Option, Some, None, length, map, drop, get_or, refl, ap, sym, ◌∙◌, arith}
+use Rattle.std.specs.List.{All, filter, filter_map, flat_map, list_any, range_with_len, sum_by}
+use Rattle.std.proofs.lemmas.List.FromFn.{length-range_with_len}
+use Rattle.std.proofs.lemmas.List.Sums.{sum_by-append, sum_by-cons, sum_by-drop_more, sum_by-le, sum_by-le-sum_by}
+use Rattle.std.proofs.lemmas.Nat.{mul-le}
+use Rattle.px_asm.specs.Micros.{all_micros}
+use Rattle.px_num.specs.declared.linear.Linear.{Linear}
+use Rattle.px_face.specs.Edges.{edges}
+use Rattle.px_face.specs.Faces.{face_count}
+use Rattle.px_macro.specs.declared.operation.Macro.{Macro}
+use Rattle.px_macro.specs.declared.operation.Macro.TheVariants as m
+use Rattle.px_expr.specs.Tree.{HasLeavesBelow, Tree, join, leaf}
+use Rattle.px_normal.specs.declared.product.Product.{Product}
+use Rattle.px_normal.specs.Forms.{HasSolidsBelow, sum_of_products}
+use Rattle.px_prune.specs.Bounding.{bounding_box}
+use Rattle.px_prune.specs.Kept.{is_void, kept_of, pruned}
+use Rattle.px_normal.specs.Sets.{has, solids}
+use Rattle.px_scene.specs.Cells.{far_of}
+use Rattle.px_scene.specs.Scenes.{IsLawfulScene, SceneView, faces_of}
+use Rattle.px_scene.specs.Solids.{IsLawfulSolid, SolidView, faces_in}
+use Rattle.px_sched.specs.declared.literal.Literal.{Literal}
+use Rattle.px_sched.specs.Layouts.{layout_with}
+use Rattle.px_sched.specs.Passes.{candidate, candidate_faces, literal_passes, literals, merge, no_solid, others, passes, passes_with, solid_of, turn}
+use Rattle.px_control.specs.declared.costs.Costs.{Costs}
+use Rattle.px_control.specs.declared.costs.Lengths.{Lengths}
+use Rattle.px_control.specs.Costs.{AreShort, cost_of, lengths_of, own_passes, passes_against, plus, product_passes, share, times}
+use Rattle.px_control.specs.Program.{columns_of, program, rows_of, total}
+use Rattle.px_control.proofs.CostLemmas.{candidate_costs, candidate_weight, classify_costs, clocked, clocks_on, counted, covered_costs, flat_weight, number_few, one, ones, own_costs, turn_costs, turn_weight}
+use Rattle.px_control.proofs.GridLemmas.{exponent_between}
+use Rattle.px_control.proofs.ProductLemmas.{literal_weight, literals_length, passes_weight, product_costs, solids_range}
+
+-- no more products are kept than there are
+kept_option : {A B : Type 0} (f : A → Option B) (xs : List A) → length (filter_map f xs) ≤ length xs
+kept_option f [] = omega arith
+kept_option {B = B} f (x ∷ xs) = step (f x) refl (kept_option f xs) where
+  step : (o : Option B) → f x ≡ o → length (filter_map f xs) ≤ length xs →
+      length (filter_map f (x ∷ xs)) ≤ suc (length xs)
+  step None is rest = rw is (omega arith)
+  step (Some y) is rest = rw is (omega arith)
+
+pub kept_few : (scene : SceneView) (products : List Product) → length (kept_of scene products) ≤ length products
+kept_few scene products = kept_option (pruned (bounding_box scene)) products
+
+leaves_below : (count more : ℕ) → count ≤ more → (tree : Tree) → HasLeavesBelow count tree → HasLeavesBelow more tree
+leaves_below count more low (leaf solid) known = omega arith
+leaves_below count more low (join op left right) known =
+    (leaves_below count more low left known.0, leaves_below count more low right known.1)
+
+-- what the lower crates know of the solids of products
+pub record AreKnown : Type 0 where
+  pub whole : (count : ℕ) (tree : Tree) → HasLeavesBelow 256 tree → HasLeavesBelow count tree →
+      All (HasSolidsBelow count) (sum_of_products tree)
+  pub kept : (count : ℕ) (scene : SceneView) (products : List Product) →
+      All (HasSolidsBelow count) products → All (HasSolidsBelow count) (kept_of scene products)
+  pub apart : (scene : SceneView) (products : List Product) →
+      All (λ product. is_void product ≡ false) (kept_of scene products)
+
+pub kept_known : (scene : SceneView) → IsLawfulScene scene → AreKnown →
+    All (HasSolidsBelow (length scene.solids)) (kept_of scene (sum_of_products scene.show))
+kept_known scene lawful known =
+    let shown = leaves_below (length scene.solids) 256 (omega (arith, lawful.solids)) scene.show lawful.shown
+    in known.kept (length scene.solids) scene (sum_of_products scene.show)
+    (known.whole (length scene.solids) scene.show shown lawful.shown)
+
+pub total_is : (scene : SceneView) → total scene ≡ length (all_micros (passes scene) (columns_of scene) (rows_of scene))
+unfolding program
+total_is scene = refl
+
+pub counted_passes : (scene : SceneView) (lengths : Lengths) (products : List Product) (costs : Costs) →
+    lengths ≡ lengths_of scene → products ≡ kept_of scene (sum_of_products scene.show) →
+    costs ≡ cost_of lengths (passes_with scene (layout_with lengths.depth lengths.number) products) →
+    (costs.operations ≡ length (passes scene)) × (costs.clocks ≡ total scene)
+counted_passes scene lengths products costs lengths_is products_is costs_is =
+    let counted_of : Lengths → List Product → Costs
+    = λ l ps. cost_of l (passes_with scene (layout_with l.depth l.number) ps)
+    in let whole : costs ≡ cost_of (lengths_of scene) (passes scene)
+    = costs_is ∙ ap (λ l. counted_of l products) lengths_is ∙ ap (counted_of (lengths_of scene)) products_is
+    in (
+      ap (λ (c : Costs). c.operations) whole,
+      ap (λ (c : Costs). c.clocks) whole ∙ sym (total_is scene),
+    )
+
+-- the clocks that a solid adds to a product as a literal are no more: for each of its faces 5780 as a candidate, and 5770
+-- for each of at most 254 other literals; besides 150 and 5 for each of those
+abbrev most_added : SolidView → ℕ
+most_added s = face_count s * 1471360 + 1420
+
+-- what a solid adds to a product as a literal, where the lengths are those of a scene
+module _ (lengths : Lengths) (far : ℕ) (s : SolidView) where
+  abbrev edge_count : ℕ
+  edge_count = length s.sides + face_count s - 1
+
+  abbrev covered : Costs
+  covered = times edge_count (record { operations = 1; clocks = 41 + lengths.columns + lengths.rows })
+
+  abbrev turned : Costs
+  turned = plus covered (record { operations = 4; clocks = 5 + lengths.columns + lengths.rows + lengths.depth })
+
+  abbrev found : Costs
+  found = plus covered (record {
+    operations = 4;
+    clocks = 3 + lengths.columns + lengths.rows + lengths.depth + lengths.number;
+  })
+
+  turned_is : (face : ℕ) → face < face_count s →
+      turned ≡ cost_of lengths (turn (layout_with lengths.depth lengths.number) far s face)
+  turned_is face there =
+      ap (λ (costs : Costs). plus costs
+      (record { operations = 4; clocks = 5 + lengths.columns + lengths.rows + lengths.depth }))
+      (covered_costs lengths far s face edge_count there refl)
+      ∙ turn_costs lengths far s face
+
+  found_is : (face : ℕ) → face < face_count s →
+      found ≡ cost_of lengths (candidate (layout_with lengths.depth lengths.number) far s face)
+  found_is face there =
+      ap (λ (costs : Costs). plus costs
+      (record { operations = 4; clocks = 3 + lengths.columns + lengths.rows + lengths.depth + lengths.number }))
+      (covered_costs lengths far s face edge_count there refl)
+      ∙ candidate_costs lengths far s face
+
+  against_is : (plain : Bool) →
+      plus (times (face_count s) turned) (record { operations = 5; clocks = 5 })
+      ≡ cost_of lengths (passes_against lengths far s plain)
+  against_is plain = classify_costs lengths far s plain (face_count s) turned refl turned_is
+
+  own_is : (plain : Bool) →
+      plus (times (length (candidate_faces s plain)) found)
+      (record { operations = 6; clocks = 6 + 4 * (lengths.depth + lengths.number) })
+      ≡ cost_of lengths (own_passes lengths far s plain)
+  own_is plain = own_costs lengths far s plain (length (candidate_faces s plain)) found refl found_is
+
+  few_candidates : (plain : Bool) → length (candidate_faces s plain) ≤ face_count s
+  few_candidates true = omega (arith, length-range_with_len 0 (length s.fronts + 1))
+  few_candidates false = omega (arith, length-range_with_len (length s.fronts + 1) (length s.backs))
+
+  module _ (short : AreShort lengths) (lawful : IsLawfulSolid s) where
+    few_covered : covered.clocks ≤ 5723
+    few_covered =
+        mul-le edge_count (41 + lengths.columns + lengths.rows) 97 59
+        (omega (arith, lawful.few_sides, lawful.fronts.few, lawful.backs.few)) (omega (arith, short.levels))
+
+    few_turned : turned.clocks ≤ 5770
+    few_turned = omega (arith, few_covered, short.levels, short.depth)
+
+    few_found : found.clocks ≤ 5780
+    few_found = omega (arith, few_covered, short.levels, short.depth, short.number)
+
+    few_against : (plain : Bool) → (cost_of lengths (passes_against lengths far s plain)).clocks ≤ face_count s * 5770 + 5
+    few_against plain =
+        let same = ap (λ (costs : Costs). costs.clocks) (against_is plain)
+        in omega (arith, same, mul-le (face_count s) turned.clocks (face_count s) 5770 (omega arith) few_turned)
+
+    few_own : (plain : Bool) → (cost_of lengths (own_passes lengths far s plain)).clocks ≤ face_count s * 5780 + 150
+    few_own plain =
+        let same = ap (λ (costs : Costs). costs.clocks) (own_is plain)
+        in omega (
+          arith,
+          same,
+          mul-le (length (candidate_faces s plain)) found.clocks (face_count s) 5780 (few_candidates plain) few_found,
+          short.depth,
+          short.number,
+        )
+
+    pub few_shared : (plain : Bool) (others : ℕ) → others ≤ 254 →
+        (share lengths far s plain others).clocks ≤ most_added s
+    few_shared plain others few =
+        omega (
+          arith,
+          few_own plain,
+          mul-le others (cost_of lengths (passes_against lengths far s plain)).clocks 254
+              (face_count s * 5770 + 5) few (few_against plain),
+        )
+
+-- what the solids of a product add is at most what all solids do
+drop_less : (w : SolidView → ℕ) (ss : List SolidView) (from : ℕ) → sum_by w (drop (suc from) ss) ≤ sum_by w (drop from ss)
+drop_less w [] zero = omega arith
+drop_less w [] (suc from) = omega arith
+drop_less w (s ∷ ss) zero = omega (arith, sum_by-cons w s ss)
+drop_less w (s ∷ ss) (suc from) = drop_less w ss from
+
+module _ (w : SolidView → ℕ) (f g : ℕ → ℕ) (ss : List SolidView) (plain barred : ℕ → Bool)
+    (first : (q : ℕ) → q < length ss → f q ≤ w (get_or ss q no_solid))
+    (second : (q : ℕ) → q < length ss → g q ≤ w (get_or ss q no_solid)) where
+  abbrev both_parts : (plain_ones barred_ones : List ℕ) → ℕ
+  both_parts plain_ones barred_ones = sum_by f plain_ones + sum_by g barred_ones
+
+  abbrev later : (ℕ → Bool) → (from count : ℕ) → List ℕ
+  later test from count = filter test (range_with_len (from + 1) count)
+
+  parts_few : (from count : ℕ) → ((q : ℕ) → q < from + count → plain q ≡ true → q < length ss)
+      → ((q : ℕ) → q < from + count → barred q ≡ true → q < length ss)
+      → list_any barred (filter plain (range_with_len from count)) ≡ false
+      → both_parts (filter plain (range_with_len from count)) (filter barred (range_with_len from count))
+      ≤ sum_by w (drop from ss)
+  parts_few from zero plain_known barred_known apart = omega arith
+  parts_few from (suc count) plain_known barred_known apart =
+      step (plain from) (barred from) refl refl apart
+      (parts_few (from + 1) count (λ q there. plain_known q (omega arith)) (λ q there. barred_known q (omega arith)))
+    where
+      less : sum_by w (drop (from + 1) ss) ≤ sum_by w (drop from ss)
+      less = let next : from + 1 ≡ suc from = omega arith in rw next (drop_less w ss from)
+
+      step : (a b : Bool) → plain from ≡ a → barred from ≡ b
+          → list_any barred (cond a (from ∷ later plain from count) (later plain from count)) ≡ false
+          → (list_any barred (later plain from count) ≡ false
+          → both_parts (later plain from count) (later barred from count) ≤ sum_by w (drop (from + 1) ss))
+          → both_parts (cond a (from ∷ later plain from count) (later plain from count))
+          (cond b (from ∷ later barred from count) (later barred from count))
+          ≤ sum_by w (drop from ss)
+      step true true is_plain is_barred none rest = absurd (cc)
+      step true false is_plain is_barred none rest =
+          let there = plain_known from (omega arith) is_plain
+          in let others_apart : list_any barred (later plain from count) ≡ false = rw is_barred at none
+          in omega (
+            arith,
+            sum_by-cons f from (later plain from count),
+            sum_by-drop_more w ss from no_solid there,
+            first from there,
+            rest others_apart,
+          )
+      step false true is_plain is_barred none rest =
+          let there = barred_known from (omega arith) is_barred
+          in omega (
+            arith,
+            sum_by-cons g from (later barred from count),
+            sum_by-drop_more w ss from no_solid there,
+            second from there,
+            rest none,
+          )
+      step false false is_plain is_barred none rest = omega (arith, rest none, less)
+
+  pub sets_few : (product : Product) → plain ≡ has product.plain → barred ≡ has product.barred
+      → HasSolidsBelow (length ss) product → is_void product ≡ false
+      → both_parts (solids product.plain) (solids product.barred) ≤ sum_by w ss
+  sets_few product plain_is barred_is known apart = in_range 256 refl where
+    in_range : (count : ℕ) → count ≡ 256 → both_parts (solids product.plain) (solids product.barred) ≤ sum_by w ss
+    in_range count all =
+        let plain_ones = solids_range product.plain count all
+        in let barred_ones = solids_range product.barred count all
+        in let none = rw plain_ones at apart
+        in rw (plain_ones, barred_ones, ← plain_is, ← barred_is)
+        (parts_few 0 count
+        (λ q there is. known.0 q (omega arith) (rw plain_is at is))
+        (λ q there is. known.1 q (omega arith) (rw barred_is at is))
+        (rw (plain_is, barred_is) none))
+
+-- what all solids add
+weights_sum : (ss : List SolidView) →
+    sum_by most_added ss ≡ (faces_of ss + length ss) * 1471360 + length ss * 1420
+weights_sum [] = refl
+weights_sum (s ∷ ss) =
+    omega (arith, sum_by-cons most_added s ss, sum_by-cons faces_in s ss, weights_sum ss)
+
+module _ (scene : SceneView) (lawful : IsLawfulScene scene) (each : All IsLawfulSolid scene.solids) where
+  pub scene_short : AreShort (lengths_of scene)
+  scene_short = record {
+    levels = omega (
+      arith,
+      (exponent_between scene.width lawful.width).1,
+      (exponent_between scene.height lawful.height).1,
+    );
+    depth = lawful.depth;
+    number = number_few (faces_of scene.solids);
+  }
+
+  few_literals : (product : Product) → HasSolidsBelow (length scene.solids) product → is_void product ≡ false →
+      length (literals product) ≤ 255
+  few_literals product known apart =
+      omega (
+        arith,
+        literals_length product,
+        counted (solids product.plain),
+        counted (solids product.barred),
+        counted scene.solids,
+        sets_few (λ s. 1) (λ q. 1) (λ q. 1) scene.solids (has product.plain) (has product.barred)
+            (λ q there. omega arith) (λ q there. omega arith) product refl refl known apart,
+        lawful.solids,
+      )
+
+  few_added : (product : Product) → HasSolidsBelow (length scene.solids) product → is_void product ≡ false →
+      (cost_of (lengths_of scene) (product_passes (lengths_of scene) scene product)).clocks ≤ 6400778100
+  few_added product known apart =
+      let lengths = lengths_of scene
+      in let others = length (literals product) - 1
+      in let few : others ≤ 254 = omega (arith, few_literals product known apart)
+      in let added : Bool → ℕ → ℕ
+      = λ plain solid. (share lengths (far_of scene) (solid_of scene solid) plain others).clocks
+      in let within : (plain : Bool) (q : ℕ) → q < length scene.solids → added plain q ≤ most_added (solid_of scene q)
+      = λ plain q there. few_shared lengths (far_of scene) (solid_of scene q) scene_short
+      (each q no_solid there) plain others few
+      in let same = ap (λ (costs : Costs). costs.clocks) (product_costs lengths scene product others refl apart)
+      in omega (
+        arith,
+        same,
+        sets_few most_added (added true) (added false) scene.solids (has product.plain) (has product.barred)
+            (within true) (within false) product refl refl known apart,
+        weights_sum scene.solids,
+        lawful.faces,
+        lawful.solids,
+      )
+
+  pub few_clocks : AreKnown → length (sum_of_products scene.show) ≤ 1024 → total scene < 2 ^ 43
+  few_clocks known few =
+      let lengths = lengths_of scene
+      in let kept = kept_of scene (sum_of_products scene.show)
+      in let weight : Product → ℕ = λ product. sum_by (clocks_on lengths) (product_passes lengths scene product)
+      in let below : All (λ product. weight product ≤ 6400778100) kept
+      = λ k d there. omega (
+        arith,
+        few_added (get_or kept k d) (kept_known scene lawful known k d there)
+            (known.apart scene (sum_of_products scene.show) k d there),
+        clocked lengths (product_passes lengths scene (get_or kept k d)),
+      )
+      in omega (
+        arith,
+        total_is scene,
+        clocked lengths (passes scene),
+        passes_weight lengths scene (clocks_on lengths) kept,
+        sum_by-le weight 6400778100 kept below,
+        kept_few scene (sum_of_products scene.show),
+        scene_short.depth,
+        scene_short.number,
+      )
+
+-- at least a clock for each operation
+module _ (lengths : Lengths) (some : 1 ≤ lengths.depth) (scene : SceneView) where
+  abbrev Pays : List Macro → Type 0
+  Pays ms = sum_by one ms ≤ sum_by (clocks_on lengths) ms
+
+  pays_flat : {A : Type 0} (f : A → List Macro) → ((x : A) → Pays (f x)) → (xs : List A) → Pays (flat_map f xs)
+  pays_flat f each xs =
+      omega (
+        arith,
+        flat_weight one f xs,
+        flat_weight (clocks_on lengths) f xs,
+        sum_by-le-sum_by (λ x. sum_by one (f x)) (λ x. sum_by (clocks_on lengths) (f x)) xs each,
+      )
+
+  pays_signs : (forms : List Linear) → Pays (map m.KeepSign forms)
+  pays_signs [] = omega arith
+  pays_signs (form ∷ forms) =
+      omega (
+        arith,
+        sum_by-cons one (m.KeepSign form) (map m.KeepSign forms),
+        sum_by-cons (clocks_on lengths) (m.KeepSign form) (map m.KeepSign forms),
+        pays_signs forms,
+      )
+
+  module _ (s : SolidView) where
+    pays_turn : (face : ℕ) → Pays (turn (layout_with lengths.depth lengths.number) (far_of scene) s face)
+    pays_turn face =
+        omega (
+          arith,
+          turn_weight one lengths.depth lengths.number (far_of scene) s face,
+          turn_weight (clocks_on lengths) lengths.depth lengths.number (far_of scene) s face,
+          pays_signs (edges s (far_of scene) face),
+        )
+
+    pays_candidate : (face : ℕ) → Pays (candidate (layout_with lengths.depth lengths.number) (far_of scene) s face)
+    pays_candidate face =
+        omega (
+          arith,
+          candidate_weight one lengths.depth lengths.number (far_of scene) s face,
+          candidate_weight (clocks_on lengths) lengths.depth lengths.number (far_of scene) s face,
+          pays_signs (edges s (far_of scene) face),
+        )
+
+    pays_against : (plain : Bool) → Pays (passes_against lengths (far_of scene) s plain)
+    pays_against plain =
+        let l = layout_with lengths.depth lengths.number
+        in let turns = flat_map (turn l (far_of scene) s) (range_with_len 0 (face_count s))
+        in let front = m.All ∷ m.SetBit l.par false ∷ []
+        in let back = m.All ∷ m.KeepBit l.par (not plain) ∷ m.SetBit l.alive false ∷ []
+        in omega (
+          arith,
+          sum_by-append one (front ++ turns) back,
+          sum_by-append one front turns,
+          sum_by-append (clocks_on lengths) (front ++ turns) back,
+          sum_by-append (clocks_on lengths) front turns,
+          pays_flat (turn l (far_of scene) s) pays_turn (range_with_len 0 (face_count s)),
+        )
+
+    pays_own : (plain : Bool) → Pays (own_passes lengths (far_of scene) s plain)
+    pays_own plain =
+        let l = layout_with lengths.depth lengths.number
+        in let found_ones = flat_map (candidate l (far_of scene) s) (candidate_faces s plain)
+        in let front = m.All ∷ m.SetBit l.alive false ∷ []
+        in omega (
+          arith,
+          sum_by-append one (front ++ found_ones) (merge l),
+          sum_by-append one front found_ones,
+          sum_by-append (clocks_on lengths) (front ++ found_ones) (merge l),
+          sum_by-append (clocks_on lengths) front found_ones,
+          pays_flat (candidate l (far_of scene) s) pays_candidate (candidate_faces s plain),
+        )
+
+  pays_literal : (product : Product) (q : Literal) →
+      Pays (literal_passes scene (layout_with lengths.depth lengths.number) product q)
+  pays_literal product q =
+      omega (
+        arith,
+        literal_weight one lengths scene product q,
+        literal_weight (clocks_on lengths) lengths scene product q,
+        pays_own (solid_of scene q.solid) q.plain,
+        sum_by-le-sum_by
+            (λ r. sum_by one (passes_against lengths (far_of scene) (solid_of scene r.solid) r.plain))
+            (λ r. sum_by (clocks_on lengths) (passes_against lengths (far_of scene) (solid_of scene r.solid) r.plain))
+            (others q product)
+            (λ r. pays_against (solid_of scene r.solid) r.plain),
+      )
+
+  pub pays_passes : (products : List Product) →
+      Pays (passes_with scene (layout_with lengths.depth lengths.number) products)
+  pays_passes products =
+      omega (
+        arith,
+        passes_weight lengths scene one products,
+        passes_weight lengths scene (clocks_on lengths) products,
+        sum_by-le-sum_by
+            (λ product. sum_by one (product_passes lengths scene product))
+            (λ product. sum_by (clocks_on lengths) (product_passes lengths scene product))
+            products
+            (λ product. pays_flat (literal_passes scene (layout_with lengths.depth lengths.number) product)
+            (pays_literal product) (literals product)),
+      )
+
+pub some_clocks : (scene : SceneView) → IsLawfulScene scene → length (passes scene) ≤ total scene
+some_clocks scene lawful =
+    omega (
+      arith,
+      total_is scene,
+      ones (passes scene),
+      clocked (lengths_of scene) (passes scene),
+      pays_passes (lengths_of scene) lawful.some_depth scene (kept_of scene (sum_of_products scene.show)),
+    )

@@ -1,0 +1,356 @@
+-- What the passes of faces and literals cost, as sums over their operations.
+use Rattle.std.proofs.Common.{◌≡◌, ℕ, suc, zero, ◌+◌, ◌-◌, ◌*◌, ◌<◌, ◌≤◌, ◌^◌, Bool, true, false, not, nat_le, if◌then◌else◌, List, [], ◌∷◌, ◌++◌, length, map, get_or, refl, ap, sym, ◌∙◌, arith}
+use Rattle.std.specs.List.{count_by, flat_map, range_with_len, sum_by}
+use Rattle.std.proofs.lemmas.Bool.Decides.{nat_tests}
+use Rattle.std.proofs.lemmas.List.{length-append, length-drop, length-map, length-take}
+use Rattle.std.proofs.lemmas.List.Concat.{length-flat_map}
+use Rattle.std.proofs.lemmas.List.FromFn.{length-range_with_len}
+use Rattle.std.proofs.lemmas.List.Sums.{count_by-le-length, sum_by-append, sum_by-cons}
+use Rattle.std.proofs.lemmas.Nat.{mul-le}
+use Rattle.px_num.specs.declared.linear.Linear.{Linear}
+use Rattle.px_num.specs.Lists.{length-tabulate}
+use Rattle.px_asm.specs.Micros.{all_micros, cycles, micro_at, micros}
+use Rattle.px_face.specs.Edges.{above, back_edges, edges, front_edges, leads, over, trails, under}
+use Rattle.px_face.specs.Faces.{back_planes, face_count, front_planes, is_front, level, number_of, plane_of, planes_of}
+use Rattle.px_macro.specs.declared.operation.Macro.{Macro}
+use Rattle.px_macro.specs.declared.operation.Macro.TheVariants as m
+use Rattle.px_scene.specs.declared.solid.Face.{Face}
+use Rattle.px_scene.specs.Scenes.{SceneView}
+use Rattle.px_scene.specs.Solids.{SolidView}
+use Rattle.px_sched.specs.Layouts.{bit_length, depth_part, layout_with, number_part}
+use Rattle.px_sched.specs.Passes.{candidate, candidate_faces, classify, keep_covered, merge, passes_with, turn}
+use Rattle.px_control.specs.declared.costs.Costs.{Costs}
+use Rattle.px_control.specs.declared.costs.Lengths.{Lengths}
+use Rattle.px_control.specs.Costs.{IsAtMost, cost_of, own_passes, plus, times}
+
+-- a face has an edge for each side, and one for each of the other faces
+leads_length : (p : Linear) (planes : List Linear) (i : ℕ) → i < length planes →
+    length (leads p planes i) + 1 ≡ length planes
+leads_length p planes i there =
+    simp (length-append, length-map, length-take, length-drop) (omega arith)
+
+trails_length : (p : Linear) (planes : List Linear) (i : ℕ) → i < length planes →
+    length (trails p planes i) + 1 ≡ length planes
+trails_length p planes i there =
+    simp (length-append, length-map, length-take, length-drop) (omega arith)
+
+fronts_length : (fronts : List Face) → length (front_planes fronts) ≡ length fronts + 1
+fronts_length fronts = omega (arith, length-map fronts (λ f. f.plane))
+
+backs_length : (backs : List Face) (far : ℕ) → length (back_planes backs far) ≡ length backs + 1
+backs_length backs far = omega (arith, length-map backs (λ f. f.plane), length-append (planes_of backs) (level far ∷ []))
+
+front_edges_length : (s : SolidView) (far i : ℕ) → i ≤ length s.fronts →
+    length (front_edges s far i) + 1 ≡ length s.sides + face_count s
+front_edges_length s far i there =
+    let p = get_or (front_planes s.fronts) i (level 0)
+    in let n = fronts_length s.fronts
+    in let k = backs_length s.backs far
+    in let lead : length (leads p (front_planes s.fronts) i) + 1 ≡ length (front_planes s.fronts)
+    = leads_length p (front_planes s.fronts) i (omega (arith, n))
+    in let below : length (under p (back_planes s.backs far)) ≡ length (back_planes s.backs far)
+    = length-map (back_planes s.backs far) (λ q. above q p)
+    in let whole = length-append (s.sides ++ leads p (front_planes s.fronts) i) (under p (back_planes s.backs far))
+    in let part = length-append s.sides (leads p (front_planes s.fronts) i)
+    in omega (arith, whole, part, lead, below, n, k)
+
+back_edges_length : (s : SolidView) (far i : ℕ) → i ≤ length s.backs →
+    length (back_edges s far i) + 1 ≡ length s.sides + face_count s
+back_edges_length s far i there =
+    let p = get_or (back_planes s.backs far) i (level 0)
+    in let n = fronts_length s.fronts
+    in let k = backs_length s.backs far
+    in let trail : length (trails p (back_planes s.backs far) i) + 1 ≡ length (back_planes s.backs far)
+    = trails_length p (back_planes s.backs far) i (omega (arith, k))
+    in let behind : length (over p (front_planes s.fronts)) ≡ length (front_planes s.fronts)
+    = length-map (front_planes s.fronts) (λ q. above p q)
+    in let whole = length-append (s.sides ++ trails p (back_planes s.backs far) i) (over p (front_planes s.fronts))
+    in let part = length-append s.sides (trails p (back_planes s.backs far) i)
+    in omega (arith, whole, part, trail, behind, n, k)
+
+pub edges_length : (s : SolidView) (far face : ℕ) → face < face_count s →
+    length (edges s far face) + 1 ≡ length s.sides + face_count s
+edges_length s far face there = by_kind (is_front s face) refl where
+  by_kind : (b : Bool) → is_front s face ≡ b →
+      length (if b then front_edges s far face else back_edges s far (face - (length s.fronts + 1))) + 1
+      ≡ length s.sides + face_count s
+  by_kind true front =
+      let low : face < length s.fronts + 1 = grind (arith, nat_tests)
+      in front_edges_length s far face (omega arith)
+  by_kind false back =
+      let high : length s.fronts + 1 ≤ face = grind (arith, nat_tests)
+      in back_edges_length s far (face - (length s.fronts + 1)) (omega arith)
+
+-- sums
+pub sum_by-agree : {A : Type 0} (f g : A → ℕ) → ((x : A) → f x ≡ g x) → (xs : List A) → sum_by f xs ≡ sum_by g xs
+sum_by-agree f g same [] = refl
+sum_by-agree f g same (x ∷ xs) =
+    omega (arith, sum_by-cons f x xs, sum_by-cons g x xs, same x, sum_by-agree f g same xs)
+
+pub sum_by-same : (f : ℕ → ℕ) (value from count : ℕ) → ((i : ℕ) → i < from + count → f i ≡ value)
+    → sum_by f (range_with_len from count) ≡ count * value
+sum_by-same f value from zero same = omega arith
+sum_by-same f value from (suc count) same =
+    omega (
+      arith,
+      sum_by-cons f from (range_with_len (from + 1) count),
+      same from (omega arith),
+      sum_by-same f value (from + 1) count (λ i below. same i (omega arith)),
+    )
+
+-- the weight of operations, each of which has its own
+module _ (w : Macro → ℕ) where
+  pub flat_weight : {A : Type 0} (f : A → List Macro) (xs : List A) →
+      sum_by w (flat_map f xs) ≡ sum_by (λ x. sum_by w (f x)) xs
+  flat_weight f [] = refl
+  flat_weight f (x ∷ xs) =
+      omega (
+        arith,
+        sum_by-append w (f x) (flat_map f xs),
+        sum_by-cons (λ y. sum_by w (f y)) x xs,
+        flat_weight f xs,
+      )
+
+  signs_weight : (sign : ℕ) → ((form : Linear) → w (m.KeepSign form) ≡ sign) → (forms : List Linear) →
+      sum_by w (map m.KeepSign forms) ≡ length forms * sign
+  signs_weight sign each [] = omega arith
+  signs_weight sign each (form ∷ forms) =
+      omega (
+        arith,
+        sum_by-cons w (m.KeepSign form) (map m.KeepSign forms),
+        each form,
+        signs_weight sign each forms,
+      )
+
+  pub covered_weight : (sign : ℕ) → ((form : Linear) → w (m.KeepSign form) ≡ sign) → (s : SolidView) (far face : ℕ)
+      → face < face_count s → sum_by w (keep_covered far s face) ≡ (length s.sides + face_count s - 1) * sign
+  covered_weight sign each s far face there =
+      let count : length (edges s far face) ≡ length s.sides + face_count s - 1
+      = omega (arith, edges_length s far face there)
+      in signs_weight sign each (edges s far face) ∙ ap (λ n. n * sign) count
+
+  pub turn_weight : (d n far : ℕ) (s : SolidView) (face : ℕ) → let l = layout_with d n in
+      sum_by w (turn l far s face)
+      ≡ sum_by w (keep_covered far s face)
+      + (w m.All + w (m.KeepBit l.alive true) + w (m.KeepAtMost (plane_of s far face) (depth_part l l.key_t))
+      + w (m.Toggle l.par))
+  turn_weight d n far s face =
+      let l = layout_with d n
+      in let back = m.KeepAtMost (plane_of s far face) (depth_part l l.key_t) ∷ m.Toggle l.par ∷ []
+      in omega (
+        arith,
+        sum_by-append w (m.All ∷ m.KeepBit l.alive true ∷ keep_covered far s face) back,
+        sum_by-append w (m.All ∷ m.KeepBit l.alive true ∷ []) (keep_covered far s face),
+      )
+
+  pub candidate_weight : (d n far : ℕ) (s : SolidView) (face : ℕ) → let l = layout_with d n in
+      sum_by w (candidate l far s face)
+      ≡ sum_by w (keep_covered far s face)
+      + (w m.All + w (m.LoadLinear (plane_of s far face) (depth_part l l.key_t))
+      + w (m.LoadConst (number_part l l.key_t) (number_of s face)) + w (m.SetBit l.alive true))
+  candidate_weight d n far s face =
+      let l = layout_with d n
+      in let back = m.LoadLinear (plane_of s far face) (depth_part l l.key_t)
+      ∷ m.LoadConst (number_part l l.key_t) (number_of s face)
+      ∷ m.SetBit l.alive true ∷ []
+      in omega (
+        arith,
+        sum_by-append w (m.All ∷ keep_covered far s face) back,
+        sum_by-append w (m.All ∷ []) (keep_covered far s face),
+      )
+
+  pub classify_weight : (d n far : ℕ) (s : SolidView) (plain : Bool) (value : ℕ) → let l = layout_with d n in
+      ((face : ℕ) → face < face_count s → sum_by w (turn l far s face) ≡ value) →
+      sum_by w (classify l far s plain)
+      ≡ face_count s * value
+      + (w m.All + w (m.SetBit l.par false) + (w m.All + w (m.KeepBit l.par (not plain)) + w (m.SetBit l.alive false)))
+  classify_weight d n far s plain value each =
+      let l = layout_with d n
+      in let turns = flat_map (turn l far s) (range_with_len 0 (face_count s))
+      in let back = m.All ∷ m.KeepBit l.par (not plain) ∷ m.SetBit l.alive false ∷ []
+      in omega (
+        arith,
+        sum_by-append w (m.All ∷ m.SetBit l.par false ∷ turns) back,
+        sum_by-append w (m.All ∷ m.SetBit l.par false ∷ []) turns,
+        flat_weight (turn l far s) (range_with_len 0 (face_count s)),
+        sum_by-same (λ face. sum_by w (turn l far s face)) value 0 (face_count s) (λ face below. each face (omega arith)),
+      )
+
+  faces_weight : (d n far : ℕ) (s : SolidView) (plain : Bool) (value : ℕ) → let l = layout_with d n in
+      ((face : ℕ) → face < face_count s → sum_by w (candidate l far s face) ≡ value) →
+      sum_by w (flat_map (candidate l far s) (candidate_faces s plain))
+      ≡ length (candidate_faces s plain) * value
+  faces_weight d n far s true value each =
+      rw (length-range_with_len 0 (length s.fronts + 1))
+      (flat_weight (candidate (layout_with d n) far s) (range_with_len 0 (length s.fronts + 1))
+      ∙ sum_by-same (λ face. sum_by w (candidate (layout_with d n) far s face)) value 0 (length s.fronts + 1)
+      (λ face below. each face (omega arith)))
+  faces_weight d n far s false value each =
+      rw (length-range_with_len (length s.fronts + 1) (length s.backs))
+      (flat_weight (candidate (layout_with d n) far s) (range_with_len (length s.fronts + 1) (length s.backs))
+      ∙ sum_by-same (λ face. sum_by w (candidate (layout_with d n) far s face)) value (length s.fronts + 1)
+      (length s.backs)
+      (λ face below. each face (omega arith)))
+
+  pub own_weight : (lengths : Lengths) (far : ℕ) (s : SolidView) (plain : Bool) (value : ℕ) →
+      let l = layout_with lengths.depth lengths.number in
+      ((face : ℕ) → face < face_count s → sum_by w (candidate l far s face) ≡ value) →
+      sum_by w (own_passes lengths far s plain)
+      ≡ length (candidate_faces s plain) * value
+      + (w m.All + w (m.SetBit l.alive false)
+      + (w m.All + w (m.KeepBit l.alive true) + w (m.KeepLess l.key_t l.key_b) + w (m.Copy l.key_t l.key_b)))
+  own_weight lengths far s plain value each =
+      let l = layout_with lengths.depth lengths.number
+      in let found = flat_map (candidate l far s) (candidate_faces s plain)
+      in omega (
+        arith,
+        sum_by-append w (m.All ∷ m.SetBit l.alive false ∷ found) (merge l),
+        sum_by-append w (m.All ∷ m.SetBit l.alive false ∷ []) found,
+        faces_weight lengths.depth lengths.number far s plain value each,
+      )
+
+-- operations are weighed by 1 for their number, and by their cycles for their clocks
+abbrev pub one : Macro → ℕ
+one operation = 1
+
+abbrev pub clocks_on : Lengths → Macro → ℕ
+clocks_on lengths operation = cycles operation lengths.columns lengths.rows
+
+pub counted : {A : Type 0} (xs : List A) → length xs ≡ sum_by (λ x. 1) xs
+counted [] = refl
+counted {A = A} (x ∷ xs) = let one_each : A → ℕ = λ y. 1 in omega (arith, sum_by-cons one_each x xs, counted xs)
+
+pub ones : (ms : List Macro) → length ms ≡ sum_by one ms
+ones ms = counted ms
+
+pub clocked : (lengths : Lengths) (ms : List Macro) →
+    length (all_micros ms lengths.columns lengths.rows) ≡ sum_by (clocks_on lengths) ms
+clocked lengths ms =
+    length-flat_map (λ o. micros o lengths.columns lengths.rows) ms
+    ∙ sum_by-agree (λ o. length (micros o lengths.columns lengths.rows)) (clocks_on lengths)
+    (λ o. length-tabulate (cycles o lengths.columns lengths.rows) (micro_at o lengths.columns lengths.rows)) ms
+
+same_costs : (operations clocks o c : ℕ) → operations ≡ o → clocks ≡ c →
+    let both : ℕ → ℕ → Costs = λ n k. record { operations = n; clocks = k } in both operations clocks ≡ both o c
+same_costs operations clocks o c first second = rw (first, second) refl
+
+pub cost_is : (lengths : Lengths) (costs : Costs) (ms : List Macro) →
+    costs.operations ≡ sum_by one ms → costs.clocks ≡ sum_by (clocks_on lengths) ms → costs ≡ cost_of lengths ms
+cost_is lengths costs ms operations clocks =
+    same_costs costs.operations costs.clocks (cost_of lengths ms).operations (cost_of lengths ms).clocks
+    (operations ∙ sym (ones ms)) (clocks ∙ sym (clocked lengths ms))
+
+pub times_at_most : (n most count : ℕ) (costs : Costs) → count ≤ n → IsAtMost most costs →
+    IsAtMost (n * most) (times count costs)
+times_at_most n most count costs few each = record {
+  operations = mul-le count costs.operations n most few each.operations;
+  clocks = mul-le count costs.clocks n most few each.clocks;
+}
+
+pub plus_at_most : (n k : ℕ) (a b : Costs) → IsAtMost n a → IsAtMost k b → IsAtMost (n + k) (plus a b)
+plus_at_most n k a b first second = record {
+  operations = omega (arith, first.operations, second.operations);
+  clocks = omega (arith, first.clocks, second.clocks);
+}
+
+pub at_most_more : (n k : ℕ) (costs : Costs) → n ≤ k → IsAtMost n costs → IsAtMost k costs
+at_most_more n k costs more each = record {
+  operations = omega (arith, each.operations);
+  clocks = omega (arith, each.clocks);
+}
+
+powers_few : (n count : ℕ) → count_by (λ t. nat_le (2 ^ t) n) (range_with_len 0 count) ≤ count
+powers_few n count =
+    omega (arith, count_by-le-length (λ t. nat_le (2 ^ t) n) (range_with_len 0 count), length-range_with_len 0 count)
+
+pub number_few : (n : ℕ) → bit_length n ≤ 12
+number_few n = powers_few n 12
+
+pub background_costs : (lengths : Lengths) (scene : SceneView) →
+    let result : Costs = record { operations = 2; clocks = 1 + lengths.depth + lengths.number } in
+    result ≡ cost_of lengths (passes_with scene (layout_with lengths.depth lengths.number) [])
+background_costs lengths scene =
+    cost_is lengths (record { operations = 2; clocks = 1 + lengths.depth + lengths.number })
+    (passes_with scene (layout_with lengths.depth lengths.number) []) refl (omega arith)
+
+module _ (lengths : Lengths) (far : ℕ) (s : SolidView) where
+  pub covered_costs : (face count : ℕ) → face < face_count s → count ≡ length s.sides + face_count s - 1 →
+      times count (record { operations = 1; clocks = 41 + lengths.columns + lengths.rows })
+      ≡ cost_of lengths (keep_covered far s face)
+  covered_costs face count there same =
+      cost_is lengths (times count (record { operations = 1; clocks = 41 + lengths.columns + lengths.rows }))
+      (keep_covered far s face)
+      (rw same (sym (covered_weight one 1 (λ form. refl) s far face there)))
+      (rw same (sym (covered_weight (clocks_on lengths) (41 + lengths.columns + lengths.rows)
+      (λ form. omega arith) s far face there)))
+
+  abbrev covered : ℕ → List Macro
+  covered face = keep_covered far s face
+
+  pub turn_costs : (face : ℕ) →
+      plus (cost_of lengths (keep_covered far s face))
+      (record { operations = 4; clocks = 5 + lengths.columns + lengths.rows + lengths.depth })
+      ≡ cost_of lengths (turn (layout_with lengths.depth lengths.number) far s face)
+  turn_costs face =
+      cost_is lengths _ (turn (layout_with lengths.depth lengths.number) far s face)
+      (omega (arith, ones (covered face), turn_weight one lengths.depth lengths.number far s face))
+      (omega (
+        arith,
+        clocked lengths (covered face),
+        turn_weight
+            (clocks_on lengths) lengths.depth lengths.number far s face,
+      ))
+
+  pub candidate_costs : (face : ℕ) →
+      plus (cost_of lengths (keep_covered far s face))
+      (record { operations = 4; clocks = 3 + lengths.columns + lengths.rows + lengths.depth + lengths.number })
+      ≡ cost_of lengths (candidate (layout_with lengths.depth lengths.number) far s face)
+  candidate_costs face =
+      cost_is lengths _ (candidate (layout_with lengths.depth lengths.number) far s face)
+      (omega (arith, ones (covered face), candidate_weight one lengths.depth lengths.number far s face))
+      (omega (
+        arith,
+        clocked lengths (covered face),
+        candidate_weight
+            (clocks_on lengths) lengths.depth lengths.number far s face,
+      ))
+
+  pub classify_costs : (plain : Bool) (count : ℕ) (turned : Costs) → count ≡ face_count s →
+      ((face : ℕ) → face < face_count s → turned ≡ cost_of lengths
+      (turn (layout_with lengths.depth lengths.number) far s face)) →
+      plus (times count turned) (record { operations = 5; clocks = 5 })
+      ≡ cost_of lengths (classify (layout_with lengths.depth lengths.number) far s plain)
+  classify_costs plain count turned same each =
+      cost_is lengths _ (classify (layout_with lengths.depth lengths.number) far s plain)
+      (rw same (omega (
+        arith,
+        classify_weight one lengths.depth lengths.number far s plain turned.operations
+            (λ face there. sym (ap (λ costs. costs.operations) (each face there)
+            ∙ ones (turn (layout_with lengths.depth lengths.number) far s face))),
+      )))
+      (rw same (omega (
+        arith,
+        classify_weight (clocks_on lengths) lengths.depth lengths.number far s plain turned.clocks
+            (λ face there. sym (ap (λ costs. costs.clocks) (each face there)
+            ∙ clocked lengths (turn (layout_with lengths.depth lengths.number) far s face))),
+      )))
+
+  pub own_costs : (plain : Bool) (count : ℕ) (found : Costs) → count ≡ length (candidate_faces s plain) →
+      ((face : ℕ) → face < face_count s → found ≡ cost_of lengths
+      (candidate (layout_with lengths.depth lengths.number) far s face)) →
+      plus (times count found) (record { operations = 6; clocks = 6 + 4 * (lengths.depth + lengths.number) })
+      ≡ cost_of lengths (own_passes lengths far s plain)
+  own_costs plain count found same each =
+      cost_is lengths _ (own_passes lengths far s plain)
+      (rw same (omega (
+        arith,
+        own_weight one lengths far s plain found.operations
+            (λ face there. sym (ap (λ costs. costs.operations) (each face there)
+            ∙ ones (candidate (layout_with lengths.depth lengths.number) far s face))),
+      )))
+      (rw same (omega (
+        arith,
+        own_weight (clocks_on lengths) lengths far s plain found.clocks
+            (λ face there. sym (ap (λ costs. costs.clocks) (each face there)
+            ∙ clocked lengths (candidate (layout_with lengths.depth lengths.number) far s face))),
+      )))

@@ -1,0 +1,119 @@
+-- The ends of operations before and after a clock.
+use Rattle.std.proofs.Common.{◌≡◌, ℕ, zero, suc, ◌+◌, ◌-◌, ◌<◌, ◌≤◌, true, false, List, [], ◌∷◌, ◌++◌, length, take, drop, filter, Option, Some, None, refl, ap, ◌∙◌, arith, length-append, add-one}
+use Rattle.std.specs.List.{flat_map, slice_get}
+use Rattle.std.specs.Prelude.{nat_lt, nat_le}
+use Rattle.std.proofs.Math.Seq.{drop-cons}
+use Rattle.std.proofs.lemmas.Bool.{lt-ltb}
+use Rattle.std.proofs.lemmas.Bool.Decides.{nat_tests}
+use Rattle.std.proofs.lemmas.Option.{slice_get_within, get_or_from_slice_get}
+use Rattle.std.proofs.lemmas.List.{take_all, take-append-drop}
+use Rattle.std.proofs.lemmas.List.Concat.{flat_map-append, flat_map-cons}
+use Rattle.px_num.specs.Lists.{length-tabulate}
+use Rattle.px_array.specs.declared.micro.Micro.{Micro}
+use Rattle.px_asm.specs.Micros.{all_micros, micros}
+use Rattle.px_macro.specs.declared.operation.Macro.{Macro}
+use Rattle.px_scene.specs.Scenes.{SceneView}
+use Rattle.px_control.specs.Program.{columns_of, cycles_in, ends_from, rows_of}
+
+-- whether the micro is one of the operation's, or the first where none is left
+abbrev pub IsMicroOf : SceneView → (micro : ℕ) → Option Macro → Type 0
+IsMicroOf scene micro None = micro ≡ 0
+IsMicroOf scene micro (Some m) = micro < cycles_in scene m
+
+-- where operation k of a list begins
+abbrev pub start_in : SceneView → List Macro → (k : ℕ) → ℕ
+start_in scene ms k = length (all_micros (take k ms) (columns_of scene) (rows_of scene))
+
+abbrev micros_in : SceneView → Macro → List Micro
+micros_in scene m = micros m (columns_of scene) (rows_of scene)
+
+start_cons : (scene : SceneView) (x : Macro) (xs : List Macro) (k : ℕ) → start_in scene (x ∷ xs) (suc k) ≡ cycles_in scene x + start_in scene xs k
+start_cons scene x xs k = simp (flat_map-cons, length-append, length-tabulate)
+
+lt_no : (a b : ℕ) → b ≤ a → nat_lt a b ≡ false
+lt_no a b h = grind (arith, nat_tests)
+
+le_no : (a b : ℕ) → b < a → nat_le a b ≡ false
+le_no a b h = grind (arith, nat_tests)
+
+le_yes : (a b : ℕ) → a ≤ b → nat_le a b ≡ true
+le_yes a b h = grind (arith, nat_tests)
+
+keep_all : (scene : SceneView) (ms : List Macro) (b n : ℕ) → n < b → filter (λ e. nat_lt n e) (ends_from scene ms b) ≡ ends_from scene ms b
+keep_all scene [] b n h = refl
+keep_all scene (x ∷ xs) b n h =
+    let t = lt-ltb n (b + cycles_in scene x) (omega arith) in
+    rw t (ap (λ ys. (b + cycles_in scene x) ∷ ys) (keep_all scene xs (b + cycles_in scene x) n (omega arith)))
+
+micro_below : (scene : SceneView) (i : ℕ) (x : Macro) (o : Option Macro) → Some x ≡ o → IsMicroOf scene i o → i < cycles_in scene x
+micro_below scene i x o e w = rw (← e) at w
+
+-- the ends after a clock are those of the operations from its own on
+pub ends_here : (scene : SceneView) (ms : List Macro) (k i b n : ℕ) (o : Option Macro) → slice_get ms k ≡ o → IsMicroOf scene i o →
+    n ≡ b + (start_in scene ms k + i) →
+    filter (λ e. nat_lt n e) (ends_from scene ms b) ≡ ends_from scene (drop k ms) (b + start_in scene ms k)
+ends_here scene [] zero i b n o e w h = refl
+ends_here scene [] (suc k) i b n o e w h = refl
+ends_here scene (x ∷ xs) zero i b n o e w h =
+    let l = micro_below scene i x o e w in
+    let t = lt-ltb n (b + cycles_in scene x) (omega arith) in
+    rw (t, keep_all scene xs (b + cycles_in scene x) n (omega arith))
+    (ap (λ z. ends_from scene (x ∷ xs) z) (let z : b ≡ b + start_in scene (x ∷ xs) 0 = omega arith in z))
+ends_here scene (x ∷ xs) (suc k) i b n o e w h =
+    let s = start_cons scene x xs k in
+    let ih = ends_here scene xs k i (b + cycles_in scene x) n o e w (omega arith) in
+    let t = lt_no n (b + cycles_in scene x) (omega arith) in
+    rw (t, s) (ih ∙ ap (λ z. ends_from scene (drop k xs) z) (omega arith))
+
+none_below : (scene : SceneView) (ms : List Macro) (b n : ℕ) → n < b → filter (λ e. nat_le e n) (ends_from scene ms b) ≡ []
+none_below scene [] b n h = refl
+none_below scene (x ∷ xs) b n h =
+    let ih = none_below scene xs (b + cycles_in scene x) n (omega arith) in
+    let t = le_no (b + cycles_in scene x) n (omega arith) in
+    rw (t, ih) refl
+
+-- as many operations have ended as stand before the clock's own
+pub operation_here : (scene : SceneView) (ms : List Macro) (k i b n : ℕ) (o : Option Macro) → slice_get ms k ≡ o → IsMicroOf scene i o →
+    n ≡ b + (start_in scene ms k + i) → k ≤ length ms →
+    length (filter (λ e. nat_le e n) (ends_from scene ms b)) ≡ k
+operation_here scene [] zero i b n o e w h l = refl
+operation_here scene [] (suc k) i b n o e w h l = absurd (omega arith)
+operation_here scene (x ∷ xs) zero i b n o e w h l =
+    let r = micro_below scene i x o e w in
+    let ih = none_below scene xs (b + cycles_in scene x) n (omega arith) in
+    let t = le_no (b + cycles_in scene x) n (omega arith) in
+    rw (t, ih) refl
+operation_here scene (x ∷ xs) (suc k) i b n o e w h l =
+    let s = start_cons scene x xs k in
+    let ih = operation_here scene xs k i (b + cycles_in scene x) n o e w (omega arith) (omega arith) in
+    let t = le_yes (b + cycles_in scene x) n (omega arith) in
+    rw (t, ih) (omega arith)
+
+pub start_all : (scene : SceneView) (ms : List Macro) (k : ℕ) → length ms ≤ k →
+    start_in scene ms k ≡ length (all_micros ms (columns_of scene) (rows_of scene))
+start_all scene ms k h = rw (take_all k ms h) refl
+
+pub start_within : (scene : SceneView) (ms : List Macro) (k : ℕ) →
+    start_in scene ms k ≤ length (all_micros ms (columns_of scene) (rows_of scene))
+start_within scene ms k =
+    let f : Macro → List Micro = micros_in scene in
+    let t : take k ms ++ drop k ms ≡ ms = take-append-drop k ms in
+    let e = rw t at (flat_map-append f (take k ms) (drop k ms)) in
+    omega (arith, ap length e, length-append (flat_map f (take k ms)) (flat_map f (drop k ms)))
+
+-- the next end is that of the operation that runs
+pub next_end_here : (scene : SceneView) (ms : List Macro) (k i n e : ℕ) (m : Macro) → slice_get ms k ≡ Some m → i < cycles_in scene m →
+    start_in scene ms (k + 1) ≡ start_in scene ms k + cycles_in scene m → IsMicroOf scene 0 (slice_get ms (k + 1)) →
+    n ≡ start_in scene ms k + i → e ≡ n - i + cycles_in scene m →
+    filter (λ x. nat_lt n x) (ends_from scene ms 0) ≡ e ∷ filter (λ x. nat_lt e x) (ends_from scene ms 0)
+next_end_here scene ms k i n e m here micro more next at is =
+    let l = slice_get_within ms k m here in
+    let g = get_or_from_slice_get ms k m m here in
+    let first : filter (λ x. nat_lt n x) (ends_from scene ms 0) ≡ ends_from scene (drop k ms) (0 + start_in scene ms k) =
+    ends_here scene ms k i 0 n (Some m) here micro (omega arith) in
+    let then : filter (λ x. nat_lt e x) (ends_from scene ms 0) ≡ ends_from scene (drop (k + 1) ms) (0 + start_in scene ms (k + 1)) =
+    ends_here scene ms (k + 1) 0 0 e (slice_get ms (k + 1)) refl next (omega arith) in
+    let d : drop k ms ≡ m ∷ drop (suc k) ms = rw g at (drop-cons ms k m l) in
+    let one : e ≡ 0 + start_in scene ms k + cycles_in scene m = omega arith in
+    let two : 0 + start_in scene ms (k + 1) ≡ 0 + start_in scene ms k + cycles_in scene m = omega arith in
+    rw (first, then, d, two, add-one, one) refl

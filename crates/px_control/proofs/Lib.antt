@@ -1,0 +1,9 @@
+pub mod BoundLemmas
+pub mod CostLemmas
+pub mod EndLemmas
+pub mod GridLemmas
+pub mod PictureLemmas
+pub mod PlaceLemmas
+pub mod ProductLemmas
+pub mod ProgramLemmas
+pub mod StepLemmas

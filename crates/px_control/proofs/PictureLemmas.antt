@@ -1,0 +1,64 @@
+-- What the program leaves in each pixel is what the passes mean there.
+use Rattle.std.proofs.Common.{◌≡◌, ℕ, ◌+◌, ◌*◌, ◌^◌, ◌<◌, ◌≤◌, false, length, replicate, get_or, refl, ap, ◌∙◌, arith}
+use Rattle.std.specs.Prelude.{All}
+use Rattle.std.proofs.lemmas.List.{get_or-replicate, length-replicate, take_all}
+use Rattle.std.proofs.lemmas.Nat.{pow-add}
+use Rattle.std.proofs.lemmas.List.Elements.{All-weaker}
+use Rattle.px_array.specs.Arrays.{HasGrid, no_pixel, pixel_of, zero_state}
+use Rattle.px_array.specs.Clocks.{after_clocks}
+use Rattle.px_asm.specs.Micros.{all_micros}
+use Rattle.px_asm.specs.Microprograms.{LeaveTheMeanings, bits_of}
+use Rattle.px_macro.specs.Macros.{IsLawful, IsLawfulInMore, after_macros}
+use Rattle.px_pixel.specs.Pixels.{zero_pixel}
+use Rattle.px_scene.specs.Scenes.{IsLawfulScene, SceneView}
+use Rattle.px_scene.specs.Solids.{IsLawfulSolid}
+use Rattle.px_tree.specs.Nodes.{IsGrid}
+use Rattle.px_sched.specs.Layouts.{layout_of, need_of}
+use Rattle.px_sched.specs.Passes.{passes}
+use Rattle.px_sched.specs.PassesFacts.{PassesAreLawful}
+use Rattle.px_sched.specs.PassesLaw.{PassesLaw}
+use Rattle.px_control.specs.PictureLaw.{PictureLaw}
+use Rattle.px_control.specs.Program.{array_after, columns_of, program, rows_of, total}
+use Rattle.px_control.proofs.GridLemmas.{exponent_between, exponent_is}
+
+pub scene_grid : (scene : SceneView) → IsLawfulScene scene → IsGrid (columns_of scene) (rows_of scene)
+scene_grid scene lawful = (exponent_between scene.width lawful.width, exponent_between scene.height lawful.height)
+
+pub lawful_in : IsLawfulInMore → PassesAreLawful → (bits : ℕ) (scene : SceneView) → IsLawfulScene scene → All IsLawfulSolid scene.solids →
+    need_of (layout_of scene) ≤ bits → All (λ m. IsLawful m bits) (passes scene)
+lawful_in more lawful bits scene h solids enough =
+    All-weaker (λ m. IsLawful m (need_of (layout_of scene))) (λ m. IsLawful m bits)
+    (λ m small. more m (need_of (layout_of scene)) bits enough small) (passes scene) (lawful scene h solids)
+
+zero_pixel_at : (bits count place : ℕ) → place < count → get_or (replicate count (zero_pixel bits)) place no_pixel ≡ zero_pixel bits
+zero_pixel_at bits count place h = get_or-replicate count place (zero_pixel bits) no_pixel h
+
+zero_grid : (bits nx ny : ℕ) → HasGrid bits nx ny (zero_state bits nx ny)
+zero_grid bits nx ny = record {
+  columns = refl;
+  rows = refl;
+  pixels = length-replicate (2 ^ (nx + ny)) (zero_pixel bits);
+  memory = λ place inside. rw (zero_pixel_at bits (2 ^ (nx + ny)) place inside) (length-replicate bits false);
+}
+
+-- the state after the whole program
+whole : (bits : ℕ) (scene : SceneView) → (array_after bits scene (total scene)).state ≡ after_clocks (all_micros (passes scene) (columns_of scene) (rows_of scene)) (zero_state bits (columns_of scene) (rows_of scene))
+unfolding array_after program
+whole bits scene = ap (λ ms. after_clocks ms (zero_state bits (columns_of scene) (rows_of scene))) (take_all (length (program scene)) (program scene) (omega arith))
+
+place_below : (nx ny x y : ℕ) → x < 2 ^ nx → y < 2 ^ ny → x * 2 ^ ny + y < 2 ^ (nx + ny)
+place_below nx ny x y column row = rw (pow-add 2 nx ny) (grind (arith, column, row))
+
+pub picture_law : IsLawfulInMore → LeaveTheMeanings → PassesAreLawful → PassesLaw → PictureLaw
+picture_law more meanings lawful shown bits scene device can at x y left up =
+    let nx = columns_of scene
+    in let ny = rows_of scene
+    in let start = zero_state bits nx ny
+    in let column : x < 2 ^ nx = omega (arith, (exponent_is scene.width can.lawful.width).enough)
+    in let row : y < 2 ^ ny = omega (arith, (exponent_is scene.height can.lawful.height).enough)
+    in let pixel : pixel_of start x y ≡ zero_pixel bits = zero_pixel_at bits (2 ^ (nx + ny)) (x * 2 ^ ny + y) (place_below nx ny x y column row)
+    in let left_there = meanings bits nx ny (scene_grid scene can.lawful) (passes scene) (lawful_in more lawful bits scene can.lawful can.solids at.enough) start (zero_grid bits nx ny) x y column row
+    in let state : device.state ≡ after_clocks (all_micros (passes scene) nx ny) start = ap (λ d. d.state) at.reached ∙ whole bits scene
+    in let memory : (pixel_of device.state x y).memory ≡ (after_macros (passes scene) x y (bits_of (zero_pixel bits))).memory =
+    ap (λ s. (pixel_of s x y).memory) state ∙ ap (λ p. p.memory) left_there ∙ ap (λ p. (after_macros (passes scene) x y (bits_of p)).memory) pixel
+    in rw memory (shown scene can.lawful can.solids x y left up (bits_of (zero_pixel bits)) (omega (arith, at.enough, length-replicate bits false)))

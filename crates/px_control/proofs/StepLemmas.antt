@@ -1,0 +1,90 @@
+-- One broadcast of a program after another.
+use Rattle.std.proofs.Common.{◌≡◌, ℕ, ◌+◌, ◌<◌, ◌≤◌, List, [], ◌∷◌, ◌++◌, length, take, get_or, Some, refl, ap, ◌∙◌, arith, length-append}
+use Rattle.std.specs.List.{slice_get}
+use Rattle.std.specs.Prelude.{All}
+use Rattle.std.proofs.lemmas.List.Elements.{All-get_or}
+use Rattle.std.proofs.lemmas.List.{take_more}
+use Rattle.std.proofs.lemmas.Option.{slice_get_within, get_or_from_slice_get}
+use Rattle.std.proofs.lemmas.List.Concat.{flat_map-cons, flat_map-append, get_or-flat_map}
+use Rattle.std.proofs.lemmas.List.Folds.{length-flat_map-take}
+use Rattle.px_num.specs.Lists.{get_or-tabulate, length-tabulate}
+use Rattle.px_array.specs.declared.micro.Micro.{Micro}
+use Rattle.px_array.specs.declared.micro.TreeOp.{TreeOp}
+use Rattle.px_array.specs.declared.micro.TreeOp.TheVariants.{Hold, Clear, Feed}
+use Rattle.px_array.specs.Arrays.{Device, State, opened, zero_state}
+use Rattle.px_array.specs.Clocks.{after_clock, after_clocks, after_tree_op, clocked}
+use Rattle.px_asm.specs.Micros.{all_micros, cycles, micro_at, micros}
+use Rattle.px_macro.specs.Macros.{IsLawful}
+use Rattle.px_macro.specs.declared.operation.Macro.{Macro}
+use Rattle.px_scene.specs.Scenes.{SceneView}
+use Rattle.px_sched.specs.Layouts.{layout_of, need_of}
+use Rattle.px_control.specs.Program.{IsAt, array_after, columns_of, program, rows_of, total}
+
+after_clocks-append : (xs ys : List Micro) (s : State) → after_clocks (xs ++ ys) s ≡ after_clocks ys (after_clocks xs s)
+after_clocks-append [] ys s = refl
+after_clocks-append (x ∷ xs) ys s = after_clocks-append xs ys (after_clock x s)
+
+-- one broadcast more
+after_clocks_more : (ms : List Micro) (n : ℕ) (d : Micro) (s : State) → n < length ms →
+    after_clocks (take (n + 1) ms) s ≡ after_clock (get_or ms n d) (after_clocks (take n ms) s)
+after_clocks_more ms n d s h = rw (take_more ms n d h, after_clocks-append) refl
+
+columns_stay : (op : TreeOp) (t : _) → (after_tree_op op t).nx ≡ t.nx
+columns_stay Hold t = refl
+columns_stay Clear t = refl
+columns_stay (Feed a b c) t = refl
+
+pub run_columns : (ms : List Micro) (s : State) → (after_clocks ms s).tree.nx ≡ s.tree.nx
+run_columns [] s = refl
+run_columns (m ∷ ms) s = run_columns ms (after_clock m s) ∙ columns_stay m.tree s.tree
+
+pub columns_at : (bits : ℕ) (scene : SceneView) (n : ℕ) → (array_after bits scene n).state.tree.nx ≡ columns_of scene
+unfolding array_after
+columns_at bits scene n = run_columns (take n (program scene)) (zero_state bits (columns_of scene) (rows_of scene))
+
+one_operation : (m : Macro) (nx ny : ℕ) → length (all_micros (m ∷ []) nx ny) ≡ cycles m nx ny
+one_operation m nx ny = simp (flat_map-cons, length-append, length-tabulate) (omega arith)
+
+-- the operations of a list one after another
+pub start_more : (ms : List Macro) (nx ny k : ℕ) (m : Macro) → slice_get ms k ≡ Some m →
+    length (all_micros (take (k + 1) ms) nx ny) ≡ length (all_micros (take k ms) nx ny) + cycles m nx ny
+start_more ms nx ny k m e =
+    let f : Macro → List Micro = λ m. micros m nx ny
+    in rw (take_more ms k m (slice_get_within ms k m e), get_or_from_slice_get ms k m m e, flat_map-append f (take k ms) (m ∷ []))
+    (length-append (all_micros (take k ms) nx ny) (all_micros (m ∷ []) nx ny)
+    ∙ ap (λ n. length (all_micros (take k ms) nx ny) + n) (one_operation m nx ny))
+
+pub below_total : (ms : List Macro) (nx ny k i : ℕ) (m : Macro) → slice_get ms k ≡ Some m → i < cycles m nx ny →
+    length (all_micros (take k ms) nx ny) + i < length (all_micros ms nx ny)
+below_total ms nx ny k i m e h =
+    let f : Macro → List Micro = λ m. micros m nx ny
+    in let g = get_or_from_slice_get ms k m m e
+    in let s = length-flat_map-take f ms k m (slice_get_within ms k m e)
+    in omega (arith, rw (g, length-tabulate) at s)
+
+-- micro i of operation k is the broadcast at its clock
+pub micro_here : (ms : List Macro) (nx ny k i : ℕ) (m : Macro) (d : Micro) → slice_get ms k ≡ Some m → i < cycles m nx ny →
+    get_or (all_micros ms nx ny) (length (all_micros (take k ms) nx ny) + i) d ≡ micro_at m nx ny i
+micro_here ms nx ny k i m d e h =
+    let f : Macro → List Micro = λ m. micros m nx ny
+    in let g = get_or_from_slice_get ms k m m e
+    in let w : i < length (f (get_or ms k m)) = rw (g, length-tabulate) h
+    in get_or-flat_map f ms k i m d (slice_get_within ms k m e) w ∙ rw g (get_or-tabulate (cycles m nx ny) (micro_at m nx ny) i d h)
+
+pub lawful_here : (bits : ℕ) (ms : List Macro) (k : ℕ) (m : Macro) → slice_get ms k ≡ Some m → All (λ m. IsLawful m bits) ms → IsLawful m bits
+lawful_here bits ms k m e h =
+    rw (get_or_from_slice_get ms k m m e) at (All-get_or (λ m. IsLawful m bits) ms k m (slice_get_within ms k m e) h)
+
+-- the array after one broadcast more
+pub after_more : (bits : ℕ) (scene : SceneView) (n : ℕ) (d : Micro) → n < total scene →
+    array_after bits scene (n + 1) ≡ clocked (get_or (program scene) n d) (array_after bits scene n)
+unfolding array_after
+after_more bits scene n d h =
+    ap (λ s. record { state = s; clocks = n + 1 })
+    (after_clocks_more (program scene) n d (zero_state bits (columns_of scene) (rows_of scene)) h)
+
+-- an array that was opened for a scene
+pub at_opened : (bits : ℕ) (scene : SceneView) (device : Device) → need_of (layout_of scene) ≤ bits →
+    device ≡ opened bits (columns_of scene) (rows_of scene) → IsAt bits scene 0 device
+unfolding array_after
+at_opened bits scene device enough is = record { enough = enough; reached = is }

@@ -1,0 +1,14 @@
+use Rattle.std.proofs.Common.{◌∙◌, ap}
+use Rattle.px_array.specs.Arrays.{opened}
+use Rattle.px_control.specs.Program.{columns_of, rows_of}
+use Rattle.px_control.proofs.StepLemmas.{at_opened}
+use Rattle.px_control.proofs.job.Job.open.Goals as goal
+
+pub open-requires : goal.open-requires
+open-requires g c = record { grid = rw c.grid-columns.ensures c.laws.ensures.good.grid }
+
+pub returns-clause-at : goal.returns-clause-at
+returns-clause-at g c =
+    at_opened g.A.Array.BITS c.args.scene.now _ (rw c.BITS.ensures at c.in_ok-program.ensures.enough)
+    (c.in-Ok.ensures.ok ∙ ap (λ p. opened g.A.Array.BITS p.0 p.1) c.grid-columns.ensures
+    ∙ ap (λ s. opened g.A.Array.BITS (columns_of s) (rows_of s)) c.in_ok-program.ensures.ok)

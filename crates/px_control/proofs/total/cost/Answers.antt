@@ -1,0 +1,28 @@
+use Rattle.std.proofs.Common.{◌∙◌, arith}
+use Rattle.px_normal.specs.Forms.{sum_of_products}
+use Rattle.px_control.proofs.BoundLemmas.{counted_passes, kept_few, kept_known}
+use Rattle.px_control.proofs.total.cost.Goals as goal
+
+pub products_cost-costs-requires-clause-few : goal.products_cost-costs-requires-clause-few
+products_cost-costs-requires-clause-few c =
+    rw (c.as_slice.ensures.value, c.requires.products)
+    (omega (arith, kept_few c.args.scene.now (sum_of_products c.args.scene.now.show), c.requires.few))
+
+pub products_cost-costs-requires-clause-known : goal.products_cost-costs-requires-clause-known
+products_cost-costs-requires-clause-known c =
+    rw (c.as_slice.ensures.value, c.requires.products)
+    (kept_known c.args.scene.now c.lengths_of-lengths.ensures.lawful (record {
+      whole = c.laws_of_normal_forms.ensures.known;
+      kept = c.laws_of_pruning.ensures.known;
+      apart = c.laws_of_pruning.ensures.apart;
+    }))
+
+pub returns-clause-clocks : goal.returns-clause-clocks
+returns-clause-clocks c =
+    (counted_passes c.args.scene.now c.lengths_of-lengths.result c.as_slice.result.now c.products_cost-costs.result
+    c.lengths_of-lengths.ensures.lengths (c.as_slice.ensures.value ∙ c.requires.products) c.products_cost-costs.ensures).1
+
+pub returns-clause-macros : goal.returns-clause-macros
+returns-clause-macros c =
+    (counted_passes c.args.scene.now c.lengths_of-lengths.result c.as_slice.result.now c.products_cost-costs.result
+    c.lengths_of-lengths.ensures.lengths (c.as_slice.ensures.value ∙ c.requires.products) c.products_cost-costs.ensures).0

@@ -1,0 +1,13 @@
+pub use Rattle.px_array.specs.Arrays
+pub use Rattle.px_array.specs.Clocks
+pub use Rattle.px_asm.specs.Micros
+pub use Rattle.px_sched.specs.Layouts
+pub use Rattle.px_sched.specs.Passes
+pub use Rattle.px_sched.specs.PassesLaw
+pub use Rattle.px_scene.specs.Scenes
+pub mod ClockLaw
+pub mod Costs
+pub mod PictureLaw
+pub mod Program
+pub mod ProgramLaws
+pub mod Standing

@@ -1,0 +1,31 @@
+//! What holds of the program of every scene, and what it leaves in an array.
+ghost use Rattle.px_macro.specs.Macros.{IsLawfulInMore};
+ghost use Rattle.px_control.specs.PictureLaw.{PictureLaw};
+ghost use Rattle.px_control.specs.Program.{CanRun};
+ghost use Rattle.px_control.specs.ProgramLaws.{IsGoodProgram};
+
+use crate::total::law_of_clocks;
+use px_asm::law_of_microprograms;
+use px_macro::laws_of_operations;
+use px_scene::Scene;
+use px_sched::laws_of_passes;
+
+/// The keys that an array stores after the whole program of a scene are the picture.
+pub fn law_of_pictures()
+    ensures { PictureLaw }
+{
+    laws_of_operations();
+    law_of_microprograms();
+    laws_of_passes();
+}
+
+/// What holds of the program of a scene that can be run.
+pub(crate) fn law_of_program(scene: &Scene)
+    requires { CanRun scene.now }
+    ensures good { IsGoodProgram scene.now }
+    ensures more { IsLawfulInMore }
+{
+    laws_of_operations();
+    laws_of_passes();
+    law_of_clocks();
+}

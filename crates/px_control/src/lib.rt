@@ -1,0 +1,19 @@
+//! Running a scene's broadcasts on an array.
+#![tactic(auto)]
+
+mod costs;
+mod fault;
+mod job;
+mod law;
+mod literal;
+mod place;
+mod program;
+#[cfg(test)]
+mod tests;
+mod total;
+
+pub use fault::JobFault;
+pub use job::Job;
+pub use law::law_of_pictures;
+pub use place::Place;
+pub use total::{cost, law_of_clocks};

@@ -1,0 +1,273 @@
+//! The program of a scene, given one operation at a time.
+ghost use Rattle.std.specs.Prelude.{◌≡◌, ◌∷◌, ◌+◌, ◌^◌, ◌<◌, ◌≤◌, ℕ, Err, IfErr, IfNone, IfOk, OnOk, OnSome, Some, length, slice_get};
+ghost use Rattle.px_sched.specs.Cursors.{Stands};
+ghost use Rattle.px_asm.specs.Micros.{cycles as cycles_of, micro_at as micro_of};
+ghost use Rattle.px_macro.specs.Macros.{IsLawful, IsLawfulInMore};
+ghost use Rattle.px_normal.specs.Counting.{capped};
+ghost use Rattle.px_normal.specs.Forms.{sum_of_products};
+ghost use Rattle.px_pixel.specs.Acts.{HasPlace};
+ghost use Rattle.px_scene.specs.Scenes.{SceneView};
+ghost use Rattle.px_sched.specs.Layouts.{layout_of, need_of};
+ghost use Rattle.px_sched.specs.Passes.{passes};
+ghost use Rattle.px_control.specs.Program.{CanRun, IsAt, columns_of, cycles_in, ends_after, program, rows_of, total};
+ghost use Rattle.px_control.specs.ProgramLaws.{IsGoodProgram};
+ghost use Rattle.px_control.specs.Standing.{StandsFor};
+ghost use Rattle.px_control.specs.declared.fault.JobFault.{JobFault};
+
+use crate::fault::JobFault;
+use crate::law::law_of_program;
+use crate::place::Place;
+use crate::total::cost;
+use px_array::{Array, Micro, TreeOp};
+use px_asm::{cycles, micro_at};
+use px_macro::Macro;
+use px_normal::{NormalFault, normalise};
+use px_pixel::Act;
+use px_prune::{Plan, prune};
+use px_scene::{Scene, laws_of_scenes};
+use px_sched::{Cursor, Layout, NeedBits};
+use std::alloc::Global;
+use std::marker::Model;
+
+/// The program of a scene: what is broadcast, clock by clock.
+#[derive(Drop)]
+pub(crate) struct Program<'s> {
+    scene: &'s Scene,
+    plan: Plan,
+    layout: Layout,
+    columns: u32,
+    rows: u32,
+}
+
+impl<'s> Model for Program<'s> {
+    ghost use Rattle.px_scene.specs.Scenes.{SceneView};
+    ghost use Rattle.px_control.specs.Standing.{IsProgram};
+    ghost use Rattle.px_expr.specs.TreeCode.{tree_code};
+    ghost use Rattle.std.specs.Coded.{codes};
+
+    ghost Value = { SceneView };
+
+    ghost coded = { Prim.hlevel (codes, tree_code) };
+
+    ghost view = { λ p. p.scene.now };
+
+    ghost invariant = { λ p. IsProgram p.scene.now p.plan.products.items p.layout p.columns p.rows };
+}
+
+impl<'s> Program<'s> {
+    /// The program of a scene for pixels of so many memory bits.
+    pub(crate) fn new(alloc: Global, scene: &'s Scene, bits: u32) -> Result<Program<'s>, JobFault>
+        ensures ok { IfOk result (λ program. program ≡ scene.now) }
+        ensures enough { OnOk result (need_of (layout_of scene.now) ≤ bits) }
+        ensures short { bits < need_of (layout_of scene.now) →
+            result ≡ Err (JobFault.PixelMemory (need_of (layout_of scene.now))) }
+        ensures many { need_of (layout_of scene.now) ≤ bits →
+            1024 < length (sum_of_products scene.now.show) →
+            result ≡ Err (JobFault.Products (capped (length (sum_of_products scene.now.show)))) }
+        ensures memory { need_of (layout_of scene.now) ≤ bits →
+            length (sum_of_products scene.now.show) ≤ 1024 →
+            IfErr result (λ fault. fault ≡ JobFault.Memory) }
+    {
+        laws_of_scenes(scene);
+        let layout = match Layout::of(scene, bits) {
+            Ok(layout) => layout,
+            Err(NeedBits { need }) => return Err(JobFault::PixelMemory { need }),
+        };
+        let products = match normalise(alloc, scene.show()) {
+            Ok(products) => products,
+            Err(NormalFault::TooMany { count }) => return Err(JobFault::Products { count }),
+            Err(NormalFault::Memory) => return Err(JobFault::Memory),
+        };
+        let plan = match prune(alloc, scene, &products) {
+            Ok(plan) => plan,
+            Err(_) => return Err(JobFault::Memory),
+        };
+        let (columns, rows) = scene.grid();
+        Ok(Program {
+            scene,
+            plan,
+            layout,
+            columns,
+            rows,
+        })
+    }
+
+    /// What holds of it.
+    pub(crate) fn laws(&self)
+        ensures good { IsGoodProgram self.now }
+        ensures can_run { CanRun self.now }
+        ensures more { IsLawfulInMore }
+    {
+        law_of_program(self.scene);
+    }
+
+    /// The place before the first broadcast.
+    pub(crate) fn first(&self) -> Place
+        ensures stands { StandsFor self.now result }
+        ensures clock { result.clock ≡ 0 }
+    {
+        self.laws();
+        let mut cursor = Cursor::start();
+        let current = self.give(&mut cursor);
+        Place {
+            cursor,
+            clock: 0,
+            operation: 0,
+            micro: 0,
+            current,
+        }
+    }
+
+    /// The place one broadcast on, where an operation runs.
+    pub(crate) fn after(&self, place: &Place, m: Macro) -> Place
+        requires stands { StandsFor self.now place.now }
+        requires here { place.now.current ≡ Some m }
+        ensures stands { StandsFor self.now result }
+        ensures clock { result.clock ≡ place.now.clock + 1 }
+    {
+        self.laws();
+        if place.micro + 1 < self.cycles(&m) {
+            Place {
+                clock: place.clock + 1,
+                micro: place.micro + 1,
+                ..*place
+            }
+        } else {
+            let mut cursor = place.cursor;
+            let current = self.give(&mut cursor);
+            Place {
+                cursor,
+                clock: place.clock + 1,
+                operation: place.operation + 1,
+                micro: 0,
+                current,
+            }
+        }
+    }
+
+    /// The next operation of the passes.
+    fn give(&self, cursor: &mut Cursor) -> Option<Macro>
+        requires { Stands self.now cursor.old }
+        ensures operation { result ≡ slice_get (passes self.now) cursor.old.given }
+        ensures some { OnSome result (cursor.new.given ≡ cursor.old.given + 1) }
+        ensures stays { IfNone result (cursor.new ≡ cursor.old) }
+        ensures stands { Stands self.now cursor.new }
+    {
+        cursor.next_macro(self.scene, &self.plan, &self.layout)
+    }
+
+    /// What is broadcast at a place, where an operation runs.
+    fn micro(&self, place: &Place, m: &Macro) -> Micro
+        requires stands { StandsFor self.now place.now }
+        requires here { place.now.current ≡ Some m.now }
+        ensures value { result
+            ≡ micro_of m.now (columns_of self.now) (rows_of self.now) place.now.micro }
+        ensures place { (bits : ℕ) → need_of (layout_of self.now) ≤ bits → HasPlace bits result.act }
+    {
+        self.laws();
+        micro_at(m, self.columns, self.rows, place.micro)
+    }
+
+    /// Makes the broadcast at a place, and answers the next place.
+    pub(crate) fn broadcast<A: Array>(&self, place: &Place, array: &mut A) -> Place
+        requires stands { StandsFor self.now place.now }
+        requires more { place.now.clock < total self.now }
+        requires at { IsAt A.BITS self.now place.now.clock (A.device array.old) }
+        ensures stands { StandsFor self.now result }
+        ensures clock { result.clock ≡ place.now.clock + 1 }
+        ensures at { IsAt A.BITS self.now result.clock (A.device array.new) }
+    {
+        self.laws();
+        match place.current {
+            Some(m) => {
+                array.clock(self.micro(place, &m));
+                self.after(place, m)
+            }
+            None => *place,
+        }
+    }
+
+    /// Makes so many broadcasts from a place on, and answers the place behind them.
+    pub(crate) fn advance<A: Array>(&self, from: &Place, array: &mut A, clocks: u64) -> Place
+        requires stands { StandsFor self.now from.now }
+        requires left { from.now.clock + clocks ≤ total self.now }
+        requires at { IsAt A.BITS self.now from.now.clock (A.device array.old) }
+        ensures stands { StandsFor self.now result }
+        ensures clock { result.clock ≡ from.now.clock + clocks }
+        ensures at { IsAt A.BITS self.now result.clock (A.device array.new) }
+    {
+        let mut place = *from;
+        for _ in 0..clocks {
+            place = self.broadcast(&place, array);
+        }
+        place
+    }
+
+    /// The broadcast at a place.
+    pub(crate) fn next_micro(&self, place: &Place) -> Micro
+        requires stands { StandsFor self.now place.now }
+        requires more { place.now.clock < total self.now }
+        ensures { slice_get (program self.now) place.now.clock ≡ Some result }
+    {
+        self.laws();
+        match place.current {
+            Some(m) => self.micro(place, &m),
+            None => Micro {
+                tree: TreeOp::Hold,
+                act: Act::Nop,
+            },
+        }
+    }
+
+    /// The clock at which the operation at a place ends.
+    pub(crate) fn next_end(&self, place: &Place) -> u64
+        requires stands { StandsFor self.now place.now }
+        requires more { place.now.clock < total self.now }
+        ensures next { ends_after self.now place.now.clock ≡ result ∷ ends_after self.now result }
+        ensures later { place.now.clock < result }
+        ensures within { result ≤ total self.now }
+    {
+        self.laws();
+        match place.current {
+            Some(m) => place.clock - u64::from(place.micro) + u64::from(self.cycles(&m)),
+            None => place.clock,
+        }
+    }
+
+    /// How many clocks an operation takes.
+    pub(crate) fn cycles(&self, m: &Macro) -> u32
+        requires { IsLawful m.now (need_of (layout_of self.now)) }
+        ensures value { result ≡ cycles_in self.now m.now }
+        ensures some { 1 ≤ result }
+        ensures few { result ≤ 82 }
+    {
+        self.laws();
+        cycles(m, self.columns, self.rows)
+    }
+
+    /// How many operations and how many clocks the program has.
+    pub(crate) fn cost(&self) -> (u64, u64)
+        ensures operations { result.0 ≡ length (passes self.now) }
+        ensures clocks { result.1 ≡ total self.now }
+        ensures few { total self.now < 2 ^ 43 }
+        ensures can_run { CanRun self.now }
+    {
+        self.laws();
+        cost(self.scene, &self.plan, &self.layout)
+    }
+
+    /// The scene's layout.
+    pub(crate) fn layout(&self) -> Layout
+        ensures value { result ≡ layout_of self.now }
+        ensures can_run { CanRun self.now }
+    {
+        self.layout
+    }
+
+    /// The exponents of the scene's grid.
+    pub(crate) fn grid(&self) -> (u32, u32)
+        ensures { result ≡ (columns_of self.now, rows_of self.now) }
+    {
+        (self.columns, self.rows)
+    }
+}
