@@ -42,6 +42,19 @@ pub columns_at : (bits : ℕ) (scene : SceneView) (n : ℕ) → (array_after bit
 unfolding array_after
 columns_at bits scene n = run_columns (take n (program scene)) (zero_state bits (columns_of scene) (rows_of scene))
 
+rows_stay : (op : TreeOp) (t : _) → (after_tree_op op t).ny ≡ t.ny
+rows_stay Hold t = refl
+rows_stay Clear t = refl
+rows_stay (Feed a b c) t = refl
+
+run_rows : (ms : List Micro) (s : State) → (after_clocks ms s).tree.ny ≡ s.tree.ny
+run_rows [] s = refl
+run_rows (m ∷ ms) s = run_rows ms (after_clock m s) ∙ rows_stay m.tree s.tree
+
+pub rows_at : (bits : ℕ) (scene : SceneView) (n : ℕ) → (array_after bits scene n).state.tree.ny ≡ rows_of scene
+unfolding array_after
+rows_at bits scene n = run_rows (take n (program scene)) (zero_state bits (columns_of scene) (rows_of scene))
+
 one_operation : (m : Macro) (nx ny : ℕ) → length (all_micros (m ∷ []) nx ny) ≡ cycles m nx ny
 one_operation m nx ny = simp (flat_map-cons, length-append, length-tabulate) (omega arith)
 

@@ -7,6 +7,7 @@ pub use Rattle.px_sched.specs.PassesLaw
 pub use Rattle.px_scene.specs.Scenes
 pub mod ClockLaw
 pub mod Costs
+pub mod GridLaw
 pub mod PictureLaw
 pub mod Program
 pub mod ProgramLaws

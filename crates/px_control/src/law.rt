@@ -1,5 +1,6 @@
 //! What holds of the program of every scene, and what it leaves in an array.
 ghost use Rattle.px_macro.specs.Macros.{IsLawfulInMore};
+ghost use Rattle.px_control.specs.GridLaw.{GridLaw};
 ghost use Rattle.px_control.specs.PictureLaw.{PictureLaw};
 ghost use Rattle.px_control.specs.Program.{CanRun};
 ghost use Rattle.px_control.specs.ProgramLaws.{IsGoodProgram};
@@ -18,6 +19,12 @@ pub fn law_of_pictures()
     law_of_microprograms();
     laws_of_passes();
 }
+
+/// An array on which a scene's broadcasts are made is open, and has a pixel for each one of the
+/// picture.
+pub fn law_of_grids()
+    ensures { GridLaw }
+{}
 
 /// What holds of the program of a scene that can be run.
 pub(crate) fn law_of_program(scene: &Scene)
