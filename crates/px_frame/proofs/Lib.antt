@@ -1,5 +1,3 @@
-pub mod SpanLemmas
-pub mod NearestLemmas
-pub mod MarkLemmas
-pub mod NumberLemmas
-pub mod PictureLemmas
+pub mod FaceLemmas
+pub mod ImageLemmas
+pub mod RowLemmas

@@ -1,5 +1,8 @@
+pub use Rattle.px_array.specs.Arrays
+pub use Rattle.px_scene.specs.Scenes
+pub use Rattle.px_sched.specs.Layouts
+pub use Rattle.px_sched.specs.PassesLaw
 pub mod Image
-pub mod ImageLaws
-pub mod Spans
-pub mod Marks
+pub mod ImagesLaw
 pub mod Picture
+pub mod Stored

@@ -1,14 +1,24 @@
--- The picture of a scene as two images: the depth of each pixel, and the number of its face.
-use Rattle.std.specs.Prelude.{ℕ, ◌≡◌, ◌<◌, ◌*◌, ◌^◌, List, length, All}
-use Rattle.px_scene.specs.Scenes.{SceneView}
+-- The picture of a scene as three images: the depth of each pixel, the number of its face, and that face's colour.
+use Rattle.std.specs.Prelude.{ℕ, ◌+◌, ◌*◌, List}
+use Rattle.px_scene.specs.declared.solid.Colour.{Colour}
+use Rattle.px_scene.specs.Scenes.{SceneView, colour_in_scene}
 use Rattle.px_scene.specs.Cells.{picture}
-use Rattle.px_frame.specs.Image.{image_of, rows}
+use Rattle.px_frame.specs.declared.plane.Plane.{Plane}
+use Rattle.px_frame.specs.declared.plane.Plane.TheVariants as p
+use Rattle.px_frame.specs.Image.{image_of}
 
-abbrev pub depth_at : SceneView → ℕ → ℕ → ℕ
+-- a colour as one number, of which red is the highest byte
+abbrev pub colour_number : Colour → ℕ
+colour_number c = c.red * 65536 + c.green * 256 + c.blue
+
+abbrev pub depth_at : SceneView → (x y : ℕ) → ℕ
 depth_at scene x y = (picture scene x y).depth
 
-abbrev pub face_at : SceneView → ℕ → ℕ → ℕ
+abbrev pub face_at : SceneView → (x y : ℕ) → ℕ
 face_at scene x y = (picture scene x y).face
+
+abbrev pub colour_at : SceneView → (x y : ℕ) → ℕ
+colour_at scene x y = colour_number (colour_in_scene scene.solids (face_at scene x y))
 
 abbrev pub depth_image : SceneView → List ℕ
 depth_image scene = image_of scene.width scene.height (depth_at scene)
@@ -16,8 +26,10 @@ depth_image scene = image_of scene.width scene.height (depth_at scene)
 abbrev pub face_image : SceneView → List ℕ
 face_image scene = image_of scene.width scene.height (face_at scene)
 
--- one number for each pixel, row by row from the top, that an image can hold
-pub record AreRows (width height : ℕ) (number : ℕ → ℕ → ℕ) (numbers : List ℕ) : Type 0 where
-  pub value : numbers ≡ rows width height number
-  pub count : length numbers ≡ width * height
-  pub small : All (λ n. n < 2 ^ 24) numbers
+abbrev pub colour_image : SceneView → List ℕ
+colour_image scene = image_of scene.width scene.height (colour_at scene)
+
+abbrev pub picture_image : SceneView → Plane → List ℕ
+picture_image scene p.Depth = depth_image scene
+picture_image scene p.Face = face_image scene
+picture_image scene p.Colour = colour_image scene

@@ -1,44 +1,50 @@
 //! Image files in the raw form of Netpbm's pixel maps.
-ghost use Rattle.std.specs.Prelude.{◌≡◌, ◌<◌, ◌≤◌, ◌^◌, ◌*◌, length, OnOk, OnErr, All};
-ghost use Rattle.std.specs.List.{flat_map};
+ghost use Rattle.std.specs.Prelude.{◌≡◌, ◌<◌, ◌≤◌, ◌^◌, OnErr, OnOk};
 ghost use Rattle.std.specs.Io.KnownBytes.{Appends};
 ghost use Rattle.px_io.specs.Counts.{HasCause};
 ghost use Rattle.px_io.specs.Told.{AppendsFront};
-ghost use Rattle.px_frame.specs.Image.{header, image, three_bytes};
+ghost use Rattle.px_array.specs.Arrays.{IsOpen};
+ghost use Rattle.px_sched.specs.Layouts.{need_of};
+ghost use Rattle.px_frame.specs.Image.{header, row_bytes, three_bytes};
+ghost use Rattle.px_frame.specs.Stored.{HasColumns, HasRows, StoresFaces};
+ghost use Rattle.px_frame.specs.Stored.{stored_image, stored_number};
 
+use crate::plane::{Plane, number_at};
 use arrayvec::{ArrayString, ArrayVec};
 use itoa::Buffer;
+use px_array::Array;
 use px_io::{Failed, Sink, write_whole};
+use px_scene::Scene;
+use px_sched::Layout;
 
-/// How many pixels are written at a time.
-const PIECE: usize = 256;
+/// Three bytes a pixel, for the 512 pixels of the widest picture.
+const ROW_BYTES: usize = 1536;
 
-const PIECE_BYTES: usize = 3 * PIECE;
-
-/// Appends one image of these numbers to the sink, or a front of it where a write fails.
-///
-/// The numbers stand row by row from the top, each row from the left, and are below `2^24`: one
-/// pixel of three bytes each, the highest first (docs/PICTURE.md, "Images").
-pub fn write_numbers<O: Sink>(
-    width: u32,
-    height: u32,
-    numbers: &[u32],
+/// Appends one image of what the array stores to the sink, or a front of it where a write fails
+/// (docs/PICTURE.md, "Images").
+pub fn write_picture<A: Array, O: Sink>(
+    array: &A,
+    layout: &Layout,
+    scene: &Scene,
+    plane: Plane,
     out: &mut O,
 ) -> Result<(), Failed>
-    requires count { length numbers.now ≡ width * height }
-    requires small { All (λ n. n < 2 ^ 24) numbers.now }
-    ensures ok { OnOk result
-        (Appends (O.written out.old) (O.written out.new) (image width height numbers.now)) }
-    ensures err { OnErr result
-        (AppendsFront (O.written out.old) (O.written out.new) (image width height numbers.now)) }
+    requires open { IsOpen (A.device array.now) }
+    requires columns { HasColumns scene.now (A.device array.now).state }
+    requires rows { HasRows scene.now (A.device array.now).state }
+    requires room { need_of layout.now ≤ A.BITS }
+    requires faces { StoresFaces scene.now layout.now (A.device array.now).state }
+    ensures ok { OnOk result (Appends (O.written out.old) (O.written out.new)
+        (stored_image scene.now layout.now (A.device array.now).state plane)) }
+    ensures err { OnErr result (AppendsFront (O.written out.old) (O.written out.new)
+        (stored_image scene.now layout.now (A.device array.now).state plane)) }
     ensures cause { HasCause (O.faults out.old) (O.faults out.new) result }
 {
-    write_whole(out, header(width, height).as_str().as_bytes())?;
-    let mut at = 0;
-    while at < numbers.len() {
-        let end = numbers.len().min(at + PIECE);
-        write_whole(out, pixels(&numbers[at..end]).as_slice())?;
-        at = end;
+    let header = header(scene.width(), scene.height());
+    write_whole(out, header.as_str().as_bytes())?;
+    for y in 0..scene.height() {
+        let row = row_bytes(array, layout, scene, plane, y);
+        write_whole(out, row.as_slice())?;
     }
     Ok(())
 }
@@ -57,15 +63,27 @@ fn header(width: u32, height: u32) -> ArrayString<128>
     text
 }
 
-/// The pixels of at most `PIECE` numbers.
-fn pixels(numbers: &[u32]) -> ArrayVec<u8, PIECE_BYTES>
-    requires few { length numbers.now ≤ PIECE }
-    requires small { All (λ n. n < 2 ^ 24) numbers.now }
-    ensures { result.items ≡ flat_map three_bytes numbers.now }
+/// The pixels of row `y`, from the left.
+fn row_bytes<A: Array>(
+    array: &A,
+    layout: &Layout,
+    scene: &Scene,
+    plane: Plane,
+    y: u32,
+) -> ArrayVec<u8, ROW_BYTES>
+    requires open { IsOpen (A.device array.now) }
+    requires columns { HasColumns scene.now (A.device array.now).state }
+    requires rows { HasRows scene.now (A.device array.now).state }
+    requires room { need_of layout.now ≤ A.BITS }
+    requires faces { StoresFaces scene.now layout.now (A.device array.now).state }
+    requires y { y < scene.now.height }
+    ensures { result.items ≡ row_bytes scene.now.width
+        (stored_number scene.now layout.now (A.device array.now).state plane) y }
 {
     let mut bytes = ArrayVec::new();
-    for number in numbers {
-        bytes.try_extend_from_slice(&three_bytes(*number)).unwrap();
+    for x in 0..scene.width() {
+        let pixel = three_bytes(number_at(array, layout, scene, plane, x, y));
+        bytes.try_extend_from_slice(&pixel).unwrap();
     }
     bytes
 }

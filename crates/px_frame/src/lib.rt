@@ -1,12 +1,12 @@
-//! The picture of a scene, and its images: the raw pixel maps that a run writes.
+//! The images of a picture, as an array stores it: raw pixel maps.
 #![tactic(auto)]
 
 mod image;
-mod mark;
-mod picture;
-mod span;
+mod law;
+mod plane;
 #[cfg(test)]
 mod tests;
 
-pub use image::write_numbers;
-pub use picture::{Picture, draw};
+pub use image::write_picture;
+pub use law::laws_of_images;
+pub use plane::Plane;

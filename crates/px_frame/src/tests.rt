@@ -1,36 +1,92 @@
-//! A picture of differences, and images written out byte for byte.
-use crate::{draw, write_numbers};
+//! The three images of one depth and one face in every pixel, byte for byte.
+ghost use Rattle.std.specs.Prelude.{◌≡◌, ◌≤◌, IfOk};
+ghost use Rattle.px_sched.specs.Layouts.{need_of};
+ghost use Rattle.px_array.specs.declared.micro.TreeOp.TheVariants as t;
+
+use crate::plane::number_in;
+use crate::{Plane, write_picture};
+use px_array::{Array, Micro, PixelArray, TreeOp, clock_all};
 use px_io::{Failed, MemSink};
-use px_scene::read_scene;
+use px_num::Memory;
+use px_pixel::Act;
+use px_scene::{Scene, read_scene};
+use px_sched::Layout;
+use std::alloc::Global;
+use std::process::Abort;
 use std::test::Fail;
 
 #[test]
-fn images_of_numbers(rt: HostRuntime) -> Result<(), Fail> {
+fn images_of_one_key(rt: HostRuntime) -> Result<(), Fail> {
     let alloc = rt.alloc();
-    let mut out = MemSink::new(alloc, 99, 7, Vec::new(alloc))?;
-    write_numbers(2, 2, &[0x01_02_03, 5, 0xff_fe_fd, 0x0a_0b_0c], &mut out)?;
-    let image = b"P6\n2 2\n255\n\x01\x02\x03\x00\x00\x05\xff\xfe\xfd\x0a\x0b\x0c";
-    assert_eq!(rt; out.written(), image.as_slice());
+    let text = b"pxscene 1\npicture 2 1\ndepth 24\n\
+        solid a 200 100 50\nfront 0 0 5\nback 0 0 9 7 8 255\n\
+        show a\nend\n";
+    let scene = read_scene(alloc, text.as_slice()).expect(&rt, "a scene");
+    let layout = Layout::of(&scene, 54).expect(&rt, "54 bits");
+    let images = [
+        (Plane::Depth, [1, 2, 3]),
+        (Plane::Face, [0, 0, 3]),
+        (Plane::Colour, [7, 8, 255]),
+    ];
+    for (plane, pixel) in images {
+        let mut out = MemSink::new(alloc, 99, 7, Vec::new(alloc))?;
+        write_one_key(&rt, alloc, &layout, &scene, plane, &mut out)??;
+        let mut image = Vec::from_slice(alloc, b"P6\n2 1\n255\n")?;
+        image.extend_from_slice(&pixel)?;
+        image.extend_from_slice(&pixel)?;
+        assert_eq!(rt; out.written(), image.as_slice(), "{plane:?}");
+    }
 
     let mut full = MemSink::new(alloc, 13, 7, Vec::new(alloc))?;
-    assert_eq!(rt; write_numbers(1, 1, &[5], &mut full), Err(Failed));
-    assert_eq!(rt; full.written(), b"P6\n1 1\n255\n\x00\x00".as_slice());
+    let result = write_one_key(&rt, alloc, &layout, &scene, Plane::Depth, &mut full)?;
+    assert_eq!(rt; result, Err(Failed));
+    assert_eq!(rt; full.written(), b"P6\n2 1\n255\n\x01\x02".as_slice());
     Ok(())
 }
 
-/// Solid a has the cells 1 to 9, b the cells 0 to 7, and c the cells 4 and 5: what is shown begins
-/// where c is cut from b, at the front of c.
-#[test]
-fn picture_of_differences(rt: HostRuntime) -> Result<(), Fail> {
-    let alloc = rt.alloc();
-    let text = b"pxscene 1\npicture 1 1\ndepth 4\n\
-        solid a 200 0 0\nfront 0 0 1\nback 0 0 10\n\
-        solid b 0 200 0\nfront 0 0 0\nback 0 0 8\n\
-        solid c 0 0 200\nfront 0 0 4\nback 0 0 6\n\
-        show (a - (b - c))\nend\n";
-    let scene = read_scene(alloc, text.as_slice()).expect(&rt, "a scene");
-    let picture = draw(alloc, &scene)?;
-    assert_eq!(rt; picture.depths.as_slice(), [4].as_slice());
-    assert_eq!(rt; picture.faces.as_slice(), [8].as_slice());
-    Ok(())
+/// Writes an image of the array of one key, in which each face number is one of the scene's.
+fn write_one_key(
+    rt: &impl Abort,
+    alloc: Global,
+    layout: &Layout,
+    scene: &Scene,
+    plane: Plane,
+    out: &mut MemSink,
+) -> Result<Result<(), Failed>, Memory>
+    requires { need_of layout.now ≤ 54 }
+{
+    let array = array_of_one_key(alloc)?;
+    assert!(rt; scene.width() == 2 && scene.height() == 1);
+    assert!(rt; number_in(&array, layout.b_number(), 0, 0) <= scene.faces());
+    assert!(rt; number_in(&array, layout.b_number(), 1, 0) <= scene.faces());
+    Ok(write_picture(&array, layout, scene, plane, out))
+}
+
+/// Two by two pixels with the face 3 in their bits 0 and 1, and the depth `0x010203` from bit 2 on.
+fn array_of_one_key(alloc: Global) -> Result<PixelArray<54>, Memory>
+    ensures columns { IfOk result (λ a. a.state.tree.nx ≡ 1) }
+    ensures rows { IfOk result (λ a. a.state.tree.ny ≡ 1) }
+{
+    let mut array = PixelArray::<54>::new(alloc);
+    array.open(1, 1)?;
+    let micros = [
+        micro(Act::EnableAll),
+        micro(Act::StoreConst(0, true)),
+        micro(Act::StoreConst(1, true)),
+        micro(Act::StoreConst(2, true)),
+        micro(Act::StoreConst(3, true)),
+        micro(Act::StoreConst(11, true)),
+        micro(Act::StoreConst(18, true)),
+    ];
+    clock_all(&mut array, &micros);
+    Ok(array)
+}
+
+fn micro(act: Act) -> Micro
+    ensures { result ≡ record { tree = t.Hold; act = act } }
+{
+    Micro {
+        tree: TreeOp::Hold,
+        act,
+    }
 }

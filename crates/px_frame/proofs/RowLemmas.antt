@@ -1,0 +1,66 @@
+-- Rows by their pixels, and images by their rows, as they are written one after another.
+use Rattle.std.proofs.Common.{◌≡◌, ℕ, zero, suc, ◌+◌, ◌-◌, ◌<◌, refl, ap, sym, ◌∙◌, arith}
+use Rattle.std.proofs.Common.{List, [], ◌∷◌, ◌++◌, Option, append_assoc}
+use Rattle.std.proofs.lemmas.List.{append-nil}
+use Rattle.std.proofs.lemmas.Grind.{flat_map-append}
+use Rattle.std.specs.Io.KnownBytes.{Appends}
+use Rattle.std.specs.List.{flat_map, range_with_len}
+use Rattle.px_io.specs.Told.{AppendsFront}
+use Rattle.px_io.specs.ToldLaws.{appends_both, front_after, front_before}
+use Rattle.px_frame.specs.Image.{row_bytes, three_bytes}
+
+range_cut : (a n m : ℕ) → range_with_len a (n + m) ≡ range_with_len a n ++ range_with_len (a + n) m
+range_cut a zero m =
+    let here : a + 0 ≡ a = omega arith in
+    let all : 0 + m ≡ m = omega arith in
+    rw (here, all) refl
+range_cut a (suc n) m =
+    let next : a + 1 + n ≡ a + suc n = omega arith in
+    let all : suc n + m ≡ suc (n + m) = omega arith in
+    let others = ap (λ b. range_with_len (a + 1) n ++ range_with_len b m) next in
+    rw all (ap (λ ns. a ∷ ns) (range_cut (a + 1) n m ∙ others))
+
+range_join : (n m : ℕ) → range_with_len 0 n ++ range_with_len n m ≡ range_with_len 0 (n + m)
+range_join n m =
+    let plain : 0 + n ≡ n = omega arith in
+    ap (λ b. range_with_len 0 n ++ range_with_len b m) (sym plain) ∙ sym (range_cut 0 n m)
+
+-- what is made of the first n numbers
+abbrev made : (ℕ → List ℕ) → ℕ → List ℕ
+made f n = flat_map f (range_with_len 0 n)
+
+made_more : (f : ℕ → List ℕ) (n : ℕ) → made f n ++ f n ≡ made f (n + 1)
+made_more f n =
+    ap (λ bytes. made f n ++ bytes) (sym (append-nil (f n)))
+    ∙ sym (flat_map-append f (range_with_len 0 n) (n ∷ [])) ∙ ap (flat_map f) (range_join n 1)
+
+made_all : (f : ℕ → List ℕ) (n m : ℕ) → made f n ++ flat_map f (range_with_len n m) ≡ made f (n + m)
+made_all f n m = sym (flat_map-append f (range_with_len 0 n) (range_with_len n m)) ∙ ap (flat_map f) (range_join n m)
+
+-- one pixel more
+pub row_grown : (number : (x y : ℕ) → ℕ) (x y n : ℕ) (old new : List ℕ) → old ≡ row_bytes x number y
+    → n ≡ number x y → new ≡ old ++ three_bytes n → new ≡ row_bytes (x + 1) number y
+row_grown number x y n old new filled is grown =
+    grown ∙ ap (λ bytes. bytes ++ three_bytes n) filled ∙ ap (λ m. row_bytes x number y ++ three_bytes m) is
+    ∙ made_more (λ x. three_bytes (number x y)) x
+
+-- one row more
+pub rows_grown : (a b c : Option (List ℕ)) (front : List ℕ) (row : ℕ → List ℕ) (y : ℕ)
+    → Appends a b (front ++ flat_map row (range_with_len 0 y)) → Appends b c (row y)
+    → Appends a c (front ++ flat_map row (range_with_len 0 (y + 1)))
+rows_grown a b c front row y written next =
+    let more = append_assoc front (made row y) (row y) ∙ ap (λ bytes. front ++ bytes) (made_more row y) in
+    rw more at (appends_both a b c (front ++ made row y) (row y) written next)
+
+-- a front of one row more is one of the whole
+pub rows_broken : (a b c : Option (List ℕ)) (front : List ℕ) (row : ℕ → List ℕ) (y height : ℕ) → y < height
+    → Appends a b (front ++ flat_map row (range_with_len 0 y)) → AppendsFront b c (row y)
+    → AppendsFront a c (front ++ flat_map row (range_with_len 0 height))
+rows_broken a b c front row y height above written next =
+    let rest = height - (y + 1) in
+    let all : y + 1 + rest ≡ height = omega arith in
+    let more = append_assoc front (made row y) (row y) ∙ ap (λ bytes. front ++ bytes) (made_more row y) in
+    let whole = append_assoc front (made row (y + 1)) (flat_map row (range_with_len (y + 1) rest))
+    ∙ ap (λ bytes. front ++ bytes) (made_all row (y + 1) rest ∙ ap (made row) all) in
+    rw whole at (front_before a c (front ++ made row (y + 1)) (flat_map row (range_with_len (y + 1) rest))
+    (rw more at (front_after a b c (front ++ made row y) (row y) written next)))

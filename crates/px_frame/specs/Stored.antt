@@ -1,0 +1,39 @@
+-- The images of what an array stores: the depth and the face number in key B of each pixel of the picture.
+use Rattle.std.specs.Prelude.{ℕ, ◌^◌, ◌<◌, ◌≤◌, List}
+use Rattle.px_array.specs.Arrays.{State, pixel_of}
+use Rattle.px_macro.specs.Fields.{number_in}
+use Rattle.px_scene.specs.Scenes.{SceneView, colour_in_scene, faces_of}
+use Rattle.px_sched.specs.Layouts.{LayoutView, depth_part, number_part}
+use Rattle.px_frame.specs.declared.plane.Plane.{Plane}
+use Rattle.px_frame.specs.declared.plane.Plane.TheVariants as p
+use Rattle.px_frame.specs.Image.{image_of}
+use Rattle.px_frame.specs.Picture.{colour_number}
+
+abbrev pub stored_depth : LayoutView → State → (x y : ℕ) → ℕ
+stored_depth layout state x y = number_in (depth_part layout layout.key_b) (pixel_of state x y).memory
+
+abbrev pub stored_face : LayoutView → State → (x y : ℕ) → ℕ
+stored_face layout state x y = number_in (number_part layout layout.key_b) (pixel_of state x y).memory
+
+abbrev pub stored_colour : SceneView → LayoutView → State → (x y : ℕ) → ℕ
+stored_colour scene layout state x y = colour_number (colour_in_scene scene.solids (stored_face layout state x y))
+
+abbrev pub stored_number : SceneView → LayoutView → State → Plane → (x y : ℕ) → ℕ
+stored_number scene layout state p.Depth = stored_depth layout state
+stored_number scene layout state p.Face = stored_face layout state
+stored_number scene layout state p.Colour = stored_colour scene layout state
+
+abbrev pub stored_image : SceneView → LayoutView → State → Plane → List ℕ
+stored_image scene layout state plane = image_of scene.width scene.height (stored_number scene layout state plane)
+
+-- the grid has the columns of the picture, and its rows
+abbrev pub HasColumns : SceneView → State → Type 0
+HasColumns scene state = scene.width ≤ 2 ^ state.tree.nx
+
+abbrev pub HasRows : SceneView → State → Type 0
+HasRows scene state = scene.height ≤ 2 ^ state.tree.ny
+
+-- each pixel of the picture stores the number of a face of the scene, or 0
+abbrev pub StoresFaces : SceneView → LayoutView → State → Type 0
+StoresFaces scene layout state =
+    (x y : ℕ) → x < scene.width → y < scene.height → stored_face layout state x y ≤ faces_of scene.solids
