@@ -15,25 +15,32 @@ use Rattle.px_program.specs.declared.command.Command.{Command}
 use Rattle.px_program.specs.declared.note.Stop.{Stop}
 use Rattle.px_program.specs.declared.note.Stop.TheVariants as s
 use Rattle.px_program.specs.Outcomes.{answer_to, made}
-use Rattle.px_program.specs.Answers.{Meets, Takes, IsRestBehind, IsTextStop}
+use Rattle.px_program.specs.Answers.{Meets, Takes, IsRestBehind, IsTextStop, status_of}
+use Rattle.px_program.specs.Arrays.{Draws, LeavesArray}
+use Rattle.px_program.specs.declared.command.Command.TheVariants as c
+use Rattle.px_array.specs.Arrays.{Device}
 
 long : (text : List ℕ) → 1048577 ≤ length text → nat_lt (2 ^ 20) (length text) ≡ true
 long text le = grind (arith, nat_tests)
 
 -- a text's front of one byte past the limit answers for it
-pub answer_front : (command : Command) (bytes : List ℕ) → answer_to command (take 1048577 bytes) ≡ answer_to command bytes
-answer_front command bytes = elim (cases_lt (length bytes) 1048577) [
-  | inl short ↦ ap (answer_to command) (take_all 1048577 bytes (omega arith))
+pub answer_front : (command : Command) (bytes : List ℕ) (bits : ℕ) → answer_to command (take 1048577 bytes) bits ≡ answer_to command bytes bits
+answer_front command bytes bits = elim (cases_lt (length bytes) 1048577) [
+  | inl short ↦ ap (λ text. answer_to command text bits) (take_all 1048577 bytes (omega arith))
   | inr past ↦ rw (long bytes past, long (take 1048577 bytes) (omega (arith, length-take 1048577 bytes))) refl
 ]
 
-pub refused_meets : (command : Command) (bytes : List ℕ) (fault : SceneFault) → refusal_of bytes ≡ Some fault → Meets (Err (s.Refused fault)) (answer_to command bytes)
-refused_meets command bytes (f.Malformed line cause) e = rw e refl
-refused_meets command bytes (f.Limit line kind found) e = rw e refl
-refused_meets command bytes f.Memory e = tt
+pub refused_meets : (command : Command) (bytes : List ℕ) (bits : ℕ) (fault : SceneFault) → refusal_of bytes ≡ Some fault → Meets (Err (s.Refused fault)) (answer_to command bytes bits)
+refused_meets command bytes bits (f.Malformed line cause) e = rw e refl
+refused_meets command bytes bits (f.Limit line kind found) e = rw e refl
+refused_meets command bytes bits f.Memory e = tt
 
-pub made_is : (command : Command) (bytes : List ℕ) (scene : SceneView) → refusal_of bytes ≡ None → scene ≡ scene_of (worded bytes) → answer_to command bytes ≡ made command scene
-made_is command bytes scene e is = rw (e, is) refl
+-- a text of which no more than its front was read is its front, where that is a scene's
+whole_text : (bytes : List ℕ) → refusal_of (take 1048577 bytes) ≡ None → take 1048577 bytes ≡ bytes
+whole_text bytes good = elim (cases_lt (length bytes) 1048577) [
+  | inl short ↦ take_all 1048577 bytes (omega arith)
+  | inr past ↦ let too_long = rw (long (take 1048577 bytes) (omega (arith, length-take 1048577 bytes))) at good in cc
+]
 
 pub takes_any : (r : Result (Unit {0}) Stop) (old new : Option (List ℕ)) → r ≢ Err s.Usage → IsRestBehind old new → ConsumesAtMost old new 1048577 → Takes r old new
 takes_any (Ok u) old new other rest most = rest
@@ -63,15 +70,40 @@ front_is bytes text (Some b) e front = front ∙ ap (take 1048577) (inner e)
     inner e = cc
 
 -- a stop on the text is the outcome's
-pub stop_meets : (command : Command) (bytes text lent : List ℕ) (known : Option (List ℕ)) (stop : Stop) → known ≡ Some bytes → IsFrontOf known 1048577 text → lent ≡ text → IsTextStop stop lent → Meets (Err stop) (answer_to command bytes)
-stop_meets command bytes text lent known (s.Refused fault) told front same is =
-    rw (← answer_front command bytes, ← front_is bytes text known told front, ← same) (refused_meets command lent fault is)
-stop_meets command bytes text lent known s.Memory told front same is = tt
-stop_meets command bytes text lent known s.Usage told front same is = absurd is
-stop_meets command bytes text lent known s.ReadFault told front same is = absurd is
-stop_meets command bytes text lent known s.WriteFault told front same is = absurd is
+pub stop_meets : (command : Command) (bytes text lent : List ℕ) (bits : ℕ) (known : Option (List ℕ)) (stop : Stop) → known ≡ Some bytes → IsFrontOf known 1048577 text → lent ≡ text → IsTextStop stop lent → Meets (Err stop) (answer_to command bytes bits)
+stop_meets command bytes text lent bits known (s.Refused fault) told front same is =
+    rw (← answer_front command bytes bits, ← front_is bytes text known told front, ← same) (refused_meets command lent bits fault is)
+stop_meets command bytes text lent bits known s.Memory told front same is = tt
+stop_meets command bytes text lent bits known s.Usage told front same is = absurd is
+stop_meets command bytes text lent bits known s.ReadFault told front same is = absurd is
+stop_meets command bytes text lent bits known s.WriteFault told front same is = absurd is
+
+-- what was read of a text with a scene is the whole text
+pub text_of : (bytes text lent : List ℕ) (known : Option (List ℕ)) → known ≡ Some bytes → IsFrontOf known 1048577 text → lent ≡ text → refusal_of lent ≡ None → lent ≡ bytes
+text_of bytes text lent known told front same good =
+    let read : lent ≡ take 1048577 bytes = same ∙ front_is bytes text known told front
+    in read ∙ whole_text bytes (rw read at good)
 
 -- the outcome of a text with a scene
-pub made_of : (command : Command) (bytes text lent : List ℕ) (known : Option (List ℕ)) (scene : SceneView) → known ≡ Some bytes → IsFrontOf known 1048577 text → lent ≡ text → refusal_of lent ≡ None → scene ≡ scene_of (worded lent) → answer_to command bytes ≡ made command scene
-made_of command bytes text lent known scene told front same good is =
-    sym (answer_front command bytes) ∙ ap (answer_to command) (sym (front_is bytes text known told front) ∙ sym same) ∙ made_is command lent scene good is
+pub made_of : (command : Command) (bytes text lent : List ℕ) (bits : ℕ) (known : Option (List ℕ)) (scene : SceneView) → known ≡ Some bytes → IsFrontOf known 1048577 text → lent ≡ text → refusal_of lent ≡ None → scene ≡ scene_of (worded lent) → answer_to command bytes bits ≡ made command scene bits
+made_of command bytes text lent bits known scene told front same good is =
+    rw (← text_of bytes text lent known told front same good, good, is) refl
+
+-- a command that draws leaves the array where it stops at its text
+text_draws : (text : List ℕ) (bits : ℕ) (scene : SceneView) (device : Device) (stop : Stop) → IsTextStop stop text
+    → Draws (status_of stop) bits scene device device
+text_draws text bits scene device (s.Refused (f.Malformed line cause)) is = refl
+text_draws text bits scene device (s.Refused (f.Limit line kind found)) is = refl
+text_draws text bits scene device (s.Refused f.Memory) is = inl refl
+text_draws text bits scene device s.Memory is = inl refl
+text_draws text bits scene device s.Usage is = absurd is
+text_draws text bits scene device s.ReadFault is = absurd is
+text_draws text bits scene device s.WriteFault is = absurd is
+
+pub text_leaves : (command : Command) (text : List ℕ) (bits : ℕ) (scene : SceneView) (device : Device) (stop : Stop) → IsTextStop stop text
+    → LeavesArray (Some command) (status_of stop) bits scene device device
+text_leaves c.Render text bits scene device stop is = text_draws text bits scene device stop is
+text_leaves c.Colour text bits scene device stop is = text_draws text bits scene device stop is
+text_leaves c.Tidy text bits scene device stop is = refl
+text_leaves c.Plan text bits scene device stop is = refl
+text_leaves c.Cost text bits scene device stop is = refl

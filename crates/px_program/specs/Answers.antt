@@ -23,6 +23,11 @@ status_of s.ReadFault = status.ReadFault
 status_of s.WriteFault = status.WriteFault
 status_of s.Memory = status.Memory
 
+-- the status of a result
+abbrev pub status_in : Result (Unit {0}) Stop → Status
+status_in (Ok u) = status.Done
+status_in (Err stop) = status_of stop
+
 -- the answer is the outcome's, where it is not a fault's or the want of memory
 abbrev pub Meets : Result (Unit {0}) Stop → Outcome → Type 0
 Meets (Ok u) o = o ≡ done (output o)
@@ -148,3 +153,8 @@ abbrev pub IsSceneStop : Stop → Type 0
 IsSceneStop (s.Refused fault) = ⊤
 IsSceneStop s.Memory = ⊤
 IsSceneStop stop = ⊥
+
+-- a scene was not served, as these limits of outcomes say, or for want of memory
+pub record StopsAt (limits : Outcome → Outcome) (stop : Stop) : Type 0 where
+  pub scene : IsSceneStop stop
+  pub meets : (o : Outcome) → Meets (Err stop) (limits o)

@@ -7,8 +7,10 @@ use Rattle.px_program.specs.declared.command.Command.TheVariants as c
 abbrev pub word_of : List ℕ → Option Command
 word_of w =
     if bytes_eq w (codes "render") then Some c.Render
+    else if bytes_eq w (codes "colour") then Some c.Colour
     else if bytes_eq w (codes "tidy") then Some c.Tidy
     else if bytes_eq w (codes "plan") then Some c.Plan
+    else if bytes_eq w (codes "cost") then Some c.Cost
     else None
 
 -- no words, or the one word of a command

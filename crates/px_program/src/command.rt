@@ -7,10 +7,14 @@ ghost use Rattle.px_program.specs.Commands.{command_of, word_of};
 pub(crate) enum Command {
     /// Draws the depth image and the face image.
     Render,
+    /// Draws the colour image.
+    Colour,
     /// Writes the scene's canonical text.
     Tidy,
     /// Prints the products of the shown expression.
     Plan,
+    /// Prints how many operations and clocks the scene takes.
+    Cost,
 }
 
 /// The command of these words, where they name one.
@@ -29,10 +33,14 @@ fn word_of(word: &[u8]) -> Option<Command>
 {
     if word == b"render".as_slice() {
         Some(Command::Render)
+    } else if word == b"colour".as_slice() {
+        Some(Command::Colour)
     } else if word == b"tidy".as_slice() {
         Some(Command::Tidy)
     } else if word == b"plan".as_slice() {
         Some(Command::Plan)
+    } else if word == b"cost".as_slice() {
+        Some(Command::Cost)
     } else {
         None
     }

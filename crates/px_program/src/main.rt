@@ -2,6 +2,8 @@
 #![tactic(auto)]
 
 mod command;
+mod cost;
+mod make;
 mod note;
 mod plan;
 mod render;
@@ -10,8 +12,10 @@ mod status;
 #[cfg(test)]
 mod tests;
 
+use px_array::PixelArray;
 use px_io::{StdSink, StdSource};
 use px_num::Memory;
+pub use render::deliver;
 pub use run::run;
 pub use status::Status;
 use std::env;
@@ -25,12 +29,14 @@ fn main(rt: HostRuntime) -> ExitCode {
     let mut input = StdSource::new(rt.stdin());
     let mut out = StdSink::new(rt.stdout());
     let mut notes = StdSink::new(rt.stderr());
+    let mut array = PixelArray::<72>::new(rt.alloc());
     let status = run(
         rt.alloc(),
         words.as_slice(),
         &mut input,
         &mut out,
         &mut notes,
+        &mut array,
     );
     ExitCode::from(status.code())
 }

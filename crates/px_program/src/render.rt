@@ -1,52 +1,97 @@
-//! The command `render`: the depth image and the face image.
-ghost use Rattle.std.specs.Prelude.{◌≡◌, ◌++◌, ◌*◌, ◌^◌, ◌<◌, true, length, vec_len, OnOk, OnErr, IfOk, All};
+//! The commands `render` and `colour`: the images that an array draws of a scene.
+ghost use Rattle.std.specs.Prelude.{◌≡◌, ◌++◌, ◌≤◌, ℕ, Err, true, IfErr, IfOk, OnOk, OnErr};
 ghost use Rattle.std.specs.Io.KnownBytes.{Appends};
 ghost use Rattle.px_io.specs.Counts.{HasCause};
 ghost use Rattle.px_io.specs.Told.{AppendsFront, Tells};
-ghost use Rattle.px_frame.specs.Picture.{AreRows, depth_at, face_at, depth_image, face_image};
+ghost use Rattle.px_sched.specs.Layouts.{layout_of};
+ghost use Rattle.px_control.specs.Program.{IsAt};
+ghost use Rattle.px_frame.specs.Picture.{colour_image, depth_image, face_image, picture_image};
+ghost use Rattle.px_program.specs.Arrays.{IsDrawn};
 
-use px_frame::{Picture, write_numbers};
+use px_array::Array;
+use px_control::{Job, law_of_grids};
+use px_frame::{Plane, laws_of_images, write_picture};
 use px_io::{Failed, Sink};
-use px_scene::Scene;
+use px_scene::{Scene, laws_of_scenes};
+use px_sched::Layout;
 
-/// Writes the two images of a scene, and finishes.
-pub(crate) fn write_picture<O: Sink>(
+/// Makes the clocks that are left of a job, writes the depth image and the face image that the
+/// array then stores, and finishes.
+///
+/// The scene is the job's. However writing ends, the array is drawn. Takes no memory.
+pub fn deliver<A: Array, O: Sink>(
+    job: &mut Job<'_>,
     scene: &Scene,
-    picture: &Picture,
+    array: &mut A,
     out: &mut O,
 ) -> Result<(), Failed>
-    requires depths { AreRows scene.now.width scene.now.height (depth_at scene.now) picture.now.depths.items }
-    requires faces { AreRows scene.now.width scene.now.height (face_at scene.now) picture.now.faces.items }
-    ensures ok { OnOk result (Appends (O.written out.old) (O.written out.new) (depth_image
-        scene.now ++ face_image scene.now)) }
+    requires scene { scene.now ≡ job.old.scene }
+    requires at { IsAt A.BITS scene.now job.old.place.clock (A.device array.old) }
+    ensures ok { OnOk result (Appends (O.written out.old) (O.written out.new)
+        (depth_image scene.now ++ face_image scene.now)) }
     ensures end { OnOk result (Tells (O.finished out.new) true) }
-    ensures err { OnErr result (AppendsFront (O.written out.old) (O.written out.new) (depth_image
-        scene.now ++ face_image scene.now)) }
+    ensures err { OnErr result (AppendsFront (O.written out.old) (O.written out.new)
+        (depth_image scene.now ++ face_image scene.now)) }
     ensures cause { HasCause (O.faults out.old) (O.faults out.new) result }
+    ensures drawn { IsDrawn A.BITS scene.now (A.device array.new) }
 {
-    write_depths(scene, picture.depths.as_slice(), out)?;
-    write_faces(scene, picture.faces.as_slice(), out)?;
+    let layout = draw(job, scene, array);
+    write_image(array, &layout, scene, Plane::Depth, out)?;
+    write_image(array, &layout, scene, Plane::Face, out)?;
     out.finish()
 }
 
-fn write_depths<O: Sink>(scene: &Scene, depths: &[u32], out: &mut O) -> Result<(), Failed>
-    requires { AreRows scene.now.width scene.now.height (depth_at scene.now) depths.now }
-    ensures ok { OnOk result (Appends (O.written out.old) (O.written out.new) (depth_image
-        scene.now)) }
-    ensures err { OnErr result (AppendsFront (O.written out.old) (O.written out.new) (depth_image
-        scene.now)) }
+/// The same as `deliver` with the colour image alone.
+pub(crate) fn deliver_colour<A: Array, O: Sink>(
+    job: &mut Job<'_>,
+    scene: &Scene,
+    array: &mut A,
+    out: &mut O,
+) -> Result<(), Failed>
+    requires scene { scene.now ≡ job.old.scene }
+    requires at { IsAt A.BITS scene.now job.old.place.clock (A.device array.old) }
+    ensures ok { OnOk result (Appends (O.written out.old) (O.written out.new)
+        (colour_image scene.now)) }
+    ensures end { OnOk result (Tells (O.finished out.new) true) }
+    ensures err { OnErr result (AppendsFront (O.written out.old) (O.written out.new)
+        (colour_image scene.now)) }
     ensures cause { HasCause (O.faults out.old) (O.faults out.new) result }
+    ensures drawn { IsDrawn A.BITS scene.now (A.device array.new) }
 {
-    write_numbers(scene.width(), scene.height(), depths, out)
+    let layout = draw(job, scene, array);
+    write_image(array, &layout, scene, Plane::Colour, out)?;
+    out.finish()
 }
 
-fn write_faces<O: Sink>(scene: &Scene, faces: &[u32], out: &mut O) -> Result<(), Failed>
-    requires { AreRows scene.now.width scene.now.height (face_at scene.now) faces.now }
-    ensures ok { OnOk result (Appends (O.written out.old) (O.written out.new) (face_image
-        scene.now)) }
-    ensures err { OnErr result (AppendsFront (O.written out.old) (O.written out.new) (face_image
-        scene.now)) }
+/// Makes the clocks that are left, and answers where the picture then stands in a pixel's memory.
+fn draw<A: Array>(job: &mut Job<'_>, scene: &Scene, array: &mut A) -> Layout
+    requires scene { scene.now ≡ job.old.scene }
+    requires at { IsAt A.BITS scene.now job.old.place.clock (A.device array.old) }
+    ensures layout { result ≡ layout_of scene.now }
+    ensures drawn { IsDrawn A.BITS scene.now (A.device array.new) }
+{
+    job.finish(array);
+    job.layout()
+}
+
+/// Writes one image of a drawn array.
+fn write_image<A: Array, O: Sink>(
+    array: &A,
+    layout: &Layout,
+    scene: &Scene,
+    plane: Plane,
+    out: &mut O,
+) -> Result<(), Failed>
+    requires layout { layout.now ≡ layout_of scene.now }
+    requires drawn { IsDrawn A.BITS scene.now (A.device array.now) }
+    ensures ok { OnOk result (Appends (O.written out.old) (O.written out.new)
+        (picture_image scene.now plane)) }
+    ensures err { OnErr result (AppendsFront (O.written out.old) (O.written out.new)
+        (picture_image scene.now plane)) }
     ensures cause { HasCause (O.faults out.old) (O.faults out.new) result }
 {
-    write_numbers(scene.width(), scene.height(), faces, out)
+    laws_of_scenes(scene);
+    law_of_grids();
+    laws_of_images();
+    write_picture(array, layout, scene, plane, out)
 }

@@ -1,5 +1,6 @@
 //! Runs over sources and sinks in memory, whose calls fail at a place.
 use crate::{Status, run};
+use px_array::{Array, PixelArray};
 use px_io::{MemSink, MemSource};
 use std::test::Fail;
 
@@ -21,15 +22,25 @@ fn a_failing_read_ends_the_run(rt: HostRuntime) -> Result<(), Fail> {
             .ok()
             .ok_or("notes")?;
         let words: Vec<String> = Vec::new(alloc);
-        let status = run(alloc, words.as_slice(), &mut input, &mut out, &mut notes);
+        let mut array = PixelArray::<72>::new(alloc);
+        let status = run(
+            alloc,
+            words.as_slice(),
+            &mut input,
+            &mut out,
+            &mut notes,
+            &mut array,
+        );
         assert_eq!(rt; status, Status::ReadFault, "call {call}");
         assert_eq!(rt; out.written().len(), 0);
         assert_eq!(rt; notes.written(), b"read fault\n".as_slice());
+        assert_eq!(rt; array.size(), (0, 0));
     }
     Ok(())
 }
 
-/// One write stops at each place, and what was written is a front of the two maps.
+/// One write stops at each place, and what was written is a front of the two maps; the array
+/// has made every broadcast whatever became of them.
 #[test]
 fn a_failing_write_leaves_a_front(rt: HostRuntime) -> Result<(), Fail> {
     let alloc = rt.alloc();
@@ -42,7 +53,15 @@ fn a_failing_write_leaves_a_front(rt: HostRuntime) -> Result<(), Fail> {
             .ok()
             .ok_or("notes")?;
         let words: Vec<String> = Vec::new(alloc);
-        let status = run(alloc, words.as_slice(), &mut input, &mut out, &mut notes);
+        let mut array = PixelArray::<72>::new(alloc);
+        let status = run(
+            alloc,
+            words.as_slice(),
+            &mut input,
+            &mut out,
+            &mut notes,
+            &mut array,
+        );
         let want = if room < 28 {
             Status::WriteFault
         } else {
@@ -51,6 +70,7 @@ fn a_failing_write_leaves_a_front(rt: HostRuntime) -> Result<(), Fail> {
         assert_eq!(rt; status, want, "room {room}");
         assert_eq!(rt; out.written(), &TWO_MAPS[..room.min(28)]);
         assert_eq!(rt; out.finished(), room == 28);
+        assert_eq!(rt; array.clocks(), 317);
     }
     Ok(())
 }
