@@ -72,10 +72,11 @@ fn kept_products(
     ensures { IfOk result (λ kept.
         kept.items ≡ kept_products (λ q. slice_index_or boxes.now q None) products.now) }
 {
-    products
-        .iter()
-        .filter_map(|product| pruned(boxes, product))
-        .collect(alloc)
+    let mut kept = Vec::new(alloc);
+    for product in products.iter().filter_map(|product| pruned(boxes, product)) {
+        kept.push(product)?;
+    }
+    Ok(kept)
 }
 
 /// A product with the barred solids that count, if it can have a cell.
