@@ -5,7 +5,7 @@ use Rattle.std.proofs.Math.IntN.{*ℤ-zero}
 use Rattle.std.proofs.Math.Nat.{mul-le-mul}
 use Rattle.std.proofs.lemmas.Int.{ints}
 use Rattle.px_num.specs.declared.linear.Linear.{Linear}
-use Rattle.px_num.specs.Forms.{IsInHalfRange, IsInTreeRange, IsWithin, less_one, minus, value_at}
+use Rattle.px_num.specs.Forms.{IsInHalfRange, IsInTreeRange, IsWithin, less_one, minus, plus, value_at}
 
 -- one place further
 pub *ℤ-suc : (z : ℤ) (x : ℕ) → z *ℤ pos (suc x) ≡ (z *ℤ pos x) +ℤ z
@@ -32,6 +32,9 @@ IsInTreeRange-minus p q half_p half_q = record {
 
 pub value_at-less_one : (p : Linear) (x y : ℕ) → value_at (less_one p) x y ≡ value_at p x y -ℤ pos 1
 value_at-less_one p x y = omega (arith, ints)
+
+pub value_at-plus : (p : Linear) (n x y : ℕ) → value_at (plus p n) x y ≡ value_at p x y +ℤ pos n
+value_at-plus p n x y = omega (arith, ints)
 
 times_within : (a : ℤ) (x m k : ℕ) → IsWithin m a → x ≤ k → IsWithin (m * k) (a *ℤ pos x)
 times_within (pos n) x m k within below =

@@ -17,6 +17,10 @@ minus p q = record { a = p.a -ℤ q.a; b = p.b -ℤ q.b; c = p.c -ℤ q.c }
 abbrev pub less_one : Linear → Linear
 less_one p = record p { c = p.c -ℤ pos 1 }
 
+-- the form whose value is greater by n
+abbrev pub plus : Linear → ℕ → Linear
+plus p n = record p { c = p.c +ℤ pos n }
+
 -- the coefficients that the tree takes
 pub record IsInTreeRange (form : Linear) : Type 0 where
   pub a : IsWithin (2 ^ 27) form.a

@@ -1,6 +1,6 @@
 //! Linear forms `a * x + b * y + c`.
-ghost use Rattle.std.specs.Prelude.{◌≡◌, ◌≤◌, ◌-◌, ◌*◌, ◌^◌, ◌*ℤ◌, ◌-ℤ◌, ◌<ℤ◌, neg_ℤ, pos, ℕ};
-ghost use Rattle.px_num.specs.Forms.{IsInHalfRange, IsInTreeRange, IsWithin, less_one, minus, value_at};
+ghost use Rattle.std.specs.Prelude.{◌≡◌, ◌≤◌, ◌-◌, ◌*◌, ◌^◌, ◌*ℤ◌, ◌+ℤ◌, ◌-ℤ◌, ◌<ℤ◌, neg_ℤ, pos, ℕ};
+ghost use Rattle.px_num.specs.Forms.{IsInHalfRange, IsInTreeRange, IsWithin, less_one, minus, plus, value_at};
 
 /// A linear form `a * x + b * y + c` over the pixels of a screen.
 ///
@@ -41,6 +41,19 @@ impl Linear {
             a: self.a - other.a,
             b: self.b - other.b,
             c: self.c - other.c,
+        }
+    }
+
+    /// The form whose value is greater by `n`; `c` is at most `2^37` in size.
+    pub fn plus(&self, n: u32) -> Linear
+        requires { IsInHalfRange self.now }
+        ensures form { result ≡ plus self.now n }
+        ensures range { IsInTreeRange result }
+        ensures value { (x y : ℕ) → value_at result x y ≡ value_at self.now x y +ℤ pos n }
+    {
+        Linear {
+            c: self.c + i64::from(n),
+            ..*self
         }
     }
 
