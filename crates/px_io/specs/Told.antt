@@ -4,10 +4,6 @@ use Rattle.std.specs.Io.KnownBytes.{Appends, Consumes}
 use Rattle.std.specs.declared.option.Option.{Option}
 use Rattle.std.specs.declared.option.Option.TheVariants.{Some, None}
 
--- known bytes grew by a front of these
-abbrev pub AppendsFront : Option (List ℕ) → Option (List ℕ) → List ℕ → Type 0
-AppendsFront old new bytes = (n : ℕ) × Appends old new (take n bytes)
-
 -- known bytes lost a front of at most so many
 abbrev pub ConsumesAtMost : Option (List ℕ) → Option (List ℕ) → ℕ → Type 0
 ConsumesAtMost old new limit = (bytes : List ℕ) × Consumes old new bytes × (length bytes ≤ limit)
@@ -26,6 +22,22 @@ Tells (Some told) answer = told ≡ answer
 pub record Reopens (old new : Option Bool) (count : ℕ) : Type 0 where
   pub taken : 0 < count → Tells new false
   pub idle : count ≡ 0 → new ≡ old
+
+-- all of these bytes went to a sink, which then is no more finished where there was one
+pub record TakesAll (written_old written_new : Option (List ℕ)) (finished_old finished_new : Option Bool) (bytes : List ℕ) : Type 0 where
+  pub all : Appends written_old written_new bytes
+  pub end : Reopens finished_old finished_new (length bytes)
+
+-- the first so many of these bytes went to a sink, which then is no more finished where one of them did
+pub record TakesFirst (n : ℕ) (written_old written_new : Option (List ℕ)) (finished_old finished_new : Option Bool) (bytes : List ℕ) : Type 0 where
+  pub within : n ≤ length bytes
+  pub front : Appends written_old written_new (take n bytes)
+  pub end : Reopens finished_old finished_new n
+
+-- a front of these bytes went to a sink, which was not finished after it
+abbrev pub TakesFront : (written_old written_new : Option (List ℕ)) (finished_old finished_new : Option Bool) → List ℕ → Type 0
+TakesFront written_old written_new finished_old finished_new bytes =
+    (n : ℕ) × TakesFirst n written_old written_new finished_old finished_new bytes
 
 -- a write reopens a sink by what it took, and leaves it where it failed
 abbrev pub WriteReopens : {E : Type 0} → Option Bool → Option Bool → Result ℕ E → Type 0

@@ -1,9 +1,10 @@
 -- The laws of told bytes over several calls in a row.
-use Rattle.std.proofs.Common.{◌≡◌, ℕ, ◌+◌, ◌-◌, min, List, [], ◌++◌, take, drop, length, Option, Some, None, append_assoc, refl, sym, arith, length-drop}
+use Rattle.std.proofs.Common.{◌≡◌, ℕ, ◌+◌, ◌-◌, Bool, List, [], ◌++◌, take, drop, length, Option, Some, None, append_assoc, refl, sym, arith, length-append, length-drop}
+use Prim.Native.Nat.{zero, suc}
 use Rattle.std.proofs.Math.Seq.{take-add, take-append-add}
-use Rattle.std.proofs.lemmas.List.{take_min, take_all, take-append-le as take_within}
+use Rattle.std.proofs.lemmas.List.{take_all, take-append-le as take_within}
 use Rattle.std.specs.Io.KnownBytes.{Appends, Consumes, Keeps}
-use Rattle.px_io.specs.Told.{AppendsFront}
+use Rattle.px_io.specs.Told.{Reopens, TakesAll, TakesFront}
 
 -- first xs were appended, and then ys
 pub appends_both : (a b c : Option (List ℕ)) (xs ys : List ℕ) → Appends a b xs → Appends b c ys
@@ -20,25 +21,60 @@ appends_kept (Some a) None c xs p q = absurd p
 appends_kept (Some a) (Some b) None xs p q = absurd q
 appends_kept (Some a) (Some b) (Some c) xs p q = rw q p
 
+-- a sink that took m bytes and then n
+reopens_both : (f g h : Option Bool) (m n : ℕ) → Reopens f g m → Reopens g h n → Reopens f h (m + n)
+reopens_both f g h m zero first second = record {
+  taken = λ some. rw (second.idle refl) (first.taken (omega arith));
+  idle = λ none. rw (second.idle refl) (first.idle (omega arith));
+}
+reopens_both f g h m (suc n) first second = record {
+  taken = λ some. second.taken (omega arith);
+  idle = λ none. absurd (omega arith);
+}
+
+-- all of xs, and then all of ys
+pub takes_both : (a b c : Option (List ℕ)) (f g h : Option Bool) (xs ys : List ℕ)
+    → TakesAll a b f g xs → TakesAll b c g h ys → TakesAll a c f h (xs ++ ys)
+takes_both a b c f g h xs ys first second = record {
+  all = appends_both a b c xs ys first.all second.all;
+  end = rw (length-append xs ys) (reopens_both f g h (length xs) (length ys) first.end second.end);
+}
+
 -- all of xs, and then a front of ys
-pub front_after : (a b c : Option (List ℕ)) (xs ys : List ℕ) → Appends a b xs → AppendsFront b c ys
-    → AppendsFront a c (xs ++ ys)
-front_after a b c xs ys p (n, q) =
-    (length xs + n, rw take-append-add (appends_both a b c xs (take n ys) p q))
+pub front_after : (a b c : Option (List ℕ)) (f g h : Option Bool) (xs ys : List ℕ)
+    → TakesAll a b f g xs → TakesFront b c g h ys → TakesFront a c f h (xs ++ ys)
+front_after a b c f g h xs ys first (n, second) = (
+  length xs + n,
+  record {
+    within = omega (arith, second.within, length-append xs ys);
+    front = rw take-append-add (appends_both a b c xs (take n ys) first.all second.front);
+    end = reopens_both f g h (length xs) n first.end second.end;
+  },
+)
 
 -- a front of xs is one of all that begins with xs
-pub front_before : (a b : Option (List ℕ)) (xs ys : List ℕ) → AppendsFront a b xs
-    → AppendsFront a b (xs ++ ys)
-front_before a b xs ys (n, p) =
-    let same : take (min n (length xs)) (xs ++ ys) ≡ take n xs =
-    rw (take_within (min n (length xs)) xs ys (omega arith), take_min n xs) refl
-    in (min n (length xs), rw same p)
+pub front_before : (a b : Option (List ℕ)) (f g : Option Bool) (xs ys : List ℕ)
+    → TakesFront a b f g xs → TakesFront a b f g (xs ++ ys)
+front_before a b f g xs ys (n, first) = (
+  n,
+  record {
+    within = omega (arith, first.within, length-append xs ys);
+    front = rw (take_within n xs ys first.within) first.front;
+    end = first.end;
+  },
+)
 
 -- all of xs, and then nothing, is a front of xs
-pub front_all : (a b c : Option (List ℕ)) (xs : List ℕ) → Appends a b xs → Keeps b c
-    → AppendsFront a c xs
-front_all a b c xs p k =
-    (length xs, rw (take_all (length xs) xs (omega arith)) (appends_kept a b c xs p k))
+pub front_all : (a b c : Option (List ℕ)) (f g h : Option Bool) (xs : List ℕ)
+    → TakesAll a b f g xs → Keeps b c → h ≡ g → TakesFront a c f h xs
+front_all a b c f g h xs first kept same = (
+  length xs,
+  record {
+    within = omega arith;
+    front = rw (take_all (length xs) xs (omega arith)) (appends_kept a b c xs first.all kept);
+    end = rw same first.end;
+  },
+)
 
 -- the first i of xs, and then the first n of the others, are the first i + n
 pub appends_more : (a b c : Option (List ℕ)) (xs : List ℕ) (i n m : ℕ) → m ≡ length xs - i

@@ -1,17 +1,17 @@
 //! Writing a piece whole.
-ghost use Rattle.std.specs.Prelude.{length, OnOk, OnErr};
-ghost use Rattle.std.specs.Io.KnownBytes.{Appends};
+ghost use Rattle.std.specs.Prelude.{OnOk, OnErr};
 ghost use Rattle.px_io.specs.Counts.{HasCause};
-ghost use Rattle.px_io.specs.Told.{AppendsFront, Reopens};
+ghost use Rattle.px_io.specs.Told.{TakesAll, TakesFront};
 
 use crate::{Failed, Sink};
 
-/// Writes until all of the bytes are taken. After `Failed` a front of them was.
+/// Writes until all of the bytes are taken. After `Failed` a front of them was, and the sink is not
+/// finished behind it.
 pub fn write_whole<O: Sink>(out: &mut O, bytes: &[u8]) -> Result<(), Failed>
-    ensures ok { OnOk result (Appends (O.written out.old) (O.written out.new) bytes.now) }
-    ensures err { OnErr result (AppendsFront (O.written out.old) (O.written out.new) bytes.now) }
-    ensures end { OnOk result
-        (Reopens (O.finished out.old) (O.finished out.new) (length bytes.now)) }
+    ensures ok { OnOk result (TakesAll (O.written out.old) (O.written out.new)
+        (O.finished out.old) (O.finished out.new) bytes.now) }
+    ensures err { OnErr result (TakesFront (O.written out.old) (O.written out.new)
+        (O.finished out.old) (O.finished out.new) bytes.now) }
     ensures cause { HasCause (O.faults out.old) (O.faults out.new) result }
 {
     let mut at = 0;
