@@ -9,6 +9,7 @@ has_combined : (op : Op) (a b c d : Cell) → HasSurface a c → HasSurface b d 
 has_combined o.Union a b c d left right = record { first = grind (arith, length-append {A = ℕ}); behind = grind (arith, length-append {A = ℕ}) }
 has_combined o.Meet a b c d left right = record { first = grind (arith, length-append {A = ℕ}); behind = grind (arith, length-append {A = ℕ}) }
 has_combined o.Minus a b c d left right = record { first = grind (arith, length-append {A = ℕ}); behind = grind (arith, length-append {A = ℕ}) }
+has_combined o.Differ a b c d left right = record { first = grind (arith, length-append {A = ℕ}); behind = grind (arith, length-append {A = ℕ}) }
 
 pub has_surface : (before now : ℕ → Cell) (count : ℕ) → ((solid : ℕ) → solid < count → HasSurface (before solid) (now solid))
     → (tree : Tree) → HasLeavesBelow count tree → HasSurface (cell before tree) (cell now tree)
@@ -20,6 +21,7 @@ member_combined : (op : Op) (a b : Cell) → (combined op a b).member ≡ truth_
 member_combined o.Union a b = refl
 member_combined o.Meet a b = refl
 member_combined o.Minus a b = refl
+member_combined o.Differ a b = refl
 
 pub member_of_cell : (solid_at : ℕ → Cell) (tree : Tree) → (cell solid_at tree).member ≡ is_member (λ solid. (solid_at solid).member) tree
 member_of_cell solid_at (leaf solid) = refl

@@ -6,10 +6,10 @@ use Rattle.std.proofs.lemmas.List.Sums.{sum_by-append}
 use Rattle.std.proofs.lemmas.List.Elements.{All-nil, All-cons}
 use Prim.Native.Nat.{zero, suc}
 use Rattle.px_expr.specs.Tree.{Tree, leaf, join}
-use Rattle.px_expr.specs.Postorder.{size, op_node, nodes_behind, sides, parent_count}
+use Rattle.px_expr.specs.Shapes.{shape_of, shape_of_op, op_node, sides}
+use Rattle.px_expr.specs.Postorder.{size, nodes_behind, parent_count}
 use Rattle.px_expr.specs.declared.node.Node.{Node}
 use Rattle.px_expr.specs.declared.node.Op.{Op}
-use Rattle.px_expr.specs.declared.node.Op.TheVariants as o
 use Rattle.px_expr.proofs.PostorderLemmas.{length-nodes_behind}
 
 some_node : (tree : Tree) → 1 ≤ size tree
@@ -17,7 +17,7 @@ some_node (leaf solid) = omega arith
 some_node (join op left right) = omega arith
 
 abbrev named : ℕ → Node → ℕ
-named place node = count_by (λ side. side == place) (sides node)
+named place node = count_by (λ side. side == place) (sides (shape_of node))
 
 abbrev one : ℕ → ℕ → ℕ
 one side place = cond (side == place) 1 0
@@ -29,9 +29,7 @@ one_other : (side place : ℕ) → (side ≡ place → ⊥) → one side place �
 one_other side place other = grind (arith, nat_tests)
 
 parents_op : (place : ℕ) (op : Op) (l r : ℕ) → parent_count place (op_node op l r ∷ []) ≡ one l place + one r place
-parents_op place o.Union l r = omega arith
-parents_op place o.Meet l r = omega arith
-parents_op place o.Minus l r = omega arith
+parents_op place op l r = rw (shape_of_op op l r) (omega arith)
 
 pub record Parents (place before size count : ℕ) : Type 0 where
   pub low : place < before → count ≡ 0
@@ -63,7 +61,7 @@ parents place before (join op left right) =
 -- each node from a place on stands behind its sides
 abbrev AllBehind : ℕ → List Node → Type 0
 AllBehind place [] = Unit {0}
-AllBehind place (node ∷ nodes) = All (λ side. side < place) (sides node) × AllBehind (place + 1) nodes
+AllBehind place (node ∷ nodes) = All (λ side. side < place) (sides (shape_of node)) × AllBehind (place + 1) nodes
 
 behind_both : (place end : ℕ) (xs ys : List Node) → end ≡ place + length xs → AllBehind place xs → AllBehind end ys → AllBehind place (xs ++ ys)
 behind_both place end [] ys is first second = let same : place ≡ end = omega arith in rw same second
@@ -72,10 +70,8 @@ behind_both place end (x ∷ xs) ys is first second = (first.0, behind_both (pla
 both_behind : (place l r : ℕ) → l < place → r < place → All (λ side. side < place) (l ∷ r ∷ [])
 both_behind place l r first second = All-cons (λ side. side < place) l (r ∷ []) first (All-cons (λ side. side < place) r [] second (All-nil (λ side. side < place)))
 
-op_behind : (place : ℕ) (op : Op) (l r : ℕ) → l < place → r < place → All (λ side. side < place) (sides (op_node op l r))
-op_behind place o.Union l r first second = both_behind place l r first second
-op_behind place o.Meet l r first second = both_behind place l r first second
-op_behind place o.Minus l r first second = both_behind place l r first second
+op_behind : (place : ℕ) (op : Op) (l r : ℕ) → l < place → r < place → All (λ side. side < place) (sides (shape_of (op_node op l r)))
+op_behind place op l r first second = rw (shape_of_op op l r) (both_behind place l r first second)
 
 pub behind_tree : (place : ℕ) (tree : Tree) → AllBehind place (nodes_behind place tree)
 behind_tree place (leaf solid) = (λ i any lt. absurd (omega arith), tt)
@@ -86,7 +82,7 @@ behind_tree place (join op left right) =
     (behind_both place (place + size left) (nodes_behind place left) _ (omega arith) (behind_tree place left) (behind_tree (place + size left) right))
     (op_behind _ op _ _ (omega (arith, some_node left, some_node right)) (omega (arith, some_node left, some_node right)), tt)
 
-pub behind_at : (place : ℕ) (nodes : List Node) (i at : ℕ) (any : Node) → at ≡ place + i → AllBehind place nodes → i < length nodes → All (λ side. side < at) (sides (get_or nodes i any))
+pub behind_at : (place : ℕ) (nodes : List Node) (i at : ℕ) (any : Node) → at ≡ place + i → AllBehind place nodes → i < length nodes → All (λ side. side < at) (sides (shape_of (get_or nodes i any)))
 behind_at place [] i at any is all lt = absurd (omega arith)
 behind_at place (x ∷ xs) zero at any is all lt = let same : at ≡ place = omega arith in rw same all.0
 behind_at place (x ∷ xs) (suc i) at any is all lt = behind_at (place + 1) xs i at any (omega arith) all.1 (omega arith)

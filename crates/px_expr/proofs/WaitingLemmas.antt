@@ -3,8 +3,9 @@ use Rattle.std.proofs.Common.{ℕ, ◌≡◌, ◌≤◌, ◌<◌, ◌+◌, ◌-�
 use Rattle.std.proofs.lemmas.List.{reverse-append, length-reverse}
 use Rattle.std.proofs.lemmas.List.Sums.{fold-append}
 use Rattle.px_expr.specs.Tree.{Tree, leaf, join, nesting}
-use Rattle.px_expr.specs.Postorder.{size, op_node, nodes_behind, placed, trees_after}
-use Rattle.px_expr.specs.Waiting.{joined, newest, all_leaves}
+use Rattle.px_expr.specs.Shapes.{op_node, joined}
+use Rattle.px_expr.specs.Postorder.{size, nodes_behind, placed, trees_after}
+use Rattle.px_expr.specs.Waiting.{newest, all_leaves}
 use Rattle.px_expr.specs.Kept.{all_size, all_nodes, subtrees_of, AreLawful, IsKept}
 use Rattle.px_expr.specs.declared.node.Node.{Node}
 use Rattle.px_expr.specs.declared.node.Node.TheVariants as n
@@ -65,15 +66,15 @@ last_are : (kept rest : List Subtree) (left right : Subtree) (a b : Tree) (other
 last_are kept rest left right a b others is last = sym (reverse-append rest (left ∷ right ∷ [])) ∙ ap reverse (sym last) ∙ is
 
 pub nesting_joined : (kept rest : List Subtree) (left right : Subtree) (op : Op) (trees : List Tree) → reverse kept ≡ subtrees_of trees → 2 ≤ length trees
-    → kept ≡ rest ++ left ∷ right ∷ [] → max left.nesting right.nesting + 1 ≡ nesting (newest (joined op trees))
+    → kept ≡ rest ++ left ∷ right ∷ [] → max left.nesting right.nesting + 1 ≡ nesting (newest (joined join op trees))
 nesting_joined kept rest left right op [] is two last = absurd (omega arith)
 nesting_joined kept rest left right op (b ∷ []) is two last = absurd (omega arith)
 nesting_joined kept rest left right op (b ∷ a ∷ others) is two last = let same = last_are kept rest left right a b others is last in cc
 
 -- the last two trees are joined
 pub kept_joined : (given : List Node) (kept rest : List Subtree) (left right : Subtree) (trees : List Tree) (op : Op) (depth : ℕ) → IsKept given kept trees → 2 ≤ length trees
-    → kept ≡ rest ++ left ∷ right ∷ [] → depth ≡ nesting (newest (joined op trees)) → depth ≤ 64
-    → IsKept (given ++ op_node op left.root right.root ∷ []) (rest ++ record { root = length given; nesting = depth } ∷ []) (joined op trees)
+    → kept ≡ rest ++ left ∷ right ∷ [] → depth ≡ nesting (newest (joined join op trees)) → depth ≤ 64
+    → IsKept (given ++ op_node op left.root right.root ∷ []) (rest ++ record { root = length given; nesting = depth } ∷ []) (joined join op trees)
 kept_joined given kept rest left right [] op depth is two last same few = absurd (omega arith)
 kept_joined given kept rest left right (b ∷ []) op depth is two last same few = absurd (omega arith)
 kept_joined given kept rest left right (b ∷ a ∷ others) op depth is two last same few =
@@ -100,7 +101,7 @@ same_kept given more kept others trees now nodes subtrees is so = rw (nodes, sub
 pub few_leaves : (trees now : List Tree) (count : ℕ) → trees ≡ now → count ≡ all_leaves now → (count ≡ 512 → ⊥) → all_leaves trees ≤ 512 → all_leaves trees < 512
 few_leaves trees now count same is not_full most = omega (arith, ap all_leaves same)
 
-pub nesting_most : (op : Op) (trees : List Tree) → AreLawful trees → nesting (newest (joined op trees)) ≤ 65
+pub nesting_most : (op : Op) (trees : List Tree) → AreLawful trees → nesting (newest (joined join op trees)) ≤ 65
 nesting_most op [] each = omega arith
 nesting_most op (a ∷ []) each = omega arith
 nesting_most op (b ∷ a ∷ others) each = omega arith

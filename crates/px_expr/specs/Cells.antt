@@ -10,6 +10,7 @@ abbrev pub truth_of : Op → Bool → Bool → Bool
 truth_of o.Union left right = left || right
 truth_of o.Meet left right = left && right
 truth_of o.Minus left right = left && not right
+truth_of o.Differ left right = (left && not right) || (not left && right)
 
 -- whether a cell belongs to an expression, by the solids that the cell is inside
 abbrev pub is_member : (ℕ → Bool) → Tree → Bool
@@ -53,10 +54,23 @@ subtracted a b = record {
   hidden = where_true (not a.member) a.hidden ++ where_true b.member b.shown;
 }
 
+-- the faces of a side: shown where it has the cell, or else hidden
+abbrev pub own_faces : Cell → List ℕ
+own_faces a = if a.member then a.shown else a.hidden
+
+-- each side changes the whole, so its own faces are shown or hidden
+abbrev pub differed : Cell → Cell → Cell
+differed a b = record {
+  member = truth_of o.Differ a.member b.member;
+  shown = own_faces a ++ own_faces b;
+  hidden = own_faces a ++ own_faces b;
+}
+
 abbrev pub combined : Op → Cell → Cell → Cell
 combined o.Union a b = united a b
 combined o.Meet a b = met a b
 combined o.Minus a b = subtracted a b
+combined o.Differ a b = differed a b
 
 abbrev pub cell : (ℕ → Cell) → Tree → Cell
 cell solid_at (leaf solid) = solid_at solid

@@ -1,8 +1,8 @@
 pub mod Tree
+pub mod Shapes
 pub mod Waiting
 pub mod TreeCode
 pub mod Cells
 pub mod Postorder
 pub mod Stack
-pub mod Truths
 pub mod Kept

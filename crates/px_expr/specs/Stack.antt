@@ -1,25 +1,42 @@
 -- Laws for every loop over nodes that keeps a value of each tree that waits.
-use Rattle.std.specs.Prelude.{ℕ, ◌≡◌, ◌+◌, ◌<◌, ◌≤◌, List, [], ◌∷◌, ◌++◌, Option, Some, map, take, length, reverse, slice_index_or}
+use Rattle.std.specs.Prelude.{ℕ, ◌≡◌, ◌+◌, ◌<◌, ◌≤◌, List, [], ◌∷◌, ◌++◌, Option, Some, map, take, length, reverse, slice_index_or, refl}
 use Rattle.std.specs.Option.{option_to_list}
 use Rattle.std.proofs.Common.{ap, sym, ◌∙◌}
 use Rattle.std.proofs.lemmas.List.{take_all, length-reverse, length-map, reverse-append}
 use Rattle.std.proofs.lemmas.List.Sums.{fold_more}
-use Rattle.px_expr.specs.Tree.{Tree}
+use Rattle.px_expr.specs.Tree.{Tree, leaf, join}
+use Rattle.px_expr.specs.Shapes.{shape_of, joined, put}
 use Rattle.px_expr.specs.Postorder.{placed, trees_after}
 use Rattle.px_expr.specs.declared.node.Node.{Node}
+use Rattle.px_expr.specs.declared.node.Op.{Op}
+use Rattle.px_expr.specs.declared.node.Shape.{Shape}
+use Rattle.px_expr.specs.declared.node.Shape.TheVariants as p
 
--- where a step on values does what a node does to trees, it keeps the values of the trees that wait
-pub values_more : {X : Type 0} (value : Tree → X) (step : List X → Node → List X)
-    → ((trees : List Tree) (node : Node) →
-    map value (placed trees node) ≡ step (map value trees) node)
-    → (nodes : List Node) (i : ℕ) (any : Node) (old new : List X) → i < length nodes
-    → old ≡ map value (trees_after (take i nodes))
-    → new ≡ step old (slice_index_or nodes i any)
-    → new ≡ map value (trees_after (take (i + 1) nodes))
-values_more value step same nodes i any old new lt before now =
-    now ∙ ap (λ values. step values (slice_index_or nodes i any)) before
-    ∙ sym (same (trees_after (take i nodes)) (slice_index_or nodes i any))
-    ∙ ap (map value) (sym (fold_more placed [] nodes i any lt))
+-- a value of a tree that is made of its sides' values is kept for the trees that wait
+module _ {X : Type 0} (value : Tree → X) (at : ℕ → X) (made : Op → X → X → X)
+    (leaves : (solid : ℕ) → value (leaf solid) ≡ at solid)
+    (joins : (op : Op) (left right : Tree) →
+    value (join op left right) ≡ made op (value left) (value right)) where
+  value_joined : (op : Op) (trees : List Tree) →
+      map value (joined join op trees) ≡ joined made op (map value trees)
+  value_joined op [] = refl
+  value_joined op (right ∷ []) = refl
+  value_joined op (right ∷ left ∷ others) = ap (λ x. x ∷ map value others) (joins op left right)
+
+  pub value_put : (trees : List Tree) (shape : Shape) →
+      map value (put leaf join trees shape) ≡ put at made (map value trees) shape
+  value_put trees (p.Leaf solid) = ap (λ x. x ∷ map value trees) (leaves solid)
+  value_put trees (p.Join op left right) = value_joined op trees
+
+  pub values_more : (nodes : List Node) (i : ℕ) (any : Node) (old new : List X) → i < length nodes
+      → old ≡ map value (trees_after (take i nodes))
+      → new ≡ put at made old (shape_of (slice_index_or nodes i any))
+      → new ≡ map value (trees_after (take (i + 1) nodes))
+  values_more nodes i any old new lt before now =
+      let shape = shape_of (slice_index_or nodes i any)
+      in now ∙ ap (λ values. put at made values shape) before
+      ∙ sym (value_put (trees_after (take i nodes)) shape)
+      ∙ ap (map value) (sym (fold_more placed [] nodes i any lt))
 
 -- behind the last node, the value of the whole tree is left
 pub values_last : {X : Type 0} (value : Tree → X) (nodes : List Node) (i : ℕ) (tree : Tree)

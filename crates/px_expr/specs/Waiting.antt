@@ -1,13 +1,6 @@
 -- Trees that wait to be joined, the newest first.
 use Rattle.std.specs.Prelude.{ℕ, ◌+◌, List, [], ◌∷◌}
-use Rattle.px_expr.specs.Tree.{Tree, leaf, join, leaf_count}
-use Rattle.px_expr.specs.declared.node.Op.{Op}
-
--- the last two become one
-abbrev pub joined : Op → List Tree → List Tree
-joined op [] = []
-joined op (right ∷ []) = right ∷ []
-joined op (right ∷ left ∷ others) = join op left right ∷ others
+use Rattle.px_expr.specs.Tree.{Tree, leaf, leaf_count}
 
 abbrev pub newest : List Tree → Tree
 newest [] = leaf 0

@@ -1,7 +1,8 @@
 //! Building an expression from its leaves up.
 ghost use Rattle.std.specs.Prelude.{◌≡◌, ◌<◌, ◌≤◌, ◌+◌, ◌-◌, ◌∷◌, ◌++◌, [], length, take, vec_len, vec_capacity, OnOk, OnErr, IfErr};
-ghost use Rattle.px_expr.specs.Tree.{leaf, nesting};
-ghost use Rattle.px_expr.specs.Waiting.{joined, newest, all_leaves};
+ghost use Rattle.px_expr.specs.Tree.{leaf, join, nesting};
+ghost use Rattle.px_expr.specs.Shapes.{joined};
+ghost use Rattle.px_expr.specs.Waiting.{newest, all_leaves};
 ghost use Rattle.px_expr.specs.declared.node.Op.{Op as AnyOp};
 
 use crate::{Expr, ExprFault, Node, Op};
@@ -83,11 +84,11 @@ impl ExprBuilder {
     /// The last two waiting subtrees become one.
     pub fn join(&mut self, op: Op) -> Result<(), ExprFault>
         requires { 2 ≤ length self.old }
-        ensures ok { OnOk result (self.new ≡ joined op self.old) }
+        ensures ok { OnOk result (self.new ≡ joined join op self.old) }
         ensures err { OnErr result (self.new ≡ self.old) }
-        ensures deep { 64 < nesting (newest (joined op self.old)) →
+        ensures deep { 64 < nesting (newest (joined join op self.old)) →
             result ≡ Err (ExprFault.Nesting 65) }
-        ensures memory { nesting (newest (joined op self.old)) ≤ 64 →
+        ensures memory { nesting (newest (joined join op self.old)) ≤ 64 →
             IfErr result (λ fault. fault ≡ ExprFault.Memory) }
     {
         let nesting = self.joined_nesting();
@@ -119,7 +120,7 @@ impl ExprBuilder {
     /// The nesting of what the last two would become.
     fn joined_nesting(&self) -> u8
         requires { 2 ≤ length self.now }
-        ensures nesting { (op : AnyOp) → result ≡ nesting (newest (joined op self.now)) }
+        ensures nesting { (op : AnyOp) → result ≡ nesting (newest (joined join op self.now)) }
         ensures most { result ≤ 65 }
     {
         let (left, right) = last_two(&self.waiting);

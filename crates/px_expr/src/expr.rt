@@ -2,12 +2,12 @@
 ghost use Rattle.std.specs.Prelude.{◌≡◌, ◌<◌, ◌≤◌, ◌+◌, ◌∷◌, [], ℕ, All, length, reverse, take, slice_index_or};
 ghost use Rattle.arrayvec.specs.ArrayVec.{array_vec_len};
 ghost use Rattle.px_expr.specs.Tree.{HasLeavesBelow, IsLawful};
-ghost use Rattle.px_expr.specs.Cells.{is_member, is_true};
-ghost use Rattle.px_expr.specs.Postorder.{nodes_of, trees_after, CanPlace, IsLeafBelow, sides, parent_count};
+ghost use Rattle.px_expr.specs.Cells.{is_member, is_true, truth_of};
+ghost use Rattle.px_expr.specs.Shapes.{shape_of, joined, put, CanPlace, IsLeafBelow, sides};
+ghost use Rattle.px_expr.specs.Postorder.{nodes_of, trees_after, parent_count};
 ghost use Rattle.px_expr.specs.declared.node.Node.{Node as AnyNode};
-ghost use Rattle.px_expr.specs.Truths.{truths, joined_truth};
 
-use crate::{Node, Op};
+use crate::{Node, Op, Shape};
 use arrayvec::ArrayVec;
 use std::marker::Model;
 
@@ -44,12 +44,12 @@ impl Expr {
         ensures tree { trees_after result.now ≡ self.now ∷ [] }
         ensures few { length result.now ≤ 1023 }
         ensures before { (i : ℕ) (any : AnyNode) → i < length result.now →
-            All (λ side. side < i) (sides (slice_index_or result.now i any)) }
+            All (λ side. side < i) (sides (shape_of (slice_index_or result.now i any))) }
         ensures once { (i : ℕ) → i + 1 < length result.now → parent_count i result.now ≡ 1 }
         ensures places { (i : ℕ) (any : AnyNode) → i < length result.now →
-            CanPlace (length (trees_after (take i result.now))) (slice_index_or result.now i any) }
+            CanPlace (length (trees_after (take i result.now))) (shape_of (slice_index_or result.now i any)) }
         ensures leaves { (count : ℕ) → HasLeavesBelow count self.now →
-            All (IsLeafBelow count) result.now }
+            All (λ node. IsLeafBelow count (shape_of node)) result.now }
         ensures lawful { IsLawful self.now }
     {
         self.nodes.as_slice()
@@ -62,23 +62,22 @@ impl Expr {
     {
         let mut stack = ArrayVec::<bool, 65>::new();
         for node in self.nodes() {
-            place(&mut stack, *node, inside);
+            place(&mut stack, node.shape(), inside);
         }
         stack.pop().unwrap()
     }
 }
 
-/// Puts the truth of a node down, in place of its sides' where it has them.
-fn place(stack: &mut ArrayVec<bool, 65>, node: Node, inside: &[bool])
-    requires place { CanPlace (array_vec_len stack.old) node }
-    requires leaf { IsLeafBelow (length inside.now) node }
-    ensures { reverse stack.new.items ≡ truths (is_true inside.now) (reverse stack.old.items) node }
+/// Puts the truth of a shape down, in place of its sides' where it has them.
+fn place(stack: &mut ArrayVec<bool, 65>, shape: Shape, inside: &[bool])
+    requires place { CanPlace (array_vec_len stack.old) shape }
+    requires leaf { IsLeafBelow (length inside.now) shape }
+    ensures { reverse stack.new.items
+        ≡ put (is_true inside.now) truth_of (reverse stack.old.items) shape }
 {
-    match node {
-        Node::Leaf(solid) => stack.push(inside[usize::from(solid)]),
-        Node::Union(..) => combine(stack, Op::Union),
-        Node::Meet(..) => combine(stack, Op::Meet),
-        Node::Minus(..) => combine(stack, Op::Minus),
+    match shape {
+        Shape::Leaf(solid) => stack.push(inside[usize::from(solid)]),
+        Shape::Join(op, ..) => combine(stack, op),
     }
 }
 
@@ -86,7 +85,7 @@ fn place(stack: &mut ArrayVec<bool, 65>, node: Node, inside: &[bool])
 fn combine(stack: &mut ArrayVec<bool, 65>, op: Op)
     requires two { 2 ≤ array_vec_len stack.old }
     requires few { array_vec_len stack.old ≤ 65 }
-    ensures { reverse stack.new.items ≡ joined_truth op (reverse stack.old.items) }
+    ensures { reverse stack.new.items ≡ joined truth_of op (reverse stack.old.items) }
 {
     let right = stack.pop().unwrap();
     let left = stack.pop().unwrap();

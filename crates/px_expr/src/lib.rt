@@ -10,5 +10,5 @@ mod surface;
 pub use builder::ExprBuilder;
 pub use expr::Expr;
 pub use fault::ExprFault;
-pub use node::{Node, Op};
+pub use node::{Node, Op, Shape};
 pub use surface::{member_law, surface_law};

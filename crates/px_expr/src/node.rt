@@ -1,7 +1,7 @@
 //! Operators, and the nodes of an expression.
 ghost use Rattle.std.specs.Prelude.{◌≡◌};
 ghost use Rattle.px_expr.specs.Cells.{truth_of};
-ghost use Rattle.px_expr.specs.Postorder.{op_node};
+ghost use Rattle.px_expr.specs.Shapes.{op_node, shape_of};
 
 /// What joins two expressions.
 #[derive(Clone, Copy, Debug, PartialEq, Eq)]
@@ -12,6 +12,8 @@ pub enum Op {
     Meet,
     /// The cells of the left side that the right side lacks.
     Minus,
+    /// The cells of exactly one side.
+    Differ,
 }
 
 /// A leaf by the index of its solid, or an operator by the places of its left and its right side.
@@ -21,6 +23,29 @@ pub enum Node {
     Union(u16, u16),
     Meet(u16, u16),
     Minus(u16, u16),
+    Differ(u16, u16),
+}
+
+/// A node as it is read: a leaf, or an operator between the places of its sides.
+#[derive(Clone, Copy, Debug, PartialEq, Eq)]
+pub enum Shape {
+    Leaf(u8),
+    Join(Op, u16, u16),
+}
+
+impl Node {
+    /// The node as a leaf or an operator.
+    pub fn shape(self) -> Shape
+        ensures { result ≡ shape_of self }
+    {
+        match self {
+            Node::Leaf(solid) => Shape::Leaf(solid),
+            Node::Union(left, right) => Shape::Join(Op::Union, left, right),
+            Node::Meet(left, right) => Shape::Join(Op::Meet, left, right),
+            Node::Minus(left, right) => Shape::Join(Op::Minus, left, right),
+            Node::Differ(left, right) => Shape::Join(Op::Differ, left, right),
+        }
+    }
 }
 
 impl Op {
@@ -32,6 +57,7 @@ impl Op {
             Op::Union => Node::Union(left, right),
             Op::Meet => Node::Meet(left, right),
             Op::Minus => Node::Minus(left, right),
+            Op::Differ => Node::Differ(left, right),
         }
     }
 
@@ -43,6 +69,7 @@ impl Op {
             Op::Union => left || right,
             Op::Meet => left && right,
             Op::Minus => left && !right,
+            Op::Differ => left != right,
         }
     }
 }

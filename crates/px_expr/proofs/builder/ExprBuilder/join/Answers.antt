@@ -1,7 +1,8 @@
 use Rattle.std.proofs.Common.{◌∙◌, ap, sym, arith, length}
 use Rattle.px_expr.specs.Postorder.{placed}
-use Rattle.px_expr.specs.Waiting.{joined, newest}
-use Rattle.px_expr.specs.Tree.{nesting}
+use Rattle.px_expr.specs.Shapes.{joined}
+use Rattle.px_expr.specs.Waiting.{newest}
+use Rattle.px_expr.specs.Tree.{join, nesting}
 use Rattle.px_expr.proofs.PostorderLemmas.{placed_op}
 use Rattle.px_expr.proofs.WaitingLemmas.{counts, kept_joined, after_push, same_kept}
 use Rattle.px_expr.proofs.builder.ExprBuilder.join.Goals as goal
@@ -20,4 +21,4 @@ invariant_of-self-2 c =
     (c.put.ensures.waiting ∙ cc (c.reserve.ensures.len))
     (after_push _ _ _ _ c.put.ensures.nodes c.reserve.ensures.items ∙ ap (placed _) c.node.ensures ∙ placed_op c.args.op _ _ _)
     (kept_joined _ _ c.take_two.new.waiting.items c.take_two.result.0 c.take_two.result.1 _ c.args.op c.joined_nesting-nesting.result c.self.invariant
-    (omega (arith, ap length c.self.view_is)) c.take_two.ensures.items (c.joined_nesting-nesting.ensures.nesting c.args.op ∙ sym (ap (λ trees. nesting (newest (joined c.args.op trees))) c.self.view_is)) (omega arith))
+    (omega (arith, ap length c.self.view_is)) c.take_two.ensures.items (c.joined_nesting-nesting.ensures.nesting c.args.op ∙ sym (ap (λ trees. nesting (newest (joined join c.args.op trees))) c.self.view_is)) (omega arith))

@@ -1,6 +1,7 @@
 use Rattle.std.proofs.Common.{◌≡◌, ◌≤◌, ◌+◌, ◌-◌, ◌∷◌, [], ◌++◌, List, max, take, length, ap, sym, ◌∙◌, arith}
-use Rattle.px_expr.specs.Tree.{Tree, nesting}
-use Rattle.px_expr.specs.Waiting.{joined, newest}
+use Rattle.px_expr.specs.Tree.{Tree, join, nesting}
+use Rattle.px_expr.specs.Shapes.{joined}
+use Rattle.px_expr.specs.Waiting.{newest}
 use Rattle.px_expr.specs.Kept.{IsKept}
 use Rattle.px_expr.specs.declared.node.Node.{Node}
 use Rattle.px_expr.specs.declared.node.Op.{Op}
@@ -10,7 +11,7 @@ use Rattle.px_expr.proofs.WaitingLemmas.{counts, nesting_joined, nesting_most}
 use Rattle.px_expr.proofs.builder.ExprBuilder.joined_nesting.Goals as goal
 
 nesting_is : (given : List Node) (kept items : List Subtree) (left right : Subtree) (trees now : List Tree) (op : Op) → IsKept given kept trees → trees ≡ now → 2 ≤ length now
-    → items ≡ kept → items ≡ take (length items - 2) items ++ left ∷ right ∷ [] → (max left.nesting right.nesting + 1 ≡ nesting (newest (joined op now))) × (nesting (newest (joined op now)) ≤ 65)
+    → items ≡ kept → items ≡ take (length items - 2) items ++ left ∷ right ∷ [] → (max left.nesting right.nesting + 1 ≡ nesting (newest (joined join op now))) × (nesting (newest (joined join op now)) ≤ 65)
 nesting_is given kept items left right trees now op is view two same last =
     let e = nesting_joined kept (take (length items - 2) items) left right op trees is.subtrees (omega (arith, ap length view)) (sym same ∙ last)
     in rw (← view) (e, nesting_most op trees is.lawful)
@@ -20,7 +21,7 @@ last_two-requires c =
     let here = (counts _ _ _ c.self.invariant).subtrees in omega (arith, ap length c.self.view_is, ap length c.deref.ensures.value)
 
 nesting_here : (c : goal.After-max) (op : Op)
-    → (max c.last_two.result.0.nesting c.last_two.result.1.nesting + 1 ≡ nesting (newest (joined op c.args.self.now))) × (nesting (newest (joined op c.args.self.now)) ≤ 65)
+    → (max c.last_two.result.0.nesting c.last_two.result.1.nesting + 1 ≡ nesting (newest (joined join op c.args.self.now))) × (nesting (newest (joined join op c.args.self.now)) ≤ 65)
 nesting_here c op = nesting_is _ _ _ _ _ _ _ op c.self.invariant c.self.view_is c.requires c.deref.ensures.value c.last_two.ensures
 
 pub overflow_add-result : goal.overflow_add-result
