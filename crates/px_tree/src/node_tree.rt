@@ -49,6 +49,15 @@ impl NodeTree {
     {
         (self.nx, self.ny)
     }
+
+    /// Takes the latches of another tree of the same grid.
+    pub fn copy_from(&mut self, other: &NodeTree)
+        requires columns { self.old.nx ≡ other.now.nx }
+        requires rows { self.old.ny ≡ other.now.ny }
+        ensures { self.new ≡ other.now }
+    {
+        self.nodes.copy_from_slice(&other.nodes);
+    }
 }
 
 impl Tree for NodeTree {
