@@ -1,11 +1,13 @@
 //! What an array is, however it keeps its pixels and nodes.
-ghost use Rattle.std.specs.Prelude.{◌≡◌, ◌-◌, ◌^◌, ◌<◌, ◌≤◌, ℕ, OnErr, OnOk};
+ghost use Rattle.std.specs.Prelude.{◌≡◌, ◌-◌, ◌^◌, ◌<◌, ◌≤◌, ℕ, List, OnErr, OnOk, Option, length};
 ghost use Rattle.px_pixel.specs.Acts.{HasPlace};
 ghost use Rattle.px_pixel.specs.Pixels.{bit_at};
 ghost use Rattle.px_tree.specs.Nodes.{IsGrid, leaf_bit, node_at};
 ghost use Rattle.px_array.specs.Arrays.{Device, HasPixel, IsClosed, IsOpen, closed, opened};
 ghost use Rattle.px_array.specs.Arrays.{levels_of, pixel_of, registers_of};
 ghost use Rattle.px_array.specs.Clocks.{clocked};
+ghost use Rattle.px_array.specs.Slots.{IsSaved, after_save, no_slots, slot_of, worked};
+ghost use Rattle.std.specs.Prelude.{Some};
 
 use crate::micro::{Micro, Registers};
 use px_num::Memory;
@@ -22,13 +24,22 @@ pub trait Array {
     /// The state of every pixel and node, and the clocks since the array was opened.
     ghost device: { Self → Device };
 
-    /// Opens an array of which every bit, register and latch is 0, in place of the one before.
+    /// What each of the four slots keeps, if anything: a state with its clocks.
+    ghost slots: { Self → List (Option Device) };
+
+    /// The clocks made since the last `open`, also those that `restore` took back.
+    ghost work: { Self → ℕ };
+
+    /// Opens an array of which every bit, register and latch is 0, in place of the one before, with
+    /// room for its slots.
     ///
-    /// After `Memory` no array is open.
+    /// After `Memory` no array is open. Whatever the answer, no slot is saved, and the work is 0.
     fn open(&mut self, nx: u32, ny: u32) -> Result<(), Memory>
         requires grid { IsGrid nx ny }
         ensures ok { OnOk result (device self.new ≡ opened BITS nx ny) }
-        ensures err { OnErr result (device self.new ≡ closed) };
+        ensures err { OnErr result (device self.new ≡ closed) }
+        ensures slots { slots self.new ≡ no_slots }
+        ensures work { work self.new ≡ 0 };
 
     /// One clock: each pixel does the act by its leaf's bit from before the clock, and the tree its
     /// operation.
@@ -36,7 +47,9 @@ pub trait Array {
         requires is_open { IsOpen (device self.old) }
         requires place { HasPlace BITS m.act }
         requires counted { (device self.old).clocks < 2 ^ 64 - 1 }
-        ensures { device self.new ≡ clocked m (device self.old) };
+        ensures device { device self.new ≡ clocked m (device self.old) }
+        ensures slots { slots self.new ≡ slots self.old }
+        ensures work { work self.new ≡ worked 1 (work self.old) };
 
     /// `(nx, ny)`, or `(0, 0)` where no array is open.
     fn size(&self) -> (u32, u32)
@@ -72,4 +85,28 @@ pub trait Array {
     fn clocks(&self) -> u64
         ensures value { result ≡ (device self.now).clocks }
         ensures closed { IsClosed (device self.now) → result ≡ 0 };
+
+    /// Keeps the state and the clocks in a slot, in place of what it kept (docs/MACHINE.md, "Slots and
+    /// work").
+    fn save(&mut self, slot: u32)
+        requires is_open { IsOpen (device self.old) }
+        requires slot { slot < 4 }
+        ensures device { device self.new ≡ device self.old }
+        ensures slots { slots self.new ≡ after_save slot (device self.old) (slots self.old) }
+        ensures four { length (slots self.old) ≡ 4 }
+        ensures work { work self.new ≡ work self.old };
+
+    /// Takes the state, every latch and carry of it, and the clocks from a slot that was saved since
+    /// the array was opened.
+    fn restore(&mut self, slot: u32)
+        requires is_open { IsOpen (device self.old) }
+        requires saved { IsSaved (slots self.old) slot }
+        ensures device { slot_of (slots self.old) slot ≡ Some (device self.new) }
+        ensures slots { slots self.new ≡ slots self.old }
+        ensures work { work self.new ≡ work self.old };
+
+    /// The clocks made since the last `open`, also those that `restore` took back; it stops at the
+    /// greatest `u64`.
+    fn work(&self) -> u64
+        ensures { result ≡ work self.now };
 }

@@ -66,6 +66,17 @@ impl<const N: usize> Grid<N> {
         self.clocks += 1;
     }
 
+    /// Takes the state and the clocks of another grid of the same size.
+    pub(crate) fn copy_from(&mut self, other: &Grid<N>)
+        requires columns { self.old.state.tree.nx ≡ other.now.state.tree.nx }
+        requires rows { self.old.state.tree.ny ≡ other.now.state.tree.ny }
+        ensures { self.new ≡ other.now }
+    {
+        self.pixels.copy_from_slice(&other.pixels);
+        self.tree.copy_from(&other.tree);
+        self.clocks = other.clocks;
+    }
+
     pub(crate) fn size(&self) -> (u32, u32)
         ensures size { result ≡ (self.now.state.tree.nx, self.now.state.tree.ny) }
         ensures is_open { IsOpen self.now }

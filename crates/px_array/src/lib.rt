@@ -5,6 +5,7 @@ mod array;
 mod clocking;
 mod grid;
 mod micro;
+mod open_array;
 mod pixel_array;
 #[cfg(test)]
 mod tests;

@@ -1,0 +1,32 @@
+-- What the four slots of an array keep, and how its work grows.
+use Rattle.std.specs.Prelude.{ℕ, ◌+◌, ◌-◌, ◌^◌, IsSome, List, Option, None, Some, min, replicate, slice_index_or, slice_set}
+use Rattle.px_array.specs.Arrays.{Device, closed}
+
+-- none of the four slots is saved
+abbrev pub no_slots : List (Option Device)
+no_slots = replicate 4 None
+
+-- what a slot keeps
+abbrev pub slot_of : List (Option Device) → (slot : ℕ) → Option Device
+slot_of slots slot = slice_index_or slots slot None
+
+abbrev pub IsSaved : List (Option Device) → (slot : ℕ) → Type 0
+IsSaved slots slot = IsSome (slot_of slots slot)
+
+-- the slots once one of them keeps the state and the clocks
+abbrev pub after_save : (slot : ℕ) → Device → List (Option Device) → List (Option Device)
+after_save slot device slots = slice_set slots slot (Some device)
+
+-- the work with so many clocks more, which stops at the greatest u64
+abbrev pub worked : (clocks work : ℕ) → ℕ
+worked clocks work = work + min clocks (2 ^ 64 - 1 - work)
+
+-- all that is told of an array: what is clocked, what its slots keep, and its work
+pub record ArrayView : Type 0 where
+  pub device : Device
+  pub slots : List (Option Device)
+  pub work : ℕ
+
+-- before the first `open`, and after one that had too little memory
+abbrev pub none_open : ArrayView
+none_open = record { device = closed; slots = no_slots; work = 0 }
