@@ -1,0 +1,61 @@
+-- The bits of words that are joined, turned over, moved and cut.
+use Rattle.std.proofs.Common.{◌≡◌, ℕ, suc, ◌+◌, ◌-◌, ◌*◌, ◌/◌, ◌%◌, ◌^◌, ◌==◌, ◌<◌, false, not, ◌&&◌, ◌||◌, min, max, refl, ap, ◌∙◌, arith, inl, inr, ◌⊎◌, w64, bit_and, bit_or, bit_xor}
+use Rattle.std.proofs.lemmas.Bool.{agree_below_at}
+use Rattle.std.proofs.lemmas.Nat.{pow-add, shr_split, shr-shr, field_of}
+use Rattle.std.proofs.lemmas.Nat.Bits.{bit_at_and, bit_at_or, bit_at_xor, bit_at_not, bit_at-zero}
+use Rattle.px_num.specs.Bits.{nat_bit, xor}
+
+zero_or_one : (x : ℕ) → x < 2 → (x ≡ 0) ⊎ (x ≡ 1)
+zero_or_one x below = grind arith
+
+two_bits : (P : ℕ → ℕ → Type 0) → P 0 0 → P 0 1 → P 1 0 → P 1 1 → (x y : ℕ) → x < 2 → y < 2 → P x y
+two_bits P a b c d x y hx hy =
+    elim (zero_or_one x hx) [
+      | inl e ↦ elim (zero_or_one y hy) [ inl f ↦ rw (e, f) a | inr f ↦ rw (e, f) b ]
+      | inr e ↦ elim (zero_or_one y hy) [ inl f ↦ rw (e, f) c | inr f ↦ rw (e, f) d ]
+    ]
+
+pub bit-and : (a b i : ℕ) → nat_bit (bit_and a b) i ≡ (nat_bit a i && nat_bit b i)
+bit-and a b i =
+    ap (λ n. n == 1) (bit_at_and a b i)
+    ∙ two_bits (λ x y. (min x y == 1) ≡ ((x == 1) && (y == 1))) refl refl refl refl (a / 2 ^ i % 2) (b / 2 ^ i % 2) (omega arith) (omega arith)
+
+pub bit-or : (a b i : ℕ) → nat_bit (bit_or a b) i ≡ (nat_bit a i || nat_bit b i)
+bit-or a b i =
+    ap (λ n. n == 1) (bit_at_or a b i)
+    ∙ two_bits (λ x y. (max x y == 1) ≡ ((x == 1) || (y == 1))) refl refl refl refl (a / 2 ^ i % 2) (b / 2 ^ i % 2) (omega arith) (omega arith)
+
+pub bit-xor : (a b i : ℕ) → nat_bit (bit_xor a b) i ≡ xor (nat_bit a i) (nat_bit b i)
+bit-xor a b i =
+    ap (λ n. n == 1) (bit_at_xor a b i)
+    ∙ two_bits (λ x y. ((x + y) % 2 == 1) ≡ xor (x == 1) (y == 1)) refl refl refl refl (a / 2 ^ i % 2) (b / 2 ^ i % 2) (omega arith) (omega arith)
+
+pub bit-not : (n i : ℕ) → n < 2 ^ 64 → i < 64 → nat_bit (2 ^ 64 - 1 - n) i ≡ not (nat_bit n i)
+bit-not n i fits below =
+    ap (λ n. n == 1) (bit_at_not w64 n i fits below)
+    ∙ two_bits (λ x y. (1 - x == 1) ≡ not (x == 1)) refl refl refl refl (n / 2 ^ i % 2) 0 (omega arith) (omega arith)
+
+pub bit_of_zero : (i : ℕ) → nat_bit 0 i ≡ false
+bit_of_zero i = ap (λ b. b == 1) (bit_at-zero i)
+
+even_rest : (n k : ℕ) → n % 2 ^ suc k % 2 ≡ n % 2
+even_rest n k =
+    let e : suc k ≡ k + 1 = omega arith in
+    let double : 2 ^ suc k ≡ 2 * 2 ^ k = ap (λ m. 2 ^ m) e ∙ omega (arith, pow-add 2 k 1) in
+    let product = ap (λ m. n / 2 ^ suc k * m) double in
+    omega (arith, shr_split n (suc k), product)
+
+-- the low bits of a number
+pub bit_of_low : (n width j : ℕ) → j < width → nat_bit (n % 2 ^ width) j ≡ nat_bit n j
+bit_of_low n width j low =
+    let e : width ≡ suc (width - j - 1) + j = omega arith in
+    let moved = ap (λ k. n % 2 ^ k / 2 ^ j) e ∙ field_of n (suc (width - j - 1)) j in
+    ap (λ m. m % 2 == 1) moved ∙ ap (λ m. m == 1) (even_rest (n / 2 ^ j) (width - j - 1))
+
+-- a number that is moved down
+pub bit_down : (n s k : ℕ) → nat_bit (n / 2 ^ s) k ≡ nat_bit n (s + k)
+bit_down n s k = ap (λ m. m % 2 == 1) (shr-shr n s k)
+
+-- the word that has its odd bits
+pub odd_bits : (j : ℕ) → j < 64 → nat_bit 0xaaaa_aaaa_aaaa_aaaa j ≡ (j % 2 == 1)
+odd_bits j below = agree_below_at (λ k. nat_bit 0xaaaa_aaaa_aaaa_aaaa k) (λ k. k % 2 == 1) 64 j refl below

@@ -1,0 +1,16 @@
+pub mod Alone
+pub mod BitLaws
+pub mod BlockLaws
+pub mod FedLevels
+pub mod FedWords
+pub mod Grids
+pub mod Heaps
+pub mod NodeTable
+pub mod Outputs
+pub mod SetBits
+pub mod ShelfLaws
+pub mod Stored
+pub mod Trees
+pub mod Weave
+pub mod WordLaws
+pub mod Writes

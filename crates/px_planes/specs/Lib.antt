@@ -1,0 +1,9 @@
+pub mod ArraysLaw
+pub mod Heap
+pub mod Lanes
+pub mod OpenPlanes
+pub mod Pixels
+pub mod Rows
+pub mod Shelves
+pub mod Trees
+pub mod Words
