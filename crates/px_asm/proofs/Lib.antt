@@ -2,6 +2,7 @@ pub mod Acting
 pub mod Comparing
 pub mod FormRuns
 pub mod LawLemmas
+pub mod MakingLemmas
 pub mod PlaceLemmas
 pub mod ProgramLemmas
 pub mod Steps

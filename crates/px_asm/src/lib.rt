@@ -3,6 +3,7 @@
 
 mod between_fields;
 mod law;
+mod making;
 mod of_forms;
 mod still;
 mod table;
@@ -10,4 +11,5 @@ mod table;
 mod tests;
 
 pub use law::law_of_microprograms;
+pub use making::{make_micros, make_operation};
 pub use table::{cycles, micro_at};

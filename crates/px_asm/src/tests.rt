@@ -124,10 +124,10 @@ fn clocks_on_the_smallest_grid(rt: HostRuntime) {
 
 /// Clocks the micros of an operation.
 fn carry_out(rt: &impl Abort, array: &mut PixelArray<16>, m: &Macro)
-    requires columns { array.old.state.tree.nx ≡ 1 }
-    requires rows { array.old.state.tree.ny ≡ 1 }
-    ensures columns { array.new.state.tree.nx ≡ 1 }
-    ensures rows { array.new.state.tree.ny ≡ 1 }
+    requires columns { array.old.device.state.tree.nx ≡ 1 }
+    requires rows { array.old.device.state.tree.ny ≡ 1 }
+    ensures columns { array.new.device.state.tree.nx ≡ 1 }
+    ensures rows { array.new.device.state.tree.ny ≡ 1 }
 {
     assert!(rt; lawful(m, 16) && lawful(m, 256) && array.clocks() < 1000);
     for i in 0..cycles(m, 1, 1) {
@@ -137,7 +137,7 @@ fn carry_out(rt: &impl Abort, array: &mut PixelArray<16>, m: &Macro)
 
 /// The enable register and the memory of a pixel, after an operation.
 fn try_pixel(rt: &impl Abort, array: &PixelArray<16>, m: &Macro, x: u32, y: u32, want: u32)
-    requires pixel { HasPixel array.now x y }
+    requires pixel { HasPixel array.now.device x y }
 {
     let is_enabled = array.registers(x, y).enable;
     assert_eq!(rt; u32::from(is_enabled), want >> 16, "{m:?} at ({x}, {y})");

@@ -3,7 +3,7 @@ use Rattle.px_asm.proofs.tests.carry_out.Given as goal
 
 abbrev pub invariant-loop-i : goal.invariant-loop-i
 invariant-loop-i g l = record {
-  columns : l.array.state.tree.nx ≡ 1;
-  rows : l.array.state.tree.ny ≡ 1;
-  clocks : l.array.clocks ≡ l.initial.array.clocks + l.i;
+  columns : l.array.device.state.tree.nx ≡ 1;
+  rows : l.array.device.state.tree.ny ≡ 1;
+  clocks : l.array.device.clocks ≡ l.initial.array.device.clocks + l.i;
 }

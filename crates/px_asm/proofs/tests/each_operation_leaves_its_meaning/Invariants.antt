@@ -2,4 +2,4 @@ use Rattle.std.proofs.Common.{◌≡◌}
 use Rattle.px_asm.proofs.tests.each_operation_leaves_its_meaning.Given as goal
 
 abbrev pub invariant-loop-m : goal.invariant-loop-m
-invariant-loop-m g l = record { columns : l.array.state.tree.nx ≡ 1; rows : l.array.state.tree.ny ≡ 1 }
+invariant-loop-m g l = record { columns : l.array.device.state.tree.nx ≡ 1; rows : l.array.device.state.tree.ny ≡ 1 }
