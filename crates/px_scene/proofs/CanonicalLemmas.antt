@@ -6,7 +6,8 @@ use Rattle.px_scene.specs.declared.solid.Face.{Face}
 use Rattle.px_scene.specs.Text.{Words, words_of}
 use Rattle.px_scene.specs.Solids.{SolidView}
 use Rattle.px_scene.specs.Scenes.{SceneView}
-use Rattle.px_scene.specs.Canonical.{spaced, written_line, plane_words, colour_words, face_line, side_line, lines_at, lines_of_number, face_lines, solid_lines, canonical_text, fed, is_plain, are_plain}
+use Rattle.px_scene.specs.Versions.{version_word}
+use Rattle.px_scene.specs.Canonical.{version_for, depth_words, spaced, written_line, plane_words, colour_words, face_line, side_line, lines_at, lines_of_number, face_lines, solid_lines, canonical_text, fed, is_plain, are_plain}
 use Rattle.px_scene.proofs.ExpressionLemmas.{both}
 use Rattle.px_scene.proofs.SpacedLemmas.{words_read}
 use Rattle.px_scene.proofs.RoundLemmas.{face_words}
@@ -107,10 +108,11 @@ pub text_is : (scene : SceneView)
 text_is scene =
     four_parts (first_words scene) (flat_map solid_words scene.solids) (codes "show" ∷ shown_text scene ∷ [])
     (codes "end" ∷ []) _ _ _ _
-    (three_lines (codes "pxscene" ∷ codes "1" ∷ []) (codes "picture" ∷ decimal scene.width ∷ decimal scene.height ∷ [])
-    (codes "depth" ∷ decimal scene.depth_bits ∷ []) _ _ _ (one_line (codes "pxscene") (codes "1" ∷ []))
+    (three_lines (codes "pxscene" ∷ version_word (version_for scene) ∷ []) (codes "picture" ∷ decimal scene.width ∷ decimal scene.height ∷ [])
+    (codes "depth" ∷ depth_words (version_for scene) scene.depth_bits scene.fraction_bits) _ _ _
+    (one_line (codes "pxscene") (version_word (version_for scene) ∷ []))
     (one_line (codes "picture") (decimal scene.width ∷ decimal scene.height ∷ []))
-    (one_line (codes "depth") (decimal scene.depth_bits ∷ [])))
+    (one_line (codes "depth") (depth_words (version_for scene) scene.depth_bits scene.fraction_bits)))
     (solids_are scene.solids) (one_line (codes "show") (shown_text scene ∷ [])) (one_line (codes "end") [])
 
 -- what is read of plain words

@@ -7,6 +7,7 @@ use Rattle.px_scene.specs.declared.solid.Face.{Face}
 use Rattle.px_scene.specs.Text.{Words}
 use Rattle.px_scene.specs.Solids.{SolidView, IsColour, IsLawfulSolid, IsPlane, AreFaces}
 use Rattle.px_scene.specs.Scenes.{has_number}
+use Rattle.px_scene.specs.Drafts.{DraftView}
 use Rattle.px_scene.specs.Canonical.{plane_words}
 use Rattle.px_scene.proofs.CutLemmas.{below, at_number, HasOne, cut, few_below}
 use Rattle.px_scene.proofs.WalkLemmas.{Walk, walk_both}
@@ -41,12 +42,12 @@ writable near m faces are colours one =
     }
 
 -- the words of one number's line
-face_walk : (width height bits : ℕ) (done : List SolidView) (s : SolidView) (n : ℕ) (is : Bool) → IsLawfulSolid s
+face_walk : (start : DraftView) (done : List SolidView) (s : SolidView) (n : ℕ) (is : Bool) → IsLawfulSolid s
     → n < 4095
     → has_number s.fronts (n + 1) ≡ is → has_number s.backs (n + 1) ≡ not is
-    → Walk (open_solid width height bits done (part s (n + 1)) n) (words_of_number s (n + 1))
-    (open_solid width height bits done (part s (n + 1 + 1)) (n + 1))
-face_walk width height bits done s n true ok more front back =
+    → Walk (open_solid start done (part s (n + 1)) n) (words_of_number s (n + 1))
+    (open_solid start done (part s (n + 1 + 1)) (n + 1))
+face_walk start done s n true ok more front back =
     let fronts = cut (n + 1) s.fronts ok.fronts.order
     in let backs = cut (n + 1) s.backs ok.backs.order
     in let one = fronts.present front
@@ -63,9 +64,9 @@ face_walk width height bits done s n true ok more front back =
       few_below (n + 1 + 1) s.fronts,
     )
     in rw (one.only, none, grown, kept)
-    (front_walk width height bits done (part s (n + 1)) n one.face
+    (front_walk start done (part s (n + 1)) n one.face
     (writable s.near_number (n + 1) s.fronts ok.fronts ok.fronts.colours one) one.number room more)
-face_walk width height bits done s n false ok more front back =
+face_walk start done s n false ok more front back =
     let fronts = cut (n + 1) s.fronts ok.fronts.order
     in let backs = cut (n + 1) s.backs ok.backs.order
     in let one = backs.present back
@@ -82,31 +83,31 @@ face_walk width height bits done s n false ok more front back =
       few_below (n + 1 + 1) s.backs,
     )
     in rw (one.only, none, grown, kept)
-    (back_walk width height bits done (part s (n + 1)) n one.face
+    (back_walk start done (part s (n + 1)) n one.face
     (writable s.near_number (n + 1) s.backs ok.backs ok.backs.colours one) one.number room more)
 
 -- so many numbers from one on, each of which some face has
-pub faces_walk : (width height bits : ℕ) (done : List SolidView) (s : SolidView) (count n : ℕ) → IsLawfulSolid s
+pub faces_walk : (start : DraftView) (done : List SolidView) (s : SolidView) (count n : ℕ) → IsLawfulSolid s
     → n + count ≤ 4095
     → ((m : ℕ) → n < m → m ≤ n + count → has_number s.fronts m ≡ not (has_number s.backs m))
-    → Walk (open_solid width height bits done (part s (n + 1)) n)
+    → Walk (open_solid start done (part s (n + 1)) n)
     (flat_map (words_of_number s) (range_with_len (n + 1) count))
-    (open_solid width height bits done (part s (n + count + 1)) (n + count))
-faces_walk width height bits done s zero n ok most once =
+    (open_solid start done (part s (n + count + 1)) (n + count))
+faces_walk start done s zero n ok most once =
     let same : n ≡ n + 0 = omega arith
-    in ap (λ m. open_solid width height bits done (part s (m + 1)) m) same
-faces_walk width height bits done s (suc count) n ok most once =
-    let first = face_walk width height bits done s n (has_number s.fronts (n + 1)) ok (omega arith) refl
+    in ap (λ m. open_solid start done (part s (m + 1)) m) same
+faces_walk start done s (suc count) n ok most once =
+    let first = face_walk start done s n (has_number s.fronts (n + 1)) ok (omega arith) refl
     (other (has_number s.fronts (n + 1)) (has_number s.backs (n + 1)) (once (n + 1) (omega arith) (omega arith)))
-    in let later = faces_walk width height bits done s count (n + 1) ok (omega arith)
+    in let later = faces_walk start done s count (n + 1) ok (omega arith)
     (λ m over under. once m (omega arith) (omega arith))
     in let same : n + 1 + count ≡ n + suc count = omega arith
-    in subst (λ (m : ℕ). Walk (open_solid width height bits done (part s (n + 1)) n)
+    in subst (λ (m : ℕ). Walk (open_solid start done (part s (n + 1)) n)
     (flat_map (words_of_number s) (range_with_len (n + 1) (suc count)))
-    (open_solid width height bits done (part s (m + 1)) m)) same
-    (walk_both (open_solid width height bits done (part s (n + 1)) n)
-    (open_solid width height bits done (part s (n + 1 + 1)) (n + 1))
-    (open_solid width height bits done (part s (n + 1 + count + 1)) (n + 1 + count)) (words_of_number s (n + 1))
+    (open_solid start done (part s (m + 1)) m)) same
+    (walk_both (open_solid start done (part s (n + 1)) n)
+    (open_solid start done (part s (n + 1 + 1)) (n + 1))
+    (open_solid start done (part s (n + 1 + count + 1)) (n + 1 + count)) (words_of_number s (n + 1))
     (flat_map (words_of_number s) (range_with_len (n + 1 + 1) count)) first later)
   where
     other : (a b : Bool) → a ≡ not b → b ≡ not a
@@ -116,19 +117,19 @@ faces_walk width height bits done s (suc count) n ok most once =
     other false false e = cc
 
 -- sides behind others
-pub sides_walk : (width height bits : ℕ) (done : List SolidView) (s : SolidView) (n : ℕ) (ps before : List Linear)
+pub sides_walk : (start : DraftView) (done : List SolidView) (s : SolidView) (n : ℕ) (ps before : List Linear)
     → All IsPlane ps → length before + length ps ≤ 32
-    → Walk (open_solid width height bits done (record s { sides = before }) n)
+    → Walk (open_solid start done (record s { sides = before }) n)
     (map (λ p. codes "side" ∷ plane_words p) ps)
-    (open_solid width height bits done (record s { sides = before ++ ps }) n)
-sides_walk width height bits done s n [] before all few =
-    ap (λ ps. open_solid width height bits done (record s { sides = ps }) n) (sym (append-nil before))
-sides_walk width height bits done s n (p ∷ ps) before all few =
-    let first = side_walk width height bits done (record s { sides = before }) n p (all 0 p (omega arith)) (omega arith)
-    in let later = sides_walk width height bits done s n ps (before ++ p ∷ []) (λ k d lt. all (suc k) d (omega arith))
+    (open_solid start done (record s { sides = before ++ ps }) n)
+sides_walk start done s n [] before all few =
+    ap (λ ps. open_solid start done (record s { sides = ps }) n) (sym (append-nil before))
+sides_walk start done s n (p ∷ ps) before all few =
+    let first = side_walk start done (record s { sides = before }) n p (all 0 p (omega arith)) (omega arith)
+    in let later = sides_walk start done s n ps (before ++ p ∷ []) (λ k d lt. all (suc k) d (omega arith))
     (omega (arith, length-append before (p ∷ [])))
     in rw (append_assoc before (p ∷ []) ps) at
-    (walk_both (open_solid width height bits done (record s { sides = before }) n)
-    (open_solid width height bits done (record s { sides = before ++ p ∷ [] }) n)
-    (open_solid width height bits done (record s { sides = (before ++ p ∷ []) ++ ps }) n)
+    (walk_both (open_solid start done (record s { sides = before }) n)
+    (open_solid start done (record s { sides = before ++ p ∷ [] }) n)
+    (open_solid start done (record s { sides = (before ++ p ∷ []) ++ ps }) n)
     ((codes "side" ∷ plane_words p) ∷ []) (map (λ q. codes "side" ∷ plane_words q) ps) first later)

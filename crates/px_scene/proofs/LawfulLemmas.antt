@@ -11,6 +11,9 @@ use Rattle.px_scene.specs.declared.line.Due.{Due}
 use Rattle.px_scene.specs.declared.line.Due.TheVariants as d
 use Rattle.px_scene.specs.declared.line.Keyword.{Keyword}
 use Rattle.px_scene.specs.declared.line.Keyword.TheVariants as k
+use Rattle.px_scene.specs.Versions.{depth_count, version_or_first}
+use Rattle.px_scene.specs.declared.version.Version.{Version}
+use Rattle.px_scene.specs.declared.version.Version.TheVariants as v
 use Rattle.px_scene.specs.declared.line.Cause.{Cause}
 use Rattle.px_expr.specs.Tree.{HasLeavesBelow}
 use Rattle.px_scene.specs.Show.{show_cause, show_limit, show_fault, show_tree}
@@ -22,13 +25,13 @@ use Rattle.std.proofs.lemmas.Bool.{cases_eq}
 use Rattle.px_scene.specs.declared.solid.Colour.{Colour}
 use Rattle.px_scene.specs.declared.solid.Face.{Face}
 use Rattle.px_scene.specs.Text.{Words}
-use Rattle.px_scene.specs.Lines.{numeric, numbers_of, face_past, limit_of, figures, two_past, depth_past, past, most, due_after, solid_form, behind_name, face_limit}
-use Rattle.px_scene.specs.Figures.{face_of, side_of}
+use Rattle.px_scene.specs.Lines.{numeric, numbers_of, face_past, limit_of, figures, two_past, depth_past, fraction_past, past, most, due_after, solid_form, behind_name, face_limit}
+use Rattle.px_scene.specs.Figures.{size_of, face_of, side_of}
 use Rattle.px_scene.specs.Solids.{SolidView, faces_in, names_of}
 use Rattle.px_scene.specs.Scenes.{IsNumberedFrom, faces_of}
 use Rattle.px_scene.specs.Drafts.{DraftView, IsLawfulDraft, with_last, with_front, with_back, with_side, and_side, with_line, with_picture, with_depth, fresh_solid, first_word, is_begun, is_ended, tally_of, IsGoodForm, CanBeTaken}
 use Rattle.px_scene.proofs.NumberLemmas.{numbered_front, numbered_back, numbered_push}
-use Rattle.px_scene.proofs.TakenLemmas.{numbered_last, faces_of-with_last, names_with_last, names_push, IsNewName, SolidRoom, size_within, none_first, none_second, numbered_fresh, face_room, solid_room, at_most, begun_front, begun_back, begun_side, begun_end, new_name, ended_end, last_can_take}
+use Rattle.px_scene.proofs.TakenLemmas.{numbered_last, faces_of-with_last, names_with_last, names_push, IsNewName, SolidRoom, size_within, fraction_within, none_first, none_second, numbered_fresh, face_room, solid_room, at_most, begun_front, begun_back, begun_side, begun_end, new_name, ended_end, last_can_take}
 
 pub length-with_last : (change : SolidView → SolidView) (ss : List SolidView) → length (with_last change ss) ≡ length ss
 length-with_last change [] = refl
@@ -54,6 +57,7 @@ lawful_plane draft more change is begun room grows =
       height_limit = is.height_limit;
       some_depth = is.some_depth;
       depth_limit = is.depth_limit;
+      fraction_limit = is.fraction_limit;
       few = let few = is.few in omega (arith, length-with_last change draft.solids);
       names = rw same is.names;
       different = rw same is.different;
@@ -143,6 +147,7 @@ lawful_due draft due is begun shown = record {
   height_limit = is.height_limit;
   some_depth = is.some_depth;
   depth_limit = is.depth_limit;
+  fraction_limit = is.fraction_limit;
   few = is.few;
   names = is.names;
   different = is.different;
@@ -166,6 +171,7 @@ lawful_picture draft (w ∷ h ∷ []) is e =
       height_limit = high.1;
       some_depth = is.some_depth;
       depth_limit = is.depth_limit;
+      fraction_limit = is.fraction_limit;
       few = is.few;
       names = is.names;
       different = is.different;
@@ -177,27 +183,37 @@ lawful_picture draft (w ∷ h ∷ []) is e =
     }
 lawful_picture draft (w ∷ h ∷ z ∷ zs) is e = lawful_due draft d.Depth is (λ b. cc) (λ e. cc)
 
+-- the bits of a depth and of its fraction
+lawful_bits : (draft : DraftView) (bits fraction : ℕ) → IsLawfulDraft draft → 1 ≤ bits → bits + fraction ≤ 24 → fraction ≤ 8
+    → IsLawfulDraft (record draft { depth_bits = bits; fraction_bits = fraction; due = d.Solid })
+lawful_bits draft bits fraction is some most few = record {
+  some_width = is.some_width;
+  width_limit = is.width_limit;
+  some_height = is.some_height;
+  height_limit = is.height_limit;
+  some_depth = some;
+  depth_limit = most;
+  fraction_limit = few;
+  few = is.few;
+  names = is.names;
+  different = is.different;
+  numbers = is.numbers;
+  count = is.count;
+  faces = is.faces;
+  shown = λ e. cc;
+  begun = λ b. cc;
+}
+
 lawful_depth : (draft : DraftView) (zs : List ℤ) → IsLawfulDraft draft → depth_past zs ≡ None → IsLawfulDraft (record (with_depth draft zs) { due = d.Solid })
-lawful_depth draft [] is e = lawful_due draft d.Solid is (λ b. cc) (λ e. cc)
+lawful_depth draft [] is e = lawful_bits draft 1 0 is (omega arith) (omega arith) (omega arith)
 lawful_depth draft (bits ∷ []) is e =
     let deep = size_within kind.Depth 24 bits e
-    in record {
-      some_width = is.some_width;
-      width_limit = is.width_limit;
-      some_height = is.some_height;
-      height_limit = is.height_limit;
-      some_depth = deep.0;
-      depth_limit = deep.1;
-      few = is.few;
-      names = is.names;
-      different = is.different;
-      numbers = is.numbers;
-      count = is.count;
-      faces = is.faces;
-      shown = λ e. cc;
-      begun = λ b. cc;
-    }
-lawful_depth draft (bits ∷ z ∷ zs) is e = lawful_due draft d.Solid is (λ b. cc) (λ e. cc)
+    in lawful_bits draft (size_of bits) 0 is deep.0 (let most = deep.1 in omega arith) (omega arith)
+lawful_depth draft (bits ∷ fraction ∷ []) is e =
+    let deep = size_within kind.Depth 24 bits (none_first _ (fraction_past bits fraction) e)
+    in let fine = fraction_within bits fraction (none_second (past kind.Depth (pos 1) (pos 24) bits) _ e) deep.0 deep.1
+    in lawful_bits draft (size_of bits) (size_of fraction) is deep.0 fine.0 fine.1
+lawful_depth draft (bits ∷ fraction ∷ z ∷ zs) is e = lawful_bits draft 1 0 is (omega arith) (omega arith) (omega arith)
 
 lawful_solid : (draft : DraftView) (ws : Words) → IsLawfulDraft draft → IsNewName (names_of draft.solids) ws → SolidRoom (length draft.solids) draft.numbered
     → IsLawfulDraft (record (with_line k.Solid draft ws (numbers_of (figures k.Solid ws))) { due = d.Plane })
@@ -213,6 +229,7 @@ lawful_solid draft ws is new room =
       height_limit = is.height_limit;
       some_depth = is.some_depth;
       depth_limit = is.depth_limit;
+      fraction_limit = is.fraction_limit;
       few = let few = room.solids in omega (arith, grown);
       names = rw same named.lawful;
       different = rw same named.different;
@@ -233,8 +250,8 @@ side_room zs sides e =
     let few : sides + 1 ≤ 32 = at_most kind.Sides 32 (sides + 1) (none_second (face_past zs) _ e)
     in record { within = none_first _ _ e; room = omega arith }
 
-pub lawful_show : (draft : DraftView) (ws : Words) → IsLawfulDraft draft → show_cause (names_of draft.solids) ws ≡ None
-    → IsLawfulDraft (record draft { due = d.End; show = show_tree (names_of draft.solids) ws })
+pub lawful_show : (draft : DraftView) (ws : Words) → IsLawfulDraft draft → show_cause draft.version (names_of draft.solids) ws ≡ None
+    → IsLawfulDraft (record draft { due = d.End; show = show_tree draft.version (names_of draft.solids) ws })
 lawful_show draft ws is good = record {
   some_width = is.some_width;
   width_limit = is.width_limit;
@@ -242,28 +259,50 @@ lawful_show draft ws is good = record {
   height_limit = is.height_limit;
   some_depth = is.some_depth;
   depth_limit = is.depth_limit;
+  fraction_limit = is.fraction_limit;
   few = is.few;
   names = is.names;
   different = is.different;
   numbers = is.numbers;
   count = is.count;
   faces = is.faces;
-  shown = λ e. rw (← length-map draft.solids (λ s. s.name)) (shown_lawful (names_of draft.solids) ws good);
-  begun = λ b. let some = named_show (names_of draft.solids) ws good in omega (arith, length-map draft.solids (λ s. s.name));
+  shown = λ e. rw (← length-map draft.solids (λ s. s.name)) (shown_lawful draft.version (names_of draft.solids) ws good);
+  begun = λ b. let some = named_show draft.version (names_of draft.solids) ws good in omega (arith, length-map draft.solids (λ s. s.name));
 }
 
 pub of_form : (cause : Option Cause) (limit : Option LineFault) → judged cause limit ≡ None → cause ≡ None
 of_form None limit e = refl
 of_form (Some cause) limit e = cc
 
-pub lawful_shown : (draft after : DraftView) (ws : Words) → IsLawfulDraft draft → show_fault (names_of draft.solids) ws ≡ None
-    → after ≡ record draft { due = d.End; show = show_tree (names_of draft.solids) ws } → IsLawfulDraft after
-lawful_shown draft after ws is good e = rw e (lawful_show draft ws is (of_form _ (show_limit ws) good))
+pub lawful_shown : (draft after : DraftView) (ws : Words) → IsLawfulDraft draft → show_fault draft.version (names_of draft.solids) ws ≡ None
+    → after ≡ record draft { due = d.End; show = show_tree draft.version (names_of draft.solids) ws } → IsLawfulDraft after
+lawful_shown draft after ws is good e = rw e (lawful_show draft ws is (of_form _ (show_limit draft.version ws) good))
 
-pub lawful_line : (draft : DraftView) (k : Keyword) (ws : Words) → IsLawfulDraft draft → IsGoodForm draft.due (names_of draft.solids) k ws
+-- the limits do not look at the version
+of_version : (draft : DraftView) (version : Version) → IsLawfulDraft draft → IsLawfulDraft (record draft { version = version })
+of_version draft version is = record {
+  some_width = is.some_width;
+  width_limit = is.width_limit;
+  some_height = is.some_height;
+  height_limit = is.height_limit;
+  some_depth = is.some_depth;
+  depth_limit = is.depth_limit;
+  fraction_limit = is.fraction_limit;
+  few = is.few;
+  names = is.names;
+  different = is.different;
+  numbers = is.numbers;
+  count = is.count;
+  faces = is.faces;
+  shown = is.shown;
+  begun = is.begun;
+}
+
+pub lawful_line : (draft : DraftView) (k : Keyword) (ws : Words) → IsLawfulDraft draft → IsGoodForm draft.version draft.due (names_of draft.solids) k ws
     → limit_of k (tally_of draft) (numbers_of (figures k ws)) ≡ None
     → IsLawfulDraft (record (with_line k draft ws (numbers_of (figures k ws))) { due = due_after k })
-lawful_line draft k.Pxscene ws is good e = lawful_due draft d.Picture is (λ b. cc) (λ e. cc)
+lawful_line draft k.Pxscene ws is good e =
+    lawful_due (record draft { version = version_or_first ws }) d.Picture (of_version draft (version_or_first ws) is) (λ b. cc) (λ e. cc)
 lawful_line draft k.Picture ws is good e = lawful_picture draft (numbers_of ws) is e
 lawful_line draft k.Depth ws is good e = lawful_depth draft (numbers_of ws) is e
 lawful_line draft k.Solid ws is good e = lawful_solid draft ws is (new_name (names_of draft.solids) ws good.formed) (solid_room _ _ _ e)
@@ -300,19 +339,24 @@ few_solid names (n ∷ p ∷ q ∷ []) e = omega arith
 few_solid names (n ∷ p ∷ q ∷ r ∷ []) e = omega arith
 few_solid names (n ∷ p ∷ q ∷ r ∷ s ∷ ws) e = cc
 
-pub few_figures : (due : Due) (names : Words) (k : Keyword) (ws : Words) → IsGoodForm due names k ws → length (figures k ws) ≤ 6
-few_figures due names k.Pxscene ws good = omega arith
-few_figures due names k.Picture ws good = few_one ws 2 (omega arith) good.formed
-few_figures due names k.Depth ws good = few_one ws 1 (omega arith) good.formed
-few_figures due names k.Solid ws good = few_solid names ws good.formed
-few_figures due names k.Front ws good = few_by ws 3 6 (omega arith) (omega arith) good.formed
-few_figures due names k.Back ws good = few_by ws 3 6 (omega arith) (omega arith) good.formed
-few_figures due names k.Side ws good = few_one ws 3 (omega arith) good.formed
-few_figures due names k.Show ws good = omega arith
-few_figures due names k.End ws good = omega arith
-few_figures due names k.Other ws good = omega arith
+few_words : (version : Version) → depth_count version ≤ 6
+few_words v.One = omega arith
+few_words v.Two = omega arith
+few_words v.Three = omega arith
 
-pub lawful_after : (draft after : DraftView) (due : Due) (key : Keyword) (ws : Words) (zs : List ℤ) → IsLawfulDraft draft → IsGoodForm draft.due (names_of draft.solids) key ws
+pub few_figures : (version : Version) (due : Due) (names : Words) (k : Keyword) (ws : Words) → IsGoodForm version due names k ws → length (figures k ws) ≤ 6
+few_figures version due names k.Pxscene ws good = omega arith
+few_figures version due names k.Picture ws good = few_one ws 2 (omega arith) good.formed
+few_figures version due names k.Depth ws good = few_one ws (depth_count version) (few_words version) good.formed
+few_figures version due names k.Solid ws good = few_solid names ws good.formed
+few_figures version due names k.Front ws good = few_by ws 3 6 (omega arith) (omega arith) good.formed
+few_figures version due names k.Back ws good = few_by ws 3 6 (omega arith) (omega arith) good.formed
+few_figures version due names k.Side ws good = few_one ws 3 (omega arith) good.formed
+few_figures version due names k.Show ws good = omega arith
+few_figures version due names k.End ws good = omega arith
+few_figures version due names k.Other ws good = omega arith
+
+pub lawful_after : (draft after : DraftView) (due : Due) (key : Keyword) (ws : Words) (zs : List ℤ) → IsLawfulDraft draft → IsGoodForm draft.version draft.due (names_of draft.solids) key ws
     → limit_of key (tally_of draft) zs ≡ None → zs ≡ numbers_of (figures key ws) → after ≡ with_line key draft ws zs → due ≡ due_after key
     → IsLawfulDraft (record after { due = due })
 lawful_after draft after due key ws zs is good e written line next = rw (next, line, written) (lawful_line draft key ws is good (rw written at e))

@@ -19,7 +19,10 @@ use Rattle.px_scene.specs.Solids.{SolidView, IsColour, IsLawfulSolid, IsPlane, f
 use Rattle.px_scene.specs.Scenes.{SceneView, IsLawfulScene, IsNumberedFrom, AreNumberedFrom, faces_of, has_number}
 use Rattle.px_scene.specs.Printed.{printed, named_by, sign_byte}
 use Rattle.px_scene.specs.Writable.{IsWritable}
-use Rattle.px_scene.specs.Canonical.{spaced, written_line, plane_words, colour_words, face_line, side_line, lines_at, lines_of_number, face_lines, solid_lines, first_lines, show_line, canonical_text}
+use Rattle.px_scene.specs.Versions.{version_word}
+use Rattle.px_scene.specs.declared.version.Version.{Version}
+use Rattle.px_scene.specs.declared.version.Version.TheVariants as v
+use Rattle.px_scene.specs.Canonical.{version_for, depth_words, spaced, written_line, plane_words, colour_words, face_line, side_line, lines_at, lines_of_number, face_lines, solid_lines, first_lines, show_line, canonical_text}
 use Rattle.px_scene.proofs.ExpressionLemmas.{both}
 use Rattle.px_scene.proofs.CutLemmas.{HasOne, cut}
 use Rattle.px_scene.proofs.NumberLemmas.{faces_of-cons}
@@ -170,18 +173,32 @@ tree_short names (join op left right) lawful within =
     in let second = tree_short names right lawful within.1
     in omega (arith, length-append one (32 ∷ sign_byte op ∷ 32 ∷ (two ++ 41 ∷ [])), length-append two (41 ∷ []))
 
-first_short : (scene : SceneView) → IsLawfulScene scene → length (first_lines scene) ≤ 36
+version_short : (version : Version) → length (spaced (version_word version ∷ [])) ≤ 2
+version_short v.One = omega arith
+version_short v.Two = omega arith
+version_short v.Three = omega arith
+
+depth_short : (version : Version) (bits fraction : ℕ) → bits ≤ 512 → fraction ≤ 512
+    → length (spaced (depth_words version bits fraction)) ≤ 8
+depth_short v.One bits fraction b f =
+    joined (32 ∷ decimal bits) [] 4 4 (let n = decimal_short bits (omega arith) in omega arith) (omega arith)
+depth_short v.Two bits fraction b f =
+    joined (32 ∷ decimal bits) [] 4 4 (let n = decimal_short bits (omega arith) in omega arith) (omega arith)
+depth_short v.Three bits fraction b f =
+    joined (32 ∷ decimal bits) _ 4 4 (let n = decimal_short bits (omega arith) in omega arith)
+    (joined (32 ∷ decimal fraction) [] 4 0 (let n = decimal_short fraction (omega arith) in omega arith) (omega arith))
+
+first_short : (scene : SceneView) → IsLawfulScene scene → length (first_lines scene) ≤ 40
 first_short scene is =
-    joined _ _ 26 10
-    (joined _ _ 10 16 (line_short (codes "pxscene") (codes "1" ∷ []) 7 2 (omega arith) (omega arith))
+    joined _ _ 26 14
+    (joined _ _ 10 16 (line_short (codes "pxscene") (version_word (version_for scene) ∷ []) 7 2 (omega arith) (version_short (version_for scene)))
     (line_short (codes "picture") (decimal scene.width ∷ decimal scene.height ∷ []) 7 8 (omega arith)
     (joined (32 ∷ decimal scene.width) _ 4 4
     (let w = decimal_short scene.width (let m = is.width in omega arith) in omega arith)
     (joined (32 ∷ decimal scene.height) [] 4 0
     (let h = decimal_short scene.height (let m = is.height in omega arith) in omega arith) (omega arith)))))
-    (line_short (codes "depth") (decimal scene.depth_bits ∷ []) 5 4 (omega arith)
-    (joined (32 ∷ decimal scene.depth_bits) [] 4 0
-    (let b = decimal_short scene.depth_bits (let m = is.depth in omega arith) in omega arith) (omega arith)))
+    (line_short (codes "depth") (depth_words (version_for scene) scene.depth_bits scene.fraction_bits) 5 8 (omega arith)
+    (depth_short (version_for scene) scene.depth_bits scene.fraction_bits (let m = is.depth in omega arith) (let m = is.fraction in omega arith)))
 
 pub canonical_short : (scene : SceneView) → IsWritable scene → length (canonical_text scene) ≤ 2 ^ 20
 canonical_short scene is =

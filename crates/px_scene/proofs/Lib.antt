@@ -26,5 +26,6 @@ pub mod TellsLemmas
 pub mod TextLemmas
 pub mod TextWalkLemmas
 pub mod TokenLemmas
+pub mod VersionLemmas
 pub mod WalkLemmas
 pub mod WriteLemmas

@@ -92,6 +92,7 @@ sign_fed : (op : Op) → is_no_feed (sign_byte op) ≡ true
 sign_fed o.Union = refl
 sign_fed o.Meet = refl
 sign_fed o.Minus = refl
+sign_fed o.Differ = refl
 
 pub printed_fed : (tree : Named) → has_names tree ≡ true → list_all is_no_feed (printed tree) ≡ true
 printed_fed (leaf n) names = plain_fed n (names_plain n (name_bytes n names))

@@ -1,5 +1,5 @@
 -- A printed expression is read as it.
-use Rattle.std.proofs.Common.{◌≡◌, ◌≢◌, ℕ, ◌+◌, ◌<◌, ◌≤◌, ◌==◌, List, [], ◌∷◌, ◌++◌, length, get_or, filter, Some, None, Bool, true, false, not, nat_le, ◌&&◌, if◌then◌else◌, refl, ap, sym, ◌∙◌, arith, append_assoc, append-nil}
+use Rattle.std.proofs.Common.{◌≡◌, ◌≢◌, ℕ, ◌+◌, ◌<◌, ◌≤◌, ◌==◌, List, [], ◌∷◌, ◌++◌, length, get_or, filter, Some, None, Bool, true, false, not, nat_le, ◌&&◌, ◌||◌, if◌then◌else◌, refl, ap, sym, ◌∙◌, arith, append_assoc, append-nil}
 use Prim.Native.Nat.{zero, suc}
 use Rattle.std.specs.List.{AllPass, AllPairs, flat_map, slice_split, onto_first, before_first, take_while, list_all}
 use Rattle.std.specs.Option.{option_map}
@@ -15,9 +15,11 @@ use Rattle.px_expr.specs.Tree as shown
 use Rattle.px_scene.specs.Text.{Words, is_blank, is_some_byte, words_of}
 use Rattle.px_scene.specs.Word.{is_name, is_letter, is_name_byte}
 use Rattle.px_scene.specs.Tokens.{Token, name, opens, closes, sign, mark, tokens_in, tokens_of}
-use Rattle.px_scene.specs.Expressions.{Named, leaf, join, written, has_names, whole, expression_of, leaves, nesting}
+use Rattle.px_scene.specs.Expressions.{Named, leaf, join, written, has_names, has_signs, whole, expression_of, leaves, nesting}
 use Rattle.px_scene.specs.Faults.{is_among, judged}
 use Rattle.px_scene.specs.Show.{place_of, placed, are_known, cause_in, limit_in, count_past, show_tree, show_fault}
+use Rattle.px_scene.specs.Versions.{has_differ, is_sign, is_differ, has_difference}
+use Rattle.px_scene.specs.declared.version.Version.{Version}
 use Rattle.px_scene.specs.declared.line.LimitKind.{LimitKind}
 use Rattle.px_scene.specs.declared.line.LimitKind.TheVariants as kind
 use Rattle.px_scene.specs.Printed.{AreDistinctNames, sign_byte, printed, named_by}
@@ -34,15 +36,15 @@ record IsPlain (b : ℕ) : Type 0 where
 plain_name : (b : ℕ) → is_name_byte b ≡ true → IsPlain b
 plain_name b e = record { no_blank = grind (arith, nat_tests); no_comment = grind (arith, nat_tests) }
 
-abbrev tokens_across : List ℕ → List Token
-tokens_across bs = flat_map tokens_in (slice_split is_blank bs)
+abbrev tokens_across : Version → List ℕ → List Token
+tokens_across version bs = flat_map (tokens_in version) (slice_split is_blank bs)
 
 -- a byte that stands in no name, and is no blank
-across_mark : (b : ℕ) (bs : List ℕ) → is_blank b ≡ false → is_name_byte b ≡ false
-    → tokens_across (b ∷ bs) ≡ mark b ∷ tokens_across bs
-across_mark b bs blank none = rw blank (by_pieces (slice_split is_blank bs))
+across_mark : (version : Version) (b : ℕ) (bs : List ℕ) → is_blank b ≡ false → is_name_byte b ≡ false
+    → tokens_across version (b ∷ bs) ≡ mark version b ∷ tokens_across version bs
+across_mark version b bs blank none = rw blank (by_pieces (slice_split is_blank bs))
   where
-    by_pieces : (pieces : List (List ℕ)) → flat_map tokens_in (onto_first b pieces) ≡ mark b ∷ flat_map tokens_in pieces
+    by_pieces : (pieces : List (List ℕ)) → flat_map (tokens_in version) (onto_first b pieces) ≡ mark version b ∷ flat_map (tokens_in version) pieces
     by_pieces [] = rw none refl
     by_pieces (piece ∷ pieces) = rw none refl
 
@@ -51,13 +53,13 @@ abbrev Apart : List ℕ → Type 0
 Apart [] = Unit {0}
 Apart (b ∷ bs) = is_name_byte b ≡ false
 
-tokens_apart : (b : ℕ) (bs piece : List ℕ) → list_all is_name_byte (b ∷ bs) ≡ true → Apart piece
-    → tokens_in (b ∷ (bs ++ piece)) ≡ name (b ∷ bs) ∷ tokens_in piece
-tokens_apart b [] [] all behind = rw (both (is_name_byte b) true all).0 refl
-tokens_apart b [] (c ∷ cs) all behind = rw ((both (is_name_byte b) true all).0, behind) (apart b c (tokens_in cs))
-tokens_apart b (c ∷ cs) piece all behind =
+tokens_apart : (version : Version) (b : ℕ) (bs piece : List ℕ) → list_all is_name_byte (b ∷ bs) ≡ true → Apart piece
+    → tokens_in version (b ∷ (bs ++ piece)) ≡ name (b ∷ bs) ∷ tokens_in version piece
+tokens_apart version b [] [] all behind = rw (both (is_name_byte b) true all).0 refl
+tokens_apart version b [] (c ∷ cs) all behind = rw ((both (is_name_byte b) true all).0, behind) (apart version b c (tokens_in version cs))
+tokens_apart version b (c ∷ cs) piece all behind =
     let each = both (is_name_byte b) (list_all is_name_byte (c ∷ cs)) all
-    in rw (each.0, tokens_apart c cs piece each.1 behind) refl
+    in rw (each.0, tokens_apart version c cs piece each.1 behind) refl
 
 record IsSplit (bs : List ℕ) : Type 0 where
   first : List ℕ
@@ -88,38 +90,44 @@ name_bytes [] e = cc
 name_bytes (b ∷ bs) e = (both (is_letter b) (list_all is_name_byte (b ∷ bs))
     (both (is_letter b && list_all is_name_byte (b ∷ bs)) (nat_le (length (b ∷ bs)) 32) e).0).1
 
-across_name : (n bs : List ℕ) → is_name n ≡ true → Apart bs → tokens_across (n ++ bs) ≡ name n ∷ tokens_across bs
-across_name [] bs e behind = cc
-across_name (b ∷ n) bs e behind =
+across_name : (version : Version) (n bs : List ℕ) → is_name n ≡ true → Apart bs → tokens_across version (n ++ bs) ≡ name n ∷ tokens_across version bs
+across_name version [] bs e behind = cc
+across_name version (b ∷ n) bs e behind =
     let split = split_apart bs behind
     in let all = name_bytes (b ∷ n) e
-    in ap (flat_map tokens_in) (split_name (b ∷ n) bs split.first split.others all split.pieces)
-    ∙ rw (tokens_apart b n split.first all split.behind, split.pieces) refl
+    in ap (flat_map (tokens_in version)) (split_name (b ∷ n) bs split.first split.others all split.pieces)
+    ∙ rw (tokens_apart version b n split.first all split.behind, split.pieces) refl
 
-across_sign : (op : Op) (bs : List ℕ) → tokens_across (sign_byte op ∷ bs) ≡ sign op ∷ tokens_across bs
-across_sign o.Union bs = across_mark 43 bs refl refl
-across_sign o.Meet bs = across_mark 42 bs refl refl
-across_sign o.Minus bs = across_mark 45 bs refl refl
+across_sign : (version : Version) (op : Op) (bs : List ℕ) → is_sign version op ≡ true
+    → tokens_across version (sign_byte op ∷ bs) ≡ sign op ∷ tokens_across version bs
+across_sign version o.Union bs is = across_mark version 43 bs refl refl
+across_sign version o.Meet bs is = across_mark version 42 bs refl refl
+across_sign version o.Minus bs is = across_mark version 45 bs refl refl
+across_sign version o.Differ bs is = across_mark version 94 bs refl refl ∙ rw is refl
 
-across_printed : (tree : Named) (bs : List ℕ) → has_names tree ≡ true → Apart bs
-    → tokens_across (printed tree ++ bs) ≡ written tree ++ tokens_across bs
-across_printed (leaf n) bs names behind = across_name n bs names behind
-across_printed (join op left right) bs names behind =
+across_printed : (version : Version) (tree : Named) (bs : List ℕ) → has_names tree ≡ true
+    → has_signs version tree ≡ true → Apart bs
+    → tokens_across version (printed tree ++ bs) ≡ written tree ++ tokens_across version bs
+across_printed version (leaf n) bs names signs behind = across_name version n bs names behind
+across_printed version (join op left right) bs names signs behind =
     let each = both (has_names left) (has_names right) names
-    in let behind_right : tokens_across ((printed right ++ 41 ∷ []) ++ bs) ≡ (written right ++ closes ∷ [])
-    ++ tokens_across bs =
-    rw (append_assoc (printed right) (41 ∷ []) bs, append_assoc (written right) (closes ∷ []) (tokens_across bs))
-    (across_printed right (41 ∷ bs) each.1 refl ∙ ap (λ ts. written right ++ ts) (across_mark 41 bs refl refl))
-    in let behind_left : tokens_across (sign_byte op ∷ 32 ∷ ((printed right ++ 41 ∷ []) ++ bs))
-    ≡ sign op ∷ ((written right ++ closes ∷ []) ++ tokens_across bs) =
-    across_sign op (32 ∷ ((printed right ++ 41 ∷ []) ++ bs)) ∙ ap (λ ts. sign op ∷ ts) behind_right
-    in across_mark 40 ((printed left ++ 32 ∷ sign_byte op ∷ 32 ∷ (printed right ++ 41 ∷ [])) ++ bs) refl refl
+    in let allowed = both (is_sign version op && has_signs version left) (has_signs version right) signs
+    in let before = both (is_sign version op) (has_signs version left) allowed.0
+    in let behind_right : tokens_across version ((printed right ++ 41 ∷ []) ++ bs) ≡ (written right ++ closes ∷ [])
+    ++ tokens_across version bs =
+    rw (append_assoc (printed right) (41 ∷ []) bs, append_assoc (written right) (closes ∷ []) (tokens_across version bs))
+    (across_printed version right (41 ∷ bs) each.1 allowed.1 refl
+    ∙ ap (λ ts. written right ++ ts) (across_mark version 41 bs refl refl))
+    in let behind_left : tokens_across version (sign_byte op ∷ 32 ∷ ((printed right ++ 41 ∷ []) ++ bs))
+    ≡ sign op ∷ ((written right ++ closes ∷ []) ++ tokens_across version bs) =
+    across_sign version op (32 ∷ ((printed right ++ 41 ∷ []) ++ bs)) before.0 ∙ ap (λ ts. sign op ∷ ts) behind_right
+    in across_mark version 40 ((printed left ++ 32 ∷ sign_byte op ∷ 32 ∷ (printed right ++ 41 ∷ [])) ++ bs) refl refl
     ∙ ap (λ ts. opens ∷ ts)
     (rw (
       append_assoc (printed left) (32 ∷ sign_byte op ∷ 32 ∷ (printed right ++ 41 ∷ [])) bs,
-      append_assoc (written left) (sign op ∷ (written right ++ closes ∷ [])) (tokens_across bs),
+      append_assoc (written left) (sign op ∷ (written right ++ closes ∷ [])) (tokens_across version bs),
     )
-    (across_printed left (32 ∷ sign_byte op ∷ 32 ∷ ((printed right ++ 41 ∷ []) ++ bs)) each.0 refl
+    (across_printed version left (32 ∷ sign_byte op ∷ 32 ∷ ((printed right ++ 41 ∷ []) ++ bs)) each.0 before.1 refl
     ∙ ap (λ ts. written left ++ ts) behind_left))
 
 abbrev pub is_no_comment : ℕ → Bool
@@ -135,6 +143,7 @@ sign_uncommented : (op : Op) → is_no_comment (sign_byte op) ≡ true
 sign_uncommented o.Union = refl
 sign_uncommented o.Meet = refl
 sign_uncommented o.Minus = refl
+sign_uncommented o.Differ = refl
 
 pub printed_uncommented : (tree : Named) → has_names tree ≡ true → list_all is_no_comment (printed tree) ≡ true
 printed_uncommented (leaf n) names = name_uncommented n (name_bytes n names)
@@ -156,17 +165,19 @@ before_none (b ∷ bs) all =
     in take_while-cons is_no_comment b bs ∙ rw (each.0, before_none bs each.1) refl
 
 -- empty pieces have no tokens
-words_only : (pieces : List (List ℕ)) → flat_map tokens_in (filter is_some_byte pieces) ≡ flat_map tokens_in pieces
-words_only [] = refl
-words_only ([] ∷ pieces) = words_only pieces
-words_only ((b ∷ bs) ∷ pieces) = ap (λ ts. tokens_in (b ∷ bs) ++ ts) (words_only pieces)
+words_only : (version : Version) (pieces : List (List ℕ))
+    → flat_map (tokens_in version) (filter is_some_byte pieces) ≡ flat_map (tokens_in version) pieces
+words_only version [] = refl
+words_only version ([] ∷ pieces) = words_only version pieces
+words_only version ((b ∷ bs) ∷ pieces) = ap (λ ts. tokens_in version (b ∷ bs) ++ ts) (words_only version pieces)
 
-pub printed_tokens : (tree : Named) → has_names tree ≡ true → tokens_of (words_of (printed tree)) ≡ written tree
-printed_tokens tree names =
-    words_only (slice_split is_blank (before_first (λ b. b == 35) (printed tree)))
-    ∙ ap tokens_across (before_none (printed tree) (printed_uncommented tree names))
-    ∙ ap tokens_across (sym (append-nil (printed tree)))
-    ∙ across_printed tree [] names tt
+pub printed_tokens : (version : Version) (tree : Named) → has_names tree ≡ true → has_signs version tree ≡ true
+    → tokens_of version (words_of (printed tree)) ≡ written tree
+printed_tokens version tree names signs =
+    words_only version (slice_split is_blank (before_first (λ b. b == 35) (printed tree)))
+    ∙ ap (tokens_across version) (before_none (printed tree) (printed_uncommented tree names))
+    ∙ ap (tokens_across version) (sym (append-nil (printed tree)))
+    ∙ across_printed version tree [] names signs tt
     ∙ append-nil (written tree)
 
 -- a name's place gives it back, where no two are alike
@@ -205,28 +216,57 @@ all_known names (leaf n) below = by_test (is_among names n) (place_unknown names
     by_test false e = absurd (grind (arith, nat_tests))
 all_known names (join op left right) below = rw (all_known names left below.0, all_known names right below.1) refl
 
-printed_read : (tree : Named) → has_names tree ≡ true → expression_of (tokens_of (words_of (printed tree))) ≡ Some tree
-printed_read tree lawful = ap expression_of (printed_tokens tree lawful) ∙ ap whole (reads tree [] lawful)
+printed_read : (version : Version) (tree : Named) → has_names tree ≡ true → has_signs version tree ≡ true
+    → expression_of (tokens_of version (words_of (printed tree))) ≡ Some tree
+printed_read version tree lawful signs =
+    ap expression_of (printed_tokens version tree lawful signs) ∙ ap whole (reads tree [] lawful)
 
 -- a tree that is printed with the names of its solids is read as it
-pub printed_tree : (names : Words) (tree : Tree) → AreDistinctNames names → HasLeavesBelow (length names) tree
-    → show_tree names (words_of (printed (named_by names tree))) ≡ Some tree
-printed_tree names tree are below =
-    ap (option_map (placed names)) (printed_read (named_by names tree) (names_lawful names tree are.lawful below))
+pub printed_tree : (version : Version) (names : Words) (tree : Tree) → AreDistinctNames names
+    → HasLeavesBelow (length names) tree → has_signs version (named_by names tree) ≡ true
+    → show_tree version names (words_of (printed (named_by names tree))) ≡ Some tree
+printed_tree version names tree are below signs =
+    ap (option_map (placed names)) (printed_read version (named_by names tree) (names_lawful names tree are.lawful below) signs)
     ∙ ap Some (placed_back names tree are.different below)
 
 not_past : (limit : LimitKind) (most found : ℕ) → found ≤ most → count_past limit most found ≡ None
 not_past limit most found le = grind (arith, nat_tests)
 
-pub printed_good : (names : Words) (tree : Tree) → AreDistinctNames names → HasLeavesBelow (length names) tree
-    → IsLawful tree
-    → show_fault names (words_of (printed (named_by names tree))) ≡ None
-printed_good names tree are below within =
+pub printed_good : (version : Version) (names : Words) (tree : Tree) → AreDistinctNames names
+    → HasLeavesBelow (length names) tree → has_signs version (named_by names tree) ≡ true → IsLawful tree
+    → show_fault version names (words_of (printed (named_by names tree))) ≡ None
+printed_good version names tree are below signs within =
     let named = named_by names tree
     in let back = placed_back names tree are.different below
     in let few : leaves named ≤ 512 = omega (arith, same_leaves names named, ap leaf_count back, within.leaves)
     in let flat : nesting named ≤ 64 = omega (arith, same_nesting names named, ap shown.nesting back, within.depth)
     in ap (λ read. judged (cause_in names read) (limit_in read))
-    (printed_read named (names_lawful names tree are.lawful below))
+    (printed_read version named (names_lawful names tree are.lawful below) signs)
     ∙ rw (all_known names named (rw back below), not_past kind.Leaves 512 (leaves named) few)
     (not_past kind.Nesting 64 (nesting named) flat)
+
+-- a version has the signs of a tree, where it has `^` or the tree has none
+signs_of_op : (version : Version) (op : Op) → has_differ version || not (is_differ op) ≡ true → is_sign version op ≡ true
+signs_of_op version o.Union e = refl
+signs_of_op version o.Meet e = refl
+signs_of_op version o.Minus e = refl
+signs_of_op version o.Differ e = either_left (has_differ version) e
+  where
+    either_left : (b : Bool) → b || false ≡ true → b ≡ true
+    either_left true e = refl
+    either_left false e = e
+
+pub signs_of : (version : Version) (names : Words) (tree : Tree)
+    → has_differ version || not (has_difference tree) ≡ true → has_signs version (named_by names tree) ≡ true
+signs_of version names (shown.leaf place) e = refl
+signs_of version names (shown.join op left right) e =
+    let each = apart_of (has_differ version) (is_differ op) (has_difference left) (has_difference right) e
+    in rw (signs_of_op version op each.0, signs_of version names left each.1, signs_of version names right each.2) refl
+  where
+    apart_of : (b p q r : Bool) → b || not (p || q || r) ≡ true
+        → (b || not p ≡ true) × (b || not q ≡ true) × (b || not r ≡ true)
+    apart_of true p q r e = (refl, refl, refl)
+    apart_of false false false false e = (refl, refl, refl)
+    apart_of false true q r e = cc
+    apart_of false false true r e = cc
+    apart_of false false false true e = cc

@@ -3,11 +3,9 @@ use Rattle.std.proofs.Common.{◌≡◌, ℕ, ◌+◌, ◌<◌, ◌≤◌, List,
 use Rattle.std.proofs.lemmas.List.{take_more, drop_more, drop_all, take_all, get_or-map, length-map}
 use Rattle.std.proofs.lemmas.Simd.{map-map}
 use Rattle.px_scene.specs.declared.line.LineFault.{LineFault}
-use Rattle.px_scene.specs.declared.line.Due.TheVariants as d
 use Rattle.px_scene.specs.Text.{Words, words_of, lines_of, worded}
-use Rattle.px_scene.specs.Lines.{fault_of}
-use Rattle.px_scene.specs.Solids.{names_of, SolidView}
-use Rattle.px_scene.specs.Drafts.{DraftView, IsLawfulDraft, tally_of, taken, drawn}
+use Rattle.px_scene.specs.Solids.{SolidView}
+use Rattle.px_scene.specs.Drafts.{DraftView, IsLawfulDraft, fault_in, taken, drawn}
 use Rattle.px_scene.specs.Reading.{first_bad, fault_behind, at_line, scene_of}
 use Rattle.px_expr.specs.Tree.{Tree, leaf}
 use Rattle.px_scene.specs.Scenes.{SceneView}
@@ -17,16 +15,13 @@ use Rattle.px_scene.specs.declared.read.SceneFault.TheVariants as fault
 use Rattle.px_scene.specs.declared.line.Cause.TheVariants as cause
 use Rattle.std.proofs.lemmas.Bool.Decides.{nat_tests}
 use Rattle.px_scene.specs.Tells.{Tells, IsDraftOf}
-use Rattle.px_scene.proofs.TellsLemmas.{tells_start, tells_taken, fault_told}
+use Rattle.px_scene.proofs.TellsLemmas.{blank, tells_start, tells_taken, fault_told}
 
 -- no line is bad before this one
 pub record IsReadTo (draft : DraftView) (lines : List Words) (i : ℕ) : Type 0 where
   pub tells : Tells draft (take i lines)
   pub lawful : IsLawfulDraft draft
   pub judged : first_bad [] lines ≡ first_bad (take i lines) (drop i lines)
-
-abbrev pub blank : DraftView
-blank = record { due = d.Header; numbered = 0; width = 1; height = 1; depth_bits = 1; solids = []; show = None }
 
 lawful_blank : IsLawfulDraft blank
 lawful_blank = record {
@@ -36,6 +31,7 @@ lawful_blank = record {
   height_limit = omega arith;
   some_depth = omega arith;
   depth_limit = omega arith;
+  fraction_limit = omega arith;
   few = omega arith;
   names = λ k e lt. absurd (omega arith);
   different = λ i j e lt below. absurd (omega arith);
@@ -47,14 +43,14 @@ lawful_blank = record {
 }
 
 pub read_start : (draft : DraftView) (lines : List Words) → draft ≡ blank → IsReadTo draft lines 0
-read_start draft lines e = rw e (record { tells = tells_start 1 1 1 refl refl refl blank refl; lawful = lawful_blank; judged = refl })
+read_start draft lines e = rw e (record { tells = tells_start blank refl; lawful = lawful_blank; judged = refl })
 
 -- the line that is read next
 here : (lines : List Words) (i : ℕ) (l : Words) → i < length lines → get_or lines i [] ≡ l → first_bad (take i lines) (drop i lines) ≡ at_line (length (take i lines) + 1) (fault_behind (take i lines) l) (first_bad (take i lines ++ l ∷ []) (drop (i + 1) lines))
 here lines i l lt is = ap (first_bad (take i lines)) (drop_more lines i [] lt ∙ ap (λ x. x ∷ drop (i + 1) lines) is)
 
 pub read_next : (draft new : DraftView) (lines : List Words) (i : ℕ) (l : Words) → IsReadTo draft lines i → i < length lines → get_or lines i [] ≡ l
-    → fault_of draft.due (names_of draft.solids) (tally_of draft) l ≡ None → new ≡ taken draft l → IsLawfulDraft new → IsReadTo new lines (i + 1)
+    → fault_in draft l ≡ None → new ≡ taken draft l → IsLawfulDraft new → IsReadTo new lines (i + 1)
 read_next draft new lines i l so lt is good e lawful =
     let more : take (i + 1) lines ≡ take i lines ++ l ∷ [] = take_more lines i [] lt ∙ ap (λ x. take i lines ++ x ∷ []) is
     in let none = sym (fault_told draft (take i lines) l so.tells) ∙ good
@@ -67,7 +63,7 @@ read_next draft new lines i l so lt is good e lawful =
     }
 
 pub read_bad : (draft : DraftView) (lines : List Words) (i : ℕ) (l : Words) (f : LineFault) → IsReadTo draft lines i → i < length lines → get_or lines i [] ≡ l
-    → fault_of draft.due (names_of draft.solids) (tally_of draft) l ≡ Some f → first_bad [] lines ≡ Some (i + 1, f)
+    → fault_in draft l ≡ Some f → first_bad [] lines ≡ Some (i + 1, f)
 read_bad draft lines i l f so lt is bad =
     so.judged ∙ here lines i l lt is
     ∙ ap (λ g. at_line (length (take i lines) + 1) g (first_bad (take i lines ++ l ∷ []) (drop (i + 1) lines))) (sym (fault_told draft (take i lines) l so.tells) ∙ bad)
@@ -103,9 +99,9 @@ pub accepted : (text : List ℕ) (lines : List Words) (draft : DraftView) → le
 accepted text lines draft le e is ended =
     let due = ap is_nothing is.tells.due in rw (short text le, ← e, is.good, ← due, ended) refl
 
-same_scene : (a a' b b' c c' : ℕ) (s s' : List SolidView) (t t' : Tree) → a ≡ a' → b ≡ b' → c ≡ c' → s ≡ s' → t ≡ t'
-    → (let v : SceneView = record { width = a; height = b; depth_bits = c; solids = s; show = t } in v) ≡ record { width = a'; height = b'; depth_bits = c'; solids = s'; show = t' }
-same_scene a a' b b' c c' s s' t t' p q r u v = rw (p, q, r, u, v) refl
+same_scene : (a a' b b' c c' f f' : ℕ) (s s' : List SolidView) (t t' : Tree) → a ≡ a' → b ≡ b' → c ≡ c' → f ≡ f' → s ≡ s' → t ≡ t'
+    → (let v : SceneView = record { width = a; height = b; depth_bits = c; fraction_bits = f; solids = s; show = t } in v) ≡ record { width = a'; height = b'; depth_bits = c'; fraction_bits = f'; solids = s'; show = t' }
+same_scene a a' b b' c c' f f' s s' t t' p q r n u v = rw (p, q, r, n, u, v) refl
 
 pub drawn_is : (draft : DraftView) (lines : List Words) → Tells draft lines → drawn draft ≡ scene_of lines
-drawn_is draft lines tells = same_scene _ _ _ _ _ _ _ _ _ _ tells.width tells.height tells.depth tells.solids (ap (λ o. unwrap_or o (leaf 0)) tells.show)
+drawn_is draft lines tells = same_scene _ _ _ _ _ _ _ _ _ _ _ _ tells.width tells.height tells.depth tells.fraction tells.solids (ap (λ o. unwrap_or o (leaf 0)) tells.show)

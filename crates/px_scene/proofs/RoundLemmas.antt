@@ -1,5 +1,5 @@
 -- The lines of the canonical text, one after another, are good and give the scene.
-use Rattle.std.proofs.Common.{◌≡◌, ℕ, ℤ, pos, ◌+◌, ◌-◌, ◌<◌, ◌≤◌, ◌^◌, ◌==◌, List, [], ◌∷◌, ◌++◌, length, Option, Some, None, Bool, true, false, ◌||◌, codes, decimal, refl, ap, sym, ◌∙◌, arith, slice_get, length-append}
+use Rattle.std.proofs.Common.{◌≡◌, ℕ, ℤ, pos, ◌+◌, ◌-◌, min, ◌<◌, ◌≤◌, ◌^◌, ◌==◌, List, [], ◌∷◌, ◌++◌, length, Option, Some, None, Bool, true, false, ◌||◌, codes, decimal, refl, ap, sym, ◌∙◌, arith, slice_get, length-append}
 use lib.IntN.{negsuc}
 use lib.Signed.{mag}
 use Rattle.std.specs.Option.{option_or}
@@ -18,17 +18,21 @@ use Rattle.px_scene.specs.declared.line.Due.{Due}
 use Rattle.px_scene.specs.declared.line.Tally.{Tally}
 use Rattle.px_scene.specs.declared.line.LineFault.{LineFault}
 use Rattle.px_expr.specs.Tree.{Tree, HasLeavesBelow, IsLawful}
+use Rattle.px_scene.specs.Expressions.{has_signs}
+use Rattle.px_scene.specs.Versions.{version_word}
+use Rattle.px_scene.specs.declared.version.Version.{Version}
+use Rattle.px_scene.specs.declared.version.Version.TheVariants as v
 use Rattle.px_scene.specs.Printed.{AreDistinctNames, printed, named_by}
 use Rattle.px_scene.proofs.PrintedLemmas.{printed_tree, printed_good}
 use Rattle.px_scene.specs.Faults.{judged, is_among}
 use Rattle.px_scene.specs.Lines.{numeric, solid_form, three_past, fault_of, are_numbers, numbers_of, past, most, size_past, plane_past, colour_past, face_past, face_limit}
 use Rattle.px_scene.specs.Solids.{SolidView, IsColour, IsPlane, names_of}
 use Rattle.px_scene.specs.Drafts.{DraftView, with_front, with_back, with_side, with_last, in_last, tally_of, fresh_solid, new_solid}
-use Rattle.px_scene.specs.Canonical.{plane_words, colour_words}
+use Rattle.px_scene.specs.Canonical.{depth_words, plane_words, colour_words}
 use Rattle.px_scene.proofs.FigureLemmas.{number_read, signed_read}
-use Rattle.px_scene.proofs.ReadLemmas.{blank}
+use Rattle.px_scene.proofs.TellsLemmas.{blank}
 use Rattle.px_scene.proofs.DraftLemmas.{with_last-append}
-use Rattle.px_scene.proofs.WalkLemmas.{Walk}
+use Rattle.px_scene.proofs.WalkLemmas.{Walk, walk_both}
 
 -- words that are numbers
 record AreFigures (ws : Words) (zs : List ℤ) : Type 0 where
@@ -53,24 +57,76 @@ pub small : (n : ℕ) (z : ℤ) → n < 10 ^ 18 → IsWithin n z → mag z < 10 
 small n (pos m) most within = let high = within.1 in omega (arith, ints)
 small n (negsuc m) most within = let low = within.0 in omega (arith, ints)
 
-abbrev pub opened : ℕ → ℕ → ℕ → DraftView
-opened width height bits =
-    record { due = d.Solid; numbered = 0; width = width; height = height; depth_bits = bits; solids = []; show = None }
+abbrev pub opened : Version → ℕ → ℕ → ℕ → ℕ → DraftView
+opened version width height bits fraction = record {
+  version = version;
+  due = d.Solid;
+  numbered = 0;
+  width = width;
+  height = height;
+  depth_bits = bits;
+  fraction_bits = fraction;
+  solids = [];
+  show = None;
+}
 
-pub first_walk : (width height bits : ℕ) → 1 ≤ width → width ≤ 512 → 1 ≤ height → height ≤ 512 → 1 ≤ bits → bits ≤ 24
-    → Walk blank ((codes "pxscene" ∷ codes "1" ∷ []) ∷ (codes "picture" ∷ decimal width ∷ decimal height ∷ []) ∷
-    (codes "depth" ∷ decimal bits ∷ []) ∷ []) (opened width height bits)
-first_walk width height bits w1 w2 h1 h2 b1 b2 =
+-- only a version with two numbers on its `depth` line writes fraction bits
+abbrev pub CanWrite : Version → ℕ → Type 0
+CanWrite v.One fraction = fraction ≡ 0
+CanWrite v.Two fraction = fraction ≡ 0
+CanWrite v.Three fraction = Unit {0}
+
+abbrev headed : Version → Due → ℕ → ℕ → DraftView
+headed version due width height = record blank { version = version; due = due; width = width; height = height }
+
+header_walk : (version : Version) → Walk blank ((codes "pxscene" ∷ version_word version ∷ []) ∷ []) (headed version d.Picture 1 1)
+header_walk v.One = (refl, refl)
+header_walk v.Two = (refl, refl)
+header_walk v.Three = (refl, refl)
+
+picture_walk : (version : Version) (width height : ℕ) → 1 ≤ width → width ≤ 512 → 1 ≤ height → height ≤ 512
+    → Walk (headed version d.Picture 1 1) ((codes "picture" ∷ decimal width ∷ decimal height ∷ []) ∷ [])
+    (headed version d.Depth width height)
+picture_walk version width height w1 w2 h1 h2 =
     let w = number_read width (omega arith)
     in let h = number_read height (omega arith)
-    in let b = number_read bits (omega arith)
     in (
-      refl,
-      (
-        rw (w, h, past_in kind.Picture 1 512 width w1 w2) (past_in kind.Picture 1 512 height h1 h2),
-        (rw b (past_in kind.Depth 1 24 bits b1 b2), rw (w, h, b) refl),
-      ),
+      rw (w, h, past_in kind.Picture 1 512 width w1 w2) (past_in kind.Picture 1 512 height h1 h2),
+      rw (w, h) refl,
     )
+
+depth_walk : (version : Version) (width height bits fraction : ℕ) → CanWrite version fraction → 1 ≤ bits
+    → bits + fraction ≤ 24 → fraction ≤ 8
+    → Walk (headed version d.Depth width height) ((codes "depth" ∷ depth_words version bits fraction) ∷ [])
+    (opened version width height bits fraction)
+depth_walk v.One width height bits fraction none b1 b2 f =
+    let b = number_read bits (omega arith)
+    in (rw b (past_in kind.Depth 1 24 bits b1 (omega arith)), rw (b, none) refl)
+depth_walk v.Two width height bits fraction none b1 b2 f =
+    let b = number_read bits (omega arith)
+    in (rw b (past_in kind.Depth 1 24 bits b1 (omega arith)), rw (b, none) refl)
+depth_walk v.Three width height bits fraction some b1 b2 f =
+    let b = number_read bits (omega arith)
+    in let n = number_read fraction (omega arith)
+    in (
+      rw (b, n, past_in kind.Depth 1 24 bits b1 (omega arith))
+          (past_in kind.Fraction 0 (min 8 (24 - bits)) fraction (omega arith) (omega arith)),
+      rw (b, n) refl,
+    )
+
+pub first_walk : (version : Version) (width height bits fraction : ℕ) → CanWrite version fraction → 1 ≤ width → width ≤ 512
+    → 1 ≤ height → height ≤ 512 → 1 ≤ bits → bits + fraction ≤ 24 → fraction ≤ 8
+    → Walk blank ((codes "pxscene" ∷ version_word version ∷ []) ∷ (codes "picture" ∷ decimal width ∷ decimal height ∷ []) ∷
+    (codes "depth" ∷ depth_words version bits fraction) ∷ []) (opened version width height bits fraction)
+first_walk version width height bits fraction can w1 w2 h1 h2 b1 b2 f =
+    let header = codes "pxscene" ∷ version_word version ∷ []
+    in let picture = codes "picture" ∷ decimal width ∷ decimal height ∷ []
+    in let depth = codes "depth" ∷ depth_words version bits fraction
+    in let last = opened version width height bits fraction
+    in walk_both blank (headed version d.Picture 1 1) last (header ∷ []) (picture ∷ depth ∷ []) (header_walk version)
+    (walk_both (headed version d.Picture 1 1) (headed version d.Depth width height) last (picture ∷ []) (depth ∷ [])
+    (picture_walk version width height w1 w2 h1 h2)
+    (depth_walk version width height bits fraction can b1 b2 f))
 
 abbrev plane_numbers : Linear → List ℤ → List ℤ
 plane_numbers p zs = p.a ∷ p.b ∷ p.c ∷ zs
@@ -112,22 +168,12 @@ in_last-end count ss s =
     let place : length (ss ++ s ∷ []) - 1 ≡ length ss = omega (arith, length-append ss (s ∷ []))
     in rw (place, last_end ss s) refl
 
--- what stands while solids are written
-abbrev pub written_so_far : ℕ → ℕ → ℕ → List SolidView → ℕ → DraftView
-written_so_far width height bits solids n =
-    record {
-      due = d.Plane;
-      numbered = n;
-      width = width;
-      height = height;
-      depth_bits = bits;
-      solids = solids;
-      show =
-          None;
-    }
+-- what stands while solids are written, behind the draft of the first lines
+abbrev pub written_so_far : DraftView → List SolidView → ℕ → DraftView
+written_so_far start solids n = record start { due = d.Plane; numbered = n; solids = solids }
 
-abbrev pub open_solid : ℕ → ℕ → ℕ → List SolidView → SolidView → ℕ → DraftView
-open_solid width height bits done s n = written_so_far width height bits (done ++ s ∷ []) n
+abbrev pub open_solid : DraftView → List SolidView → SolidView → ℕ → DraftView
+open_solid start done s n = written_so_far start (done ++ s ∷ []) n
 
 -- the numbers of a face's line
 abbrev pub face_words : Face → Words
@@ -157,39 +203,39 @@ three_or_six : (ws : Words) (zs : List ℤ) (counted : Bool) → AreFigures ws z
     → numeric counted ws ≡ None
 three_or_six ws zs counted are e = rw (e, are.are) refl
 
-front_good : (names ws : Words) (t : Tally) (zs : List ℤ) → AreFigures ws zs → (length ws == 3 || length ws == 6) ≡ true
+front_good : (version : Version) (names ws : Words) (t : Tally) (zs : List ℤ) → AreFigures ws zs → (length ws == 3 || length ws == 6) ≡ true
     → face_limit kind.Fronts t.fronts t.numbered zs ≡ None
-    → fault_of d.Plane names t (codes "front" ∷ ws) ≡ None
-front_good names ws t zs are counted within =
+    → fault_of version d.Plane names t (codes "front" ∷ ws) ≡ None
+front_good version names ws t zs are counted within =
     ap (λ c. judged c (face_limit kind.Fronts t.fronts t.numbered (numbers_of ws)))
     (three_or_six ws zs (length ws == 3 || length ws == 6) are counted)
     ∙ ap (λ ns. face_limit kind.Fronts t.fronts t.numbered ns) are.is ∙ within
 
-back_good : (names ws : Words) (t : Tally) (zs : List ℤ) → AreFigures ws zs → (length ws == 3 || length ws == 6) ≡ true
+back_good : (version : Version) (names ws : Words) (t : Tally) (zs : List ℤ) → AreFigures ws zs → (length ws == 3 || length ws == 6) ≡ true
     → face_limit kind.Backs t.backs t.numbered zs ≡ None
-    → fault_of d.Plane names t (codes "back" ∷ ws) ≡ None
-back_good names ws t zs are counted within =
+    → fault_of version d.Plane names t (codes "back" ∷ ws) ≡ None
+back_good version names ws t zs are counted within =
     ap (λ c. judged c (face_limit kind.Backs t.backs t.numbered (numbers_of ws)))
     (three_or_six ws zs (length ws == 3 || length ws == 6) are counted)
     ∙ ap (λ ns. face_limit kind.Backs t.backs t.numbered ns) are.is ∙ within
 
-side_good : (names ws : Words) (t : Tally) (zs : List ℤ) → AreFigures ws zs → (length ws == 3) ≡ true
+side_good : (version : Version) (names ws : Words) (t : Tally) (zs : List ℤ) → AreFigures ws zs → (length ws == 3) ≡ true
     → option_or (face_past zs) (most kind.Sides 32 (t.sides + 1)) ≡ None
-    → fault_of d.Plane names t (codes "side" ∷ ws) ≡ None
-side_good names ws t zs are counted within =
+    → fault_of version d.Plane names t (codes "side" ∷ ws) ≡ None
+side_good version names ws t zs are counted within =
     ap (λ c. judged c (option_or (face_past (numbers_of ws)) (most kind.Sides 32 (t.sides + 1))))
     (three_or_six ws zs (length ws == 3) are counted)
     ∙ ap (λ ns. option_or (face_past ns) (most kind.Sides 32 (t.sides + 1))) are.is ∙ within
 
-pub front_walk : (width height bits : ℕ) (done : List SolidView) (s : SolidView) (n : ℕ) (f : Face) → IsWritableFace f
+pub front_walk : (start : DraftView) (done : List SolidView) (s : SolidView) (n : ℕ) (f : Face) → IsWritableFace f
     → f.number ≡ n + 1 → length s.fronts < 32 → n < 4095
-    → Walk (open_solid width height bits done s n) ((codes "front" ∷ face_words f) ∷ [])
-    (open_solid width height bits done (record s { fronts = s.fronts ++ f ∷ [] }) (n + 1))
-front_walk width height bits done s n f is number few more =
+    → Walk (open_solid start done s n) ((codes "front" ∷ face_words f) ∷ [])
+    (open_solid start done (record s { fronts = s.fronts ++ f ∷ [] }) (n + 1))
+front_walk start done s n f is number few more =
     let figures = face_figures f is
-    in let after = λ (ss : List SolidView). written_so_far width height bits ss (n + 1)
+    in let after = λ (ss : List SolidView). written_so_far start ss (n + 1)
     in (
-      front_good (names_of (done ++ s ∷ [])) (face_words f) (tally_of (open_solid width height bits done s n))
+      front_good start.version (names_of (done ++ s ∷ [])) (face_words f) (tally_of (open_solid start done s n))
           (face_numbers f) figures refl
           (ap (λ m. face_limit kind.Fronts m n (face_numbers f)) (in_last-end (λ q. length q.fronts) done s)
           ∙ limits_in kind.Fronts f (length s.fronts) n is few more),
@@ -198,15 +244,15 @@ front_walk width height bits done s n f is number few more =
           ∙ ap (λ m. after (done ++ record s { fronts = s.fronts ++ record f { number = m } ∷ [] } ∷ [])) (sym number),
     )
 
-pub back_walk : (width height bits : ℕ) (done : List SolidView) (s : SolidView) (n : ℕ) (f : Face) → IsWritableFace f
+pub back_walk : (start : DraftView) (done : List SolidView) (s : SolidView) (n : ℕ) (f : Face) → IsWritableFace f
     → f.number ≡ n + 1 → length s.backs < 32 → n < 4095
-    → Walk (open_solid width height bits done s n) ((codes "back" ∷ face_words f) ∷ [])
-    (open_solid width height bits done (record s { backs = s.backs ++ f ∷ [] }) (n + 1))
-back_walk width height bits done s n f is number few more =
+    → Walk (open_solid start done s n) ((codes "back" ∷ face_words f) ∷ [])
+    (open_solid start done (record s { backs = s.backs ++ f ∷ [] }) (n + 1))
+back_walk start done s n f is number few more =
     let figures = face_figures f is
-    in let after = λ (ss : List SolidView). written_so_far width height bits ss (n + 1)
+    in let after = λ (ss : List SolidView). written_so_far start ss (n + 1)
     in (
-      back_good (names_of (done ++ s ∷ [])) (face_words f) (tally_of (open_solid width height bits done s n))
+      back_good start.version (names_of (done ++ s ∷ [])) (face_words f) (tally_of (open_solid start done s n))
           (face_numbers f) figures refl
           (ap (λ m. face_limit kind.Backs m n (face_numbers f)) (in_last-end (λ q. length q.backs) done s)
           ∙ limits_in kind.Backs f (length s.backs) n is few more),
@@ -215,15 +261,15 @@ back_walk width height bits done s n f is number few more =
           ∙ ap (λ m. after (done ++ record s { backs = s.backs ++ record f { number = m } ∷ [] } ∷ [])) (sym number),
     )
 
-pub side_walk : (width height bits : ℕ) (done : List SolidView) (s : SolidView) (n : ℕ) (p : Linear) → IsPlane p
+pub side_walk : (start : DraftView) (done : List SolidView) (s : SolidView) (n : ℕ) (p : Linear) → IsPlane p
     → length s.sides < 32
-    → Walk (open_solid width height bits done s n) ((codes "side" ∷ plane_words p) ∷ [])
-    (open_solid width height bits done (record s { sides = s.sides ++ p ∷ [] }) n)
-side_walk width height bits done s n p is few =
+    → Walk (open_solid start done s n) ((codes "side" ∷ plane_words p) ∷ [])
+    (open_solid start done (record s { sides = s.sides ++ p ∷ [] }) n)
+side_walk start done s n p is few =
     let figures = plane_figures p [] [] is no_figure
-    in let after = λ (ss : List SolidView). written_so_far width height bits ss n
+    in let after = λ (ss : List SolidView). written_so_far start ss n
     in (
-      side_good (names_of (done ++ s ∷ [])) (plane_words p) (tally_of (open_solid width height bits done s n))
+      side_good start.version (names_of (done ++ s ∷ [])) (plane_words p) (tally_of (open_solid start done s n))
           (plane_numbers p []) figures refl
           (ap (λ m. option_or (face_past (plane_numbers p [])) (most kind.Sides 32 (m + 1)))
           (in_last-end (λ q. length q.sides) done s)
@@ -237,18 +283,8 @@ abbrev pub due_behind_solids : List SolidView → Due
 due_behind_solids [] = d.Solid
 due_behind_solids (s ∷ ss) = d.Plane
 
-abbrev pub standing : ℕ → ℕ → ℕ → List SolidView → ℕ → DraftView
-standing width height bits done n =
-    record {
-      due = due_behind_solids done;
-      numbered = n;
-      width = width;
-      height = height;
-      depth_bits = bits;
-      solids =
-          done;
-      show = None;
-    }
+abbrev pub standing : DraftView → List SolidView → ℕ → DraftView
+standing start done n = record start { due = due_behind_solids done; numbered = n; solids = done }
 
 solid_formed : (names : Words) (name : List ℕ) (ws : Words) (c : Colour) → ws ≡ colour_words c → are_numbers ws ≡ true
     → is_name name ≡ true → is_among names name ≡ false → solid_form names (name ∷ ws) ≡ None
@@ -269,34 +305,34 @@ solid_judged names t name c is lawful fresh few more =
     ∙ rw (colour_in c is, past_in kind.Solids 0 255 (t.solids + 1) (omega arith) (omega arith))
     (past_in kind.Faces 0 4095 (t.numbered + 1) (omega arith) (omega arith))
 
-pub solid_walk : (width height bits : ℕ) (done : List SolidView) (n : ℕ) (name : List ℕ) (c : Colour) → IsColour c
+pub solid_walk : (start : DraftView) (done : List SolidView) (n : ℕ) (name : List ℕ) (c : Colour) → IsColour c
     → is_name name ≡ true → is_among (names_of done) name ≡ false → length done < 255 → n < 4095
-    → Walk (standing width height bits done n) ((codes "solid" ∷ name ∷ colour_words c) ∷ [])
-    (open_solid width height bits done (fresh_solid name (n + 1) c) (n + 1))
-solid_walk width height bits [] n name c is lawful fresh few more = (
-  solid_judged [] (tally_of (standing width height bits [] n)) name c is lawful fresh few more,
-  ap (λ zs. written_so_far width height bits (new_solid name (n + 1) zs) (n + 1)) (colour_figures c is).is,
+    → Walk (standing start done n) ((codes "solid" ∷ name ∷ colour_words c) ∷ [])
+    (open_solid start done (fresh_solid name (n + 1) c) (n + 1))
+solid_walk start [] n name c is lawful fresh few more = (
+  solid_judged [] (tally_of (standing start [] n)) name c is lawful fresh few more,
+  ap (λ zs. written_so_far start (new_solid name (n + 1) zs) (n + 1)) (colour_figures c is).is,
 )
-solid_walk width height bits (s ∷ ss) n name c is lawful fresh few more = (
-  solid_judged (names_of (s ∷ ss)) (tally_of (standing width height bits (s ∷ ss) n)) name c is lawful fresh few more,
-  ap (λ zs. written_so_far width height bits ((s ∷ ss) ++ new_solid name (n + 1) zs) (n + 1)) (colour_figures c is).is,
+solid_walk start (s ∷ ss) n name c is lawful fresh few more = (
+  solid_judged (names_of (s ∷ ss)) (tally_of (standing start (s ∷ ss) n)) name c is lawful fresh few more,
+  ap (λ zs. written_so_far start ((s ∷ ss) ++ new_solid name (n + 1) zs) (n + 1)) (colour_figures c is).is,
 )
 
-abbrev pub shown_draft : ℕ → ℕ → ℕ → List SolidView → ℕ → Due → Option Tree → DraftView
-shown_draft width height bits done n due show =
-    record { due = due; numbered = n; width = width; height = height; depth_bits = bits; solids = done; show = show }
+abbrev pub shown_draft : DraftView → List SolidView → ℕ → Due → Option Tree → DraftView
+shown_draft start done n due show = record start { due = due; numbered = n; solids = done; show = show }
 
 -- the last two lines
-pub last_walk : (width height bits : ℕ) (done : List SolidView) (n : ℕ) (tree : Tree) → AreDistinctNames (names_of done)
-    → HasLeavesBelow (length (names_of done)) tree → IsLawful tree → 0 < length done
-    → Walk (standing width height bits done n)
+pub last_walk : (start : DraftView) (done : List SolidView) (n : ℕ) (tree : Tree) → AreDistinctNames (names_of done)
+    → HasLeavesBelow (length (names_of done)) tree → has_signs start.version (named_by (names_of done) tree) ≡ true
+    → IsLawful tree → 0 < length done
+    → Walk (standing start done n)
     ((codes "show" ∷ words_of (printed (named_by (names_of done) tree))) ∷ (codes "end" ∷ []) ∷ [])
-    (shown_draft width height bits done n d.Nothing (Some tree))
-last_walk width height bits [] n tree names below lawful some = absurd (omega arith)
-last_walk width height bits (s ∷ ss) n tree names below lawful some = (
-  printed_good (names_of (s ∷ ss)) tree names below lawful,
+    (shown_draft start done n d.Nothing (Some tree))
+last_walk start [] n tree names below signs lawful some = absurd (omega arith)
+last_walk start (s ∷ ss) n tree names below signs lawful some = (
+  printed_good start.version (names_of (s ∷ ss)) tree names below signs lawful,
   (
     refl,
-    ap (shown_draft width height bits (s ∷ ss) n d.Nothing) (printed_tree (names_of (s ∷ ss)) tree names below),
+    ap (shown_draft start (s ∷ ss) n d.Nothing) (printed_tree start.version (names_of (s ∷ ss)) tree names below signs),
   ),
 )

@@ -10,6 +10,7 @@ use Rattle.px_scene.specs.Faults.{is_among, judged}
 use Rattle.px_scene.specs.Tokens.{tokens_of}
 use Rattle.px_scene.specs.Expressions.{Named, leaf, join, leaves, nesting, expression_of}
 use Rattle.px_scene.specs.Show.{place_of, placed, are_known, cause_in, limit_in, count_past, counts_past, show_cause, show_fault, show_tree}
+use Rattle.px_scene.specs.declared.version.Version.{Version}
 use Rattle.px_scene.specs.declared.line.Cause.{Cause}
 use Rattle.px_scene.specs.declared.line.Cause.TheVariants as cause
 use Rattle.px_scene.specs.declared.line.LineFault.{LineFault}
@@ -46,9 +47,9 @@ good_cause names (Some tree) e = record { tree = tree; is = refl; known = by_tes
     by_test true e = refl
     by_test false e = cc
 
-pub shown_lawful : (names ws : Words) → show_cause names ws ≡ None → IsSomeAnd (show_tree names ws) (HasLeavesBelow (length names))
-shown_lawful names ws e =
-    let good = good_cause names (expression_of (tokens_of ws)) e
+pub shown_lawful : (version : Version) (names ws : Words) → show_cause version names ws ≡ None → IsSomeAnd (show_tree version names ws) (HasLeavesBelow (length names))
+shown_lawful version names ws e =
+    let good = good_cause names (expression_of (tokens_of version ws)) e
     in rw (ap (option_map (placed names)) good.is) (known_below names good.tree good.known)
 
 -- an expression names some solid
@@ -56,9 +57,9 @@ some_leaf : (count : ℕ) (tree : Tree) → HasLeavesBelow count tree → 0 < co
 some_leaf count (shown.leaf place) below = omega arith
 some_leaf count (shown.join op left right) below = some_leaf count left below.0
 
-pub named_show : (names ws : Words) → show_cause names ws ≡ None → 0 < length names
-named_show names ws e =
-    let good = good_cause names (expression_of (tokens_of ws)) e
+pub named_show : (version : Version) (names ws : Words) → show_cause version names ws ≡ None → 0 < length names
+named_show version names ws e =
+    let good = good_cause names (expression_of (tokens_of version ws)) e
     in some_leaf (length names) (placed names good.tree) (known_below names good.tree good.known)
 
 pub same_leaves : (names : Words) (tree : Named) → leaf_count (placed names tree) ≡ leaves tree
@@ -85,11 +86,11 @@ limit_next None limit e = e
 limit_next (Some cause) limit e = cc
 
 -- what is shown is within all limits
-pub shown_within : (names ws : Words) → length names ≤ 256 → show_fault names ws ≡ None → IsSomeAnd (show_tree names ws) IsLawful
-shown_within names ws few e =
-    let good = good_cause names (expression_of (tokens_of ws)) (form_first _ (limit_in (expression_of (tokens_of ws))) e)
+pub shown_within : (version : Version) (names ws : Words) → length names ≤ 256 → show_fault version names ws ≡ None → IsSomeAnd (show_tree version names ws) IsLawful
+shown_within version names ws few e =
+    let good = good_cause names (expression_of (tokens_of version ws)) (form_first _ (limit_in (expression_of (tokens_of version ws))) e)
     in let past : counts_past (leaves good.tree) (nesting good.tree) ≡ None =
-    sym (ap limit_in good.is) ∙ limit_next (cause_in names (expression_of (tokens_of ws))) _ e
+    sym (ap limit_in good.is) ∙ limit_next (cause_in names (expression_of (tokens_of version ws))) _ e
     in rw (ap (option_map (placed names)) good.is) (record {
       leaves = rw (same_leaves names good.tree) (not_past kind.Leaves 512 (leaves good.tree) (none_first _ (count_past kind.Nesting 64 (nesting good.tree)) past));
       depth = rw (same_nesting names good.tree) (not_past kind.Nesting 64 (nesting good.tree) (none_second (count_past kind.Leaves 512 (leaves good.tree)) _ past));

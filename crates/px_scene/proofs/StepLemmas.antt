@@ -5,7 +5,8 @@ use Rattle.std.proofs.lemmas.List.{take_all, take-append-drop}
 use Rattle.std.proofs.lemmas.List.Sums.{fold-append, fold_more}
 use Rattle.px_expr.specs.declared.node.Op.{Op}
 use Rattle.px_expr.specs.Tree.{Tree, leaf, join, leaf_count, nesting}
-use Rattle.px_expr.specs.Waiting.{joined, newest, all_leaves}
+use Rattle.px_expr.specs.Shapes.{joined}
+use Rattle.px_expr.specs.Waiting.{newest, all_leaves}
 use Rattle.px_scene.specs.Stacks.{steps_of, built}
 use Rattle.px_scene.specs.declared.stack.Step.{Step}
 use Rattle.px_scene.specs.declared.stack.Step.TheVariants as s
@@ -120,7 +121,7 @@ room_for_leaf tree steps waiting i step place is few lt now here =
 pub room_for_join : (tree : Tree) (steps : List Step) (waiting : List Tree) (i : ℕ) (step : Step) (op : Op)
     → steps ≡ steps_of tree → nesting tree ≤ 64 → i < length steps
     → waiting ≡ fold built [] (take i steps) → get_or steps i step ≡ s.Join op
-    → nesting (newest (joined op waiting)) ≤ 64
+    → nesting (newest (joined join op waiting)) ≤ 64
 room_for_join tree steps waiting i step op is flat lt now here =
     let most = rw here at (at_most deepest deepens tree steps waiting i step is lt now)
-    in omega (arith, newest_most (joined op waiting))
+    in omega (arith, newest_most (joined join op waiting))

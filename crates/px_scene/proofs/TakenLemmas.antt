@@ -1,6 +1,6 @@
 -- A draft stays lawful over a good line.
 use Prim.Native.Nat.{zero, suc}
-use Rattle.std.proofs.Common.{◌≡◌, ◌≢◌, ℕ, ℤ, pos, ◌≤ℤ◌, ◌+◌, ◌-◌, ◌<◌, ◌≤◌, List, [], ◌∷◌, ◌++◌, length, Bool, true, false, not, ◌||◌, ◌&&◌, codes, refl, ap, sym, arith, slice_get, IfSome, Option, Some, None, get_or, unwrap_or, add-zero, if◌then◌else◌}
+use Rattle.std.proofs.Common.{◌≡◌, ◌≢◌, ℕ, ℤ, pos, ◌≤ℤ◌, ◌+◌, ◌-◌, min, ◌<◌, ◌≤◌, List, [], ◌∷◌, ◌++◌, length, Bool, true, false, not, ◌||◌, ◌&&◌, codes, refl, ap, sym, arith, slice_get, IfSome, Option, Some, None, get_or, unwrap_or, add-zero, if◌then◌else◌}
 use Rattle.std.proofs.lemmas.Int.{ints}
 use Rattle.std.specs.Option.{option_or}
 use Rattle.std.specs.List.{AllPairs, AllPass}
@@ -10,11 +10,12 @@ use Rattle.px_scene.specs.declared.line.Due.{Due}
 use Rattle.px_scene.specs.declared.line.Due.TheVariants as d
 use Rattle.px_scene.specs.declared.line.Keyword.{Keyword}
 use Rattle.px_scene.specs.declared.line.Keyword.TheVariants as k
+use Rattle.px_scene.specs.declared.version.Version.{Version}
 use Rattle.px_scene.specs.declared.line.Cause.{Cause}
 use Rattle.px_scene.specs.declared.line.Cause.TheVariants as cause
 use Rattle.px_scene.specs.Text.{Words}
 use Rattle.px_scene.specs.declared.line.LineFault.{LineFault}
-use Rattle.px_scene.specs.Lines.{past, most, face_past, face_limit, is_due, form_of, is_header, keyword_of, cause_of, solid_form, are_numbers, numbers_of, figures}
+use Rattle.px_scene.specs.Lines.{past, most, fraction_past, face_past, face_limit, is_due, form_of, is_header, keyword_of, cause_of, solid_form, are_numbers, numbers_of, figures}
 use Rattle.px_scene.specs.Faults.{is_among}
 use Rattle.px_scene.specs.Figures.{colour_of, size_of}
 use Rattle.px_scene.specs.Reading.{head_colour}
@@ -83,27 +84,25 @@ both_true false b e = e
 abbrev no_cause : Option Cause
 no_cause = None
 
-header_form : (names : Words) (w : List ℕ) (ws : Words) (b : Bool) → is_header w ws ≡ b → (if b then no_cause else Some cause.NotHeader) ≡ None → IsGoodForm d.Header names (keyword_of w) ws
-header_form names w ws false e none = cc
-header_form names w [] true e none = cc
-header_form names w (v ∷ u ∷ us) true e none = cc
-header_form names w (v ∷ []) true e none =
+header_form : (version : Version) (names : Words) (w : List ℕ) (ws : Words) (b : Bool) → is_header w ws ≡ b → (if b then no_cause else Some cause.NotHeader) ≡ None → IsGoodForm version d.Header names (keyword_of w) ws
+header_form version names w ws false e none = cc
+header_form version names w ws true e none =
     let word : bytes_eq w (codes "pxscene") ≡ true = both_true _ _ e
     in let begins : keyword_of w ≡ k.Pxscene = rw word refl
     in rw begins (record { comes = refl; formed = refl })
 
-due_form_none : (due : Due) (names ws : Words) (k : Keyword) (b : Bool) → is_due due k ≡ b → (if b then form_of k names ws else Some cause.Unexpected) ≡ None → IsGoodForm due names k ws
-due_form_none due names ws k true e none = record { comes = e; formed = none }
-due_form_none due names ws k false e none = cc
+due_form_none : (version : Version) (due : Due) (names ws : Words) (k : Keyword) (b : Bool) → is_due due k ≡ b → (if b then form_of version k names ws else Some cause.Unexpected) ≡ None → IsGoodForm version due names k ws
+due_form_none version due names ws k true e none = record { comes = e; formed = none }
+due_form_none version due names ws k false e none = cc
 
-pub good_form : (due : Due) (names : Words) (w : List ℕ) (ws : Words) → cause_of due names w ws ≡ None → IsGoodForm due names (keyword_of w) ws
-good_form d.Header names w ws none = header_form names w ws _ refl none
-good_form d.Picture names w ws none = due_form_none _ names ws (keyword_of w) _ refl none
-good_form d.Depth names w ws none = due_form_none _ names ws (keyword_of w) _ refl none
-good_form d.Solid names w ws none = due_form_none _ names ws (keyword_of w) _ refl none
-good_form d.Plane names w ws none = due_form_none _ names ws (keyword_of w) _ refl none
-good_form d.End names w ws none = due_form_none _ names ws (keyword_of w) _ refl none
-good_form d.Nothing names w ws none = cc
+pub good_form : (version : Version) (due : Due) (names : Words) (w : List ℕ) (ws : Words) → cause_of version due names w ws ≡ None → IsGoodForm version due names (keyword_of w) ws
+good_form version d.Header names w ws none = header_form version names w ws _ refl none
+good_form version d.Picture names w ws none = due_form_none version _ names ws (keyword_of w) _ refl none
+good_form version d.Depth names w ws none = due_form_none version _ names ws (keyword_of w) _ refl none
+good_form version d.Solid names w ws none = due_form_none version _ names ws (keyword_of w) _ refl none
+good_form version d.Plane names w ws none = due_form_none version _ names ws (keyword_of w) _ refl none
+good_form version d.End names w ws none = due_form_none version _ names ws (keyword_of w) _ refl none
+good_form version d.Nothing names w ws none = cc
 
 -- lines that come only after a solid's
 pub begun_front : (due : Due) → is_due due k.Front ≡ true → is_begun due ≡ true
@@ -215,3 +214,11 @@ size_within limit most (pos n) e =
 size_within limit most (negsuc n) e =
     let is = past_none limit (pos 1) (pos most) (negsuc n) e
     in let above = is.above in absurd (omega (arith, ints))
+
+-- fraction bits within their limit, beside the bits of a depth within theirs
+pub fraction_within : (bits fraction : ℤ) → fraction_past bits fraction ≡ None → 1 ≤ size_of bits → size_of bits ≤ 24
+    → (size_of bits + size_of fraction ≤ 24) × (size_of fraction ≤ 8)
+fraction_within bits (pos n) e some most =
+    let is = past_none kind.Fraction (pos 0) (pos (min 8 (24 - size_of bits))) (pos n) e
+    in let below = is.below in (omega (arith, ints), omega (arith, ints))
+fraction_within bits (negsuc n) e some most = (omega arith, omega arith)

@@ -11,7 +11,10 @@ use Rattle.px_scene.specs.Word.{is_name}
 use Rattle.px_scene.specs.Solids.{SolidView, IsColour, IsLawfulSolid, IsPlane, names_of}
 use Rattle.px_scene.specs.Scenes.{SceneView, IsLawfulScene}
 use Rattle.px_scene.specs.Writable.{IsWritable, IsReadAs}
-use Rattle.px_scene.specs.Canonical.{plane_words, colour_words, written_line, first_lines, solid_lines, show_line, canonical_text, is_plain, are_plain, is_no_feed, fed}
+use Rattle.px_scene.specs.Versions.{version_word}
+use Rattle.px_scene.specs.declared.version.Version.{Version}
+use Rattle.px_scene.specs.declared.version.Version.TheVariants as v
+use Rattle.px_scene.specs.Canonical.{version_for, depth_words, plane_words, colour_words, written_line, first_lines, solid_lines, show_line, canonical_text, is_plain, are_plain, is_no_feed, fed}
 use Rattle.px_scene.proofs.RoundLemmas.{face_words, small}
 use Rattle.px_scene.proofs.FaceWalkLemmas.{words_at, words_of_number}
 use Rattle.px_scene.proofs.SceneWalkLemmas.{numbers_words, sides_words, solid_words, first_words, last_words, scene_words, final_draft, shown_text, scene_walk}
@@ -21,7 +24,7 @@ use Rattle.px_scene.proofs.SpacedLemmas.{lines_read}
 use Rattle.px_scene.proofs.PrintedLemmas.{names_lawful}
 use Rattle.px_scene.proofs.LengthLemmas.{canonical_short}
 use Rattle.px_scene.proofs.WalkLemmas.{Walk, read_by_walk}
-use Rattle.px_scene.proofs.ReadLemmas.{blank}
+use Rattle.px_scene.proofs.TellsLemmas.{blank}
 use Rattle.px_scene.specs.Printed.{named_by}
 use Rattle.px_scene.specs.Expressions.{has_names}
 use Rattle.px_expr.specs.Tree.{HasLeavesBelow, IsLawful}
@@ -105,13 +108,25 @@ solids_plain (s ∷ ss) all names =
       solids_plain ss (λ k d lt. all (suc k) d (omega arith)) (λ k d lt. names (suc k) d (omega arith)),
     ) refl
 
+version_plain : (version : Version) → is_plain (version_word version) ≡ true
+version_plain v.One = refl
+version_plain v.Two = refl
+version_plain v.Three = refl
+
+depth_plain : (version : Version) (bits fraction : ℕ) → bits ≤ 10 ^ 18 → fraction ≤ 10 ^ 18
+    → are_plain (depth_words version bits fraction) ≡ true
+depth_plain v.One bits fraction b f = rw (decimal_plain bits b) refl
+depth_plain v.Two bits fraction b f = rw (decimal_plain bits b) refl
+depth_plain v.Three bits fraction b f = rw (decimal_plain bits b, decimal_plain fraction f) refl
+
 first_plain : (scene : SceneView) → IsWritable scene → list_all is_written (first_words scene) ≡ true
 first_plain scene is =
     let w = is.lawful.width in let h = is.lawful.height in let b = is.lawful.depth
     in rw (
       decimal_plain scene.width (omega arith),
       decimal_plain scene.height (omega arith),
-      decimal_plain scene.depth_bits (omega arith),
+      version_plain (version_for scene),
+      depth_plain (version_for scene) scene.depth_bits scene.fraction_bits (omega arith) (let f = is.lawful.fraction in omega arith),
     ) refl
 
 map_joined : (ls ms : List Words) → map bare (ls ++ ms) ≡ map bare ls ++ map bare ms

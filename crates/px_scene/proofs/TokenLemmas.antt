@@ -1,45 +1,48 @@
 -- The first token of a word.
-use Rattle.std.proofs.Common.{◌≡◌, ℕ, ◌+◌, ◌==◌, ◌≤◌, List, [], ◌∷◌, length, get_or, take, drop, Bool, true, false, cond, if◌then◌else◌, refl, ◌∙◌, arith}
+use Rattle.std.proofs.Common.{◌≡◌, ℕ, ◌+◌, ◌==◌, ◌≤◌, List, [], ◌∷◌, length, get_or, take, drop, Bool, true, false, cond, if◌then◌else◌, ◌&&◌, refl, ◌∙◌, arith}
 use Rattle.std.proofs.Math.Numerals.{one-add}
 use Rattle.std.specs.List.{prefix_len}
 use Rattle.px_expr.specs.declared.node.Op.TheVariants as o
 use Rattle.px_scene.specs.Word.{is_name_byte}
+use Rattle.px_scene.specs.Versions.{has_differ}
+use Rattle.px_scene.specs.declared.version.Version.{Version}
 use Rattle.px_scene.specs.Tokens.{Token, name, opens, closes, sign, other, mark, named, tokens_in}
 
-apart_by : (b : ℕ) (p q r s t : Bool) (ts : List Token)
-    → named b ((if p then opens else if q then closes else if r then sign o.Union else if s then sign o.Meet else if t then sign o.Minus else other) ∷ ts)
-    ≡ name (b ∷ []) ∷ (if p then opens else if q then closes else if r then sign o.Union else if s then sign o.Meet else if t then sign o.Minus else other) ∷ ts
-apart_by b true q r s t ts = refl
-apart_by b false true r s t ts = refl
-apart_by b false false true s t ts = refl
-apart_by b false false false true t ts = refl
-apart_by b false false false false true ts = refl
-apart_by b false false false false false ts = refl
+apart_by : (b : ℕ) (p q r s t u : Bool) (ts : List Token)
+    → named b ((if p then opens else if q then closes else if r then sign o.Union else if s then sign o.Meet else if t then sign o.Minus else if u then sign o.Differ else other) ∷ ts)
+    ≡ name (b ∷ []) ∷ (if p then opens else if q then closes else if r then sign o.Union else if s then sign o.Meet else if t then sign o.Minus else if u then sign o.Differ else other) ∷ ts
+apart_by b true q r s t u ts = refl
+apart_by b false true r s t u ts = refl
+apart_by b false false true s t u ts = refl
+apart_by b false false false true t u ts = refl
+apart_by b false false false false true u ts = refl
+apart_by b false false false false false true ts = refl
+apart_by b false false false false false false ts = refl
 
 -- a mark is no part of a name
-pub apart : (b x : ℕ) (ts : List Token) → named b (mark x ∷ ts) ≡ name (b ∷ []) ∷ mark x ∷ ts
-apart b x ts = apart_by b (x == 40) (x == 41) (x == 43) (x == 42) (x == 45) ts
+pub apart : (version : Version) (b x : ℕ) (ts : List Token) → named b (mark version x ∷ ts) ≡ name (b ∷ []) ∷ mark version x ∷ ts
+apart version b x ts = apart_by b (x == 40) (x == 41) (x == 43) (x == 42) (x == 45) (x == 94 && has_differ version) ts
 
 -- a name that a byte begins goes on as long as there are bytes of names
-begun : (b : ℕ) (bs : List ℕ) (n : ℕ) → n ≡ prefix_len is_name_byte bs → named b (tokens_in bs) ≡ name (b ∷ take n bs) ∷ tokens_in (drop n bs)
-begun b [] n e = rw e refl
-begun b (x ∷ xs) n e = by_test (is_name_byte x) n (tokens_in (x ∷ xs)) (begun x xs _ refl) e refl refl
+begun : (version : Version) (b : ℕ) (bs : List ℕ) (n : ℕ) → n ≡ prefix_len is_name_byte bs → named b (tokens_in version bs) ≡ name (b ∷ take n bs) ∷ tokens_in version (drop n bs)
+begun version b [] n e = rw e refl
+begun version b (x ∷ xs) n e = by_test (is_name_byte x) n (tokens_in version (x ∷ xs)) (begun version x xs _ refl) e refl refl
   where
     run : ℕ
     run = prefix_len is_name_byte xs
 
-    by_test : (test : Bool) (n : ℕ) (all : List Token) → named x (tokens_in xs) ≡ name (x ∷ take run xs) ∷ tokens_in (drop run xs)
-        → n ≡ cond test (1 + run) 0 → all ≡ cond test (named x (tokens_in xs)) (mark x ∷ tokens_in xs) → all ≡ tokens_in (x ∷ xs)
-        → named b all ≡ name (b ∷ take n (x ∷ xs)) ∷ tokens_in (drop n (x ∷ xs))
+    by_test : (test : Bool) (n : ℕ) (all : List Token) → named x (tokens_in version xs) ≡ name (x ∷ take run xs) ∷ tokens_in version (drop run xs)
+        → n ≡ cond test (1 + run) 0 → all ≡ cond test (named x (tokens_in version xs)) (mark version x ∷ tokens_in version xs) → all ≡ tokens_in version (x ∷ xs)
+        → named b all ≡ name (b ∷ take n (x ∷ xs)) ∷ tokens_in version (drop n (x ∷ xs))
     by_test true n all later e is whole = rw (e ∙ one-add run, is, later) refl
-    by_test false n all later e is whole = rw (e, ← whole, is) (apart b x (tokens_in xs))
+    by_test false n all later e is whole = rw (e, ← whole, is) (apart version b x (tokens_in version xs))
 
-pub first_name : (bs : List ℕ) (n : ℕ) → 1 ≤ length bs → is_name_byte (get_or bs 0 0) ≡ true → n ≡ prefix_len is_name_byte bs
-    → tokens_in bs ≡ name (take n bs) ∷ tokens_in (drop n bs)
-first_name [] n some is e = absurd (omega arith)
-first_name (b ∷ bs) n some is e = by_test (is_name_byte b) n is e
+pub first_name : (version : Version) (bs : List ℕ) (n : ℕ) → 1 ≤ length bs → is_name_byte (get_or bs 0 0) ≡ true → n ≡ prefix_len is_name_byte bs
+    → tokens_in version bs ≡ name (take n bs) ∷ tokens_in version (drop n bs)
+first_name version [] n some is e = absurd (omega arith)
+first_name version (b ∷ bs) n some is e = by_test (is_name_byte b) n is e
   where
     by_test : (test : Bool) (n : ℕ) → test ≡ true → n ≡ cond test (1 + prefix_len is_name_byte bs) 0
-        → cond test (named b (tokens_in bs)) (mark b ∷ tokens_in bs) ≡ name (take n (b ∷ bs)) ∷ tokens_in (drop n (b ∷ bs))
-    by_test true n is e = rw (e ∙ one-add (prefix_len is_name_byte bs)) (begun b bs _ refl)
+        → cond test (named b (tokens_in version bs)) (mark version b ∷ tokens_in version bs) ≡ name (take n (b ∷ bs)) ∷ tokens_in version (drop n (b ∷ bs))
+    by_test true n is e = rw (e ∙ one-add (prefix_len is_name_byte bs)) (begun version b bs _ refl)
     by_test false n is e = cc

@@ -6,26 +6,26 @@ use Rattle.px_scene.specs.declared.line.Keyword.TheVariants as k
 use Rattle.px_scene.specs.declared.line.LineFault.{LineFault}
 use Rattle.px_scene.specs.Text.{Words, worded}
 use Rattle.px_scene.specs.Faults.{judged}
-use Rattle.px_scene.specs.Lines.{keyword_of, numbers_of, figures, fault_of, cause_of, limit_on, limit_of}
+use Rattle.px_scene.specs.Lines.{keyword_of, numbers_of, figures, cause_of, limit_on, limit_of}
 use Rattle.px_scene.specs.Solids.{names_of}
-use Rattle.px_scene.specs.Drafts.{DraftView, IsLawfulDraft, tally_of, taken, drawn}
+use Rattle.px_scene.specs.Drafts.{DraftView, IsLawfulDraft, tally_of, fault_in, taken, drawn}
 use Rattle.px_scene.specs.Reading.{first_bad, at_line}
 use Rattle.px_scene.specs.Refusals.{is_nothing}
 use Rattle.px_scene.specs.Tells.{Tells}
 use Rattle.px_scene.specs.Writable.{IsReadAs}
 use Rattle.px_scene.proofs.TakenLemmas.{good_form}
 use Rattle.px_scene.proofs.LawfulLemmas.{of_form, lawful_line}
-use Rattle.px_scene.proofs.TellsLemmas.{tells_taken, fault_told}
-use Rattle.px_scene.proofs.ReadLemmas.{blank, read_start, accepted, drawn_is}
+use Rattle.px_scene.proofs.TellsLemmas.{blank, tells_taken, fault_told}
+use Rattle.px_scene.proofs.ReadLemmas.{read_start, accepted, drawn_is}
 
 abbrev pub IsGood : DraftView → Words → Type 0
-IsGood draft l = fault_of draft.due (names_of draft.solids) (tally_of draft) l ≡ None
+IsGood draft l = fault_in draft l ≡ None
 
 of_limit : (cause : Option Cause) (limit : Option LineFault) → judged cause limit ≡ None → limit ≡ None
 of_limit None limit e = e
 of_limit (Some cause) limit e = cc
 
-limit_only : (draft : DraftView) (ws : Words) (key : Keyword) → limit_on key (tally_of draft) ws ≡ None
+limit_only : (draft : DraftView) (ws : Words) (key : Keyword) → limit_on draft.version key (tally_of draft) ws ≡ None
     → limit_of key (tally_of draft) (numbers_of (figures key ws)) ≡ None
 limit_only draft ws k.Show e = refl
 limit_only draft ws k.Pxscene e = e
@@ -42,10 +42,10 @@ pub lawful_taken : (draft : DraftView) (l : Words) → IsLawfulDraft draft → I
     → IsLawfulDraft (taken draft l)
 lawful_taken draft [] is good = is
 lawful_taken draft (w ∷ ws) is good =
-    let cause = cause_of draft.due (names_of draft.solids) w ws
-    in let limit = limit_on (keyword_of w) (tally_of draft) ws
+    let cause = cause_of draft.version draft.due (names_of draft.solids) w ws
+    in let limit = limit_on draft.version (keyword_of w) (tally_of draft) ws
     in lawful_line draft (keyword_of w) ws is
-    (good_form draft.due (names_of draft.solids) w ws (of_form cause limit good))
+    (good_form draft.version draft.due (names_of draft.solids) w ws (of_form cause limit good))
     (limit_only draft ws (keyword_of w) (of_limit cause limit good))
 
 -- from one draft to another by good lines

@@ -1,5 +1,5 @@
 -- The canonical text of a scene: the one way in which it is written.
-use Rattle.std.specs.Prelude.{ℕ, ◌+◌, ◌==◌, List, [], ◌∷◌, ◌++◌, codes, decimal, filter, length, Bool, not, ◌||◌, ◌&&◌}
+use Rattle.std.specs.Prelude.{ℕ, ◌+◌, ◌==◌, if◌then◌else◌, List, [], ◌∷◌, ◌++◌, codes, decimal, filter, length, Bool, not, ◌||◌, ◌&&◌}
 use Rattle.std.specs.Fmt.{signed_decimal}
 use Rattle.std.specs.List.{flat_map, range_with_len, list_all}
 use Rattle.px_num.specs.declared.linear.Linear.{Linear}
@@ -9,6 +9,9 @@ use Rattle.px_scene.specs.Text.{Words, is_blank, is_some_byte}
 use Rattle.px_scene.specs.Printed.{printed, named_by}
 use Rattle.px_scene.specs.Solids.{SolidView, names_of}
 use Rattle.px_scene.specs.Scenes.{SceneView}
+use Rattle.px_scene.specs.Versions.{version_word, has_difference}
+use Rattle.px_scene.specs.declared.version.Version.{Version}
+use Rattle.px_scene.specs.declared.version.Version.TheVariants as v
 
 -- each word with one space before it
 abbrev pub spaced : Words → List ℕ
@@ -67,11 +70,24 @@ solid_lines s =
     ++ face_lines s
     ++ flat_map side_line s.sides
 
+-- the first version in which a scene can be written
+abbrev pub version_for : SceneView → Version
+version_for scene =
+    if scene.fraction_bits == 0
+    then (if has_difference scene.show then v.Two else v.One)
+    else v.Three
+
+-- the words of a depth line
+abbrev pub depth_words : Version → ℕ → ℕ → Words
+depth_words v.One bits fraction = decimal bits ∷ []
+depth_words v.Two bits fraction = decimal bits ∷ []
+depth_words v.Three bits fraction = decimal bits ∷ decimal fraction ∷ []
+
 abbrev pub first_lines : SceneView → List ℕ
 first_lines scene =
-    written_line (codes "pxscene") (codes "1" ∷ [])
+    written_line (codes "pxscene") (version_word (version_for scene) ∷ [])
     ++ written_line (codes "picture") (decimal scene.width ∷ decimal scene.height ∷ [])
-    ++ written_line (codes "depth") (decimal scene.depth_bits ∷ [])
+    ++ written_line (codes "depth") (depth_words (version_for scene) scene.depth_bits scene.fraction_bits)
 
 abbrev pub show_line : SceneView → List ℕ
 show_line scene = written_line (codes "show") (printed (named_by (names_of scene.solids) scene.show) ∷ [])

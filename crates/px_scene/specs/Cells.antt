@@ -1,7 +1,8 @@
 -- What is seen of a scene at a pixel: the cells inside a solid, the faces that show at a cell, and the first cell.
-use Rattle.std.specs.Prelude.{ℕ, pos, ◌-◌, ◌^◌, ◌==◌, min, Bool, false, ◌&&◌, List, [], ◌∷◌, ◌++◌, Option, Some, None, if◌then◌else◌, nat_lt, map, filter, slice_get}
+use Rattle.std.specs.Prelude.{ℕ, ℤ, pos, negsuc, ◌+◌, ◌-◌, ◌*◌, ◌/◌, ◌^◌, ◌==◌, min, Bool, false, ◌&&◌, List, [], ◌∷◌, ◌++◌, Option, Some, None, if◌then◌else◌, nat_lt, map, filter, slice_get}
 use Rattle.std.specs.Option.{option_map_or}
-use Rattle.std.specs.List.{list_all}
+use Rattle.std.specs.List.{fold, list_all}
+use Rattle.std.specs.Int.{int_max, int_min}
 use Rattle.std.specs.Ordering.{int_eq}
 use lib.Signed.{lt_z, le_z}
 use Prim.Native.Nat.{zero, suc}
@@ -11,47 +12,90 @@ use Rattle.px_scene.specs.declared.solid.Face.{Face}
 use Rattle.px_scene.specs.Solids.{SolidView}
 use Rattle.px_scene.specs.Scenes.{SceneView}
 
--- a cell is inside where it is before the far limit, and in each half-space
-abbrev pub is_inside : SolidView → ℕ → ℕ → ℕ → ℕ → Bool
-is_inside s far x y z =
-    nat_lt z far
+-- the depths of a scene: how many cells a ray has, and how many bits a plane's value has below a whole cell
+pub record Depths : Type 0 where
+  pub far : ℕ
+  pub fraction_bits : ℕ
+
+abbrev pub depths : (far fraction_bits : ℕ) → Depths
+depths far fraction_bits = record { far = far; fraction_bits = fraction_bits }
+
+-- the value of a plane that stands at cell z
+abbrev pub value_of : Depths → ℕ → ℕ
+value_of d z = z * 2 ^ d.fraction_bits
+
+-- the value of the far limit
+abbrev pub end_of : Depths → ℕ
+end_of d = value_of d d.far
+
+-- the first cell whose value is at least v
+abbrev pub cell_of : Depths → ℤ → ℕ
+cell_of d (pos n) = (n + (2 ^ d.fraction_bits - 1)) / 2 ^ d.fraction_bits
+cell_of d (negsuc n) = 0
+
+-- a value is inside where it is below that of the far limit, and in each half-space
+abbrev pub is_inside_at : SolidView → (end x y v : ℕ) → Bool
+is_inside_at s end x y v =
+    nat_lt v end
     && list_all (λ side. le_z (pos 0) (value_at side x y)) s.sides
-    && list_all (λ front. le_z (value_at front.plane x y) (pos z)) s.fronts
-    && list_all (λ back. lt_z (pos z) (value_at back.plane x y)) s.backs
+    && list_all (λ front. le_z (value_at front.plane x y) (pos v)) s.fronts
+    && list_all (λ back. lt_z (pos v) (value_at back.plane x y)) s.backs
 
-abbrev pub is_inside_before : SolidView → ℕ → ℕ → ℕ → ℕ → Bool
-is_inside_before s far x y zero = false
-is_inside_before s far x y (suc z) = is_inside s far x y z
+-- a cell is inside where its value is
+abbrev pub is_inside : SolidView → Depths → (x y z : ℕ) → Bool
+is_inside s d x y z = is_inside_at s (end_of d) x y (value_of d z)
 
--- the numbers of the faces whose value is z
-abbrev pub faces_at : List Face → ℕ → ℕ → ℕ → List ℕ
-faces_at faces x y z = map (λ f. f.number) (filter (λ f. int_eq (value_at f.plane x y) (pos z)) faces)
+abbrev pub is_inside_before : SolidView → Depths → (x y z : ℕ) → Bool
+is_inside_before s d x y zero = false
+is_inside_before s d x y (suc z) = is_inside s d x y z
 
--- the fronts that show at a cell, the near face among them
-abbrev pub fronts_at : SolidView → ℕ → ℕ → ℕ → List ℕ
-fronts_at s x y z = (if z == 0 then s.near_number ∷ [] else []) ++ faces_at s.fronts x y z
+-- the greatest value of a front, the near face included
+abbrev pub enters_at : SolidView → (x y : ℕ) → ℤ
+enters_at s x y = fold int_max (pos 0) (map (λ f. value_at f.plane x y) s.fronts)
 
--- the backs at a cell just behind the solid, which show where it is subtracted
-abbrev pub backs_at : SolidView → ℕ → ℕ → ℕ → ℕ → List ℕ
-backs_at s far x y z = if is_inside_before s far x y z then faces_at s.backs x y z else []
+-- the least value of a back, the far limit included
+abbrev pub leaves_at : SolidView → (end x y : ℕ) → ℤ
+leaves_at s end x y = fold int_min (pos end) (map (λ f. value_at f.plane x y) s.backs)
+
+-- the numbers of the faces whose value is v
+abbrev pub faces_at : List Face → (x y : ℕ) → ℤ → List ℕ
+faces_at faces x y v = map (λ f. f.number) (filter (λ f. int_eq (value_at f.plane x y) v) faces)
+
+-- the fronts that have the greatest value, the near face among them
+abbrev pub greatest_fronts : SolidView → (x y : ℕ) → List ℕ
+greatest_fronts s x y =
+    (if int_eq (pos 0) (enters_at s x y) then s.near_number ∷ [] else []) ++ faces_at s.fronts x y (enters_at s x y)
+
+-- the fronts that show at a cell: the greatest, where the cell is theirs
+abbrev pub fronts_at : SolidView → Depths → (x y z : ℕ) → List ℕ
+fronts_at s d x y z = if cell_of d (enters_at s x y) == z then greatest_fronts s x y else []
+
+-- the least backs at a cell just behind the solid, which show where it is subtracted
+abbrev pub backs_at : SolidView → Depths → (x y z : ℕ) → List ℕ
+backs_at s d x y z =
+    if is_inside_before s d x y z && (cell_of d (leaves_at s (end_of d) x y) == z)
+    then faces_at s.backs x y (leaves_at s (end_of d) x y) else []
 
 -- a solid at a cell
-abbrev pub solid_cell : ℕ → ℕ → ℕ → ℕ → SolidView → Cell
-solid_cell far x y z s = record { member = is_inside s far x y z; shown = fronts_at s x y z; hidden = backs_at s far x y z }
+abbrev pub solid_cell : Depths → (x y z : ℕ) → SolidView → Cell
+solid_cell d x y z s = record { member = is_inside s d x y z; shown = fronts_at s d x y z; hidden = backs_at s d x y z }
 
 abbrev pub no_cell : Cell
 no_cell = record { member = false; shown = []; hidden = [] }
 
 -- the solid of an index at a cell
-abbrev pub leaf_cell : List SolidView → ℕ → ℕ → ℕ → ℕ → ℕ → Cell
-leaf_cell solids far x y z solid = option_map_or (solid_cell far x y z) (slice_get solids solid) no_cell
+abbrev pub leaf_cell : List SolidView → Depths → (x y z solid : ℕ) → Cell
+leaf_cell solids d x y z solid = option_map_or (solid_cell d x y z) (slice_get solids solid) no_cell
 
 abbrev pub far_of : SceneView → ℕ
 far_of scene = 2 ^ scene.depth_bits - 1
 
+abbrev pub depths_of : SceneView → Depths
+depths_of scene = depths (far_of scene) scene.fraction_bits
+
 -- the shown expression at a cell of a pixel
 abbrev pub scene_cell : SceneView → ℕ → ℕ → ℕ → Cell
-scene_cell scene x y z = cell (leaf_cell scene.solids (far_of scene) x y z) scene.show
+scene_cell scene x y z = cell (leaf_cell scene.solids (depths_of scene) x y z) scene.show
 
 abbrev pub is_member_at : SceneView → ℕ → ℕ → ℕ → Bool
 is_member_at scene x y z = (scene_cell scene x y z).member

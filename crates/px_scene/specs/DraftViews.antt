@@ -4,11 +4,13 @@ use Rattle.px_scene.specs.Drafts.{DraftView}
 
 abbrev pub view_of : Draft → DraftView
 view_of draft = record {
+  version = draft.version;
   due = draft.due;
   numbered = draft.numbered;
   width = draft.width;
   height = draft.height;
   depth_bits = draft.depth_bits;
+  fraction_bits = draft.fraction_bits;
   solids = draft.solids.items;
   show = draft.show;
 }

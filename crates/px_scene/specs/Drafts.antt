@@ -8,23 +8,28 @@ use Rattle.px_scene.specs.declared.solid.Face.{Face}
 use Rattle.px_scene.specs.declared.line.Due.{Due}
 use Rattle.px_scene.specs.declared.line.Due.TheVariants as d
 use Rattle.px_scene.specs.declared.line.Tally.{Tally}
+use Rattle.px_scene.specs.declared.line.LineFault.{LineFault}
 use Rattle.px_scene.specs.Text.{Words}
 use Rattle.px_expr.specs.Tree.{Tree, leaf, HasLeavesBelow}
 use Rattle.px_scene.specs.Show.{show_tree}
+use Rattle.px_scene.specs.Versions.{version_or_first}
+use Rattle.px_scene.specs.declared.version.Version.{Version}
 use Rattle.px_scene.specs.Word.{is_name}
 use Rattle.px_scene.specs.Solids.{SolidView, names_of}
 use Rattle.px_scene.specs.Scenes.{SceneView, AreNumberedFrom, faces_of}
-use Rattle.px_scene.specs.Figures.{size_of, colour_of, face_of, side_of}
-use Rattle.px_scene.specs.Lines.{keyword_of, due_after, numbers_of, figures, is_due, form_of}
+use Rattle.px_scene.specs.Figures.{size_of, depth_of, fraction_of, colour_of, face_of, side_of}
+use Rattle.px_scene.specs.Lines.{keyword_of, due_after, numbers_of, figures, is_due, form_of, fault_of}
 use Rattle.px_scene.specs.declared.line.Keyword.{Keyword}
 use Rattle.px_scene.specs.declared.line.Keyword.TheVariants as k
 
 pub record DraftView : Type 0 where
+  pub version : Version
   pub due : Due
   pub numbered : ℕ
   pub width : ℕ
   pub height : ℕ
   pub depth_bits : ℕ
+  pub fraction_bits : ℕ
   pub solids : List SolidView
   pub show : Option Tree
 
@@ -76,13 +81,16 @@ tally_of draft = record {
   sides = in_last (λ s. length s.sides) draft.solids;
 }
 
+-- why a line is bad, by what the lines before it have said
+abbrev pub fault_in : DraftView → Words → Option LineFault
+fault_in draft line = fault_of draft.version draft.due (names_of draft.solids) (tally_of draft) line
+
 abbrev pub with_picture : DraftView → List ℤ → DraftView
 with_picture draft (width ∷ height ∷ []) = record draft { width = size_of width; height = size_of height }
 with_picture draft zs = draft
 
 abbrev pub with_depth : DraftView → List ℤ → DraftView
-with_depth draft (bits ∷ []) = record draft { depth_bits = size_of bits }
-with_depth draft zs = draft
+with_depth draft zs = record draft { depth_bits = depth_of zs; fraction_bits = fraction_of zs }
 
 -- a solid without planes
 abbrev pub fresh_solid : List ℕ → ℕ → Colour → SolidView
@@ -98,14 +106,14 @@ first_word (w ∷ ws) = w
 
 -- what a good line adds: its first word, the words after it and its numbers
 abbrev pub with_line : Keyword → DraftView → Words → List ℤ → DraftView
-with_line k.Pxscene draft ws zs = draft
+with_line k.Pxscene draft ws zs = record draft { version = version_or_first ws }
 with_line k.Picture draft ws zs = with_picture draft zs
 with_line k.Depth draft ws zs = with_depth draft zs
 with_line k.Solid draft ws zs = record draft { numbered = draft.numbered + 1; solids = draft.solids ++ new_solid (first_word ws) (draft.numbered + 1) zs }
 with_line k.Front draft ws zs = record draft { numbered = draft.numbered + 1; solids = with_last (with_front (draft.numbered + 1) zs) draft.solids }
 with_line k.Back draft ws zs = record draft { numbered = draft.numbered + 1; solids = with_last (with_back (draft.numbered + 1) zs) draft.solids }
 with_line k.Side draft ws zs = record draft { solids = with_last (with_side zs) draft.solids }
-with_line k.Show draft ws zs = record draft { show = show_tree (names_of draft.solids) ws }
+with_line k.Show draft ws zs = record draft { show = show_tree draft.version (names_of draft.solids) ws }
 with_line k.End draft ws zs = draft
 with_line k.Other draft ws zs = draft
 
@@ -140,7 +148,8 @@ pub record IsLawfulDraft (draft : DraftView) : Type 0 where
   pub some_height : 1 ≤ draft.height
   pub height_limit : draft.height ≤ 512
   pub some_depth : 1 ≤ draft.depth_bits
-  pub depth_limit : draft.depth_bits ≤ 24
+  pub depth_limit : draft.depth_bits + draft.fraction_bits ≤ 24
+  pub fraction_limit : draft.fraction_bits ≤ 8
   pub few : length draft.solids ≤ 255
   pub names : AllPass is_name (names_of draft.solids)
   pub different : AllPairs (λ m n. m ≢ n) (names_of draft.solids)
@@ -155,10 +164,10 @@ abbrev pub CanBeTaken : ℕ → List SolidView → Type 0
 CanBeTaken numbered solids = IfSome (slice_get solids (length solids - 1)) (CanTakeFace (numbered + 1))
 
 -- what a good line's words say
-pub record IsGoodForm (due : Due) (names : Words) (k : Keyword) (ws : Words) : Type 0 where
+pub record IsGoodForm (version : Version) (due : Due) (names : Words) (k : Keyword) (ws : Words) : Type 0 where
   pub comes : is_due due k ≡ true
-  pub formed : form_of k names ws ≡ None
+  pub formed : form_of version k names ws ≡ None
 
 -- the scene that a draft is of
 abbrev pub drawn : DraftView → SceneView
-drawn draft = record { width = draft.width; height = draft.height; depth_bits = draft.depth_bits; solids = draft.solids; show = unwrap_or draft.show (leaf 0) }
+drawn draft = record { width = draft.width; height = draft.height; depth_bits = draft.depth_bits; fraction_bits = draft.fraction_bits; solids = draft.solids; show = unwrap_or draft.show (leaf 0) }

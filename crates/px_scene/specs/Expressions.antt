@@ -4,6 +4,8 @@ use Rattle.std.specs.Prelude.{◌≡◌, ℕ, ◌+◌, max, List, [], ◌∷◌,
 use Rattle.px_expr.specs.declared.node.Op.{Op}
 use Rattle.px_scene.specs.Tokens.{Token, name, opens, closes, sign, other}
 use Rattle.px_scene.specs.Word.{is_name}
+use Rattle.px_scene.specs.Versions.{is_sign}
+use Rattle.px_scene.specs.declared.version.Version.{Version}
 
 pub data Named : Type 0 where
   leaf : List ℕ → Named
@@ -18,6 +20,12 @@ written (join op left right) = opens ∷ (written left ++ sign op ∷ (written r
 abbrev pub has_names : Named → Bool
 has_names (leaf n) = is_name n
 has_names (join op left right) = has_names left && has_names right
+
+-- each sign is one of the version's
+abbrev pub has_signs : Version → Named → Bool
+has_signs version (leaf n) = true
+has_signs version (join op left right) =
+    is_sign version op && has_signs version left && has_signs version right
 
 abbrev pub leaves : Named → ℕ
 leaves (leaf n) = 1

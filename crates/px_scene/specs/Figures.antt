@@ -10,6 +10,16 @@ abbrev pub size_of : ℤ → ℕ
 size_of (pos n) = n
 size_of (negsuc n) = 0
 
+-- the bits of a depth, and those of its fraction
+abbrev pub depth_of : List ℤ → ℕ
+depth_of (bits ∷ []) = size_of bits
+depth_of (bits ∷ fraction ∷ []) = size_of bits
+depth_of zs = 1
+
+abbrev pub fraction_of : List ℤ → ℕ
+fraction_of (bits ∷ fraction ∷ []) = size_of fraction
+fraction_of zs = 0
+
 abbrev pub colour_of : ℤ → ℤ → ℤ → Colour
 colour_of red green blue = record { red = size_of red; green = size_of green; blue = size_of blue }
 

@@ -1,9 +1,8 @@
 -- The text between the sides of an expression that is printed from its last byte to its first.
 use Rattle.std.specs.Prelude.{ℕ, ◌+◌, List, [], ◌∷◌, ◌++◌, Option, Some, None, replicate, slice_index_or}
 use Rattle.px_expr.specs.declared.node.Op.{Op}
-use Rattle.px_expr.specs.declared.node.Op.TheVariants as o
-use Rattle.px_expr.specs.declared.node.Node.{Node}
-use Rattle.px_expr.specs.declared.node.Node.TheVariants as n
+use Rattle.px_expr.specs.declared.node.Shape.{Shape}
+use Rattle.px_expr.specs.declared.node.Shape.TheVariants as h
 use Rattle.px_expr.specs.Tree.{Tree}
 use Rattle.px_scene.specs.Text.{Words}
 use Rattle.px_scene.specs.Printed.{sign_byte, printed, named_by}
@@ -37,15 +36,11 @@ abbrev pub other_gaps : List Gap → List Gap
 other_gaps [] = []
 other_gaps (gap ∷ gaps) = gaps
 
--- the gaps once a node is printed, and the text that it gives
-abbrev pub gaps_before : Node → List Gap → List Gap
-gaps_before (n.Leaf place) gaps = other_gaps gaps
-gaps_before (n.Union left right) gaps = split_gap o.Union gaps
-gaps_before (n.Meet left right) gaps = split_gap o.Meet gaps
-gaps_before (n.Minus left right) gaps = split_gap o.Minus gaps
+-- the gaps once a node of some shape is printed, and the text that it gives
+abbrev pub gaps_before : Shape → List Gap → List Gap
+gaps_before (h.Leaf place) gaps = other_gaps gaps
+gaps_before (h.Join op left right) gaps = split_gap op gaps
 
-abbrev pub text_of : Words → Node → List Gap → List ℕ
-text_of names (n.Leaf place) gaps = first_gap gaps ++ slice_index_or names place []
-text_of names (n.Union left right) gaps = 41 ∷ []
-text_of names (n.Meet left right) gaps = 41 ∷ []
-text_of names (n.Minus left right) gaps = 41 ∷ []
+abbrev pub text_of : Words → Shape → List Gap → List ℕ
+text_of names (h.Leaf place) gaps = first_gap gaps ++ slice_index_or names place []
+text_of names (h.Join op left right) gaps = 41 ∷ []

@@ -1,4 +1,5 @@
 pub mod Canonical
+pub mod CellLaws
 pub mod Cells
 pub mod DraftViews
 pub mod Drafts
@@ -17,5 +18,6 @@ pub mod Stacks
 pub mod Tells
 pub mod Text
 pub mod Tokens
+pub mod Versions
 pub mod Word
 pub mod Writable

@@ -1,5 +1,5 @@
 -- One line of a scene text: which lines are due, and why a line is bad.
-use Rattle.std.specs.Prelude.{ℕ, ℤ, pos, ◌+◌, ◌-ℤ◌, ◌^◌, ◌==◌, List, [], ◌∷◌, ◌&&◌, ◌||◌, not, Bool, true, false, if◌then◌else◌, Option, Some, None, map, length, codes, unwrap_or, is_some}
+use Rattle.std.specs.Prelude.{ℕ, ℤ, pos, ◌+◌, ◌-◌, min, ◌-ℤ◌, ◌^◌, ◌==◌, List, [], ◌∷◌, ◌&&◌, ◌||◌, not, Bool, true, false, if◌then◌else◌, Option, Some, None, map, length, codes, unwrap_or, is_some}
 use Rattle.std.specs.Option.{option_or}
 use Rattle.std.specs.Str.{bytes_eq}
 use Rattle.std.specs.List.{list_all}
@@ -9,6 +9,9 @@ use Rattle.px_scene.specs.Text.{Words}
 use Rattle.px_scene.specs.Word.{number_of, is_name}
 use Rattle.px_scene.specs.Faults.{judged, is_among}
 use Rattle.px_scene.specs.Show.{show_cause, show_limit}
+use Rattle.px_scene.specs.Figures.{size_of}
+use Rattle.px_scene.specs.Versions.{depth_count, version_of}
+use Rattle.px_scene.specs.declared.version.Version.{Version}
 use Rattle.px_scene.specs.declared.line.Keyword.{Keyword}
 use Rattle.px_scene.specs.declared.line.Keyword.TheVariants as k
 use Rattle.px_scene.specs.declared.line.Due.{Due}
@@ -67,8 +70,7 @@ abbrev pub now_of : List (Bor (List ℕ)) → Words
 now_of ws = map (λ w. w.now) ws
 
 abbrev pub is_header : List ℕ → Words → Bool
-is_header w (v ∷ []) = bytes_eq w (codes "pxscene") && bytes_eq v (codes "1")
-is_header w vs = false
+is_header w ws = bytes_eq w (codes "pxscene") && is_some (version_of ws)
 
 abbrev pub are_numbers : Words → Bool
 are_numbers ws = list_all (λ w. is_some (number_of w)) ws
@@ -88,27 +90,28 @@ solid_form names (name ∷ red ∷ green ∷ blue ∷ []) =
     else None
 solid_form names ws = Some c.WordCount
 
--- why the words after the first are bad, by the names of the solids before
-abbrev pub form_of : Keyword → Words → Words → Option Cause
-form_of k.Picture names ws = numeric (length ws == 2) ws
-form_of k.Depth names ws = numeric (length ws == 1) ws
-form_of k.Solid names ws = solid_form names ws
-form_of k.Front names ws = numeric (length ws == 3 || length ws == 6) ws
-form_of k.Back names ws = numeric (length ws == 3 || length ws == 6) ws
-form_of k.Side names ws = numeric (length ws == 3) ws
-form_of k.Show names ws = show_cause names ws
-form_of k.End names ws = numeric (length ws == 0) ws
-form_of k.Pxscene names ws = None
-form_of k.Other names ws = None
+-- why the words after the first are bad, by the version and the names of the solids before
+abbrev pub form_of : Version → Keyword → Words → Words → Option Cause
+form_of version k.Picture names ws = numeric (length ws == 2) ws
+form_of version k.Depth names ws = numeric (length ws == depth_count version) ws
+form_of version k.Solid names ws = solid_form names ws
+form_of version k.Front names ws = numeric (length ws == 3 || length ws == 6) ws
+form_of version k.Back names ws = numeric (length ws == 3 || length ws == 6) ws
+form_of version k.Side names ws = numeric (length ws == 3) ws
+form_of version k.Show names ws = show_cause version names ws
+form_of version k.End names ws = numeric (length ws == 0) ws
+form_of version k.Pxscene names ws = None
+form_of version k.Other names ws = None
 
-abbrev pub due_form : Due → Keyword → Words → Words → Option Cause
-due_form due keyword names ws = if is_due due keyword then form_of keyword names ws else Some c.Unexpected
+abbrev pub due_form : Version → Due → Keyword → Words → Words → Option Cause
+due_form version due keyword names ws =
+    if is_due due keyword then form_of version keyword names ws else Some c.Unexpected
 
 -- why the words of a line are bad: the first word, and those after it
-abbrev pub cause_of : Due → Words → List ℕ → Words → Option Cause
-cause_of d.Header names w ws = if is_header w ws then None else Some c.NotHeader
-cause_of d.Nothing names w ws = Some c.AfterEnd
-cause_of due names w ws = due_form due (keyword_of w) names ws
+abbrev pub cause_of : Version → Due → Words → List ℕ → Words → Option Cause
+cause_of version d.Header names w ws = if is_header w ws then None else Some c.NotHeader
+cause_of version d.Nothing names w ws = Some c.AfterEnd
+cause_of version due names w ws = due_form version due (keyword_of w) names ws
 
 -- a number past its range
 abbrev pub past : LimitKind → ℤ → ℤ → ℤ → Option LineFault
@@ -158,8 +161,13 @@ abbrev pub two_past : List ℤ → Option LineFault
 two_past (width ∷ height ∷ []) = picture_past width height
 two_past zs = None
 
+-- fraction bits past 8, or past what the bits of a depth leave of 24
+abbrev pub fraction_past : ℤ → ℤ → Option LineFault
+fraction_past bits fraction = past kind.Fraction (pos 0) (pos (min 8 (24 - size_of bits))) fraction
+
 abbrev pub depth_past : List ℤ → Option LineFault
 depth_past (bits ∷ []) = past kind.Depth (pos 1) (pos 24) bits
+depth_past (bits ∷ fraction ∷ []) = option_or (past kind.Depth (pos 1) (pos 24) bits) (fraction_past bits fraction)
 depth_past zs = None
 
 abbrev pub three_past : List ℤ → Option LineFault
@@ -183,9 +191,9 @@ limit_of k.Show t zs = None
 limit_of k.End t zs = None
 limit_of k.Other t zs = None
 
-abbrev pub limit_on : Keyword → Tally → Words → Option LineFault
-limit_on k.Show t ws = show_limit ws
-limit_on keyword t ws = limit_of keyword t (numbers_of (figures keyword ws))
+abbrev pub limit_on : Version → Keyword → Tally → Words → Option LineFault
+limit_on version k.Show t ws = show_limit version ws
+limit_on version keyword t ws = limit_of keyword t (numbers_of (figures keyword ws))
 
 abbrev pub is_show : Keyword → Bool
 is_show k.Show = true
@@ -195,7 +203,8 @@ abbrev pub is_show_due : Due → Keyword → Bool
 is_show_due due k.Show = is_due due k.Show
 is_show_due due keyword = false
 
--- why a line is bad, by what is due, the names of the solids before and the counts before: its form first, and then its limits
-abbrev pub fault_of : Due → Words → Tally → Words → Option LineFault
-fault_of due names t [] = None
-fault_of due names t (w ∷ ws) = judged (cause_of due names w ws) (limit_on (keyword_of w) t ws)
+-- why a line is bad, by the version, what is due, the names of the solids before and the counts before: its form first, and then its limits
+abbrev pub fault_of : Version → Due → Words → Tally → Words → Option LineFault
+fault_of version due names t [] = None
+fault_of version due names t (w ∷ ws) =
+    judged (cause_of version due names w ws) (limit_on version (keyword_of w) t ws)

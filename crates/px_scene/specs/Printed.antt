@@ -13,6 +13,7 @@ abbrev pub sign_byte : Op → ℕ
 sign_byte o.Union = 43
 sign_byte o.Meet = 42
 sign_byte o.Minus = 45
+sign_byte o.Differ = 94
 
 abbrev pub printed : Named → List ℕ
 printed (leaf name) = name

@@ -14,11 +14,17 @@ use Rattle.px_scene.specs.declared.line.Tally.{Tally}
 use Rattle.px_scene.specs.declared.line.LineFault.{LineFault}
 use Rattle.px_scene.specs.Text.{Words}
 use Rattle.px_scene.specs.Lines.{keyword_of, due_after, figures, numbers_of, fault_of}
-use Rattle.px_scene.specs.Figures.{size_of, colour_of, face_of, side_of}
+use Rattle.px_scene.specs.Figures.{size_of, depth_of, fraction_of, colour_of, face_of, side_of}
 use Rattle.px_scene.specs.Solids.{SolidView}
 use Rattle.px_scene.specs.Scenes.{SceneView, black}
 use Rattle.px_scene.specs.Show.{show_tree}
+use Rattle.px_scene.specs.Versions.{version_or_first}
+use Rattle.px_scene.specs.declared.version.Version.{Version}
 use Rattle.px_scene.specs.Drafts.{first_word}
+
+abbrev pub is_pxscene : Keyword → Bool
+is_pxscene k.Pxscene = true
+is_pxscene keyword = false
 
 abbrev pub is_picture : Keyword → Bool
 is_picture k.Picture = true
@@ -97,9 +103,21 @@ tally_behind lines = record {
 abbrev pub names_in : List Words → Words
 names_in lines = map (λ l. first_word (words_behind l)) (filter (begins is_solid) lines)
 
+-- the last line of a kind
+abbrev pub line_from : (Keyword → Bool) → Words → List Words → Words
+line_from kind found [] = found
+line_from kind found (l ∷ ls) = line_from kind (if begins kind l then l else found) ls
+
+abbrev pub line_of : (Keyword → Bool) → List Words → Words
+line_of kind lines = line_from kind [] lines
+
+-- the version that the header names; a good text has one line that begins `pxscene`, its first
+abbrev pub version_in : List Words → Version
+version_in lines = version_or_first (words_behind (line_of is_pxscene lines))
+
 -- why a line is bad behind others
 abbrev pub fault_behind : List Words → Words → Option LineFault
-fault_behind before line = fault_of (due_behind before) (names_in before) (tally_behind before) line
+fault_behind before line = fault_of (version_in before) (due_behind before) (names_in before) (tally_behind before) line
 
 abbrev pub at_line : ℕ → Option LineFault → Option (ℕ × LineFault) → Option (ℕ × LineFault)
 at_line number (Some fault) later = Some (number, fault)
@@ -171,14 +189,6 @@ solids_from lines solid (head ∷ heads) = solid_of lines solid head ∷ solids_
 abbrev pub solids_of : List Words → List SolidView
 solids_of lines = solids_from lines 1 (said head_at lines)
 
--- the last line of a kind
-abbrev pub line_from : (Keyword → Bool) → Words → List Words → Words
-line_from kind found [] = found
-line_from kind found (l ∷ ls) = line_from kind (if begins kind l then l else found) ls
-
-abbrev pub line_of : (Keyword → Bool) → List Words → Words
-line_of kind lines = line_from kind [] lines
-
 abbrev pub width_of : List ℤ → ℕ
 width_of (width ∷ height ∷ []) = size_of width
 width_of zs = 1
@@ -187,13 +197,9 @@ abbrev pub height_of : List ℤ → ℕ
 height_of (width ∷ height ∷ []) = size_of height
 height_of zs = 1
 
-abbrev pub depth_of : List ℤ → ℕ
-depth_of (bits ∷ []) = size_of bits
-depth_of zs = 1
-
 -- the expression of the show line, where it stands
 abbrev pub shown_in : List Words → Option Tree
-shown_in lines = show_tree (names_in lines) (words_behind (line_of is_shown lines))
+shown_in lines = show_tree (version_in lines) (names_in lines) (words_behind (line_of is_shown lines))
 
 -- the scene of a text without a bad line
 abbrev pub scene_of : List Words → SceneView
@@ -201,6 +207,7 @@ scene_of lines = record {
   width = width_of (figures_in (line_of is_picture lines));
   height = height_of (figures_in (line_of is_picture lines));
   depth_bits = depth_of (figures_in (line_of is_depth lines));
+  fraction_bits = fraction_of (figures_in (line_of is_depth lines));
   solids = solids_of lines;
   show = unwrap_or (shown_in lines) (leaf 0);
 }

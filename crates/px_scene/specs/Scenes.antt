@@ -11,6 +11,7 @@ pub record SceneView : Type 0 where
   pub width : ℕ
   pub height : ℕ
   pub depth_bits : ℕ
+  pub fraction_bits : ℕ
   pub solids : List SolidView
   pub show : Tree
 
@@ -39,7 +40,8 @@ pub record IsLawfulScene (s : SceneView) : Type 0 where
   pub some_height : 1 ≤ s.height
   pub height : s.height ≤ 512
   pub some_depth : 1 ≤ s.depth_bits
-  pub depth : s.depth_bits ≤ 24
+  pub depth : s.depth_bits + s.fraction_bits ≤ 24
+  pub fraction : s.fraction_bits ≤ 8
   pub solids : length s.solids ≤ 255
   pub names : AllPass is_name (names_of s.solids)
   pub different : AllPairs (λ m n. m ≢ n) (names_of s.solids)

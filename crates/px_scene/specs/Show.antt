@@ -1,4 +1,4 @@
--- The expression of a `show` line, by the words after the first.
+-- The expression of a `show` line, by the version and the words after the first.
 use Rattle.std.specs.Prelude.{ℕ, ◌+◌, pos, nat_le, List, [], ◌∷◌, ◌&&◌, Bool, if◌then◌else◌, Option, Some, None}
 use Rattle.std.specs.Option.{option_map, option_or}
 use Rattle.std.specs.Str.{bytes_eq}
@@ -7,6 +7,7 @@ use Rattle.px_expr.specs.Tree as tree
 use Rattle.px_scene.specs.Text.{Words}
 use Rattle.px_scene.specs.Faults.{judged, is_among}
 use Rattle.px_scene.specs.Tokens.{tokens_of}
+use Rattle.px_scene.specs.declared.version.Version.{Version}
 use Rattle.px_scene.specs.Expressions.{Named, leaf, join, leaves, nesting, expression_of}
 use Rattle.px_scene.specs.declared.line.Cause.{Cause}
 use Rattle.px_scene.specs.declared.line.Cause.TheVariants as c
@@ -46,15 +47,15 @@ abbrev pub limit_in : Option Named → Option LineFault
 limit_in None = None
 limit_in (Some tree) = counts_past (leaves tree) (nesting tree)
 
-abbrev pub show_cause : Words → Words → Option Cause
-show_cause names ws = cause_in names (expression_of (tokens_of ws))
+abbrev pub show_cause : Version → Words → Words → Option Cause
+show_cause version names ws = cause_in names (expression_of (tokens_of version ws))
 
-abbrev pub show_limit : Words → Option LineFault
-show_limit ws = limit_in (expression_of (tokens_of ws))
+abbrev pub show_limit : Version → Words → Option LineFault
+show_limit version ws = limit_in (expression_of (tokens_of version ws))
 
 -- why the expression is bad: its form and its names first, and then its limits
-abbrev pub show_fault : Words → Words → Option LineFault
-show_fault names ws = judged (show_cause names ws) (show_limit ws)
+abbrev pub show_fault : Version → Words → Words → Option LineFault
+show_fault version names ws = judged (show_cause version names ws) (show_limit version ws)
 
-abbrev pub show_tree : Words → Words → Option Tree
-show_tree names ws = option_map (placed names) (expression_of (tokens_of ws))
+abbrev pub show_tree : Version → Words → Words → Option Tree
+show_tree version names ws = option_map (placed names) (expression_of (tokens_of version ws))

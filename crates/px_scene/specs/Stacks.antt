@@ -2,7 +2,7 @@
 use Rattle.std.specs.Prelude.{◌≡◌, ℕ, ◌+◌, ◌-◌, ◌^◌, min, max, List, [], ◌∷◌, ◌++◌, Option, Some, None, Bool, true, false, nat_le, map, reverse}
 use Rattle.px_expr.specs.declared.node.Op.{Op}
 use Rattle.px_expr.specs.Tree.{Tree, leaf, join}
-use Rattle.px_expr.specs.Waiting.{joined}
+use Rattle.px_expr.specs.Shapes.{joined}
 use Rattle.px_scene.specs.Text.{Words}
 use Rattle.px_scene.specs.Tokens as t
 use Rattle.px_scene.specs.Expressions.{nesting, side, token}
@@ -63,7 +63,7 @@ steps_of (join op left right) = (steps_of left ++ steps_of right) ++ s.Join op �
 -- the trees that wait after a step, the last one first
 abbrev pub built : List Tree → Step → List Tree
 built trees (s.Leaf place) = leaf place ∷ trees
-built trees (s.Join op) = joined op trees
+built trees (s.Join op) = joined join op trees
 
 -- the steps of the sides among the parts, the last of which stands first
 abbrev pub all_steps : Words → List e.Part → List Step

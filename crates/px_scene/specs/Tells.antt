@@ -3,9 +3,11 @@ use Rattle.std.specs.Prelude.{◌≡◌, List, [], length, false, None}
 use Rattle.px_scene.specs.Text.{Words}
 use Rattle.px_scene.specs.Solids.{names_of}
 use Rattle.px_scene.specs.Drafts.{DraftView, IsLawfulDraft, in_last, is_ended}
-use Rattle.px_scene.specs.Reading.{is_picture, is_depth, is_solid, is_front, is_back, is_side, is_shown, is_numbered, count_of, count_since, names_in, due_behind, figures_in, line_of, width_of, height_of, depth_of, shown_in, solids_of, first_bad}
+use Rattle.px_scene.specs.Figures.{depth_of, fraction_of}
+use Rattle.px_scene.specs.Reading.{is_picture, is_depth, is_solid, is_front, is_back, is_side, is_shown, is_numbered, count_of, count_since, names_in, due_behind, version_in, figures_in, line_of, width_of, height_of, shown_in, solids_of, first_bad}
 
 pub record Tells (draft : DraftView) (before : List Words) : Type 0 where
+  pub version : draft.version ≡ version_in before
   pub due : draft.due ≡ due_behind before
   pub numbered : draft.numbered ≡ count_of is_numbered before
   pub solids : draft.solids ≡ solids_of before
@@ -17,6 +19,7 @@ pub record Tells (draft : DraftView) (before : List Words) : Type 0 where
   pub width : draft.width ≡ width_of (figures_in (line_of is_picture before))
   pub height : draft.height ≡ height_of (figures_in (line_of is_picture before))
   pub depth : draft.depth_bits ≡ depth_of (figures_in (line_of is_depth before))
+  pub fraction : draft.fraction_bits ≡ fraction_of (figures_in (line_of is_depth before))
   pub show : draft.show ≡ shown_in before
   pub unshown : is_ended draft.due ≡ false → line_of is_shown before ≡ []
 

@@ -1,10 +1,12 @@
 -- The tokens of an expression's words.
-use Rattle.std.specs.Prelude.{ℕ, ◌==◌, List, [], ◌∷◌, if◌then◌else◌}
+use Rattle.std.specs.Prelude.{ℕ, ◌==◌, List, [], ◌∷◌, ◌&&◌, if◌then◌else◌}
 use Rattle.std.specs.List.{flat_map}
 use Rattle.px_expr.specs.declared.node.Op.{Op}
 use Rattle.px_expr.specs.declared.node.Op.TheVariants as o
 use Rattle.px_scene.specs.Text.{Words}
 use Rattle.px_scene.specs.Word.{is_name_byte}
+use Rattle.px_scene.specs.Versions.{has_differ}
+use Rattle.px_scene.specs.declared.version.Version.{Version}
 
 pub data Token : Type 0 where
   name : List ℕ → Token
@@ -13,14 +15,15 @@ pub data Token : Type 0 where
   sign : Op → Token
   other : Token
 
--- the token of a byte that stands in no name: `(`, `)`, `+`, `*`, `-`, or another one
-abbrev pub mark : ℕ → Token
-mark b =
+-- the token of a byte that stands in no name: `(`, `)`, `+`, `*`, `-`, from version 2 on `^`, or another one
+abbrev pub mark : Version → ℕ → Token
+mark version b =
     if b == 40 then opens
     else if b == 41 then closes
     else if b == 43 then sign o.Union
     else if b == 42 then sign o.Meet
     else if b == 45 then sign o.Minus
+    else if b == 94 && has_differ version then sign o.Differ
     else other
 
 -- a byte of a name goes to the name that follows it, or else begins one
@@ -30,9 +33,10 @@ named b (name bs ∷ ts) = name (b ∷ bs) ∷ ts
 named b (t ∷ ts) = name (b ∷ []) ∷ t ∷ ts
 
 -- the tokens of a word: each longest run of bytes of names is one, and each other byte
-abbrev pub tokens_in : List ℕ → List Token
-tokens_in [] = []
-tokens_in (b ∷ bs) = if is_name_byte b then named b (tokens_in bs) else mark b ∷ tokens_in bs
+abbrev pub tokens_in : Version → List ℕ → List Token
+tokens_in version [] = []
+tokens_in version (b ∷ bs) =
+    if is_name_byte b then named b (tokens_in version bs) else mark version b ∷ tokens_in version bs
 
-abbrev pub tokens_of : Words → List Token
-tokens_of ws = flat_map tokens_in ws
+abbrev pub tokens_of : Version → Words → List Token
+tokens_of version ws = flat_map (tokens_in version) ws

@@ -2,15 +2,16 @@
 ghost use Rattle.std.specs.Prelude.{◌≡◌, false, ◌<◌, ◌≤◌, ◌+◌, ◌++◌, ◌∷◌, [], length, pos, None, Some, IfSome, IfOk, IfErr, vec_len, slice_get, ◌-◌, OnOk, OnErr, IsErrOf, All, true, is_some};
 ghost use Rattle.px_scene.specs.Text.{words_of};
 ghost use Rattle.px_scene.specs.Refusals.{is_nothing};
-ghost use Rattle.px_scene.specs.Lines.{keyword_of, now_of, numbers_of, figures, limit_of, face_past, two_past, depth_past, three_past, cause_of, fault_of, due_after, is_show};
+ghost use Rattle.px_scene.specs.Lines.{keyword_of, now_of, numbers_of, figures, limit_of, face_past, two_past, depth_past, three_past, cause_of, due_after, is_show};
 ghost use Rattle.px_scene.specs.Show.{show_fault, show_tree};
 ghost use Rattle.px_scene.specs.Solids.{IsPlane, SolidView, faces_in, names_of};
 ghost use Rattle.px_scene.specs.Scenes.{AreNumberedFrom, faces_of};
-ghost use Rattle.px_scene.specs.Drafts.{with_picture, with_depth, new_solid, first_word, with_line, taken, IsGoodForm, with_last, in_last, with_front, with_back, with_side, CanTakeFace, CanBeTaken, IsLawfulDraft, tally_of, drawn};
+ghost use Rattle.px_scene.specs.Drafts.{with_picture, with_depth, new_solid, first_word, with_line, taken, IsGoodForm, with_last, in_last, with_front, with_back, with_side, CanTakeFace, CanBeTaken, IsLawfulDraft, tally_of, fault_in, drawn};
 ghost use Rattle.px_scene.specs.declared.line.Due.TheVariants as Due;
+ghost use Rattle.px_scene.specs.declared.version.Version.TheVariants as Version;
 ghost use Rattle.px_scene.specs.declared.line.LineFault.{LineFault};
 
-use crate::figure::{colour_of, face_of, side_of};
+use crate::figure::{colour_of, depth_of, face_of, side_of};
 use crate::line::{
     Due, Keyword, LineError, LineFault, Tally, cause_of, due_after, figures, is_show_due,
     keyword_of, limit_of, numbers_of,
@@ -19,6 +20,7 @@ use crate::scene::Scene;
 use crate::show::read_show;
 use crate::solid::{Colour, Face, Solid};
 use crate::text::words_of;
+use crate::version::Version;
 use arrayvec::ArrayVec;
 use px_expr::Expr;
 use px_num::Memory;
@@ -27,11 +29,13 @@ use std::alloc::Global;
 /// What the lines so far have said.
 #[derive(Drop)]
 pub(crate) struct Draft {
+    version: Version,
     due: Due,
     numbered: u32,
     width: u32,
     height: u32,
     depth_bits: u32,
+    fraction_bits: u32,
     solids: Vec<Solid>,
     show: Option<Expr>,
 }
@@ -42,21 +46,25 @@ impl Draft {
     /// What stands before the first line.
     pub(crate) fn new(alloc: Global) -> Draft
         ensures { view_of result ≡ record {
+          version = Version.One;
           due = Due.Header;
           numbered = 0;
           width = 1;
           height = 1;
           depth_bits = 1;
+          fraction_bits = 0;
           solids = [];
           show = None;
         } }
     {
         Draft {
+            version: Version::One,
             due: Due::Header,
             numbered: 0,
             width: 1,
             height: 1,
             depth_bits: 1,
+            fraction_bits: 0,
             solids: Vec::new(alloc),
             show: None,
         }
@@ -99,19 +107,15 @@ impl Draft {
         requires { depth_past numbers.now ≡ None }
         ensures { view_of self.new ≡ with_depth (view_of self.old) numbers.now }
     {
-        if let [bits] = numbers {
-            self.depth_bits = *bits as u32;
-        }
+        (self.depth_bits, self.fraction_bits) = depth_of(numbers);
     }
 
     /// Takes a line in; one without words says nothing.
     pub(crate) fn add_line(&mut self, alloc: Global, line: &[u8]) -> Result<(), LineError>
         requires { IsLawfulDraft (view_of self.old) }
         ensures bad { (f : LineFault) → IsErrOf result (LineError.Bad f) →
-            fault_of self.old.due (names_of self.old.solids.items) (tally_of (view_of self.old))
-            (words_of line.now) ≡ Some f }
-        ensures good { OnOk result (fault_of self.old.due (names_of self.old.solids.items)
-            (tally_of (view_of self.old)) (words_of line.now) ≡ None) }
+            fault_in (view_of self.old) (words_of line.now) ≡ Some f }
+        ensures good { OnOk result (fault_in (view_of self.old) (words_of line.now) ≡ None) }
         ensures taken { OnOk result (view_of self.new ≡ taken (view_of self.old) (words_of
             line.now)) }
         ensures lawful { OnOk result (IsLawfulDraft (view_of self.new)) }
@@ -130,11 +134,13 @@ impl Draft {
         ensures scene { IfSome result (λ s. s ≡ drawn (view_of self)) }
     {
         let Draft {
+            version: _,
             due,
             numbered: _,
             width,
             height,
             depth_bits,
+            fraction_bits,
             solids,
             show,
         } = self;
@@ -142,7 +148,7 @@ impl Draft {
             return None;
         }
         match show {
-            Some(show) => Some(Scene::new(width, height, depth_bits, solids, show)),
+            Some(show) => Some(Scene::new(width, height, depth_bits, fraction_bits, solids, show)),
             None => None,
         }
     }
@@ -156,10 +162,9 @@ impl Draft {
     ) -> Result<(), LineError>
         requires { IsLawfulDraft (view_of self.old) }
         ensures bad { (f : LineFault) → IsErrOf result (LineError.Bad f) →
-            fault_of self.old.due (names_of self.old.solids.items) (tally_of (view_of self.old))
-            (word.now ∷ now_of arguments.now) ≡ Some f }
-        ensures good { OnOk result (fault_of self.old.due (names_of self.old.solids.items)
-            (tally_of (view_of self.old)) (word.now ∷ now_of arguments.now) ≡ None) }
+            fault_in (view_of self.old) (word.now ∷ now_of arguments.now) ≡ Some f }
+        ensures good { OnOk result
+            (fault_in (view_of self.old) (word.now ∷ now_of arguments.now) ≡ None) }
         ensures taken { OnOk result (view_of self.new ≡ taken (view_of self.old) (word.now ∷ now_of
             arguments.now)) }
         ensures lawful { OnOk result (IsLawfulDraft (view_of self.new)) }
@@ -168,7 +173,8 @@ impl Draft {
         if is_show_due(self.due, keyword) {
             return self.add_show(alloc, arguments);
         }
-        if let Some(cause) = cause_of(self.due, keyword, self.solids.as_slice(), word, arguments) {
+        let solids = self.solids.as_slice();
+        if let Some(cause) = cause_of(self.version, self.due, keyword, solids, word, arguments) {
             return Err(LineError::Bad(LineFault::Malformed(cause)));
         }
         let numbers = numbers_of(figures(keyword, arguments));
@@ -183,16 +189,18 @@ impl Draft {
     fn add_show(&mut self, alloc: Global, arguments: &[&[u8]]) -> Result<(), LineError>
         requires { IsLawfulDraft (view_of self.old) }
         ensures bad { (f : LineFault) → IsErrOf result (LineError.Bad f) →
-            show_fault (names_of self.old.solids.items) (now_of arguments.now) ≡ Some f }
-        ensures good { OnOk result (show_fault (names_of self.old.solids.items) (now_of
-            arguments.now) ≡ None) }
+            show_fault self.old.version (names_of self.old.solids.items) (now_of arguments.now)
+            ≡ Some f }
+        ensures good { OnOk result (show_fault self.old.version (names_of self.old.solids.items)
+            (now_of arguments.now) ≡ None) }
         ensures taken { OnOk result (view_of self.new ≡ record (view_of self.old) {
           due = Due.End;
-          show = show_tree (names_of self.old.solids.items) (now_of arguments.now);
+          show = show_tree self.old.version (names_of self.old.solids.items)
+              (now_of arguments.now);
         }) }
         ensures lawful { OnOk result (IsLawfulDraft (view_of self.new)) }
     {
-        let show = read_show(alloc, self.solids.as_slice(), arguments)?;
+        let show = read_show(alloc, self.version, self.solids.as_slice(), arguments)?;
         self.show = Some(show);
         self.due = Due::End;
         Ok(())
@@ -206,21 +214,22 @@ impl Draft {
         numbers: &[i64],
     ) -> Result<(), Memory>
         requires lawful { IsLawfulDraft (view_of self.old) }
-        requires form { IsGoodForm self.old.due (names_of self.old.solids.items) keyword (now_of
-            arguments.now) }
+        requires form { IsGoodForm self.old.version self.old.due (names_of self.old.solids.items)
+            keyword (now_of arguments.now) }
         requires other { is_show keyword ≡ false }
         requires limit { limit_of keyword (tally_of (view_of self.old)) numbers.now ≡ None }
         ensures { OnOk result (view_of self.new ≡ with_line keyword (view_of self.old) (now_of
             arguments.now) numbers.now) }
     {
         match keyword {
+            Keyword::Pxscene => self.version = Version::of(arguments).unwrap_or(Version::One),
             Keyword::Picture => self.take_picture(numbers),
             Keyword::Depth => self.take_depth(numbers),
             Keyword::Solid => self.take_solid(alloc, first_word(arguments), numbers)?,
             Keyword::Front => self.take_front(numbers)?,
             Keyword::Back => self.take_back(numbers)?,
             Keyword::Side => self.take_side(numbers)?,
-            Keyword::Pxscene | Keyword::Show | Keyword::End | Keyword::Other => {}
+            Keyword::Show | Keyword::End | Keyword::Other => {}
         }
         Ok(())
     }

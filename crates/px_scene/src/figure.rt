@@ -1,11 +1,24 @@
-//! What the numbers of a line write: a face, a side, a colour.
+//! What the numbers of a line write: the bits of a depth, a face, a side, a colour.
 ghost use Rattle.std.specs.Prelude.{◌≡◌, ◌<◌, ◌≤◌, ◌+◌, ◌≤ℤ◌, ◌++◌, length, pos, None, IfSome, All};
-ghost use Rattle.px_scene.specs.Lines.{face_past, colour_past, plane_past};
+ghost use Rattle.px_scene.specs.Lines.{depth_past, face_past, colour_past, plane_past};
 ghost use Rattle.px_scene.specs.Solids.{IsPlane};
-ghost use Rattle.px_scene.specs.Figures.{size_of, colour_of, plane_of, face_of, side_of};
+ghost use Rattle.px_scene.specs.Figures.{size_of, depth_of, fraction_of, colour_of, plane_of, face_of, side_of};
 
 use crate::solid::{Colour, Face, Solid};
 use px_num::{Linear, Memory};
+
+/// The bits of a depth and of its fraction that a line's numbers write.
+pub(crate) fn depth_of(numbers: &[i64]) -> (u32, u32)
+    requires { depth_past numbers.now ≡ None }
+    ensures depth { result.0 ≡ depth_of numbers.now }
+    ensures fraction { result.1 ≡ fraction_of numbers.now }
+{
+    match numbers {
+        [bits] => (*bits as u32, 0),
+        [bits, fraction] => (*bits as u32, *fraction as u32),
+        _ => (1, 0),
+    }
+}
 
 /// The face that a line's numbers write, with the solid's colour where they have none of their own.
 pub(crate) fn face_of(colour: Colour, number: u32, numbers: &[i64]) -> Option<Face>

@@ -12,6 +12,7 @@ mod solid;
 mod stack;
 mod text;
 mod token;
+mod version;
 mod word;
 mod write;
 

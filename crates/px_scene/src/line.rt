@@ -1,13 +1,15 @@
 //! One line of a scene text: which lines are due, and why a line is bad (docs/SCENES.md).
-ghost use Rattle.std.specs.Prelude.{◌≡◌, false, ◌≤◌, ◌<◌, ◌==◌, ◌||◌, ◌^◌, ◌-ℤ◌, length, map, pos, unwrap_or, is_some};
+ghost use Rattle.std.specs.Prelude.{◌≡◌, false, ◌≤◌, ◌<◌, ◌==◌, ◌||◌, ◌^◌, ◌-ℤ◌, length, map, pos, None, unwrap_or, is_some};
 ghost use Rattle.std.specs.Str.{bytes_eq};
 ghost use Rattle.std.specs.List.{list_all, list_any};
 ghost use Rattle.px_scene.specs.Solids.{names_of};
 ghost use Rattle.px_scene.specs.Word.{number_of};
 ghost use Rattle.px_scene.specs.Faults.{is_among};
-ghost use Rattle.px_scene.specs.Lines.{keyword_of, due_after, is_due, is_header, now_of, are_numbers, numbers_of, numeric, solid_form, form_of, cause_of, is_show, is_show_due, past, most, picture_past, colour_past, plane_past, face_past, figures, behind_name, limit_of, two_past, depth_past, three_past};
+ghost use Rattle.px_scene.specs.declared.line.LimitKind.TheVariants as Kind;
+ghost use Rattle.px_scene.specs.Lines.{keyword_of, due_after, is_due, is_header, now_of, are_numbers, numbers_of, numeric, solid_form, form_of, cause_of, is_show, is_show_due, past, most, picture_past, colour_past, plane_past, face_past, figures, behind_name, limit_of, two_past, depth_past, fraction_past, three_past};
 
 use crate::solid::Solid;
+use crate::version::Version;
 use crate::word::{is_name, number_of};
 use arrayvec::ArrayVec;
 use px_num::Memory;
@@ -43,6 +45,7 @@ pub enum LimitKind {
     Faces,
     Leaves,
     Nesting,
+    Fraction,
     PixelMemory,
     Products,
 }
@@ -177,14 +180,12 @@ fn is_due(due: Due, keyword: Keyword) -> bool
 fn is_header(word: &[u8], arguments: &[&[u8]]) -> bool
     ensures { result ≡ is_header word.now (now_of arguments.now) }
 {
-    match arguments {
-        [version] => word == b"pxscene".as_slice() && *version == b"1".as_slice(),
-        _ => false,
-    }
+    word == b"pxscene".as_slice() && Version::of(arguments).is_some()
 }
 
 /// Why the words of a line are bad, where they are. A `show` line that is due is read elsewhere.
 pub(crate) fn cause_of(
+    version: Version,
     due: Due,
     keyword: Keyword,
     solids: &[Solid],
@@ -193,7 +194,7 @@ pub(crate) fn cause_of(
 ) -> Option<Cause>
     requires keyword { keyword ≡ keyword_of word.now }
     requires other { is_show_due due keyword ≡ false }
-    ensures { result ≡ cause_of due (names_of solids.now) word.now (now_of arguments.now) }
+    ensures { result ≡ cause_of version due (names_of solids.now) word.now (now_of arguments.now) }
 {
     match due {
         Due::Header => {
@@ -206,7 +207,7 @@ pub(crate) fn cause_of(
         Due::Nothing => Some(Cause::AfterEnd),
         _ => {
             if is_due(due, keyword) {
-                form_of(keyword, solids, arguments)
+                form_of(version, keyword, solids, arguments)
             } else {
                 Some(Cause::Unexpected)
             }
@@ -224,14 +225,19 @@ pub(crate) fn is_show_due(due: Due, keyword: Keyword) -> bool
     }
 }
 
-fn form_of(keyword: Keyword, solids: &[Solid], arguments: &[&[u8]]) -> Option<Cause>
+fn form_of(
+    version: Version,
+    keyword: Keyword,
+    solids: &[Solid],
+    arguments: &[&[u8]],
+) -> Option<Cause>
     requires { is_show keyword ≡ false }
-    ensures { result ≡ form_of keyword (names_of solids.now) (now_of arguments.now) }
+    ensures { result ≡ form_of version keyword (names_of solids.now) (now_of arguments.now) }
 {
     let count = arguments.len();
     match keyword {
         Keyword::Picture => numeric(count == 2, arguments),
-        Keyword::Depth => numeric(count == 1, arguments),
+        Keyword::Depth => numeric(count == version.depth_count(), arguments),
         Keyword::Solid => solid_form(solids, arguments),
         Keyword::Front | Keyword::Back => numeric(count == 3 || count == 6, arguments),
         Keyword::Side => numeric(count == 3, arguments),
@@ -438,8 +444,20 @@ fn depth_past(numbers: &[i64]) -> Option<LineFault>
 {
     match numbers {
         [bits] => past(LimitKind::Depth, 1, 24, bits),
+        [bits, fraction] => match past(LimitKind::Depth, 1, 24, bits) {
+            None => fraction_past(bits, fraction),
+            past => past,
+        },
         _ => None,
     }
+}
+
+/// Fraction bits are judged beside good bits of a depth.
+fn fraction_past(bits: &i64, fraction: &i64) -> Option<LineFault>
+    requires { past Kind.Depth (pos 1) (pos 24) bits.now ≡ None }
+    ensures { result ≡ fraction_past bits.now fraction.now }
+{
+    past(LimitKind::Fraction, 0, (24 - *bits).min(8), fraction)
 }
 
 fn three_past(numbers: &[i64]) -> Option<LineFault>

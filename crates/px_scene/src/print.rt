@@ -1,7 +1,7 @@
 //! Printing an expression, from its last byte to its first.
 ghost use Rattle.std.specs.Prelude.{◌≡◌, ◌<◌, ◌≤◌, ◌++◌, ◌∷◌, [], List, OnOk, IfOk, All, length, reverse};
 ghost use Rattle.px_expr.specs.Tree.{HasLeavesBelow, IsLawful};
-ghost use Rattle.px_expr.specs.Postorder.{IsLeafBelow};
+ghost use Rattle.px_expr.specs.Shapes.{IsLeafBelow};
 ghost use Rattle.px_scene.specs.Solids.{names_of};
 ghost use Rattle.px_scene.specs.Printed.{printed, named_by, sign_byte};
 ghost use Rattle.px_scene.specs.Gaps.{
@@ -15,7 +15,7 @@ ghost use Rattle.px_scene.specs.Gaps.{
 };
 
 use crate::solid::Solid;
-use px_expr::{Expr, Node, Op};
+use px_expr::{Expr, Op, Shape};
 use px_num::Memory;
 use std::alloc::Global;
 
@@ -59,7 +59,7 @@ fn printed_back(alloc: Global, solids: &[Solid], expr: &Expr) -> Result<Vec<u8>,
     })?;
     let mut rest = expr.nodes();
     while let Some((node, before)) = rest.split_last() {
-        put_node(&mut back, &mut gaps, solids, *node)?;
+        put_node(&mut back, &mut gaps, solids, node.shape())?;
         rest = before;
     }
     Ok(back)
@@ -70,7 +70,7 @@ fn put_node(
     back: &mut Vec<u8>,
     gaps: &mut Vec<Gap>,
     solids: &[Solid],
-    node: Node,
+    node: Shape,
 ) -> Result<(), Memory>
     requires leaf { IsLeafBelow (length solids.now) node }
     requires some { 0 < length gaps.old.items }
@@ -82,10 +82,8 @@ fn put_node(
         ++ reverse back.old.items) }
 {
     match node {
-        Node::Leaf(place) => put_name(back, gaps, solids[usize::from(place)].name()),
-        Node::Union(..) => put_bracket(back, gaps, Op::Union),
-        Node::Meet(..) => put_bracket(back, gaps, Op::Meet),
-        Node::Minus(..) => put_bracket(back, gaps, Op::Minus),
+        Shape::Leaf(place) => put_name(back, gaps, solids[usize::from(place)].name()),
+        Shape::Join(op, ..) => put_bracket(back, gaps, op),
     }
 }
 
@@ -153,6 +151,7 @@ fn sign_byte(op: Op) -> u8
         Op::Union => b'+',
         Op::Meet => b'*',
         Op::Minus => b'-',
+        Op::Differ => b'^',
     }
 }
 

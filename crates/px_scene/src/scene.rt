@@ -1,6 +1,7 @@
 //! A scene: its picture's size and depth, its solids, and the expression that is shown.
 ghost use Rattle.std.specs.Prelude.{◌≡◌, ◌-◌, ◌^◌, ◌<◌, ◌≤◌, All, length};
 ghost use Rattle.px_scene.specs.Solids.{IsLawfulSolid};
+ghost use Rattle.px_scene.specs.Cells.{depths_of, end_of};
 ghost use Rattle.px_scene.specs.Scenes.{SceneView, IsLawfulScene, IsGridExponent, faces_of, colour_in_scene};
 
 use crate::solid::{Colour, Solid};
@@ -9,13 +10,15 @@ use std::marker::Model;
 
 /// A scene (docs/SCENES.md), with its limits kept in its type.
 ///
-/// The picture is 1 to 512 pixels wide and high, a depth has 1 to 24 bits, and there are 1 to 255
-/// solids of different names. Face numbers run from 1 over the scene (docs/PICTURE.md, "Faces").
+/// The picture is 1 to 512 pixels wide and high. A depth has at least one bit, its fraction at most
+/// 8, and both together at most 24. There are 1 to 255 solids of different names. Face numbers run
+/// from 1 over the scene (docs/PICTURE.md, "Faces").
 #[derive(Drop)]
 pub struct Scene {
     width: u32,
     height: u32,
     depth_bits: u32,
+    fraction_bits: u32,
     faces: u32,
     solids: Vec<Solid>,
     show: Expr,
@@ -36,6 +39,7 @@ impl Model for Scene {
       width = s.width;
       height = s.height;
       depth_bits = s.depth_bits;
+      fraction_bits = s.fraction_bits;
       solids = s.solids.items;
       show = s.show;
     } };
@@ -43,8 +47,8 @@ impl Model for Scene {
     ghost invariant = { λ s. IsLawfulScene (record {
       width = s.width;
       height = s.height;
-      depth_bits
-          = s.depth_bits;
+      depth_bits = s.depth_bits;
+      fraction_bits = s.fraction_bits;
       solids = s.solids.items;
       show = s.show;
     }) × All IsLawfulSolid s.solids.items × (s.faces ≡ faces_of s.solids.items) };
@@ -56,6 +60,7 @@ impl Scene {
         width: u32,
         height: u32,
         depth_bits: u32,
+        fraction_bits: u32,
         solids: Vec<Solid>,
         show: Expr,
     ) -> Scene
@@ -63,6 +68,7 @@ impl Scene {
           width = width;
           height = height;
           depth_bits = depth_bits;
+          fraction_bits = fraction_bits;
           solids = solids.items;
           show = show;
         }) }
@@ -70,6 +76,7 @@ impl Scene {
           width = width;
           height = height;
           depth_bits = depth_bits;
+          fraction_bits = fraction_bits;
           solids
               = solids.items;
           show = show;
@@ -80,6 +87,7 @@ impl Scene {
             width,
             height,
             depth_bits,
+            fraction_bits,
             faces,
             solids,
             show,
@@ -110,6 +118,14 @@ impl Scene {
         self.depth_bits
     }
 
+    /// The bits of a plane's value below a whole cell, 0 to 8.
+    pub fn fraction_bits(&self) -> u32
+        ensures value { result ≡ self.now.fraction_bits }
+        ensures lawful { IsLawfulScene self.now }
+    {
+        self.fraction_bits
+    }
+
     /// The solids in the order of their lines.
     pub fn solids(&self) -> &[Solid]
         ensures value { result.now ≡ self.now.solids }
@@ -132,6 +148,14 @@ impl Scene {
         ensures { result ≡ 2 ^ self.now.depth_bits - 1 }
     {
         (1 << self.depth_bits) - 1
+    }
+
+    /// The value of the far limit, below `2^24`.
+    pub fn end(&self) -> u32
+        ensures value { result ≡ end_of (depths_of self.now) }
+        ensures small { result < 2 ^ 24 }
+    {
+        self.far() << self.fraction_bits
     }
 
     /// For width and height the least `n` of at least 1 with `2^n` at least as large.

@@ -7,14 +7,16 @@ ghost use Rattle.px_expr.specs.Tree.{Tree, leaf_count, nesting, HasLeavesBelow, 
 ghost use Rattle.px_scene.specs.Text.{Words, words_of};
 ghost use Rattle.px_scene.specs.Tokens.{Token, tokens_of};
 ghost use Rattle.px_scene.specs.Printed.{AreDistinctNames, printed, named_by};
-ghost use Rattle.px_scene.specs.Expressions.{Named, has_names, written, expression_of, IsExpressionOf};
+ghost use Rattle.px_scene.specs.Expressions.{Named, has_names, has_signs, written, expression_of, IsExpressionOf};
 ghost use Rattle.px_scene.specs.Stacks.{steps_of};
 ghost use Rattle.px_scene.specs.Show.{show_fault, show_tree};
+ghost use Rattle.px_scene.specs.declared.version.Version.{Version as AnyVersion};
 
 use crate::line::{LineError, LineFault};
 use crate::solid::Solid;
 use crate::stack::{Stack, Step};
 use crate::token::tokens_of;
+use crate::version::Version;
 use px_expr::{Expr, ExprBuilder, ExprFault};
 use std::alloc::Global;
 
@@ -22,14 +24,20 @@ use std::alloc::Global;
 ///
 /// Its form is judged first, and its names next; its leaves and its nesting are counted over the
 /// whole of it, however large and deep, and it is built where both are within their limits.
-pub(crate) fn read_show(alloc: Global, solids: &[Solid], words: &[&[u8]]) -> Result<Expr, LineError>
+pub(crate) fn read_show(
+    alloc: Global,
+    version: Version,
+    solids: &[Solid],
+    words: &[&[u8]],
+) -> Result<Expr, LineError>
     requires { length solids.now ≤ 255 }
     ensures bad { (f : LineFault) → IsErrOf result (LineError.Bad f) →
-        show_fault (names_of solids.now) (now_of words.now) ≡ Some f }
-    ensures good { OnOk result (show_fault (names_of solids.now) (now_of words.now) ≡ None) }
-    ensures tree { IfOk result (λ e. show_tree (names_of solids.now) (now_of words.now) ≡ Some e) }
+        show_fault version (names_of solids.now) (now_of words.now) ≡ Some f }
+    ensures good { OnOk result (show_fault version (names_of solids.now) (now_of words.now) ≡ None) }
+    ensures tree { IfOk result (λ e.
+        show_tree version (names_of solids.now) (now_of words.now) ≡ Some e) }
 {
-    let tokens = tokens_of(alloc, words)?;
+    let tokens = tokens_of(alloc, version, words)?;
     let stack = Stack::read(alloc, solids, tokens.as_slice())?;
     if let Some(fault) = stack.fault(solids.len()) {
         return Err(LineError::Bad(fault));
@@ -63,16 +71,18 @@ pub fn expression_law()
         IsExpressionOf tokens tree }
 {}
 
-/// What is printed of an expression is read as it.
+/// What is printed of an expression is read as it, where the version has all of its signs.
 pub fn printed_law()
-    ensures tokens { (tree : Named) → has_names tree ≡ true →
-        tokens_of (words_of (printed tree)) ≡ written tree }
-    ensures tree { (names : Words) (tree : Tree) →
-        AreDistinctNames names → HasLeavesBelow (length names) tree →
-        show_tree names (words_of (printed (named_by names tree))) ≡ Some tree }
-    ensures good { (names : Words) (tree : Tree) →
-        AreDistinctNames names → HasLeavesBelow (length names) tree → IsLawful tree →
-        show_fault names (words_of (printed (named_by names tree))) ≡ None }
+    ensures tokens { (version : AnyVersion) (tree : Named) →
+        has_names tree ≡ true → has_signs version tree ≡ true →
+        tokens_of version (words_of (printed tree)) ≡ written tree }
+    ensures tree { (version : AnyVersion) (names : Words) (tree : Tree) → AreDistinctNames names →
+        HasLeavesBelow (length names) tree → has_signs version (named_by names tree) ≡ true →
+        show_tree version names (words_of (printed (named_by names tree))) ≡ Some tree }
+    ensures good { (version : AnyVersion) (names : Words) (tree : Tree) → AreDistinctNames names →
+        HasLeavesBelow (length names) tree → has_signs version (named_by names tree) ≡ true →
+        IsLawful tree →
+        show_fault version names (words_of (printed (named_by names tree))) ≡ None }
 {}
 
 #[cfg(test)]
@@ -81,6 +91,7 @@ mod tests {
     use crate::line::{Cause, LimitKind, LineError, LineFault};
     use crate::solid::{Colour, Solid};
     use crate::text::words_of;
+    use crate::version::Version;
     use arrayvec::ArrayVec;
     use px_expr::{Expr, Node};
     use std::alloc::Global;
@@ -96,11 +107,15 @@ mod tests {
         Solid::new(alloc, name, colour, 1)
     }
 
-    /// The expression over the solids `a`, `b` and `c`.
+    /// The expression over the solids `a`, `b` and `c`, under a version that has each sign.
     fn read(alloc: Global, text: &[u8]) -> Result<Expr, LineError> {
+        read_in(alloc, Version::Two, text)
+    }
+
+    fn read_in(alloc: Global, version: Version, text: &[u8]) -> Result<Expr, LineError> {
         let solids = [solid(alloc, b'a'), solid(alloc, b'b'), solid(alloc, b'c')];
         let words = words_of(alloc, text)?;
-        read_show(alloc, &solids, words.as_slice())
+        read_show(alloc, version, &solids, words.as_slice())
     }
 
     #[test]
@@ -111,6 +126,10 @@ mod tests {
             (b"(a + b)".as_slice(), sum.as_slice()),
             (b"(a+b)".as_slice(), sum.as_slice()),
             (b"( a\t+ b ) # c".as_slice(), sum.as_slice()),
+            (
+                b"(a^b)".as_slice(),
+                [Node::Leaf(0), Node::Leaf(1), Node::Differ(0, 1)].as_slice(),
+            ),
             (
                 b"((a - b) * c)".as_slice(),
                 [
@@ -172,6 +191,13 @@ mod tests {
                 read(rt.alloc(), text).err() == Some(LineError::Bad(LineFault::Malformed(cause)))
             );
         }
+    }
+
+    #[test]
+    fn differ_is_a_sign_from_version_two_on(rt: HostRuntime) {
+        let bad = LineError::Bad(LineFault::Malformed(Cause::BadExpression));
+        assert!(rt; read_in(rt.alloc(), Version::One, b"(a ^ b)").err() == Some(bad));
+        assert!(rt; read_in(rt.alloc(), Version::Three, b"(a ^ b)").is_ok());
     }
 
     /// `a` in so many brackets, each with `- a` behind it.

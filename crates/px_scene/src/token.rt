@@ -6,11 +6,12 @@ ghost use Rattle.px_scene.specs.Lines.{now_of};
 ghost use Rattle.px_scene.specs.Tokens.{mark, tokens_in, tokens_of};
 ghost use Rattle.px_scene.specs.Stacks.{token_of};
 
+use crate::version::Version;
 use crate::word::is_name_byte;
 use px_expr::Op;
 use std::alloc::{AllocError, Global};
 
-/// A longest run of bytes of names, one of `(`, `)`, `+`, `*` and `-`, or another byte.
+/// A longest run of bytes of names, a bracket, a sign of the version, or another byte.
 #[derive(Clone, Copy, Debug)]
 pub(crate) enum Token<'t> {
     Name(&'t [u8]),
@@ -21,22 +22,30 @@ pub(crate) enum Token<'t> {
 }
 
 /// The tokens of words, one word after another.
-pub(crate) fn tokens_of<'t>(alloc: Global, words: &[&'t [u8]]) -> Result<Vec<Token<'t>>, AllocError>
-    ensures { IfOk result (λ v. map token_of v.items ≡ tokens_of (now_of words.now)) }
+pub(crate) fn tokens_of<'t>(
+    alloc: Global,
+    version: Version,
+    words: &[&'t [u8]],
+) -> Result<Vec<Token<'t>>, AllocError>
+    ensures { IfOk result (λ v. map token_of v.items ≡ tokens_of version (now_of words.now)) }
 {
     let mut tokens = Vec::new(alloc);
     for word in words {
-        add_tokens(&mut tokens, word)?;
+        add_tokens(&mut tokens, version, word)?;
     }
     Ok(tokens)
 }
 
-fn add_tokens<'t>(tokens: &mut Vec<Token<'t>>, word: &'t [u8]) -> Result<(), AllocError>
-    ensures { OnOk result
-        (map token_of tokens.new.items ≡ map token_of tokens.old.items ++ tokens_in word.now) }
+fn add_tokens<'t>(
+    tokens: &mut Vec<Token<'t>>,
+    version: Version,
+    word: &'t [u8],
+) -> Result<(), AllocError>
+    ensures { OnOk result (map token_of tokens.new.items
+        ≡ map token_of tokens.old.items ++ tokens_in version word.now) }
 {
     let mut rest = word;
-    while let Some((token, after)) = first_token(rest) {
+    while let Some((token, after)) = first_token(version, rest) {
         tokens.push(token)?;
         rest = after;
     }
@@ -44,8 +53,9 @@ fn add_tokens<'t>(tokens: &mut Vec<Token<'t>>, word: &'t [u8]) -> Result<(), All
 }
 
 /// The first token of what is left of a word, and what stands after it.
-fn first_token(rest: &[u8]) -> Option<(Token, &[u8])>
-    ensures some { IfSome result (λ r. tokens_in rest.now ≡ token_of r.0 ∷ tokens_in r.1.now) }
+fn first_token(version: Version, rest: &[u8]) -> Option<(Token, &[u8])>
+    ensures some { IfSome result (λ r.
+        tokens_in version rest.now ≡ token_of r.0 ∷ tokens_in version r.1.now) }
     ensures less { IfSome result (λ r. length r.1.now < length rest.now) }
     ensures none { IfNone result (rest.now ≡ []) }
 {
@@ -56,7 +66,7 @@ fn first_token(rest: &[u8]) -> Option<(Token, &[u8])>
                 let (name, after) = rest.split_at(name_length(rest));
                 Some((Token::Name(name), after))
             } else {
-                Some((mark(*b), after))
+                Some((mark(version, *b), after))
             }
         }
     }
@@ -70,8 +80,8 @@ fn name_length(rest: &[u8]) -> usize
 }
 
 /// The token of a byte that stands in no name.
-fn mark(b: u8) -> Token<'static>
-    ensures { token_of result ≡ mark b }
+fn mark(version: Version, b: u8) -> Token<'static>
+    ensures { token_of result ≡ mark version b }
 {
     if b == b'(' {
         Token::Opens
@@ -83,6 +93,8 @@ fn mark(b: u8) -> Token<'static>
         Token::Sign(Op::Meet)
     } else if b == b'-' {
         Token::Sign(Op::Minus)
+    } else if b == b'^' && version.has_differ() {
+        Token::Sign(Op::Differ)
     } else {
         Token::Other
     }

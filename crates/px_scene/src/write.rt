@@ -4,11 +4,12 @@ ghost use lib.Signed.{mag};
 ghost use Rattle.px_expr.specs.Tree.{IsLawful};
 ghost use Rattle.px_scene.specs.Solids.{IsLawfulSolid};
 ghost use Rattle.px_scene.specs.Scenes.{SceneView};
+ghost use Rattle.px_scene.specs.Versions.{version_word, has_difference, is_difference};
 ghost use Rattle.px_scene.specs.Writable.{IsWritable, IsReadAs};
 ghost use Rattle.px_scene.specs.Text.{Words, words_of, lines_of};
 ghost use Rattle.px_scene.specs.Word.{number_of};
 ghost use Rattle.std.specs.Fmt.{signed_decimal};
-ghost use Rattle.std.specs.List.{list_all, flat_map};
+ghost use Rattle.std.specs.List.{list_all, list_any, flat_map};
 ghost use Rattle.px_scene.specs.Canonical.{
   spaced,
   written_line,
@@ -21,6 +22,8 @@ ghost use Rattle.px_scene.specs.Canonical.{
   face_lines,
   solid_lines,
   first_lines,
+  version_for,
+  depth_words,
   show_line,
   canonical_text,
   is_plain,
@@ -32,7 +35,9 @@ ghost use Rattle.px_scene.specs.Canonical.{
 use crate::print::put_expression;
 use crate::scene::Scene;
 use crate::solid::{Colour, Face, Solid};
+use crate::version::Version;
 use itoa::Buffer;
+use px_expr::{Expr, Node};
 use px_num::{Linear, Memory};
 use std::alloc::Global;
 
@@ -53,20 +58,59 @@ pub fn write_scene(alloc: Global, scene: &Scene) -> Result<Vec<u8>, Memory>
     Ok(text)
 }
 
+/// The first version in which a scene can be written.
+fn version_for(scene: &Scene) -> Version
+    ensures { result ≡ version_for scene.now }
+{
+    if scene.fraction_bits() != 0 {
+        Version::Three
+    } else if has_difference(scene.show()) {
+        Version::Two
+    } else {
+        Version::One
+    }
+}
+
+/// Whether a `^` stands in an expression.
+#[tactic(auto, using(crate::proofs::VersionLemmas::difference_among))]
+fn has_difference(expr: &Expr) -> bool
+    ensures { result ≡ has_difference expr.now }
+{
+    is_any_difference(expr.nodes())
+}
+
+fn is_any_difference(nodes: &[Node]) -> bool
+    ensures { result ≡ list_any is_difference nodes.now }
+{
+    nodes.iter().any(|node| is_difference(*node))
+}
+
+fn is_difference(node: Node) -> bool
+    ensures { result ≡ is_difference node }
+{
+    match node {
+        Node::Differ(..) => true,
+        Node::Leaf(_) | Node::Union(..) | Node::Meet(..) | Node::Minus(..) => false,
+    }
+}
+
 fn put_first_lines(text: &mut Vec<u8>, scene: &Scene) -> Result<(), Memory>
     ensures { OnOk result (text.new.items ≡ text.old.items ++ first_lines scene.now) }
 {
-    put_header(text)?;
+    let version = version_for(scene);
+    put_header(text, version)?;
     put_picture(text, scene.width(), scene.height())?;
-    put_depth(text, scene.depth_bits())
+    put_depth(text, version, scene.depth_bits(), scene.fraction_bits())
 }
 
 #[tactic(auto, unfolding(crate::specs::Canonical::written_line))]
-fn put_header(text: &mut Vec<u8>) -> Result<(), Memory>
+fn put_header(text: &mut Vec<u8>, version: Version) -> Result<(), Memory>
     ensures { OnOk result (text.new.items ≡ text.old.items
-        ++ written_line (codes "pxscene") (codes "1" ∷ [])) }
+        ++ written_line (codes "pxscene") (version_word version ∷ [])) }
 {
-    put(text, b"pxscene 1\n")
+    put(text, b"pxscene ")?;
+    put(text, version.word())?;
+    put(text, b"\n")
 }
 
 #[tactic(auto, unfolding(crate::specs::Canonical::written_line))]
@@ -81,13 +125,31 @@ fn put_picture(text: &mut Vec<u8>, width: u32, height: u32) -> Result<(), Memory
 }
 
 #[tactic(auto, unfolding(crate::specs::Canonical::written_line))]
-fn put_depth(text: &mut Vec<u8>, bits: u32) -> Result<(), Memory>
+fn put_depth(text: &mut Vec<u8>, version: Version, bits: u32, fraction: u32) -> Result<(), Memory>
     ensures { OnOk result (text.new.items ≡ text.old.items
-        ++ written_line (codes "depth") (decimal bits ∷ [])) }
+        ++ written_line (codes "depth") (depth_words version bits fraction)) }
 {
     put(text, b"depth")?;
-    put_size(text, bits)?;
+    put_depth_words(text, version, bits, fraction)?;
     put(text, b"\n")
+}
+
+fn put_depth_words(
+    text: &mut Vec<u8>,
+    version: Version,
+    bits: u32,
+    fraction: u32,
+) -> Result<(), Memory>
+    ensures { OnOk result (text.new.items ≡ text.old.items
+        ++ spaced (depth_words version bits fraction)) }
+{
+    match version {
+        Version::One | Version::Two => put_size(text, bits),
+        Version::Three => {
+            put_size(text, bits)?;
+            put_size(text, fraction)
+        }
+    }
 }
 
 fn put_solid(text: &mut Vec<u8>, solid: &Solid) -> Result<(), Memory>
@@ -254,7 +316,7 @@ mod tests {
     use std::test::Fail;
 
     /// Texts, each with its canonical text.
-    const CASES: [(&[u8], &[u8]); 2] = [
+    const CASES: [(&[u8], &[u8]); 6] = [
         (
             b"  pxscene\t1 # all of it\r\n\npicture 007 9\ndepth 24\n\
               solid b 1 2 3\nback -0 8388608 -8589934592\nside 1 2 -3\nfront 0 0 5 4 5 6\n\
@@ -268,6 +330,24 @@ mod tests {
               show (((a+c)*(c-a))+a)\nend\n",
             b"pxscene 1\npicture 1 512\ndepth 1\nsolid a 0 0 0\nsolid c 0 0 0\n\
               show (((a + c) * (c - a)) + a)\nend\n",
+        ),
+        (
+            b"pxscene 2\npicture 1 1\ndepth 4\nsolid a 0 0 0\nsolid b 0 0 0\n\
+              show ((a^b)-(b^a))\nend\n",
+            b"pxscene 2\npicture 1 1\ndepth 4\nsolid a 0 0 0\nsolid b 0 0 0\n\
+              show ((a ^ b) - (b ^ a))\nend\n",
+        ),
+        (
+            b"pxscene 2\npicture 1 1\ndepth 4\nsolid a 0 0 0\nshow (a+a)\nend\n",
+            b"pxscene 1\npicture 1 1\ndepth 4\nsolid a 0 0 0\nshow (a + a)\nend\n",
+        ),
+        (
+            b"pxscene 3\npicture 1 1\ndepth 024 -0\nsolid a 0 0 0\nshow (a^a)\nend\n",
+            b"pxscene 2\npicture 1 1\ndepth 24\nsolid a 0 0 0\nshow (a ^ a)\nend\n",
+        ),
+        (
+            b"pxscene 3\npicture 1 1\ndepth 16 08\nsolid a 0 0 0\nshow a\nend\n",
+            b"pxscene 3\npicture 1 1\ndepth 16 8\nsolid a 0 0 0\nshow a\nend\n",
         ),
     ];
 

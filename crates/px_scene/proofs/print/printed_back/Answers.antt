@@ -3,8 +3,8 @@ use Rattle.px_scene.proofs.print.printed_back.Goals as goal
 
 pub put_node-requires-clause-leaf : goal.put_node-requires-clause-leaf
 put_node-requires-clause-leaf c =
-    leaf_here _ _ _ _ _ _ _ c.nodes-rest.ensures.nodes c.loop-node.invariant.front c.in-Some.ensures.cases.0
-    (c.nodes-rest.ensures.leaves _ c.requires)
+    rw c.shape.ensures (leaf_here _ _ _ _ _ _ _ c.nodes-rest.ensures.nodes c.loop-node.invariant.front c.in-Some.ensures.cases.0
+    (c.nodes-rest.ensures.leaves _ c.requires))
 
 pub put_node-requires-clause-some : goal.put_node-requires-clause-some
 put_node-requires-clause-some c =
@@ -17,4 +17,4 @@ loop-node-preserved c =
     steps _ _ _ _ _ c.in-Some.node.now _ _ _ _ c.loop-node.invariant c.in-Some.ensures.cases.0 c.in-Some.ensures.cases.1
     (place_here _ _ _ _ _ _ c.nodes-rest.ensures.nodes c.loop-node.invariant.front c.in-Some.ensures.cases.0
     c.nodes-rest.ensures.places)
-    c.in_ok-put_node.ensures.gaps c.in_ok-put_node.ensures.text
+    (rw c.shape.ensures at c.in_ok-put_node.ensures.gaps) (rw c.shape.ensures at c.in_ok-put_node.ensures.text)

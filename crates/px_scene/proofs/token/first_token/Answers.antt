@@ -7,5 +7,5 @@ use Rattle.px_scene.proofs.token.first_token.Goals as goal
 pub returns-then-is_name_byte-clause-some : goal.returns-then-is_name_byte-clause-some
 returns-then-is_name_byte-clause-some c =
     rw (c.split_at.ensures.front, c.split_at.ensures.back)
-    (first_name c.args.rest.now _ c.in-len1-up.len_at_least (sym c.is_name_byte.ensures ∙ c.if-is_name_byte.true)
+    (first_name c.args.version c.args.rest.now _ c.in-len1-up.len_at_least (sym c.is_name_byte.ensures ∙ c.if-is_name_byte.true)
     (c.name_length.ensures ∙ length-prefix_len is_name_byte c.args.rest.now))

@@ -5,4 +5,4 @@ use Rattle.px_scene.specs.Stacks.{token_of}
 use Rattle.px_scene.proofs.token.tokens_of.Given as goal
 
 abbrev pub invariant-loop-word : goal.invariant-loop-word
-invariant-loop-word l = map token_of l.tokens.items ≡ tokens_of (now_of (take l.word-index l.words))
+invariant-loop-word l = map token_of l.tokens.items ≡ tokens_of l.version (now_of (take l.word-index l.words))
