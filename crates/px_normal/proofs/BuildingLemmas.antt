@@ -1,109 +1,111 @@
--- The steps of an expression come from its nodes, and build its products.
-use Rattle.std.proofs.Common.{ℕ, ◌≡◌, ◌≤◌, ◌+◌, ◌-◌, Bool, true, false, List, [], ◌∷◌, ◌++◌, length, refl, ap, sym, ◌∙◌, reverse, append_assoc, append-nil, add-one, fold, arith}
+-- The steps of an expression come from its nodes, and build the live lists that are wanted.
+use Rattle.std.proofs.Common.{ℕ, ◌≡◌, ◌+◌, ◌-◌, List, [], ◌∷◌, ◌++◌, length, refl, ap, sym, ◌∙◌, reverse, append_assoc, append-nil, fold, arith, Option, Some, None}
 use Rattle.std.proofs.lemmas.List.{reverse-append}
-use Rattle.std.proofs.lemmas.List.Sums.{fold-append}
 use Rattle.px_expr.specs.Tree.{Tree, leaf, join}
-use Rattle.px_expr.specs.Postorder.{size, op_node, nodes_behind, nodes_of}
+use Rattle.px_expr.specs.Shapes.{op_node, shape_of_op}
+use Rattle.px_expr.specs.Postorder.{size, nodes_behind, nodes_of}
 use Rattle.px_expr.specs.declared.node.Node.{Node}
 use Rattle.px_expr.specs.declared.node.Op.{Op}
-use Rattle.px_expr.specs.declared.node.Op.TheVariants as o
+use Rattle.px_normal.specs.declared.cell_box.CellBox.{CellBox}
 use Rattle.px_normal.specs.declared.product.Product.{Product}
 use Rattle.px_normal.specs.declared.step.Step.{Step}
 use Rattle.px_normal.specs.declared.step.Step.TheVariants as s
-use Rattle.px_normal.specs.Forms.{crossed, sum_of_products}
-use Rattle.px_normal.specs.Building.{form, op_step, right_wanted, steps_of, walked, joined_lists, built, CanBuild}
+use Rattle.px_normal.specs.declared.step.Wanted.{Wanted}
+use Rattle.px_normal.specs.Forms.{Forms, forms}
+use Rattle.px_normal.specs.Crowd.{of_root, of_left, of_right, wanted_forms, wanted_lists, first_past_limit, crowd}
+use Rattle.px_normal.specs.Building.{steps_of, shape_step, sides_wanted, walked, built, newest_lists, CanBuild}
+use Rattle.px_normal.proofs.CrowdLemmas.{wanted_sides, past_none, past_some}
 
-walked_op : (op : Op) (l r : ℕ) (nodes : List Node) (plain : Bool) (wanted : List Bool) (known : List Step)
-    → walked (op_node op l r ∷ nodes) (plain ∷ wanted) known ≡ walked nodes (right_wanted op plain ∷ plain ∷ wanted) (op_step op plain ∷ known)
-walked_op o.Union l r nodes plain wanted known = refl
-walked_op o.Meet l r nodes plain wanted known = refl
-walked_op o.Minus l r nodes plain wanted known = refl
+walked_op : (op : Op) (l r : ℕ) (nodes : List Node) (first : Wanted) (wanted : List Wanted) (known : List Step)
+    → walked (op_node op l r ∷ nodes) (first ∷ wanted) known ≡ walked nodes (of_right op first ∷ of_left op first ∷ wanted) (s.Join op first ∷ known)
+walked_op op l r nodes first wanted known =
+    ap (λ shape. walked nodes (sides_wanted shape first ++ wanted) (shape_step shape first ∷ known)) (shape_of_op op l r)
 
 -- the nodes of a tree, read from the root, give its steps
-walked_tree : (others : ℕ) (tree : Tree) (nodes : List Node) (plain : Bool) (wanted : List Bool) (known : List Step)
-    → walked (reverse (nodes_behind others tree) ++ nodes) (plain ∷ wanted) known ≡ walked nodes wanted (steps_of plain tree ++ known)
-walked_tree others (leaf solid) nodes plain wanted known = refl
-walked_tree others (join op left right) nodes plain wanted known =
+walked_tree : (others : ℕ) (tree : Tree) (nodes : List Node) (first : Wanted) (wanted : List Wanted) (known : List Step)
+    → walked (reverse (nodes_behind others tree) ++ nodes) (first ∷ wanted) known ≡ walked nodes wanted (steps_of first tree ++ known)
+walked_tree others (leaf solid) nodes first wanted known = refl
+walked_tree others (join op left right) nodes first wanted known =
     let l = nodes_behind others left in let r = nodes_behind (others + size left) right
-    in let root = op_node op (others + size left - 1) (others + size left + size right - 1)
-    in let turned : reverse ((l ++ r) ++ root ∷ []) ++ nodes ≡ root ∷ (reverse r ++ (reverse l ++ nodes)) =
-    ap (λ xs. xs ++ nodes) (reverse-append (l ++ r) (root ∷ []) ∙ ap (λ xs. root ∷ xs) (reverse-append l r)) ∙ ap (λ xs. root ∷ xs) (append_assoc (reverse r) (reverse l) nodes)
-    in let first = steps_of plain left in let second = steps_of (right_wanted op plain) right
-    in ap (λ xs. walked xs (plain ∷ wanted) known) turned
-    ∙ walked_op op _ _ _ plain wanted known
-    ∙ walked_tree (others + size left) right _ (right_wanted op plain) (plain ∷ wanted) _
-    ∙ walked_tree others left nodes plain wanted _
-    ∙ ap (walked nodes wanted) (sym (append_assoc first second (op_step op plain ∷ known)) ∙ sym (append_assoc (first ++ second) (op_step op plain ∷ []) known))
+    in let i = others + size left - 1 in let j = others + size left + size right - 1
+    in let turned : reverse ((l ++ r) ++ op_node op i j ∷ []) ++ nodes ≡ op_node op i j ∷ (reverse r ++ (reverse l ++ nodes)) =
+    ap (λ xs. xs ++ nodes) (reverse-append (l ++ r) (op_node op i j ∷ []) ∙ ap (λ xs. op_node op i j ∷ xs) (reverse-append l r)) ∙ ap (λ xs. op_node op i j ∷ xs) (append_assoc (reverse r) (reverse l) nodes)
+    in let first_steps = steps_of (of_left op first) left in let second_steps = steps_of (of_right op first) right
+    in ap (λ xs. walked xs (first ∷ wanted) known) turned
+    ∙ walked_op op i j _ first wanted known
+    ∙ walked_tree (others + size left) right _ (of_right op first) (of_left op first ∷ wanted) _
+    ∙ walked_tree others left nodes (of_left op first) wanted _
+    ∙ ap (walked nodes wanted) (sym (append_assoc first_steps second_steps (s.Join op first ∷ known)) ∙ sym (append_assoc (first_steps ++ second_steps) (s.Join op first ∷ []) known))
 
-pub walked_all : (nodes : List Node) (tree : Tree) → nodes ≡ nodes_of tree → walked (reverse nodes) (true ∷ []) [] ≡ steps_of true tree
+pub walked_all : (nodes : List Node) (tree : Tree) → nodes ≡ nodes_of tree → walked (reverse nodes) (of_root ∷ []) [] ≡ steps_of of_root tree
 walked_all nodes tree is =
-    ap (λ xs. walked xs (true ∷ []) []) (ap reverse is ∙ sym (append-nil (reverse (nodes_of tree))))
-    ∙ walked_tree 0 tree [] true [] [] ∙ append-nil (steps_of true tree)
+    ap (λ xs. walked xs (of_root ∷ []) []) (ap reverse is ∙ sym (append-nil (reverse (nodes_of tree))))
+    ∙ walked_tree 0 tree [] of_root [] [] ∙ append-nil (steps_of of_root tree)
 
-built_op : (op : Op) (plain : Bool) (left right : Tree) (lists : List (List Product))
-    → built (form (right_wanted op plain) right ∷ form plain left ∷ lists) (op_step op plain) ≡ form plain (join op left right) ∷ lists
-built_op o.Union true left right lists = refl
-built_op o.Union false left right lists = refl
-built_op o.Meet true left right lists = refl
-built_op o.Meet false left right lists = refl
-built_op o.Minus true left right lists = refl
-built_op o.Minus false left right lists = refl
+module _ (boxes : ℕ → Option CellBox) where
+  -- the lists that steps make, each node's in its turn
+  abbrev made : List Forms → List Step → List (List Product)
+  made lists [] = []
+  made lists (step ∷ steps) = newest_lists (built boxes lists step) ++ made (built boxes lists step) steps
 
--- the steps of a tree leave its products
-built_tree : (plain : Bool) (tree : Tree) (lists : List (List Product)) → fold built lists (steps_of plain tree) ≡ form plain tree ∷ lists
-built_tree true (leaf solid) lists = refl
-built_tree false (leaf solid) lists = refl
-built_tree plain (join op left right) lists =
-    let first = steps_of plain left in let second = steps_of (right_wanted op plain) right
-    in fold-append built lists (first ++ second) (op_step op plain ∷ [])
-    ∙ rw (fold-append built lists first second, built_tree plain left lists, built_tree (right_wanted op plain) right (form plain left ∷ lists)) (built_op op plain left right lists)
+  abbrev AllCanBuild : List Forms → List Step → Type 0
+  AllCanBuild lists [] = Unit {0}
+  AllCanBuild lists (step ∷ steps) = CanBuild (length lists) step × AllCanBuild (built boxes lists step) steps
 
-built_all : (tree : Tree) → fold built [] (steps_of true tree) ≡ sum_of_products tree ∷ []
-built_all tree = built_tree true tree []
+  -- the steps of a tree leave its lists, and the lists of its nodes are made on the way
+  record Builds (wanted : Wanted) (tree : Tree) (lists : List Forms) (steps : List Step) : Type 0 where
+    last : fold (built boxes) lists (steps_of wanted tree ++ steps) ≡ fold (built boxes) (wanted_forms boxes wanted (forms tree) ∷ lists) steps
+    way : made lists (steps_of wanted tree ++ steps) ≡ wanted_lists boxes wanted tree ++ made (wanted_forms boxes wanted (forms tree) ∷ lists) steps
+    can : AllCanBuild (wanted_forms boxes wanted (forms tree) ∷ lists) steps → AllCanBuild lists (steps_of wanted tree ++ steps)
 
-can_op : (op : Op) (plain : Bool) (waiting : ℕ) (steps : List Step) → 2 ≤ waiting → CanBuild (waiting - 1) steps → CanBuild waiting (op_step op plain ∷ steps)
-can_op o.Union true waiting steps two rest = (two, rest)
-can_op o.Union false waiting steps two rest = (two, rest)
-can_op o.Meet true waiting steps two rest = (two, rest)
-can_op o.Meet false waiting steps two rest = (two, rest)
-can_op o.Minus true waiting steps two rest = (two, rest)
-can_op o.Minus false waiting steps two rest = (two, rest)
+  builds : (wanted : Wanted) (tree : Tree) (lists : List Forms) (steps : List Step) → Builds wanted tree lists steps
+  builds wanted (leaf solid) lists steps = record { last = refl; way = refl; can = λ rest. (tt, rest) }
+  builds wanted (join op left right) lists steps =
+      let l = steps_of (of_left op wanted) left in let r = steps_of (of_right op wanted) right
+      in let x = wanted_forms boxes (of_left op wanted) (forms left) in let y = wanted_forms boxes (of_right op wanted) (forms right)
+      in let split : ((l ++ r) ++ s.Join op wanted ∷ []) ++ steps ≡ l ++ (r ++ s.Join op wanted ∷ steps) = append_assoc (l ++ r) (s.Join op wanted ∷ []) steps ∙ append_assoc l r (s.Join op wanted ∷ steps)
+      in let first = builds (of_left op wanted) left lists (r ++ s.Join op wanted ∷ steps)
+      in let second = builds (of_right op wanted) right (x ∷ lists) (s.Join op wanted ∷ steps)
+      in let sides = wanted_sides boxes op wanted (forms left) (forms right)
+      in record {
+        last = rw split (first.last ∙ second.last ∙ ap (λ z. fold (built boxes) (z ∷ lists) steps) sides);
+        way = rw split (first.way ∙ ap (λ zs. wanted_lists boxes (of_left op wanted) left ++ zs) (second.way
+            ∙ ap (λ z. wanted_lists boxes (of_right op wanted) right ++ (newest_lists (z ∷ lists) ++ made (z ∷ lists) steps)) sides)
+            ∙ sym (append_assoc (wanted_lists boxes (of_left op wanted) left) (wanted_lists boxes (of_right op wanted) right) _)
+            ∙ sym (append_assoc (wanted_lists boxes (of_left op wanted) left ++ wanted_lists boxes (of_right op wanted) right) (newest_lists (wanted_forms boxes wanted (forms (join op left right)) ∷ lists)) _));
+        can = λ rest. rw split (first.can (second.can (omega arith, rw sides rest)));
+      }
 
-can_tree : (plain : Bool) (tree : Tree) (waiting : ℕ) (steps : List Step) → CanBuild (waiting + 1) steps → CanBuild waiting (steps_of plain tree ++ steps)
-can_tree true (leaf solid) waiting steps rest = rest
-can_tree false (leaf solid) waiting steps rest = rest
-can_tree plain (join op left right) waiting steps rest =
-    let first = steps_of plain left in let second = steps_of (right_wanted op plain) right
-    in let last : CanBuild (waiting + 1 + 1) (op_step op plain ∷ steps) =
-    can_op op plain _ steps (omega arith) (let same : waiting + 1 + 1 - 1 ≡ waiting + 1 = omega arith in rw same rest)
-    in rw (append_assoc (first ++ second) (op_step op plain ∷ []) steps, append_assoc first second (op_step op plain ∷ steps))
-    (can_tree plain left waiting _ (can_tree (right_wanted op plain) right (waiting + 1) _ last))
+  -- the steps that are left, the last first, make the lists of the tree
+  pub record IsOnTheWay (tree : Tree) (lists : List Forms) (rest : List Step) : Type 0 where
+    pub last : fold (built boxes) lists (reverse rest) ≡ wanted_forms boxes of_root (forms tree) ∷ []
+    pub way : first_past_limit (made lists (reverse rest)) ≡ crowd boxes tree
+    pub can : AllCanBuild lists (reverse rest)
 
-can_all : (tree : Tree) → CanBuild 0 (steps_of true tree)
-can_all tree = rw (← append-nil (steps_of true tree)) (can_tree true tree 0 [] tt)
+  pub started : (tree : Tree) (rest given : List Step) (items : List Forms) → rest ≡ given → reverse given ≡ steps_of of_root tree → items ≡ [] → IsOnTheWay tree (reverse items) rest
+  started tree rest given items same is none =
+      let all = builds of_root tree [] []
+      in let steps : reverse rest ≡ steps_of of_root tree ++ [] = ap reverse same ∙ is ∙ sym (append-nil (steps_of of_root tree))
+      in rw none record { last = rw steps all.last; way = rw steps (ap first_past_limit (all.way ∙ append-nil (wanted_lists boxes of_root tree))); can = rw steps (all.can tt) }
 
-length-joined_lists : (f : List Product → List Product → List Product) (lists : List (List Product)) → 2 ≤ length lists → length (joined_lists f lists) ≡ length lists - 1
-length-joined_lists f [] two = absurd (omega arith)
-length-joined_lists f (b ∷ []) two = absurd (omega arith)
-length-joined_lists f (b ∷ a ∷ others) two = omega arith
+  turned : (rest before : List Step) (step : Step) → rest ≡ before ++ step ∷ [] → reverse rest ≡ step ∷ reverse before
+  turned rest before step last = ap reverse last ∙ reverse-append before (step ∷ [])
 
--- what can be built after a step
-can_go_on : (lists : List (List Product)) (step : Step) (steps : List Step) → CanBuild (length lists) (step ∷ steps) → CanBuild (length (built lists step)) steps
-can_go_on lists (s.Plain solid) steps can = rw add-one at can
-can_go_on lists (s.Barred solid) steps can = rw add-one at can
-can_go_on lists s.Either steps can = rw (length-joined_lists (λ a b. a ++ b) lists can.0) can.1
-can_go_on lists s.Both steps can = rw (length-joined_lists crossed lists can.0) can.1
+  pub can_step : (tree : Tree) (lists : List Forms) (rest before : List Step) (step : Step) → rest ≡ before ++ step ∷ [] → IsOnTheWay tree lists rest → CanBuild (length lists) step
+  can_step tree lists rest before step last is = (rw (turned rest before step last) at is.can).0
 
--- the steps that are left, the last first, make the sum of the lists that wait
-pub record IsOnTheWay (lists : List (List Product)) (rest : List Step) (sum : List Product) : Type 0 where
-  pub built : fold built lists (reverse rest) ≡ sum ∷ []
-  pub can : CanBuild (length lists) (reverse rest)
+  pub stepped : (tree : Tree) (lists now : List Forms) (rest before : List Step) (step : Step) → rest ≡ before ++ step ∷ [] → now ≡ built boxes lists step
+      → first_past_limit (newest_lists now) ≡ None → IsOnTheWay tree lists rest → IsOnTheWay tree now before
+  stepped tree lists now rest before step last made_is few is =
+      let e = turned rest before step last
+      in let within : first_past_limit (newest_lists (built boxes lists step)) ≡ None = rw made_is at few
+      in rw made_is record {
+        last = rw e at is.last;
+        way = sym (past_none (newest_lists (built boxes lists step)) _ within) ∙ (rw e at is.way);
+        can = (rw e at is.can).1;
+      }
 
-pub started : (tree : Tree) (rest given : List Step) (lists : List (List Product)) → rest ≡ given → reverse given ≡ steps_of true tree → lists ≡ [] → IsOnTheWay lists rest (sum_of_products tree)
-started tree rest given lists same is none = rw (same, none) record { built = rw is (built_all tree); can = rw is (can_all tree) }
-
-pub stepped : (lists now : List (List Product)) (rest before : List Step) (step : Step) (sum : List Product) → rest ≡ before ++ step ∷ [] → now ≡ built lists step → IsOnTheWay lists rest sum
-    → IsOnTheWay now before sum
-stepped lists now rest before step sum last is way =
-    let turned : reverse rest ≡ step ∷ reverse before = ap reverse last ∙ reverse-append before (step ∷ [])
-    in rw is record { built = rw turned at way.built; can = can_go_on lists step (reverse before) (rw turned at way.can) }
+  pub stopped : (tree : Tree) (lists : List Forms) (rest before : List Step) (step : Step) (count : ℕ) → rest ≡ before ++ step ∷ []
+      → first_past_limit (newest_lists (built boxes lists step)) ≡ Some count → IsOnTheWay tree lists rest → crowd boxes tree ≡ Some count
+  stopped tree lists rest before step count last many is =
+      sym (rw (turned rest before step last) at is.way) ∙ past_some (newest_lists (built boxes lists step)) _ count many

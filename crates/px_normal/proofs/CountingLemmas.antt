@@ -4,21 +4,17 @@ use Rattle.std.proofs.Math.Nat.{mul-le-mul, mul_comm}
 use Rattle.std.proofs.lemmas.Bool.{cases_lt}
 use Rattle.std.proofs.lemmas.List.{length-map}
 use Rattle.px_expr.specs.Tree.{Tree, join}
-use Rattle.px_expr.specs.Postorder.{placed}
-use Rattle.px_expr.specs.declared.node.Node.{Node}
-use Rattle.px_expr.specs.declared.node.Node.TheVariants as n
 use Rattle.px_expr.specs.declared.node.Op.{Op}
 use Rattle.px_expr.specs.declared.node.Op.TheVariants as o
-use Rattle.px_expr.specs.Waiting.{joined}
 use Rattle.px_normal.specs.declared.product.Product.{Product}
 use Rattle.px_normal.specs.Forms.{forms, both, crossed}
-use Rattle.px_normal.specs.Counting.{capped, counts_of, combined_counts, joined_counts, counted}
+use Rattle.px_normal.specs.Counting.{capped, counts_of, combined_counts}
 
-length-crossed : (ps qs : List Product) → length (crossed ps qs) ≡ length ps * length qs
+pub length-crossed : (ps qs : List Product) → length (crossed ps qs) ≡ length ps * length qs
 length-crossed [] qs = grind arith
 length-crossed (p ∷ ps) qs = grind (arith, length-append (map (both p) qs) (crossed ps qs), length-map qs (both p), length-crossed ps qs)
 
-at_least : (k x y : ℕ) → k ≤ x → 1 ≤ y → k ≤ x * y
+pub at_least : (k x y : ℕ) → k ≤ x → 1 ≤ y → k ≤ x * y
 at_least k x y p q = omega (arith, mul-le-mul {n₁ = k} {m₁ = 1} {n₂ = x} {m₂ = y} p q)
 
 past_both : (k a b : ℕ) → 1 ≤ k → k ≤ a * b → k ≤ min a k * min b k → min (min a k * min b k) k ≡ min (a * b) k
@@ -47,18 +43,16 @@ capped_append ps qs = ap capped (length-append ps qs) ∙ sym (capped_sum (lengt
 capped_crossed : (ps qs : List Product) → capped (length (crossed ps qs)) ≡ capped (capped (length ps) * capped (length qs))
 capped_crossed ps qs = ap capped (length-crossed ps qs) ∙ sym (min_product (2 ^ 32) (length ps) (length qs) (lit≤ tt))
 
-counts_join : (op : Op) (left right : Tree) → counts_of (join op left right) ≡ combined_counts op (counts_of left) (counts_of right)
+capped_two : (ps qs rs ts : List Product) → capped (length (crossed ps qs ++ crossed rs ts))
+    ≡ capped (capped (length ps) * capped (length qs) + capped (length rs) * capped (length ts))
+capped_two ps qs rs ts =
+    capped_append (crossed ps qs) (crossed rs ts) ∙ rw (capped_crossed ps qs, capped_crossed rs ts) (capped_sum (capped (length ps) * capped (length qs)) (capped (length rs) * capped (length ts)))
+
+pub counts_join : (op : Op) (left right : Tree) → counts_of (join op left right) ≡ combined_counts op (counts_of left) (counts_of right)
 counts_join o.Union left right = rw (capped_append (forms left).products (forms right).products, capped_crossed (forms left).complement (forms right).complement) refl
 counts_join o.Meet left right = rw (capped_crossed (forms left).products (forms right).products, capped_append (forms left).complement (forms right).complement) refl
 counts_join o.Minus left right = rw (capped_crossed (forms left).products (forms right).complement, capped_append (forms left).complement (forms right).products) refl
-
-counts_joined : (op : Op) (trees : List Tree) → map counts_of (joined op trees) ≡ joined_counts op (map counts_of trees)
-counts_joined op [] = refl
-counts_joined op (a ∷ []) = refl
-counts_joined op (b ∷ a ∷ others) = ap (λ counts. counts ∷ map counts_of others) (counts_join op a b)
-
-pub counts_placed : (trees : List Tree) (node : Node) → map counts_of (placed trees node) ≡ counted (map counts_of trees) node
-counts_placed trees (n.Leaf solid) = refl
-counts_placed trees (n.Union left right) = counts_joined o.Union trees
-counts_placed trees (n.Meet left right) = counts_joined o.Meet trees
-counts_placed trees (n.Minus left right) = counts_joined o.Minus trees
+counts_join o.Differ left right = rw (
+  capped_two (forms left).products (forms right).complement (forms left).complement (forms right).products,
+  capped_two (forms left).products (forms right).products (forms left).complement (forms right).complement,
+) refl

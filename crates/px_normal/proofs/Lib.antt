@@ -3,5 +3,8 @@ pub mod SolidsLemmas
 pub mod CrossedLemmas
 pub mod NormalLemmas
 pub mod CountingLemmas
-pub mod ListsLemmas
+pub mod MeetsLemmas
+pub mod LiveLemmas
+pub mod CrowdLemmas
+pub mod ShorterLemmas
 pub mod BuildingLemmas

@@ -1,17 +1,17 @@
 -- Normal forms say what the expression says.
-use Rattle.std.proofs.Common.{ℕ, ◌≡◌, ◌<◌, ◌==◌, ◌||◌, ◌&&◌, not, Bool, true, false, List, [], ◌∷◌, ◌++◌, length, refl, sym, ◌∙◌, arith, ◌⊎◌, inl, inr}
+use Rattle.std.proofs.Common.{ℕ, ◌≡◌, ◌<◌, ◌==◌, ◌||◌, ◌&&◌, not, if◌then◌else◌, Bool, true, false, List, [], ◌∷◌, ◌++◌, length, refl, sym, ◌∙◌, arith, ◌⊎◌, inl, inr}
 use Rattle.std.specs.List.{list_any, All}
 use Rattle.std.proofs.lemmas.List.Folds.{list_any-append}
 use Rattle.std.proofs.lemmas.List.Elements.{All-nil, All-cons, All-append}
 use Rattle.std.proofs.lemmas.Bool.Decides.{nat_tests}
 use Rattle.px_expr.specs.Tree.{Tree, leaf, join, HasLeavesBelow}
-use Rattle.px_expr.specs.Cells.{Cell, cell, where_true, has_face, united as cells_united, met as cells_met, subtracted as cells_subtracted, combined as cells_combined}
+use Rattle.px_expr.specs.Cells.{Cell, cell, where_true, has_face, united as cells_united, met as cells_met, subtracted as cells_subtracted, differed as cells_differed, own_faces, combined as cells_combined}
 use Rattle.px_expr.specs.declared.node.Op.{Op}
 use Rattle.px_expr.specs.declared.node.Op.TheVariants as o
 use Rattle.px_normal.specs.declared.set.SolidSet.{SolidSet}
 use Rattle.px_normal.specs.declared.product.Product.{Product}
 use Rattle.px_normal.specs.Sets.{has, empty, one, joined, solids, IsBelow}
-use Rattle.px_normal.specs.Forms.{Forms, forms, united, met, subtracted, combined, both, crossed, sum_of_products, plain_one, barred_one, HasPlain, HasSolidsBelow}
+use Rattle.px_normal.specs.Forms.{Forms, forms, united, met, subtracted, differed, combined, both, crossed, sum_of_products, plain_one, barred_one, HasPlain, HasSolidsBelow}
 use Rattle.px_normal.specs.NormalLaw.{holds, shows, IsNormalForm}
 use Rattle.px_normal.proofs.BitsLemmas.{has-joined, has-one, has-empty}
 use Rattle.px_normal.proofs.CrossedLemmas.{any_crossed, shown_crossed, each_crossed}
@@ -29,6 +29,12 @@ face_append n xs ys = list_any-append (λ m. m == n) xs ys
 face_where : (n : ℕ) (b : Bool) (xs : List ℕ) → has_face n (where_true b xs) ≡ b && has_face n xs
 face_where n true xs = refl
 face_where n false xs = refl
+
+face_own : (n : ℕ) (c : Cell) → has_face n (own_faces c) ≡ (c.member && has_face n c.shown) || (not c.member && has_face n c.hidden)
+face_own n c = own c.member where
+  own : (b : Bool) → has_face n (if b then c.shown else c.hidden) ≡ (b && has_face n c.shown) || (not b && has_face n c.hidden)
+  own true = grind arith
+  own false = grind arith
 
 is_of_leaf : (at : ℕ → Cell) (q : ℕ) → q < 256 → IsNormalForm at (forms (leaf q)) (at q)
 is_of_leaf at q lt = record {
@@ -63,10 +69,59 @@ module _ (at : ℕ → Cell) (f g : Forms) (c d : Cell) (p : IsNormalForm at f c
     hidden = λ n. list_any-append (λ x. holds at x && shows at n x) f.complement g.products ∙ rw (p.hidden n, q.shown n, face_append n, face_where n (not c.member), face_where n d.member) (grind arith);
   }
 
+  -- the products of both, and what they show
+  of_both : (ps qs : List Product) → list_any (holds at) (crossed ps qs) ≡ list_any (holds at) ps && list_any (holds at) qs
+  of_both = any_crossed (holds at) (shows at 0) (holds_both at) (shows_both at 0)
+
+  shown_of_both : (n : ℕ) (ps qs : List Product) → list_any (λ x. holds at x && shows at n x) (crossed ps qs)
+      ≡ (list_any (λ x. holds at x && shows at n x) ps && list_any (holds at) qs) || (list_any (holds at) ps && list_any (λ x. holds at x && shows at n x) qs)
+  shown_of_both n = shown_crossed (holds at) (shows at n) (holds_both at) (shows_both at n)
+
+  is_of_differed : IsNormalForm at (differed f g) (cells_differed c d)
+  is_of_differed = record {
+    members = list_any-append (holds at) (crossed f.products g.complement) (crossed f.complement g.products)
+        ∙ rw (of_both f.products g.complement, of_both f.complement g.products, p.members, p.others, q.members, q.others) refl;
+    others = list_any-append (holds at) (crossed f.products g.products) (crossed f.complement g.complement)
+        ∙ rw (of_both f.products g.products, of_both f.complement g.complement, p.members, p.others, q.members, q.others) (grind arith);
+    shown = λ n. list_any-append (λ x. holds at x && shows at n x) (crossed f.products g.complement) (crossed f.complement g.products)
+        ∙ rw (
+          shown_of_both n f.products g.complement,
+          shown_of_both n f.complement g.products,
+          p.shown n,
+          p.hidden n,
+          q.shown n,
+          q.hidden n,
+          p.members,
+          p.others,
+          q.members,
+          q.others,
+          face_append n,
+          face_own n c,
+          face_own n d,
+        ) (grind arith);
+    hidden = λ n. list_any-append (λ x. holds at x && shows at n x) (crossed f.products g.products) (crossed f.complement g.complement)
+        ∙ rw (
+          shown_of_both n f.products g.products,
+          shown_of_both n f.complement g.complement,
+          p.shown n,
+          p.hidden n,
+          q.shown n,
+          q.hidden n,
+          p.members,
+          p.others,
+          q.members,
+          q.others,
+          face_append n,
+          face_own n c,
+          face_own n d,
+        ) (grind arith);
+  }
+
   is_of_combined : (op : Op) → IsNormalForm at (combined op f g) (cells_combined op c d)
   is_of_combined o.Union = is_of_united
   is_of_combined o.Meet = is_of_met
   is_of_combined o.Minus = is_of_subtracted
+  is_of_combined o.Differ = is_of_differed
 
 pub is_normal_form : (at : ℕ → Cell) (tree : Tree) → HasLeavesBelow 256 tree → IsNormalForm at (forms tree) (cell at tree)
 is_normal_form at (leaf solid) below = is_of_leaf at solid below
@@ -85,6 +140,11 @@ some_any (x ∷ xs) any = omega arith
 plain_both : (p q : Product) → HasPlain p → HasPlain (both p q)
 plain_both p q plain = some_any _ (rw (any-joined (λ _. true) p.plain q.plain, any_some (solids p.plain) plain) refl)
 
+plain_right : (p q : Product) → HasPlain q → HasPlain (both p q)
+plain_right p q plain = some_any _ (rw (any-joined (λ _. true) p.plain q.plain, any_some (solids q.plain) plain) (or_true (list_any (λ _. true) (solids p.plain)))) where
+  or_true : (b : Bool) → b || true ≡ true
+  or_true b = grind arith
+
 anything : (ps : List Product) → All (λ _. Unit {0}) ps
 anything ps = λ i any lt. tt
 
@@ -94,6 +154,10 @@ plain_combined o.Meet x y left right =
     each_crossed HasPlain (λ _. Unit {0}) HasPlain (λ p q plain _. plain_both p q plain) x.products y.products left (anything y.products)
 plain_combined o.Minus x y left right =
     each_crossed HasPlain (λ _. Unit {0}) HasPlain (λ p q plain _. plain_both p q plain) x.products y.complement left (anything y.complement)
+plain_combined o.Differ x y left right =
+    All-append HasPlain (crossed x.products y.complement) (crossed x.complement y.products)
+    (each_crossed HasPlain (λ _. Unit {0}) HasPlain (λ p q plain _. plain_both p q plain) x.products y.complement left (anything y.complement))
+    (each_crossed (λ _. Unit {0}) HasPlain HasPlain (λ p q _ plain. plain_right p q plain) x.complement y.products (anything x.complement) right)
 
 pub all_plain : (tree : Tree) → HasLeavesBelow 256 tree → All HasPlain (sum_of_products tree)
 all_plain (leaf solid) below = All-cons HasPlain (plain_one solid) [] (some_any _ (any-one (λ _. true) solid below)) (All-nil HasPlain)
@@ -137,6 +201,10 @@ module _ (count : ℕ) (x y : Forms) (left : AllBelow count x) (right : AllBelow
   below_combined o.Union = record { products = each_appended _ _ left.products right.products; complement = each_of_both _ _ left.complement right.complement }
   below_combined o.Meet = record { products = each_of_both _ _ left.products right.products; complement = each_appended _ _ left.complement right.complement }
   below_combined o.Minus = record { products = each_of_both _ _ left.products right.complement; complement = each_appended _ _ left.complement right.products }
+  below_combined o.Differ = record {
+    products = each_appended _ _ (each_of_both _ _ left.products right.complement) (each_of_both _ _ left.complement right.products);
+    complement = each_appended _ _ (each_of_both _ _ left.products right.products) (each_of_both _ _ left.complement right.complement);
+  }
 
 below_tree : (count : ℕ) (tree : Tree) → HasLeavesBelow 256 tree → HasLeavesBelow count tree → AllBelow count (forms tree)
 below_tree count (leaf solid) fits below = record {

@@ -43,10 +43,18 @@ subtracted x y = record {
   complement = x.complement ++ y.products;
 }
 
+-- one side and not the other, either way round; for the complement both or neither
+abbrev pub differed : Forms → Forms → Forms
+differed x y = record {
+  products = crossed x.products y.complement ++ crossed x.complement y.products;
+  complement = crossed x.products y.products ++ crossed x.complement y.complement;
+}
+
 abbrev pub combined : Op → Forms → Forms → Forms
 combined o.Union x y = united x y
 combined o.Meet x y = met x y
 combined o.Minus x y = subtracted x y
+combined o.Differ x y = differed x y
 
 abbrev pub forms : Tree → Forms
 forms (leaf solid) = record {

@@ -2,5 +2,11 @@ pub mod Sets
 pub mod SetLaws
 pub mod Forms
 pub mod NormalLaw
+pub mod Boxes
+pub mod Live
+pub mod LiveLaw
+pub mod Crowd
+pub mod CrowdLaw
 pub mod Counting
+pub mod Boxed
 pub mod Building

@@ -1,12 +1,12 @@
 //! The number of products, without memory.
 ghost use Rattle.std.specs.Prelude.{◌≡◌, ◌≤◌, ◌+◌, ◌*◌, length, reverse};
 ghost use Rattle.arrayvec.specs.ArrayVec.{array_vec_len};
-ghost use Rattle.px_expr.specs.Postorder.{CanPlace};
-ghost use Rattle.px_normal.specs.Counting.{capped, counted, combined_counts, joined_counts};
+ghost use Rattle.px_expr.specs.Shapes.{joined, put, CanPlace};
+ghost use Rattle.px_normal.specs.Counting.{capped, leaf_counts, combined_counts};
 ghost use Rattle.px_normal.specs.Forms.{sum_of_products};
 
 use arrayvec::ArrayVec;
-use px_expr::{Expr, Node, Op};
+use px_expr::{Expr, Op, Shape};
 
 /// How many products an expression and its complement have, each at most `2^32`.
 #[derive(Clone, Copy, Debug, Default, PartialEq, Eq)]
@@ -21,24 +21,23 @@ pub fn count_products(expr: &Expr) -> u64
 {
     let mut stack = ArrayVec::<Counts, 65>::new();
     for node in expr.nodes() {
-        count(&mut stack, *node);
+        count(&mut stack, node.shape());
     }
     stack.pop().unwrap().products
 }
 
-/// Puts the counts of a node down, in place of its sides' where it has them.
-fn count(stack: &mut ArrayVec<Counts, 65>, node: Node)
-    requires { CanPlace (array_vec_len stack.old) node }
-    ensures { reverse stack.new.items ≡ counted (reverse stack.old.items) node }
+/// Puts the counts of a shape down, in place of its sides' where it has them.
+fn count(stack: &mut ArrayVec<Counts, 65>, shape: Shape)
+    requires { CanPlace (array_vec_len stack.old) shape }
+    ensures { reverse stack.new.items
+        ≡ put leaf_counts combined_counts (reverse stack.old.items) shape }
 {
-    match node {
-        Node::Leaf(_) => stack.push(Counts {
+    match shape {
+        Shape::Leaf(_) => stack.push(Counts {
             products: 1,
             complement: 1,
         }),
-        Node::Union(..) => combine(stack, Op::Union),
-        Node::Meet(..) => combine(stack, Op::Meet),
-        Node::Minus(..) => combine(stack, Op::Minus),
+        Shape::Join(op, ..) => combine(stack, op),
     }
 }
 
@@ -46,7 +45,7 @@ fn count(stack: &mut ArrayVec<Counts, 65>, node: Node)
 fn combine(stack: &mut ArrayVec<Counts, 65>, op: Op)
     requires two { 2 ≤ array_vec_len stack.old }
     requires few { array_vec_len stack.old ≤ 65 }
-    ensures { reverse stack.new.items ≡ joined_counts op (reverse stack.old.items) }
+    ensures { reverse stack.new.items ≡ joined combined_counts op (reverse stack.old.items) }
 {
     let right = stack.pop().unwrap();
     let left = stack.pop().unwrap();
@@ -70,6 +69,20 @@ fn combined(op: Op, left: &Counts, right: &Counts) -> Counts
             products: capped_product(left.products, right.complement),
             complement: capped_sum(left.complement, right.products),
         },
+        Op::Differ => Counts {
+            products: capped_two(
+                left.products,
+                right.complement,
+                left.complement,
+                right.products,
+            ),
+            complement: capped_two(
+                left.products,
+                right.products,
+                left.complement,
+                right.complement,
+            ),
+        },
     }
 }
 
@@ -83,4 +96,10 @@ fn capped_product(a: u64, b: u64) -> u64
     ensures { result ≡ capped (a * b) }
 {
     a.saturating_mul(b).min(1 << 32)
+}
+
+fn capped_two(a: u64, b: u64, c: u64, d: u64) -> u64
+    ensures { result ≡ capped (a * b + c * d) }
+{
+    capped_sum(capped_product(a, b), capped_product(c, d))
 }

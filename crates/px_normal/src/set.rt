@@ -1,5 +1,6 @@
 //! Sets of solids.
-ghost use Rattle.std.specs.Prelude.{◌≡◌, ◌<◌, ◌||◌, ◌==◌, ℕ, false};
+ghost use Rattle.std.specs.Prelude.{◌≡◌, ◌<◌, ◌||◌, ◌==◌, ◌^◌, ℕ, false, not, nat_eq};
+ghost use Rattle.std.specs.List.{list_any};
 ghost use Rattle.px_normal.specs.Sets.{has, empty, one, joined, solids};
 ghost use Rattle.px_normal.specs.SetLaws.{LawsOfSets};
 
@@ -39,6 +40,15 @@ impl SolidSet {
         }
     }
 
+    /// Whether a solid is in both sets.
+    pub fn meets(&self, other: &SolidSet) -> bool
+        ensures { result ≡ list_any (has other.now) (solids self.now) }
+    {
+        let [a, b, c, d] = self.words;
+        let [e, f, g, h] = other.words;
+        has_bit((a & e) | (b & f) | (c & g) | (d & h))
+    }
+
     /// The solids of the set, in ascending order.
     pub fn solids(&self) -> ArrayVec<u8, 256>
         ensures { result.items ≡ solids self.now }
@@ -67,6 +77,14 @@ impl SolidSet {
         words[usize::from(solid / 64)] = 1 << (solid % 64);
         SolidSet { words }
     }
+}
+
+/// Whether a word has a bit: its range, which sets of numbers do not show, is told besides.
+fn has_bit(word: u64) -> bool
+    ensures bit { result ≡ not (nat_eq word 0) }
+    ensures range { word < 2 ^ 64 }
+{
+    word != 0
 }
 
 /// The laws of sets, for whoever reasons of several of them: how a test goes over their solids.

@@ -1,64 +1,112 @@
-//! The steps that make products of an expression.
-ghost use Rattle.std.specs.Prelude.{◌≡◌, ◌++◌, true, reverse, IfOk, OnOk};
-ghost use Rattle.px_normal.specs.Building.{steps_of, node_step, sides_wanted};
+//! The steps that make the live products of an expression.
+ghost use Rattle.std.specs.Prelude.{◌≡◌, ◌++◌, reverse, IfOk, OnOk};
+ghost use Rattle.px_normal.specs.Crowd.{of_root, of_either, of_left, of_right};
+ghost use Rattle.px_normal.specs.Building.{steps_of, shape_step, sides_wanted};
 
-use px_expr::{Expr, Node};
+use px_expr::{Expr, Op, Shape};
 use std::alloc::{AllocError, Global};
 
-/// Makes the products of a solid or of its complement, or joins the last two lists of products.
+/// Which lists of a node are wanted: its products, and those of its complement.
+#[derive(Clone, Copy, Debug, PartialEq, Eq)]
+pub(crate) struct Wanted {
+    pub(crate) products: bool,
+    pub(crate) complement: bool,
+}
+
+/// Makes the lists of a solid, or of two sides.
 #[derive(Clone, Copy, Debug, PartialEq, Eq)]
 pub(crate) enum Step {
-    Plain(u8),
-    Barred(u8),
-    /// The products of either list.
-    Either,
-    /// Each product of the first list with each of the second.
-    Both,
+    Leaf(u8, Wanted),
+    Join(Op, Wanted),
+}
+
+impl Wanted {
+    fn of_root() -> Wanted
+        ensures { result ≡ of_root }
+    {
+        Wanted {
+            products: true,
+            complement: false,
+        }
+    }
+
+    /// Both lists, where one is wanted.
+    fn of_either(self) -> Wanted
+        ensures { result ≡ of_either self }
+    {
+        let either = self.products || self.complement;
+        Wanted {
+            products: either,
+            complement: either,
+        }
+    }
+
+    /// What a node's lists take of its left side.
+    fn of_left(self, op: Op) -> Wanted
+        ensures { result ≡ of_left op self }
+    {
+        match op {
+            Op::Union | Op::Meet | Op::Minus => self,
+            Op::Differ => self.of_either(),
+        }
+    }
+
+    /// What a node's lists take of its right side: what is subtracted changes its lists over.
+    fn of_right(self, op: Op) -> Wanted
+        ensures { result ≡ of_right op self }
+    {
+        match op {
+            Op::Union | Op::Meet => self,
+            Op::Minus => Wanted {
+                products: self.complement,
+                complement: self.products,
+            },
+            Op::Differ => self.of_either(),
+        }
+    }
 }
 
 /// The steps of an expression, the last first.
 ///
-/// The nodes are read from the root on: it alone is wanted plainly at first, and each tells whether
-/// its sides are wanted plainly, or their complements.
+/// The nodes are read from the root on: of it the products are wanted, and each tells what is
+/// wanted of its sides.
 pub(crate) fn steps(alloc: Global, expr: &Expr) -> Result<Vec<Step>, AllocError>
-    ensures { IfOk result (λ steps. reverse steps.items ≡ steps_of true expr.now) }
+    ensures { IfOk result (λ steps. reverse steps.items ≡ steps_of of_root expr.now) }
 {
     let mut wanted = Vec::new(alloc);
-    wanted.push(true)?;
+    wanted.push(Wanted::of_root())?;
     let mut steps = Vec::new(alloc);
     let mut rest = expr.nodes();
     while let Some((node, before)) = rest.split_last() {
-        let Some(plain) = wanted.pop() else {
+        let Some(first) = wanted.pop() else {
             break;
         };
-        want_sides(&mut wanted, *node, plain)?;
-        steps.push(step_of(*node, plain))?;
+        let shape = node.shape();
+        want_sides(&mut wanted, shape, first)?;
+        steps.push(step_of(shape, first))?;
         rest = before;
     }
     Ok(steps)
 }
 
-/// The step of a node that is wanted plainly, or whose complement is.
-fn step_of(node: Node, plain: bool) -> Step
-    ensures { result ≡ node_step node plain }
+fn step_of(shape: Shape, wanted: Wanted) -> Step
+    ensures { result ≡ shape_step shape wanted }
 {
-    match (node, plain) {
-        (Node::Leaf(solid), true) => Step::Plain(solid),
-        (Node::Leaf(solid), false) => Step::Barred(solid),
-        (Node::Union(..), true) | (Node::Meet(..) | Node::Minus(..), false) => Step::Either,
-        (Node::Union(..), false) | (Node::Meet(..) | Node::Minus(..), true) => Step::Both,
+    match shape {
+        Shape::Leaf(solid) => Step::Leaf(solid, wanted),
+        Shape::Join(op, ..) => Step::Join(op, wanted),
     }
 }
 
-/// Puts what is wanted of a node's sides on the stack, the left one first.
-fn want_sides(wanted: &mut Vec<bool>, node: Node, plain: bool) -> Result<(), AllocError>
+/// Puts what is wanted of a shape's sides on the stack, the left one first.
+fn want_sides(stack: &mut Vec<Wanted>, shape: Shape, wanted: Wanted) -> Result<(), AllocError>
     ensures { OnOk result
-        (reverse wanted.new.items ≡ sides_wanted node plain ++ reverse wanted.old.items) }
+        (reverse stack.new.items ≡ sides_wanted shape wanted ++ reverse stack.old.items) }
 {
-    match node {
-        Node::Leaf(_) => {}
-        Node::Union(..) | Node::Meet(..) => wanted.extend_from_slice(&[plain, plain])?,
-        Node::Minus(..) => wanted.extend_from_slice(&[plain, !plain])?,
+    match shape {
+        Shape::Leaf(_) => Ok(()),
+        Shape::Join(op, ..) => {
+            stack.extend_from_slice(&[wanted.of_left(op), wanted.of_right(op)])
+        }
     }
-    Ok(())
 }

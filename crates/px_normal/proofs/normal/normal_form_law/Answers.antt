@@ -1,10 +1,12 @@
+use Rattle.std.proofs.lemmas.List.Elements.{All-filter}
+use Rattle.px_normal.specs.Forms.{HasPlain, HasSolidsBelow}
 use Rattle.px_normal.proofs.normal.normal_form_law.Goals as goal
 
 pub returns-clause-law : goal.returns-clause-law
 returns-clause-law c = c.laws_of_normal_forms.ensures.law _ c.nodes.ensures.lawful.solids
 
 pub returns-clause-plain : goal.returns-clause-plain
-returns-clause-plain c = c.laws_of_normal_forms.ensures.plain _ c.nodes.ensures.lawful.solids
+returns-clause-plain c = All-filter _ HasPlain _ (c.laws_of_normal_forms.ensures.plain _ c.nodes.ensures.lawful.solids)
 
 pub returns-clause-known : goal.returns-clause-known
-returns-clause-known c count = c.laws_of_normal_forms.ensures.known count _ c.nodes.ensures.lawful.solids
+returns-clause-known c count below = All-filter _ (HasSolidsBelow count) _ (c.laws_of_normal_forms.ensures.known count _ c.nodes.ensures.lawful.solids below)

@@ -1,0 +1,11 @@
+use Rattle.std.proofs.Common.{◌≡◌, take}
+use Rattle.std.specs.List.{All}
+use Rattle.px_normal.specs.Live.{boxes_in}
+use Rattle.px_normal.specs.Boxed.{IsBoxed, products_in}
+use Rattle.px_normal.proofs.live.boxed_all.Given as goal
+
+abbrev pub invariant-loop-product : goal.invariant-loop-product
+invariant-loop-product l = record {
+  products : products_in l.list.items ≡ take l.product-index l.products;
+  boxed : All (IsBoxed (boxes_in l.boxes)) l.list.items;
+}

@@ -1,0 +1,9 @@
+use Rattle.std.proofs.Common.{◌≡◌, ◌++◌, take}
+use Rattle.std.specs.List.{filter}
+use Rattle.px_normal.specs.Forms.{crossed}
+use Rattle.px_normal.specs.Live.{boxes_in, is_live}
+use Rattle.px_normal.specs.Boxed.{products_in}
+use Rattle.px_normal.proofs.live.push_crossed.Given as goal
+
+abbrev pub invariant-loop-p : goal.invariant-loop-p
+invariant-loop-p l = l.list.items ≡ l.initial.list.items ++ filter (is_live (boxes_in l.boxes)) (crossed (take l.p-index l.first) (products_in l.second.items))

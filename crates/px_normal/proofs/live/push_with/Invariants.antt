@@ -1,0 +1,9 @@
+use Rattle.std.proofs.Common.{◌≡◌, ◌++◌, take, map}
+use Rattle.std.specs.List.{filter}
+use Rattle.px_normal.specs.Forms.{both}
+use Rattle.px_normal.specs.Live.{boxes_in, is_live}
+use Rattle.px_normal.specs.Boxed.{products_in}
+use Rattle.px_normal.proofs.live.push_with.Given as goal
+
+abbrev pub invariant-loop-q : goal.invariant-loop-q
+invariant-loop-q l = l.list.items ≡ l.initial.list.items ++ filter (is_live (boxes_in l.boxes)) (map (both l.p.product) (products_in (take l.q-index l.second)))

@@ -1,0 +1,63 @@
+-- The lists that are wanted for the live products of an expression, and the first past the limit.
+use Rattle.std.specs.Prelude.{ℕ, ◌||◌, Bool, true, false, List, [], ◌∷◌, ◌++◌, length, Option, Some, None, nat_lt, if◌then◌else◌}
+use Rattle.px_expr.specs.Tree.{Tree, leaf, join}
+use Rattle.px_expr.specs.declared.node.Op.{Op}
+use Rattle.px_expr.specs.declared.node.Op.TheVariants as o
+use Rattle.px_normal.specs.declared.cell_box.CellBox.{CellBox}
+use Rattle.px_normal.specs.declared.product.Product.{Product}
+use Rattle.px_normal.specs.declared.step.Wanted.{Wanted}
+use Rattle.px_normal.specs.Forms.{Forms, forms}
+use Rattle.px_normal.specs.Live.{live}
+
+-- of the whole expression its products are wanted
+abbrev pub of_root : Wanted
+of_root = record { products = true; complement = false }
+
+-- both lists, where one of a node is wanted
+abbrev pub of_either : Wanted → Wanted
+of_either wanted = record {
+  products = wanted.products || wanted.complement;
+  complement = wanted.products || wanted.complement;
+}
+
+-- the lists of a left and of a right side that a node's lists are made of
+abbrev pub of_left : Op → Wanted → Wanted
+of_left o.Union wanted = wanted
+of_left o.Meet wanted = wanted
+of_left o.Minus wanted = wanted
+of_left o.Differ wanted = of_either wanted
+
+abbrev pub of_right : Op → Wanted → Wanted
+of_right o.Union wanted = wanted
+of_right o.Meet wanted = wanted
+of_right o.Minus wanted = record { products = wanted.complement; complement = wanted.products }
+of_right o.Differ wanted = of_either wanted
+
+abbrev pub where_wanted : Bool → List Product → List Product
+where_wanted wanted list = if wanted then list else []
+
+-- the live lists that are wanted of a node; what is not wanted is left empty
+abbrev pub wanted_forms : (ℕ → Option CellBox) → Wanted → Forms → Forms
+wanted_forms boxes wanted forms = record {
+  products = where_wanted wanted.products (live boxes forms).products;
+  complement = where_wanted wanted.complement (live boxes forms).complement;
+}
+
+abbrev pub both_lists : Forms → List (List Product)
+both_lists forms = forms.products ∷ forms.complement ∷ []
+
+-- the wanted lists of a tree's nodes in postorder, of each node its products first
+abbrev pub wanted_lists : (ℕ → Option CellBox) → Wanted → Tree → List (List Product)
+wanted_lists boxes wanted (leaf solid) = both_lists (wanted_forms boxes wanted (forms (leaf solid)))
+wanted_lists boxes wanted (join op left right) =
+    (wanted_lists boxes (of_left op wanted) left ++ wanted_lists boxes (of_right op wanted) right)
+    ++ both_lists (wanted_forms boxes wanted (forms (join op left right)))
+
+-- the length of the first list of more than 1024 products
+abbrev pub first_past_limit : List (List Product) → Option ℕ
+first_past_limit [] = None
+first_past_limit (list ∷ lists) =
+    if nat_lt 1024 (length list) then Some (length list) else first_past_limit lists
+
+abbrev pub crowd : (ℕ → Option CellBox) → Tree → Option ℕ
+crowd boxes tree = first_past_limit (wanted_lists boxes of_root tree)

@@ -1,0 +1,322 @@
+//! The live products of a node and of its complement.
+ghost use Rattle.std.specs.Prelude.{◌≡◌, ◌<◌, ◌≤◌, ◌^◌, ◌∷◌, ◌++◌, [], ℕ, Some, None, filter, length, reverse, vec_len, OnOk, OnErr, IfOk};
+ghost use Rattle.px_expr.specs.Tree.{leaf};
+ghost use Rattle.px_normal.specs.Forms.{forms, combined, crossed};
+ghost use Rattle.px_normal.specs.Live.{boxes_in, is_live, live};
+ghost use Rattle.px_normal.specs.Crowd.{both_lists, first_past_limit, wanted_forms, where_wanted};
+ghost use Rattle.px_normal.specs.Building.{built, newest_lists, CanBuild};
+
+use crate::live::{count_crossed, count_live, is_live, push_crossed, push_live};
+use crate::step::{Step, Wanted};
+use crate::{CellBox, NormalFault, Product};
+use px_expr::Op;
+use std::alloc::{AllocError, Global};
+use std::marker::Model;
+
+/// A list has at most so many products.
+const MAX_PRODUCTS: u32 = 1024;
+
+/// The live products of an expression and of its complement, each at most 1024. A list that is not
+/// wanted is empty. Contracts see both lists.
+#[derive(Debug, Drop)]
+pub(crate) struct Sums {
+    products: Vec<Product>,
+    complement: Vec<Product>,
+}
+
+impl Model for Sums {
+    ghost use Rattle.std.specs.Prelude.{◌≤◌, length};
+    ghost use Rattle.px_normal.specs.Forms.{Forms};
+
+    ghost Value = { Forms };
+
+    ghost view = { λ sums.
+        record { products = sums.products.items; complement = sums.complement.items } };
+
+    ghost invariant = { λ sums.
+        (length sums.products.items ≤ 1024) × (length sums.complement.items ≤ 1024) };
+}
+
+/// Makes a step: the lists of a node in place of its sides'.
+pub(crate) fn build(
+    alloc: Global,
+    boxes: &[Option<CellBox>],
+    stack: &mut Vec<Sums>,
+    step: Step,
+) -> Result<(), NormalFault>
+    requires { CanBuild (vec_len stack.old) step }
+    ensures lists { OnOk result
+        (reverse stack.new.items ≡ built (boxes_in boxes.now) (reverse stack.old.items) step) }
+    ensures few { OnOk result (first_past_limit (newest_lists (reverse stack.new.items)) ≡ None) }
+    ensures small { (count : ℕ) → result ≡ Err (NormalFault.TooMany count) → count ≤ 2 ^ 21 }
+    ensures many { (count : ℕ) → result ≡ Err (NormalFault.TooMany count) → first_past_limit
+        (newest_lists (built (boxes_in boxes.now) (reverse stack.old.items) step)) ≡ Some count }
+{
+    match step {
+        Step::Leaf(solid, wanted) => {
+            let sums = Sums::of_solid(alloc, boxes, solid, wanted)?;
+            stack.reserve(1)?;
+            stack.push(sums).unwrap();
+        }
+        Step::Join(op, wanted) => join(alloc, boxes, stack, op, wanted)?,
+    }
+    Ok(())
+}
+
+/// The lists of a node in place of its two sides'.
+fn join(
+    alloc: Global,
+    boxes: &[Option<CellBox>],
+    stack: &mut Vec<Sums>,
+    op: Op,
+    wanted: Wanted,
+) -> Result<(), NormalFault>
+    requires { 2 ≤ vec_len stack.old }
+    ensures lists { OnOk result (reverse stack.new.items
+        ≡ built (boxes_in boxes.now) (reverse stack.old.items) (Step.Join op wanted)) }
+    ensures few { OnOk result (first_past_limit (newest_lists (reverse stack.new.items)) ≡ None) }
+    ensures small { (count : ℕ) → result ≡ Err (NormalFault.TooMany count) → count ≤ 2 ^ 21 }
+    ensures many { (count : ℕ) → result ≡ Err (NormalFault.TooMany count) → first_past_limit
+        (newest_lists (built (boxes_in boxes.now) (reverse stack.old.items) (Step.Join op wanted)))
+        ≡ Some count }
+{
+    let right = stack.pop().unwrap();
+    let left = stack.pop().unwrap();
+    let sums = Sums::of_sides(alloc, boxes, op, wanted, &left, &right)?;
+    stack.reserve(1)?;
+    stack.push(sums).unwrap();
+    Ok(())
+}
+
+impl Sums {
+    /// The products alone.
+    pub(crate) fn into_products(self) -> Vec<Product>
+        ensures list { result.items ≡ self.products }
+        ensures few { length result.items ≤ 1024 }
+    {
+        let Sums {
+            products,
+            complement: _,
+        } = self;
+        products
+    }
+
+    fn products(&self) -> &[Product]
+        ensures list { result.now ≡ self.now.products }
+        ensures few { length result.now ≤ 1024 }
+    {
+        self.products.as_slice()
+    }
+
+    fn complement(&self) -> &[Product]
+        ensures list { result.now ≡ self.now.complement }
+        ensures few { length result.now ≤ 1024 }
+    {
+        self.complement.as_slice()
+    }
+
+    /// The lists of a solid.
+    fn of_solid(
+        alloc: Global,
+        boxes: &[Option<CellBox>],
+        solid: u8,
+        wanted: Wanted,
+    ) -> Result<Sums, AllocError>
+        ensures lists { IfOk result (λ sums.
+            sums ≡ wanted_forms (boxes_in boxes.now) wanted (forms (leaf solid))) }
+        ensures few { IfOk result (λ sums. first_past_limit (both_lists sums) ≡ None) }
+    {
+        Ok(Sums {
+            products: one_live(alloc, boxes, Product::plain_one(solid), wanted.products)?,
+            complement: one_live(alloc, boxes, Product::barred_one(solid), wanted.complement)?,
+        })
+    }
+
+    /// The lists of a node by those of its sides.
+    fn of_sides(
+        alloc: Global,
+        boxes: &[Option<CellBox>],
+        op: Op,
+        wanted: Wanted,
+        left: &Sums,
+        right: &Sums,
+    ) -> Result<Sums, NormalFault>
+        ensures lists { IfOk result (λ sums.
+            sums ≡ wanted_forms (boxes_in boxes.now) wanted (combined op left.now right.now)) }
+        ensures few { IfOk result (λ sums. first_past_limit (both_lists sums) ≡ None) }
+        ensures small { (count : ℕ) → result ≡ Err (NormalFault.TooMany count) → count ≤ 2 ^ 21 }
+        ensures many { (count : ℕ) → result ≡ Err (NormalFault.TooMany count) →
+            first_past_limit (both_lists
+            (wanted_forms (boxes_in boxes.now) wanted (combined op left.now right.now)))
+            ≡ Some count }
+    {
+        Ok(Sums {
+            products: products_of(alloc, boxes, op, wanted.products, left, right)?,
+            complement: complement_of(alloc, boxes, op, wanted.complement, left, right)?,
+        })
+    }
+}
+
+/// A product, where it is wanted and live.
+fn one_live(
+    alloc: Global,
+    boxes: &[Option<CellBox>],
+    product: Product,
+    wanted: bool,
+) -> Result<Vec<Product>, AllocError>
+    ensures list { IfOk result (λ list. list.items
+        ≡ where_wanted wanted (filter (is_live (boxes_in boxes.now)) (product ∷ []))) }
+    ensures few { IfOk result (λ list. length list.items ≤ 1024) }
+{
+    let mut list = Vec::new(alloc);
+    if wanted && is_live(boxes, &product) {
+        list.push(product)?;
+    }
+    Ok(list)
+}
+
+/// The live products of a node, where they are wanted.
+fn products_of(
+    alloc: Global,
+    boxes: &[Option<CellBox>],
+    op: Op,
+    wanted: bool,
+    left: &Sums,
+    right: &Sums,
+) -> Result<Vec<Product>, NormalFault>
+    ensures list { IfOk result (λ list. list.items ≡ where_wanted wanted
+        (live (boxes_in boxes.now) (combined op left.now right.now)).products) }
+    ensures few { IfOk result (λ list. length list.items ≤ 1024) }
+    ensures small { (count : ℕ) → result ≡ Err (NormalFault.TooMany count) → count ≤ 2 ^ 21 }
+    ensures many { (count : ℕ) → result ≡ Err (NormalFault.TooMany count) → first_past_limit
+        (where_wanted wanted (live (boxes_in boxes.now) (combined op left.now right.now)).products
+        ∷ []) ≡ Some count }
+{
+    if !wanted {
+        return Ok(Vec::new(alloc));
+    }
+    match op {
+        Op::Union => either(alloc, boxes, left.products(), right.products()),
+        Op::Meet => both(alloc, boxes, left.products(), right.products()),
+        Op::Minus => both(alloc, boxes, left.products(), right.complement()),
+        Op::Differ => either_way(alloc, boxes, left, right.complement(), right.products()),
+    }
+}
+
+/// The live products of a node's complement, where they are wanted.
+fn complement_of(
+    alloc: Global,
+    boxes: &[Option<CellBox>],
+    op: Op,
+    wanted: bool,
+    left: &Sums,
+    right: &Sums,
+) -> Result<Vec<Product>, NormalFault>
+    ensures list { IfOk result (λ list. list.items ≡ where_wanted wanted
+        (live (boxes_in boxes.now) (combined op left.now right.now)).complement) }
+    ensures few { IfOk result (λ list. length list.items ≤ 1024) }
+    ensures small { (count : ℕ) → result ≡ Err (NormalFault.TooMany count) → count ≤ 2 ^ 21 }
+    ensures many { (count : ℕ) → result ≡ Err (NormalFault.TooMany count) → first_past_limit
+        (where_wanted wanted (live (boxes_in boxes.now) (combined op left.now right.now)).complement
+        ∷ []) ≡ Some count }
+{
+    if !wanted {
+        return Ok(Vec::new(alloc));
+    }
+    match op {
+        Op::Union => both(alloc, boxes, left.complement(), right.complement()),
+        Op::Meet => either(alloc, boxes, left.complement(), right.complement()),
+        Op::Minus => either(alloc, boxes, left.complement(), right.products()),
+        Op::Differ => either_way(alloc, boxes, left, right.products(), right.complement()),
+    }
+}
+
+/// The live products of either list.
+fn either(
+    alloc: Global,
+    boxes: &[Option<CellBox>],
+    first: &[Product],
+    second: &[Product],
+) -> Result<Vec<Product>, NormalFault>
+    requires first { length first.now ≤ 1024 }
+    requires second { length second.now ≤ 1024 }
+    ensures list { IfOk result (λ list.
+        list.items ≡ filter (is_live (boxes_in boxes.now)) (first.now ++ second.now)) }
+    ensures few { IfOk result (λ list. length list.items ≤ 1024) }
+    ensures small { (count : ℕ) → result ≡ Err (NormalFault.TooMany count) → count ≤ 2 ^ 21 }
+    ensures many { (count : ℕ) → result ≡ Err (NormalFault.TooMany count) → first_past_limit
+        (filter (is_live (boxes_in boxes.now)) (first.now ++ second.now) ∷ []) ≡ Some count }
+{
+    check_limit(count_live(boxes, first) + count_live(boxes, second))?;
+    let mut list = Vec::new(alloc);
+    push_live(&mut list, boxes, first)?;
+    push_live(&mut list, boxes, second)?;
+    Ok(list)
+}
+
+/// The live products of one list, each with each of another: they are counted before any is kept.
+fn both(
+    alloc: Global,
+    boxes: &[Option<CellBox>],
+    first: &[Product],
+    second: &[Product],
+) -> Result<Vec<Product>, NormalFault>
+    requires first { length first.now ≤ 1024 }
+    requires second { length second.now ≤ 1024 }
+    ensures list { IfOk result (λ list.
+        list.items ≡ filter (is_live (boxes_in boxes.now)) (crossed first.now second.now)) }
+    ensures few { IfOk result (λ list. length list.items ≤ 1024) }
+    ensures small { (count : ℕ) → result ≡ Err (NormalFault.TooMany count) → count ≤ 2 ^ 21 }
+    ensures many { (count : ℕ) → result ≡ Err (NormalFault.TooMany count) → first_past_limit
+        (filter (is_live (boxes_in boxes.now)) (crossed first.now second.now) ∷ []) ≡ Some count }
+{
+    check_limit(count_crossed(alloc, boxes, first, second)?)?;
+    let mut list = Vec::new(alloc);
+    push_crossed(alloc, &mut list, boxes, first, second)?;
+    Ok(list)
+}
+
+/// The live products of the left side's own each with each of a list, and then of its complement's
+/// with another.
+fn either_way(
+    alloc: Global,
+    boxes: &[Option<CellBox>],
+    left: &Sums,
+    first: &[Product],
+    second: &[Product],
+) -> Result<Vec<Product>, NormalFault>
+    requires first { length first.now ≤ 1024 }
+    requires second { length second.now ≤ 1024 }
+    ensures list { IfOk result (λ list. list.items ≡ filter (is_live (boxes_in boxes.now))
+        (crossed left.now.products first.now ++ crossed left.now.complement second.now)) }
+    ensures few { IfOk result (λ list. length list.items ≤ 1024) }
+    ensures small { (count : ℕ) → result ≡ Err (NormalFault.TooMany count) → count ≤ 2 ^ 21 }
+    ensures many { (count : ℕ) → result ≡ Err (NormalFault.TooMany count) → first_past_limit
+        (filter (is_live (boxes_in boxes.now))
+        (crossed left.now.products first.now ++ crossed left.now.complement second.now) ∷ [])
+        ≡ Some count }
+{
+    let own = count_crossed(alloc, boxes, left.products(), first)?;
+    let others = count_crossed(alloc, boxes, left.complement(), second)?;
+    check_limit(own + others)?;
+    let mut list = Vec::new(alloc);
+    push_crossed(alloc, &mut list, boxes, left.products(), first)?;
+    push_crossed(alloc, &mut list, boxes, left.complement(), second)?;
+    Ok(list)
+}
+
+/// Whether a list can have so many products.
+fn check_limit(count: u32) -> Result<(), NormalFault>
+    requires { count ≤ 2 ^ 21 }
+    ensures ok { OnOk result (count ≤ 1024) }
+    ensures err { OnErr result (1024 < count) }
+    ensures many { (n : ℕ) → result ≡ Err (NormalFault.TooMany n) → n ≡ count }
+    ensures small { (n : ℕ) → result ≡ Err (NormalFault.TooMany n) → n ≤ 2 ^ 21 }
+{
+    if count > MAX_PRODUCTS {
+        return Err(NormalFault::TooMany {
+            count: u64::from(count),
+        });
+    }
+    Ok(())
+}
