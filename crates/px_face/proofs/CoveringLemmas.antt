@@ -12,7 +12,8 @@ use Rattle.px_num.specs.FormLaws.{value_at-less_one, value_at-minus}
 use Rattle.px_num.specs.Forms.{minus, value_at}
 use Rattle.px_scene.specs.declared.solid.Face.{Face}
 use Rattle.px_scene.specs.Solids.{AreFaces, IsLawfulSolid, SolidView}
-use Rattle.px_face.specs.Covering.{IsCoveredOnce, covering_back, covering_front, enters_at, greatest_place, is_met, leaves_at}
+use Rattle.px_scene.specs.Cells.{enters_at, leaves_at}
+use Rattle.px_face.specs.Covering.{IsCoveredOnce, covering_back, covering_front, greatest_place, is_met}
 use Rattle.px_face.specs.Edges.{above, hold_at, at_least, back_edges, covers, front_edges}
 use Rattle.px_face.specs.Faces.{back_planes, face_count, front_planes, is_front, level, number_of, numbers_of, plane_of}
 use Rattle.px_face.proofs.DepthLemmas.{backs_over, cells_are, depths_are, fronts_below, fronts_under, list_all_same, turned_backs}
@@ -104,7 +105,7 @@ numbers_grow near (f ∷ fs) (suc i) (suc j) are le there =
       | inr same ↦ let one : i ≡ j = omega arith in rw one (omega arith)
     ]
 
-module _ (s : SolidView) (far x y : ℕ) where
+module _ (s : SolidView) (end x y : ℕ) where
   abbrev at : Linear → ℤ
   at p = value_at p x y
 
@@ -115,7 +116,7 @@ module _ (s : SolidView) (far x y : ℕ) where
   front_place = greatest_place (map at (front_planes s.fronts))
 
   abbrev back_place : ℕ
-  back_place = greatest_place (map turned (back_planes s.backs far))
+  back_place = greatest_place (map turned (back_planes s.backs end))
 
   above_is : (p q : Linear) → le_z (pos 0) (value_at (above p q) x y) ≡ lt_z (at q) (at p)
   above_is p q = rw (value_at-less_one (minus p q) x y, value_at-minus p q x y) (above_test (at p) (at q))
@@ -130,8 +131,8 @@ module _ (s : SolidView) (far x y : ℕ) where
 
   back_low : back_place ≤ length s.backs
   back_low =
-      let n = some_values turned (back_planes s.backs far) (length s.backs) (backs_size s far) in
-      omega (arith, greatest_there (map turned (back_planes s.backs far)) (omega (arith, n)), n)
+      let n = some_values turned (back_planes s.backs end) (length s.backs) (backs_size s end) in
+      omega (arith, greatest_there (map turned (back_planes s.backs end)) (omega (arith, n)), n)
 
   front_value : at (get_or (front_planes s.fronts) front_place (level 0)) ≡ enters_at s x y
   front_value =
@@ -139,40 +140,40 @@ module _ (s : SolidView) (far x y : ℕ) where
       let room : front_place < length (front_planes s.fronts) = omega (arith, front_low, fronts_size s) in
       let v = at (get_or (front_planes s.fronts) front_place (level 0)) in
       let here : get_or (map at (front_planes s.fronts)) front_place (pos 0) ≡ v = get_or-map at (front_planes s.fronts) front_place (level 0) (pos 0) room in
-      let bound : (z : ℤ) → le_z v z ≡ le_z (enters_at s x y) z = λ z. rw (← here) (greatest_bounds (map at (front_planes s.fronts)) (pos 0) z (omega (arith, n)) ∙ fronts_below s far x y z) in
+      let bound : (z : ℤ) → le_z v z ≡ le_z (enters_at s x y) z = λ z. rw (← here) (greatest_bounds (map at (front_planes s.fronts)) (pos 0) z (omega (arith, n)) ∙ fronts_below s end x y z) in
       le_ext v (enters_at s x y) (bound v) (bound (enters_at s x y))
 
-  back_value : at (get_or (back_planes s.backs far) back_place (level 0)) ≡ leaves_at s far x y
+  back_value : at (get_or (back_planes s.backs end) back_place (level 0)) ≡ leaves_at s end x y
   back_value =
-      let n = some_values turned (back_planes s.backs far) (length s.backs) (backs_size s far) in
-      let room : back_place < length (back_planes s.backs far) = omega (arith, back_low, backs_size s far) in
-      let v : ℤ = at (get_or (back_planes s.backs far) back_place (level 0)) in
-      let here : get_or (map turned (back_planes s.backs far)) back_place (pos 0) ≡ neg_ℤ v = get_or-map turned (back_planes s.backs far) back_place (level 0) (pos 0) room in
-      let bound : (z : ℤ) → lt_z z v ≡ lt_z z (leaves_at s far x y) =
-      λ z. sym (before_turned z v) ∙ rw (← here) (greatest_bounds (map turned (back_planes s.backs far)) (pos 0) (neg_ℤ z -ℤ pos 1) (omega (arith, n)) ∙ turned_backs s far x y z) in
-      lt_ext v (leaves_at s far x y) (bound v) (bound (leaves_at s far x y))
+      let n = some_values turned (back_planes s.backs end) (length s.backs) (backs_size s end) in
+      let room : back_place < length (back_planes s.backs end) = omega (arith, back_low, backs_size s end) in
+      let v : ℤ = at (get_or (back_planes s.backs end) back_place (level 0)) in
+      let here : get_or (map turned (back_planes s.backs end)) back_place (pos 0) ≡ neg_ℤ v = get_or-map turned (back_planes s.backs end) back_place (level 0) (pos 0) room in
+      let bound : (z : ℤ) → lt_z z v ≡ lt_z z (leaves_at s end x y) =
+      λ z. sym (before_turned z v) ∙ rw (← here) (greatest_bounds (map turned (back_planes s.backs end)) (pos 0) (neg_ℤ z -ℤ pos 1) (omega (arith, n)) ∙ turned_backs s end x y z) in
+      lt_ext v (leaves_at s end x y) (bound v) (bound (leaves_at s end x y))
 
-  front_is : (i : ℕ) → i ≤ length s.fronts → hold_at (front_edges s far i) x y ≡ (is_met s far x y && eqb i front_place)
+  front_is : (i : ℕ) → i ≤ length s.fronts → hold_at (front_edges s end i) x y ≡ (is_met s end x y && eqb i front_place)
   front_is i low =
       let ps = front_planes s.fronts in
       let p = get_or ps i (level 0) in
       let room : i < length ps = omega (arith, fronts_size s) in
-      kept_parts s.sides (map (λ q. above p q) (take i ps)) (map (λ q. at_least p q) (drop (i + 1) ps)) (map (λ q. above q p) (back_planes s.backs far)) x y
+      kept_parts s.sides (map (λ q. above p q) (take i ps)) (map (λ q. at_least p q) (drop (i + 1) ps)) (map (λ q. above q p) (back_planes s.backs end)) x y
       ∙ rw (
         part (λ q. above p q) at (λ u. lt_z u (at p)) x y (λ q. above_is p q) (take i ps),
         part (λ q. at_least p q) at (λ u. le_z u (at p)) x y (λ q. at_least_is p q) (drop (i + 1) ps),
-        part (λ q. above q p) at (λ u. lt_z (at p) u) x y (λ q. above_is q p) (back_planes s.backs far),
+        part (λ q. above q p) at (λ u. lt_z (at p) u) x y (λ q. above_is q p) (back_planes s.backs end),
       )
       (one_place (hold_at s.sides x y) (is_first_greatest (map at (take i ps)) (at p) (map at (drop (i + 1) ps)))
-      (list_all (λ u. lt_z (at p) u) (map at (back_planes s.backs far))) (lt_z (enters_at s x y) (leaves_at s far x y)) (eqb i front_place)
+      (list_all (λ u. lt_z (at p) u) (map at (back_planes s.backs end))) (lt_z (enters_at s x y) (leaves_at s end x y)) (eqb i front_place)
       (lead_is at ps i room)
-      (λ e. backs_over s far x y (at p) ∙ ap (λ v. lt_z v (leaves_at s far x y)) (ap (λ j. at (get_or ps j (level 0))) (same_place i front_place e) ∙ front_value)))
+      (λ e. backs_over s end x y (at p) ∙ ap (λ v. lt_z v (leaves_at s end x y)) (ap (λ j. at (get_or ps j (level 0))) (same_place i front_place e) ∙ front_value)))
 
-  back_is : (i : ℕ) → i ≤ length s.backs → hold_at (back_edges s far i) x y ≡ (is_met s far x y && eqb i back_place)
+  back_is : (i : ℕ) → i ≤ length s.backs → hold_at (back_edges s end i) x y ≡ (is_met s end x y && eqb i back_place)
   back_is i low =
-      let ps = back_planes s.backs far in
+      let ps = back_planes s.backs end in
       let p = get_or ps i (level 0) in
-      let room : i < length ps = omega (arith, backs_size s far) in
+      let room : i < length ps = omega (arith, backs_size s end) in
       kept_parts s.sides (map (λ q. above q p) (take i ps)) (map (λ q. at_least q p) (drop (i + 1) ps)) (map (λ q. above p q) (front_planes s.fronts)) x y
       ∙ rw (
         part (λ q. above q p) turned (λ u. lt_z u (turned p)) x y (λ q. above_is q p ∙ lt_turned (at p) (at q)) (take i ps),
@@ -180,62 +181,62 @@ module _ (s : SolidView) (far x y : ℕ) where
         part (λ q. above p q) at (λ u. lt_z u (at p)) x y (λ q. above_is p q) (front_planes s.fronts),
       )
       (one_place (hold_at s.sides x y) (is_first_greatest (map turned (take i ps)) (turned p) (map turned (drop (i + 1) ps)))
-      (list_all (λ u. lt_z u (at p)) (map at (front_planes s.fronts))) (lt_z (enters_at s x y) (leaves_at s far x y)) (eqb i back_place)
+      (list_all (λ u. lt_z u (at p)) (map at (front_planes s.fronts))) (lt_z (enters_at s x y) (leaves_at s end x y)) (eqb i back_place)
       (lead_is turned ps i room)
-      (λ e. fronts_under s far x y (at p) ∙ ap (λ v. lt_z (enters_at s x y) v) (ap (λ j. at (get_or ps j (level 0))) (same_place i back_place e) ∙ back_value)))
+      (λ e. fronts_under s end x y (at p) ∙ ap (λ v. lt_z (enters_at s x y) v) (ap (λ j. at (get_or ps j (level 0))) (same_place i back_place e) ∙ back_value)))
 
-  plane_front : (face : ℕ) → face ≤ length s.fronts → plane_of s far face ≡ get_or (front_planes s.fronts) face (level 0)
-  plane_front face low = get_or_append_left (front_planes s.fronts) (back_planes s.backs far) (level 0) face (omega (arith, fronts_size s))
+  plane_front : (face : ℕ) → face ≤ length s.fronts → plane_of s end face ≡ get_or (front_planes s.fronts) face (level 0)
+  plane_front face low = get_or_append_left (front_planes s.fronts) (back_planes s.backs end) (level 0) face (omega (arith, fronts_size s))
 
-  plane_back : (face : ℕ) → length s.fronts + 1 ≤ face → plane_of s far face ≡ get_or (back_planes s.backs far) (face - (length s.fronts + 1)) (level 0)
-  plane_back face high = get_or-append_right (front_planes s.fronts) (back_planes s.backs far) (length s.fronts + 1) face (level 0) (fronts_size s) high
+  plane_back : (face : ℕ) → length s.fronts + 1 ≤ face → plane_of s end face ≡ get_or (back_planes s.backs end) (face - (length s.fronts + 1)) (level 0)
+  plane_back face high = get_or-append_right (front_planes s.fronts) (back_planes s.backs end) (length s.fronts + 1) face (level 0) (fronts_size s) high
 
-  fronts_cover : (face : ℕ) → is_front s face ≡ true → covers s far face x y ≡ (is_met s far x y && eqb face (covering_front s x y))
+  fronts_cover : (face : ℕ) → is_front s face ≡ true → covers s end face x y ≡ (is_met s end x y && eqb face (covering_front s x y))
   fronts_cover face front =
       let low = below_lt face (length s.fronts + 1) front in
       rw front (front_is face (omega arith))
 
-  backs_cover : (face : ℕ) → face < face_count s → is_front s face ≡ false → covers s far face x y ≡ (is_met s far x y && eqb face (covering_back s far x y))
+  backs_cover : (face : ℕ) → face < face_count s → is_front s face ≡ false → covers s end face x y ≡ (is_met s end x y && eqb face (covering_back s end x y))
   backs_cover face there back =
       let n = length s.fronts + 1 in
       let high : n ≤ face = from_lt face (length s.fronts + 1) back in
       rw (back, back_is (face - n) (omega arith), moved_place n face back_place high) refl
 
-  least_index : (face : ℕ) → face < face_count s → is_front s face ≡ false → value_at (plane_of s far face) x y ≡ leaves_at s far x y → covering_back s far x y ≤ face
+  least_index : (face : ℕ) → face < face_count s → is_front s face ≡ false → value_at (plane_of s end face) x y ≡ leaves_at s end x y → covering_back s end x y ≤ face
   least_index face there back same =
       let n = length s.fronts + 1 in
       let high : n ≤ face = from_lt face (length s.fronts + 1) back in
       let i = face - n in
-      let v : ℤ = leaves_at s far x y in
-      let room : i < length (back_planes s.backs far) = omega (arith, backs_size s far) in
-      let place : i < length (map turned (back_planes s.backs far)) = omega (arith, some_values turned (back_planes s.backs far) (length s.backs) (backs_size s far)) in
-      let here : get_or (map turned (back_planes s.backs far)) i (pos 0) ≡ neg_ℤ v =
-      get_or-map turned (back_planes s.backs far) i (level 0) (pos 0) room ∙ ap neg_ℤ (sym (ap at (plane_back face high)) ∙ same) in
+      let v : ℤ = leaves_at s end x y in
+      let room : i < length (back_planes s.backs end) = omega (arith, backs_size s end) in
+      let place : i < length (map turned (back_planes s.backs end)) = omega (arith, some_values turned (back_planes s.backs end) (length s.backs) (backs_size s end)) in
+      let here : get_or (map turned (back_planes s.backs end)) i (pos 0) ≡ neg_ℤ v =
+      get_or-map turned (back_planes s.backs end) i (level 0) (pos 0) room ∙ ap neg_ℤ (sym (ap at (plane_back face high)) ∙ same) in
       let least : neg_ℤ (v -ℤ pos 1) -ℤ pos 1 ≡ neg_ℤ v = omega (arith, ints) in
-      let all : list_all (λ u. le_z u (neg_ℤ v)) (map turned (back_planes s.backs far)) ≡ true =
-      ap (λ w. list_all (λ u. le_z u w) (map turned (back_planes s.backs far))) (sym least) ∙ turned_backs s far x y (v -ℤ pos 1) ∙ lt_before v in
-      omega (arith, greatest_first (map turned (back_planes s.backs far)) i (pos 0) place (ap (λ w. list_all (λ u. le_z u w) (map turned (back_planes s.backs far))) here ∙ all))
+      let all : list_all (λ u. le_z u (neg_ℤ v)) (map turned (back_planes s.backs end)) ≡ true =
+      ap (λ w. list_all (λ u. le_z u w) (map turned (back_planes s.backs end))) (sym least) ∙ turned_backs s end x y (v -ℤ pos 1) ∙ lt_before v in
+      omega (arith, greatest_first (map turned (back_planes s.backs end)) i (pos 0) place (ap (λ w. list_all (λ u. le_z u w) (map turned (back_planes s.backs end))) here ∙ all))
 
-  first_index : (face : ℕ) → face ≤ length s.fronts → value_at (plane_of s far face) x y ≡ enters_at s x y → front_place ≤ face
+  first_index : (face : ℕ) → face ≤ length s.fronts → value_at (plane_of s end face) x y ≡ enters_at s x y → front_place ≤ face
   first_index face low same =
       let v : ℤ = enters_at s x y in
       let room : face < length (front_planes s.fronts) = omega (arith, fronts_size s) in
       let place : face < length (map at (front_planes s.fronts)) = omega (arith, some_values at (front_planes s.fronts) (length s.fronts) (fronts_size s)) in
       let here : get_or (map at (front_planes s.fronts)) face (pos 0) ≡ v =
       get_or-map at (front_planes s.fronts) face (level 0) (pos 0) room ∙ sym (ap at (plane_front face low)) ∙ same in
-      greatest_first (map at (front_planes s.fronts)) face (pos 0) place (ap (λ w. list_all (λ u. le_z u w) (map at (front_planes s.fronts))) here ∙ fronts_below s far x y v ∙ le_same v)
+      greatest_first (map at (front_planes s.fronts)) face (pos 0) place (ap (λ w. list_all (λ u. le_z u w) (map at (front_planes s.fronts))) here ∙ fronts_below s end x y v ∙ le_same v)
 
   number_front : (face : ℕ) → face ≤ length s.fronts → number_of s face ≡ get_or (s.near_number ∷ numbers_of s.fronts) face 0
   number_front face low = get_or_append_left (s.near_number ∷ numbers_of s.fronts) (numbers_of s.backs ++ 0 ∷ []) 0 face (omega (arith, length-map s.fronts (λ f. f.number)))
 
-  least_number : IsLawfulSolid s → (face : ℕ) → is_front s face ≡ true → value_at (plane_of s far face) x y ≡ enters_at s x y → number_of s (covering_front s x y) ≤ number_of s face
+  least_number : IsLawfulSolid s → (face : ℕ) → is_front s face ≡ true → value_at (plane_of s end face) x y ≡ enters_at s x y → number_of s (covering_front s x y) ≤ number_of s face
   least_number lawful face front same =
       let there = below_lt face (length s.fronts + 1) front in
       let low : face ≤ length s.fronts = omega arith in
       rw (number_front face low, number_front front_place front_low)
       (numbers_grow s.near_number s.fronts front_place face lawful.fronts (first_index face low same) low)
 
-  pub covered_once : IsCoveredOnce s far x y
+  pub covered_once : IsCoveredOnce s end x y
   covered_once =
       let n = length s.fronts + 1 in
       let high : n ≤ n + back_place = omega arith in
@@ -247,9 +248,9 @@ module _ (s : SolidView) (far x y : ℕ) where
         back_there = omega (arith, back_low);
         back_behind = lt_false (n + back_place) n high;
         front_value = ap at (plane_front front_place front_low) ∙ front_value;
-        back_value = ap at (plane_back (n + back_place) high) ∙ ap (λ j. at (get_or (back_planes s.backs far) j (level 0))) moved ∙ back_value;
+        back_value = ap at (plane_back (n + back_place) high) ∙ ap (λ j. at (get_or (back_planes s.backs end) j (level 0))) moved ∙ back_value;
         least_number = least_number;
         least_index = least_index;
-        cells = cells_are s far x y;
-        depths = depths_are s far x y;
+        values = cells_are s end x y;
+        depths = depths_are s end x y;
       }

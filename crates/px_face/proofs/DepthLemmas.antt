@@ -9,8 +9,8 @@ use lib.Signed.{le_z, lt_z}
 use Rattle.px_num.specs.declared.linear.Linear.{Linear}
 use Rattle.px_num.specs.Forms.{value_at}
 use Rattle.px_scene.specs.Solids.{SolidView}
-use Rattle.px_scene.specs.Cells.{is_inside}
-use Rattle.px_face.specs.Covering.{enters_at, is_met, leaves_at}
+use Rattle.px_scene.specs.Cells.{enters_at, is_inside_at, leaves_at}
+use Rattle.px_face.specs.Covering.{is_met}
 use Rattle.px_face.specs.Edges.{hold_at}
 use Rattle.px_face.specs.Faces.{back_planes, front_planes, level, planes_of}
 use Rattle.px_face.proofs.PlaceLemmas.{and_both, and_right, and_true}
@@ -28,14 +28,14 @@ and_max a b z = grind (arith, ints)
 and_min : (a b z : ℤ) → lt_z z (int_min a b) ≡ (lt_z z a && lt_z z b)
 and_min a b z = grind (arith, ints)
 
-all_max : {X : Type 0} (v : X → ℤ) (xs : List X) (m z : ℤ) → le_z (fold int_max m (map v xs)) z ≡ (le_z m z && list_all (λ x. le_z (v x) z) xs)
+pub all_max : {X : Type 0} (v : X → ℤ) (xs : List X) (m z : ℤ) → le_z (fold int_max m (map v xs)) z ≡ (le_z m z && list_all (λ x. le_z (v x) z) xs)
 all_max v [] m z = sym (and_true (le_z m z))
 all_max v (x ∷ xs) m z =
     all_max v xs (int_max m (v x)) z
     ∙ ap (λ b. b && list_all (λ w. le_z (v w) z) xs) (and_max m (v x) z)
     ∙ and_both (le_z m z) (le_z (v x) z) (list_all (λ w. le_z (v w) z) xs)
 
-all_min : {X : Type 0} (v : X → ℤ) (xs : List X) (m z : ℤ) → lt_z z (fold int_min m (map v xs)) ≡ (lt_z z m && list_all (λ x. lt_z z (v x)) xs)
+pub all_min : {X : Type 0} (v : X → ℤ) (xs : List X) (m z : ℤ) → lt_z z (fold int_min m (map v xs)) ≡ (lt_z z m && list_all (λ x. lt_z z (v x)) xs)
 all_min v [] m z = sym (and_true (lt_z z m))
 all_min v (x ∷ xs) m z =
     all_min v xs (int_min m (v x)) z
@@ -70,7 +70,7 @@ some_cell : (sides : Bool) (e l z : ℤ) → (sides && (le_z e z && lt_z z l)) �
 some_cell false e l z = refl
 some_cell true e l z = grind (arith, ints)
 
-module _ (s : SolidView) (far x y : ℕ) where
+module _ (s : SolidView) (end x y : ℕ) where
   abbrev at : Linear → ℤ
   at p = value_at p x y
 
@@ -90,32 +90,32 @@ module _ (s : SolidView) (far x y : ℕ) where
       ∙ fronts_below (z -ℤ pos 1)
       ∙ sym (below_is_most (enters_at s x y) z)
 
-  pub backs_over : (z : ℤ) → list_all (λ u. lt_z z u) (map at (back_planes s.backs far)) ≡ lt_z z (leaves_at s far x y)
+  pub backs_over : (z : ℤ) → list_all (λ u. lt_z z u) (map at (back_planes s.backs end)) ≡ lt_z z (leaves_at s end x y)
   backs_over z =
       rw (
-        list_all-map (λ u. lt_z z u) at (back_planes s.backs far),
-        list_all-append (λ q. lt_z z (at q)) (planes_of s.backs) (level far ∷ []),
+        list_all-map (λ u. lt_z z u) at (back_planes s.backs end),
+        list_all-append (λ q. lt_z z (at q)) (planes_of s.backs) (level end ∷ []),
         list_all-map (λ q. lt_z z (at q)) (λ f. f.plane) s.backs,
-        value_at-level far x y,
+        value_at-level end x y,
       )
-      (swapped (list_all (λ f. lt_z z (value_at f.plane x y)) s.backs) (lt_z z (pos far)) ∙ sym (all_min (λ f. value_at f.plane x y) s.backs (pos far) z))
+      (swapped (list_all (λ f. lt_z z (value_at f.plane x y)) s.backs) (lt_z z (pos end)) ∙ sym (all_min (λ f. value_at f.plane x y) s.backs (pos end) z))
 
-  pub turned_backs : (z : ℤ) → list_all (λ u. le_z u (neg_ℤ z -ℤ pos 1)) (map turned (back_planes s.backs far)) ≡ lt_z z (leaves_at s far x y)
+  pub turned_backs : (z : ℤ) → list_all (λ u. le_z u (neg_ℤ z -ℤ pos 1)) (map turned (back_planes s.backs end)) ≡ lt_z z (leaves_at s end x y)
   turned_backs z =
-      list_all-map (λ u. le_z u (neg_ℤ z -ℤ pos 1)) turned (back_planes s.backs far)
-      ∙ list_all_same (λ q. le_z (turned q) (neg_ℤ z -ℤ pos 1)) (λ q. lt_z z (at q)) (λ q. before_turned z (at q)) (back_planes s.backs far)
-      ∙ sym (list_all-map (λ u. lt_z z u) at (back_planes s.backs far))
+      list_all-map (λ u. le_z u (neg_ℤ z -ℤ pos 1)) turned (back_planes s.backs end)
+      ∙ list_all_same (λ q. le_z (turned q) (neg_ℤ z -ℤ pos 1)) (λ q. lt_z z (at q)) (λ q. before_turned z (at q)) (back_planes s.backs end)
+      ∙ sym (list_all-map (λ u. lt_z z u) at (back_planes s.backs end))
       ∙ backs_over z
 
-  pub cells_are : (z : ℕ) → is_inside s far x y z ≡ (is_met s far x y && le_z (enters_at s x y) (pos z) && lt_z (pos z) (leaves_at s far x y))
+  pub cells_are : (z : ℕ) → is_inside_at s end x y z ≡ (is_met s end x y && le_z (enters_at s x y) (pos z) && lt_z (pos z) (leaves_at s end x y))
   cells_are z =
-      in_order (le_z (pos 0) (pos z)) (nat_lt z far) (hold_at s.sides x y) (list_all (λ f. le_z (value_at f.plane x y) (pos z)) s.fronts) (list_all (λ f. lt_z (pos z) (value_at f.plane x y)) s.backs) (grind (arith, ints))
-      ∙ rw (← all_max (λ f. value_at f.plane x y) s.fronts (pos 0) (pos z), ← all_min (λ f. value_at f.plane x y) s.backs (pos far) (pos z))
-      (some_cell (hold_at s.sides x y) (enters_at s x y) (leaves_at s far x y) (pos z))
+      in_order (le_z (pos 0) (pos z)) (nat_lt z end) (hold_at s.sides x y) (list_all (λ f. le_z (value_at f.plane x y) (pos z)) s.fronts) (list_all (λ f. lt_z (pos z) (value_at f.plane x y)) s.backs) (grind (arith, ints))
+      ∙ rw (← all_max (λ f. value_at f.plane x y) s.fronts (pos 0) (pos z), ← all_min (λ f. value_at f.plane x y) s.backs (pos end) (pos z))
+      (some_cell (hold_at s.sides x y) (enters_at s x y) (leaves_at s end x y) (pos z))
 
-  pub depths_are : is_met s far x y ≡ true → (pos 0 ≤ℤ enters_at s x y) × (enters_at s x y <ℤ leaves_at s far x y) × (leaves_at s far x y ≤ℤ pos far)
+  pub depths_are : is_met s end x y ≡ true → (pos 0 ≤ℤ enters_at s x y) × (enters_at s x y <ℤ leaves_at s end x y) × (leaves_at s end x y ≤ℤ pos end)
   depths_are met =
-      let some : lt_z (enters_at s x y) (leaves_at s far x y) ≡ true = and_right (hold_at s.sides x y) (lt_z (enters_at s x y) (leaves_at s far x y)) met in
+      let some : lt_z (enters_at s x y) (leaves_at s end x y) ≡ true = and_right (hold_at s.sides x y) (lt_z (enters_at s x y) (leaves_at s end x y)) met in
       let low = fold-int_max_bounds (pos 0) (map (λ f. value_at f.plane x y) s.fronts) (enters_at s x y) refl in
-      let high = fold-int_min_bounds (pos far) (map (λ f. value_at f.plane x y) s.backs) (leaves_at s far x y) refl in
+      let high = fold-int_min_bounds (pos end) (map (λ f. value_at f.plane x y) s.backs) (leaves_at s end x y) refl in
       (low.0, grind (arith, ints), high.0)

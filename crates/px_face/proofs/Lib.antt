@@ -1,6 +1,10 @@
+pub mod BackgroundLemmas
+pub mod CellLemmas
 pub mod CoveringLemmas
 pub mod DepthLemmas
 pub mod EdgeLemmas
 pub mod ParityLemmas
 pub mod PlaceLemmas
 pub mod RangeLemmas
+pub mod SurfaceLemmas
+pub mod WholeLemmas

@@ -1,5 +1,5 @@
 -- The parity law: an odd number of covering faces stands at or before a cell exactly where it is inside.
-use Rattle.std.proofs.Common.{◌≡◌, ◌<◌, ◌≤◌, ◌+◌, ℕ, zero, suc, ℤ, pos, Bool, true, false, ◌&&◌, not, cond, ◌∷◌, ◌++◌, length, eqb, count_by, refl, ap, sym, ◌∙◌, arith, inl, inr}
+use Rattle.std.proofs.Common.{◌≡◌, ◌<◌, ◌≤◌, ◌+◌, ℕ, zero, suc, ℤ, pos, Bool, true, false, ◌&&◌, not, List, [], cond, ◌∷◌, ◌++◌, length, eqb, count_by, refl, ap, sym, ◌∙◌, arith, inl, inr}
 use Rattle.std.specs.List.{range_with_len}
 use Rattle.std.proofs.lemmas.Int.{ints}
 use Rattle.std.proofs.lemmas.Bool.{cases_eq}
@@ -8,8 +8,10 @@ use Rattle.std.proofs.lemmas.List.Sums.{sum_by-append}
 use lib.Signed.{le_z, lt_z}
 use Rattle.px_num.specs.Forms.{value_at}
 use Rattle.px_scene.specs.Solids.{SolidView}
-use Rattle.px_face.specs.Covering.{IsCoveredOnce, IsInsideByParity, covering_back, covering_front, enters_at, is_met, is_odd, is_passed, leaves_at}
-use Rattle.px_face.specs.Edges.{hold_at}
+use Rattle.px_scene.specs.Cells.{Depths, end_of, enters_at, is_inside_at, leaves_at, value_of}
+use Rattle.px_scene.specs.CellLaws.{cell_is_first}
+use Rattle.px_face.specs.Covering.{IsCoveredOnce, IsInsideByParity, covering_back, covering_front, is_met, is_odd, is_passed, is_passed_at}
+use Rattle.px_face.specs.Edges.{covers, hold_at}
 use Rattle.px_face.specs.Faces.{face_count, plane_of}
 use Rattle.px_face.specs.ParityLaws.{count_by-cons}
 use Rattle.px_face.proofs.CoveringLemmas.{below_lt, same_place}
@@ -71,25 +73,25 @@ odd_between true true false first = refl
 odd_between true false true first = let e : false ≡ true = first refl refl in cc
 odd_between true false false first = refl
 
-module _ (s : SolidView) (far x y : ℕ) (law : IsCoveredOnce s far x y) where
-  fronts_passed : (z i : ℕ) → i < length s.fronts + 1 → is_passed s far x y z i ≡ ((is_met s far x y && le_z (enters_at s x y) (pos z)) && eqb i (covering_front s x y))
+module _ (s : SolidView) (end x y : ℕ) (law : IsCoveredOnce s end x y) where
+  fronts_passed : (z i : ℕ) → i < length s.fronts + 1 → is_passed_at s end x y z i ≡ ((is_met s end x y && le_z (enters_at s x y) (pos z)) && eqb i (covering_front s x y))
   fronts_passed z i low =
       rw (law.fronts i (lt_true i (length s.fronts + 1) low))
-      (where_here (is_met s far x y) (eqb i (covering_front s x y)) (le_z (value_at (plane_of s far i) x y) (pos z)) (le_z (enters_at s x y) (pos z))
-      (λ e. ap (λ v. le_z v (pos z)) (ap (λ j. value_at (plane_of s far j) x y) (same_place i (covering_front s x y) e) ∙ law.front_value)))
+      (where_here (is_met s end x y) (eqb i (covering_front s x y)) (le_z (value_at (plane_of s end i) x y) (pos z)) (le_z (enters_at s x y) (pos z))
+      (λ e. ap (λ v. le_z v (pos z)) (ap (λ j. value_at (plane_of s end j) x y) (same_place i (covering_front s x y) e) ∙ law.front_value)))
 
-  backs_passed : (z i : ℕ) → length s.fronts + 1 ≤ i → i < face_count s → is_passed s far x y z i ≡ ((is_met s far x y && le_z (leaves_at s far x y) (pos z)) && eqb i (covering_back s far x y))
+  backs_passed : (z i : ℕ) → length s.fronts + 1 ≤ i → i < face_count s → is_passed_at s end x y z i ≡ ((is_met s end x y && le_z (leaves_at s end x y) (pos z)) && eqb i (covering_back s end x y))
   backs_passed z i low high =
       rw (law.backs i high (lt_false i (length s.fronts + 1) low))
-      (where_here (is_met s far x y) (eqb i (covering_back s far x y)) (le_z (value_at (plane_of s far i) x y) (pos z)) (le_z (leaves_at s far x y) (pos z))
-      (λ e. ap (λ v. le_z v (pos z)) (ap (λ j. value_at (plane_of s far j) x y) (same_place i (covering_back s far x y) e) ∙ law.back_value)))
+      (where_here (is_met s end x y) (eqb i (covering_back s end x y)) (le_z (value_at (plane_of s end i) x y) (pos z)) (le_z (leaves_at s end x y) (pos z))
+      (λ e. ap (λ v. le_z v (pos z)) (ap (λ j. value_at (plane_of s end j) x y) (same_place i (covering_back s end x y) e) ∙ law.back_value)))
 
-  pub odd_inside : IsInsideByParity s far x y
-  odd_inside z =
-      let test : ℕ → Bool = is_passed s far x y z in
-      let met = is_met s far x y in
+  pub odd_inside_at : ((v : ℕ) → is_inside_at s end x y v ≡ is_odd (count_by (is_passed_at s end x y v) (range_with_len 0 (face_count s))))
+  odd_inside_at z =
+      let test : ℕ → Bool = is_passed_at s end x y z in
+      let met = is_met s end x y in
       let entered = le_z (enters_at s x y) (pos z) in
-      let left = le_z (leaves_at s far x y) (pos z) in
+      let left = le_z (leaves_at s end x y) (pos z) in
       let nf = length s.fronts + 1 in
       let nb = length s.backs + 1 in
       let count : face_count s ≡ nf + nb = omega arith in
@@ -98,8 +100,22 @@ module _ (s : SolidView) (far x y : ℕ) (law : IsCoveredOnce s far x y) where
       let fronts : count_by test (range_with_len 0 nf) ≡ cond (met && entered) 1 0 =
       count_one test 0 nf (covering_front s x y) (met && entered) (λ i p q. fronts_passed z i (omega arith)) (omega arith) (omega arith) in
       let backs : count_by test (range_with_len nf nb) ≡ cond (met && left) 1 0 =
-      count_one test nf nb (covering_back s far x y) (met && left) (λ i p q. backs_passed z i p (omega arith)) (omega arith) (omega (arith, law.back_there)) in
-      law.cells z
-      ∙ ap (λ b. met && entered && b) (not_left (leaves_at s far x y) (pos z))
-      ∙ odd_between met entered left (λ m. left_is_entered (enters_at s x y) (leaves_at s far x y) (pos z) (and_right (hold_at s.sides x y) (lt_z (enters_at s x y) (leaves_at s far x y)) m))
+      count_one test nf nb (covering_back s end x y) (met && left) (λ i p q. backs_passed z i p (omega arith)) (omega arith) (omega (arith, law.back_there)) in
+      law.values z
+      ∙ ap (λ b. met && entered && b) (not_left (leaves_at s end x y) (pos z))
+      ∙ odd_between met entered left (λ m. left_is_entered (enters_at s x y) (leaves_at s end x y) (pos z) (and_right (hold_at s.sides x y) (lt_z (enters_at s x y) (leaves_at s end x y)) m))
       ∙ sym (rw (count, range-append 0 nf nb, none, sum_by-append (λ i. cond (test i) 1 0) (range_with_len 0 nf) (range_with_len nf nb), fronts, backs) refl)
+
+count_same : (p q : ℕ → Bool) → ((i : ℕ) → p i ≡ q i) → (is : List ℕ) → count_by p is ≡ count_by q is
+count_same p q same [] = refl
+count_same p q same (i ∷ is) =
+    count_by-cons p i is ∙ ap (λ b. cond b 1 0 + count_by p is) (same i) ∙ ap (λ n. cond (q i) 1 0 + n) (count_same p q same is)
+    ∙ sym (count_by-cons q i is)
+
+-- the same by the cells of the faces
+pub odd_inside : (s : SolidView) (d : Depths) (x y : ℕ) → IsCoveredOnce s (end_of d) x y → IsInsideByParity s d x y
+odd_inside s d x y law z =
+    let faces = range_with_len 0 (face_count s) in
+    odd_inside_at s (end_of d) x y law (value_of d z)
+    ∙ ap is_odd (count_same (is_passed_at s (end_of d) x y (value_of d z)) (is_passed s d x y z)
+    (λ i. ap (λ b. covers s (end_of d) i x y && b) (sym (cell_is_first d (value_at (plane_of s (end_of d) i) x y) z))) faces)

@@ -5,7 +5,7 @@ use Rattle.std.proofs.lemmas.Bool.Decides.{nat_tests}
 use Rattle.std.proofs.lemmas.List.{length-map}
 use Rattle.std.proofs.lemmas.List.Elements.{All-cons, All-append, All-map, All-take, All-drop, All-weaker, All-get_or, All-push}
 use Rattle.px_num.specs.declared.linear.Linear.{Linear}
-use Rattle.px_num.specs.Forms.{IsInTreeRange, IsWithin}
+use Rattle.px_num.specs.Forms.{IsInHalfRange, IsInTreeRange, IsWithin}
 use Rattle.px_scene.specs.Solids.{IsLawfulSolid, IsPlane, SolidView}
 use Rattle.px_face.specs.Edges.{above, at_least, back_edges, front_edges, leads, trails}
 use Rattle.px_face.specs.Faces.{back_planes, face_count, front_planes, level, plane_of, planes_of}
@@ -13,8 +13,8 @@ use Rattle.px_face.specs.Faces.{back_planes, face_count, front_planes, level, pl
 pub fronts_size : (s : SolidView) → length (front_planes s.fronts) ≡ length s.fronts + 1
 fronts_size s = rw (length-map s.fronts (λ f. f.plane)) (omega arith)
 
-pub backs_size : (s : SolidView) (far : ℕ) → length (back_planes s.backs far) ≡ length s.backs + 1
-backs_size s far = rw (length-append (planes_of s.backs) (level far ∷ []), length-map s.backs (λ f. f.plane)) (omega arith)
+pub backs_size : (s : SolidView) (end : ℕ) → length (back_planes s.backs end) ≡ length s.backs + 1
+backs_size s end = rw (length-append (planes_of s.backs) (level end ∷ []), length-map s.backs (λ f. f.plane)) (omega arith)
 
 pub lt_true : (i n : ℕ) → i < n → nat_lt i n ≡ true
 lt_true i n h = grind (arith, nat_tests)
@@ -33,6 +33,9 @@ apart_less m n u v le (ulow, uhigh) (vlow, vhigh) = (omega (arith, ints), omega 
 
 pub plane_range : (p : Linear) → IsPlane p → IsInTreeRange p
 plane_range p h = record { a = wider (2 ^ 23) (2 ^ 27) p.a (lit≤ tt) h.a; b = wider (2 ^ 23) (2 ^ 27) p.b (lit≤ tt) h.b; c = wider (2 ^ 33) (2 ^ 38) p.c (lit≤ tt) h.c }
+
+pub half_range : (p : Linear) → IsPlane p → IsInHalfRange p
+half_range p h = record { a = wider (2 ^ 23) (2 ^ 26) p.a (lit≤ tt) h.a; b = wider (2 ^ 23) (2 ^ 26) p.b (lit≤ tt) h.b; c = wider (2 ^ 33) (2 ^ 37) p.c (lit≤ tt) h.c }
 
 at_least_range : (p q : Linear) → IsPlane p → IsPlane q → IsInTreeRange (at_least p q)
 at_least_range p q h k = record {
@@ -69,35 +72,34 @@ trails_range p ps i plane planes =
 three_range : (a b c : List Linear) → All IsInTreeRange a → All IsInTreeRange b → All IsInTreeRange c → All IsInTreeRange (a ++ b ++ c)
 three_range a b c in_a in_b in_c = All-append IsInTreeRange (a ++ b) c (All-append IsInTreeRange a b in_a in_b) in_c
 
-module _ (s : SolidView) (lawful : IsLawfulSolid s) (far : ℕ) (small : far < 2 ^ 32) where
+module _ (s : SolidView) (lawful : IsLawfulSolid s) (end : ℕ) (small : end < 2 ^ 32) where
   fronts_planes : All IsPlane (front_planes s.fronts)
   fronts_planes = All-cons IsPlane (level 0) (planes_of s.fronts) (level_plane 0 (omega arith)) (All-map IsPlane (λ f. f.plane) s.fronts lawful.fronts.planes)
 
-  backs_planes : All IsPlane (back_planes s.backs far)
-  backs_planes = All-push IsPlane (planes_of s.backs) (level far) (All-map IsPlane (λ f. f.plane) s.backs lawful.backs.planes) (level_plane far small)
+  backs_planes : All IsPlane (back_planes s.backs end)
+  backs_planes = All-push IsPlane (planes_of s.backs) (level end) (All-map IsPlane (λ f. f.plane) s.backs lawful.backs.planes) (level_plane end small)
 
   sides_range : All IsInTreeRange s.sides
   sides_range = All-weaker IsPlane IsInTreeRange plane_range s.sides lawful.sides
 
-  pub front_range : (i : ℕ) → i ≤ length s.fronts → All IsInTreeRange (front_edges s far i)
+  pub front_range : (i : ℕ) → i ≤ length s.fronts → All IsInTreeRange (front_edges s end i)
   front_range i there =
       let p = get_or (front_planes s.fronts) i (level 0) in
       let plane = All-get_or IsPlane (front_planes s.fronts) i (level 0) (omega (arith, fronts_size s)) fronts_planes in
-      three_range s.sides (leads p (front_planes s.fronts) i) (map (λ q. above q p) (back_planes s.backs far)) sides_range
+      three_range s.sides (leads p (front_planes s.fronts) i) (map (λ q. above q p) (back_planes s.backs end)) sides_range
       (leads_range p (front_planes s.fronts) i plane fronts_planes)
-      (part (λ q. above q p) (λ q h. above_range q p h plane) (back_planes s.backs far) backs_planes)
+      (part (λ q. above q p) (λ q h. above_range q p h plane) (back_planes s.backs end) backs_planes)
 
-  pub back_range : (i : ℕ) → i ≤ length s.backs → All IsInTreeRange (back_edges s far i)
+  pub back_range : (i : ℕ) → i ≤ length s.backs → All IsInTreeRange (back_edges s end i)
   back_range i there =
-      let p = get_or (back_planes s.backs far) i (level 0) in
-      let plane = All-get_or IsPlane (back_planes s.backs far) i (level 0) (omega (arith, backs_size s far)) backs_planes in
-      three_range s.sides (trails p (back_planes s.backs far) i) (map (λ q. above p q) (front_planes s.fronts)) sides_range
-      (trails_range p (back_planes s.backs far) i plane backs_planes)
+      let p = get_or (back_planes s.backs end) i (level 0) in
+      let plane = All-get_or IsPlane (back_planes s.backs end) i (level 0) (omega (arith, backs_size s end)) backs_planes in
+      three_range s.sides (trails p (back_planes s.backs end) i) (map (λ q. above p q) (front_planes s.fronts)) sides_range
+      (trails_range p (back_planes s.backs end) i plane backs_planes)
       (part (λ q. above p q) (λ q h. above_range p q plane h) (front_planes s.fronts) fronts_planes)
 
-  pub plane_of_range : (face : ℕ) → face < face_count s → IsInTreeRange (plane_of s far face)
+  pub plane_of_range : (face : ℕ) → face < face_count s → IsPlane (plane_of s end face)
   plane_of_range face there =
-      let planes = front_planes s.fronts ++ back_planes s.backs far in
-      plane_range (plane_of s far face)
-      (All-get_or IsPlane planes face (level 0) (omega (arith, length-append (front_planes s.fronts) (back_planes s.backs far), fronts_size s, backs_size s far))
-      (All-append IsPlane (front_planes s.fronts) (back_planes s.backs far) fronts_planes backs_planes))
+      let planes = front_planes s.fronts ++ back_planes s.backs end in
+      All-get_or IsPlane planes face (level 0) (omega (arith, length-append (front_planes s.fronts) (back_planes s.backs end), fronts_size s, backs_size s end))
+      (All-append IsPlane (front_planes s.fronts) (back_planes s.backs end) fronts_planes backs_planes)

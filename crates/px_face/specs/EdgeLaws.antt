@@ -1,18 +1,18 @@
 -- How many edges a face has, and how large its edges and its plane are.
 use Rattle.std.specs.Prelude.{◌≡◌, ℕ, ◌^◌, ◌<◌, All, length}
 use Rattle.px_num.specs.Forms.{IsInTreeRange}
-use Rattle.px_scene.specs.Solids.{IsLawfulSolid, SolidView}
+use Rattle.px_scene.specs.Solids.{IsLawfulSolid, IsPlane, SolidView}
 use Rattle.px_face.specs.Edges.{edge_count, edges}
 use Rattle.px_face.specs.Faces.{face_count, plane_of}
 
 abbrev pub EdgesAreCounted : Type 0
-EdgesAreCounted = (s : SolidView) (far face : ℕ) → face < face_count s →
-    length (edges s far face) ≡ edge_count s
+EdgesAreCounted = (s : SolidView) (end face : ℕ) → face < face_count s →
+    length (edges s end face) ≡ edge_count s
 
 abbrev pub EdgesAreInRange : Type 0
-EdgesAreInRange = (s : SolidView) → IsLawfulSolid s → (far face : ℕ) → far < 2 ^ 32 → face < face_count s →
-    All IsInTreeRange (edges s far face)
+EdgesAreInRange = (s : SolidView) → IsLawfulSolid s → (end face : ℕ) → end < 2 ^ 32 → face < face_count s →
+    All IsInTreeRange (edges s end face)
 
 abbrev pub PlanesAreInRange : Type 0
-PlanesAreInRange = (s : SolidView) → IsLawfulSolid s → (far face : ℕ) → far < 2 ^ 32 → face < face_count s →
-    IsInTreeRange (plane_of s far face)
+PlanesAreInRange = (s : SolidView) → IsLawfulSolid s → (end face : ℕ) → end < 2 ^ 32 → face < face_count s →
+    IsPlane (plane_of s end face)

@@ -32,41 +32,41 @@ abbrev pub trails : Linear → List Linear → (i : ℕ) → List Linear
 trails p planes i = under p (take i planes) ++ map (λ q. at_least q p) (drop (i + 1) planes)
 
 -- the sides hold, and the front leads the fronts and is below every back
-abbrev pub front_edges : SolidView → (far i : ℕ) → List Linear
-front_edges s far i =
+abbrev pub front_edges : SolidView → (end i : ℕ) → List Linear
+front_edges s end i =
     let p = get_or (front_planes s.fronts) i (level 0)
-    in s.sides ++ leads p (front_planes s.fronts) i ++ under p (back_planes s.backs far)
+    in s.sides ++ leads p (front_planes s.fronts) i ++ under p (back_planes s.backs end)
 
 -- the sides hold, and the back trails the backs and is above every front
-abbrev pub back_edges : SolidView → (far i : ℕ) → List Linear
-back_edges s far i =
-    let p = get_or (back_planes s.backs far) i (level 0)
-    in s.sides ++ trails p (back_planes s.backs far) i ++ over p (front_planes s.fronts)
+abbrev pub back_edges : SolidView → (end i : ℕ) → List Linear
+back_edges s end i =
+    let p = get_or (back_planes s.backs end) i (level 0)
+    in s.sides ++ trails p (back_planes s.backs end) i ++ over p (front_planes s.fronts)
 
 -- the edges of a front, or of a back, but for the sides
-abbrev pub front_orders : SolidView → (far i : ℕ) → List Linear
-front_orders s far i =
+abbrev pub front_orders : SolidView → (end i : ℕ) → List Linear
+front_orders s end i =
     let p = get_or (front_planes s.fronts) i (level 0)
-    in leads p (front_planes s.fronts) i ++ under p (back_planes s.backs far)
+    in leads p (front_planes s.fronts) i ++ under p (back_planes s.backs end)
 
-abbrev pub back_orders : SolidView → (far i : ℕ) → List Linear
-back_orders s far i =
-    let p = get_or (back_planes s.backs far) i (level 0)
-    in trails p (back_planes s.backs far) i ++ over p (front_planes s.fronts)
+abbrev pub back_orders : SolidView → (end i : ℕ) → List Linear
+back_orders s end i =
+    let p = get_or (back_planes s.backs end) i (level 0)
+    in trails p (back_planes s.backs end) i ++ over p (front_planes s.fronts)
 
 -- a face is compared with each side, and with each of the other faces
 abbrev pub edge_count : SolidView → ℕ
 edge_count s = length s.sides + length s.fronts + length s.backs + 1
 
-abbrev pub edges : SolidView → (far face : ℕ) → List Linear
-edges s far face =
-    if is_front s face then front_edges s far face
-    else back_edges s far (face - (length s.fronts + 1))
+abbrev pub edges : SolidView → (end face : ℕ) → List Linear
+edges s end face =
+    if is_front s face then front_edges s end face
+    else back_edges s end (face - (length s.fronts + 1))
 
 -- every form is at least 0 at the pixel
 abbrev pub hold_at : List Linear → (x y : ℕ) → Bool
 hold_at forms x y = list_all (λ p. le_z (pos 0) (value_at p x y)) forms
 
 -- a face covers the pixel
-abbrev pub covers : SolidView → (far face : ℕ) → (x y : ℕ) → Bool
-covers s far face x y = hold_at (edges s far face) x y
+abbrev pub covers : SolidView → (end face : ℕ) → (x y : ℕ) → Bool
+covers s end face x y = hold_at (edges s end face) x y

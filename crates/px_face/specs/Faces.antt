@@ -19,8 +19,8 @@ abbrev pub front_planes : List Face → List Linear
 front_planes fronts = level 0 ∷ planes_of fronts
 
 -- the far limit behind the backs
-abbrev pub back_planes : List Face → (far : ℕ) → List Linear
-back_planes backs far = planes_of backs ++ level far ∷ []
+abbrev pub back_planes : List Face → (end : ℕ) → List Linear
+back_planes backs end = planes_of backs ++ level end ∷ []
 
 abbrev pub face_count : SolidView → ℕ
 face_count s = length s.fronts + length s.backs + 2
@@ -28,8 +28,8 @@ face_count s = length s.fronts + length s.backs + 2
 abbrev pub is_front : SolidView → (face : ℕ) → Bool
 is_front s face = nat_lt face (length s.fronts + 1)
 
-abbrev pub plane_of : SolidView → (far face : ℕ) → Linear
-plane_of s far face = get_or (front_planes s.fronts ++ back_planes s.backs far) face (level 0)
+abbrev pub plane_of : SolidView → (end face : ℕ) → Linear
+plane_of s end face = get_or (front_planes s.fronts ++ back_planes s.backs end) face (level 0)
 
 -- the far limit has no number, and answers 0
 abbrev pub number_of : SolidView → (face : ℕ) → ℕ

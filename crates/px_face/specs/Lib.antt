@@ -6,3 +6,5 @@ pub mod EdgeLaws
 pub mod Edges
 pub mod Faces
 pub mod ParityLaws
+pub mod Surfaces
+pub mod WholeLaws

@@ -1,7 +1,9 @@
 //! Which faces of a solid cover a pixel.
 ghost use Rattle.std.specs.Prelude.{◌≡◌, ◌<◌, ◌≤◌, All};
 ghost use Rattle.px_num.specs.Forms.{IsInTreeRange};
-ghost use Rattle.px_face.specs.Covering.{CoveringLaw, IsCoveredOnce, IsInsideByParity, ParityLaw};
+ghost use Rattle.px_scene.specs.Cells.{Depths, end_of};
+ghost use Rattle.px_face.specs.Covering.{CellsLaw, CoveringLaw, HasCells, IsCoveredOnce, IsInsideByParity, ParityLaw, ValueParityLaw};
+ghost use Rattle.px_face.specs.WholeLaws.{WholeBacks, WholeFronts, WholeInside};
 ghost use Rattle.px_face.specs.Edges.{covers, hold_at};
 ghost use Rattle.px_face.specs.Faces.{face_count};
 
@@ -13,25 +15,36 @@ use px_scene::Solid;
 /// Whether a face covers a pixel: whether each of its edges is at least 0 there.
 ///
 /// `x` and `y` are at most 511.
-pub fn covered(solid: &Solid, far: u32, face: usize, x: u32, y: u32) -> bool
+pub fn covered(solid: &Solid, end: u32, face: usize, x: u32, y: u32) -> bool
     requires face { face < face_count solid.now }
     requires x { x ≤ 511 }
     requires y { y ≤ 511 }
-    ensures value { result ≡ covers solid.now far face x y }
-    ensures once { IsCoveredOnce solid.now far x y }
-    ensures parity { IsInsideByParity solid.now far x y }
+    ensures value { result ≡ covers solid.now end face x y }
+    ensures once { IsCoveredOnce solid.now end x y }
+    ensures cells { (d : Depths) → end_of d ≡ end → HasCells solid.now d x y }
+    ensures parity { (d : Depths) → end_of d ≡ end → IsInsideByParity solid.now d x y }
 {
     let mut forms = ArrayVec::new();
-    edges(solid, far, face, &mut forms);
+    edges(solid, end, face, &mut forms);
     laws_of_covering();
     hold_at(forms.as_slice(), x, y)
 }
 
-/// Where a solid has a cell one front and one back cover the pixel, and elsewhere none; and a cell
-/// is inside where an odd number of covering faces stands at or before it.
+/// Where the sides hold and the greatest front is below the least back, one front and one back
+/// cover the pixel and bound the solid's cells there, and elsewhere none covers; and a cell is
+/// inside where an odd number of covering faces stands at or before it.
 pub fn laws_of_covering()
     ensures covering { CoveringLaw }
+    ensures cells { CellsLaw }
     ensures parity { ParityLaw }
+    ensures values { ValueParityLaw }
+{}
+
+/// Without a fraction a cell is its value.
+pub fn laws_without_fraction()
+    ensures inside { WholeInside }
+    ensures fronts { WholeFronts }
+    ensures backs { WholeBacks }
 {}
 
 fn hold_at(forms: &[Linear], x: u32, y: u32) -> bool

@@ -23,23 +23,23 @@ pub fn edge_count(solid: &Solid) -> usize
 ///
 /// They are the solid's sides, then the face against the others of its kind, then against those of
 /// the other kind (docs/PICTURE.md, "Edges"). Each face of a solid has as many, at most 97.
-pub fn edges(solid: &Solid, far: u32, face: usize, buf: &mut ArrayVec<Linear, 97>)
+pub fn edges(solid: &Solid, end: u32, face: usize, buf: &mut ArrayVec<Linear, 97>)
     requires { face < face_count solid.now }
-    ensures forms { buf.new.items ≡ edges solid.now far face }
+    ensures forms { buf.new.items ≡ edges solid.now end face }
     ensures count { length buf.new.items + 1 ≡ length solid.now.sides + face_count solid.now }
     ensures range { All IsInTreeRange buf.new.items }
 {
     buf.clear();
     for place in 0..edge_count(solid) {
-        buf.push(edge_at(solid, far, face, place));
+        buf.push(edge_at(solid, end, face, place));
     }
 }
 
 /// One edge of a face, by its place among `edges`.
-pub fn edge_at(solid: &Solid, far: u32, face: usize, place: usize) -> Linear
+pub fn edge_at(solid: &Solid, end: u32, face: usize, place: usize) -> Linear
     requires face { face < face_count solid.now }
     requires place { place < edge_count solid.now }
-    ensures form { result ≡ get_or (edges solid.now far face) place (level 0) }
+    ensures form { result ≡ get_or (edges solid.now end face) place (level 0) }
     ensures range { IsInTreeRange result }
 {
     let sides = solid.sides();
@@ -47,9 +47,9 @@ pub fn edge_at(solid: &Solid, far: u32, face: usize, place: usize) -> Linear
     if place < sides.len() {
         sides[place]
     } else if face < fronts {
-        front_edge(solid, far, face, place - sides.len())
+        front_edge(solid, end, face, place - sides.len())
     } else {
-        back_edge(solid, far, face - fronts, place - sides.len())
+        back_edge(solid, end, face - fronts, place - sides.len())
     }
 }
 
@@ -61,16 +61,16 @@ pub fn laws_of_edges()
 {}
 
 /// A front against the other fronts, then against the backs. The near face is front 0.
-fn front_edge(solid: &Solid, far: u32, i: usize, place: usize) -> Linear
+fn front_edge(solid: &Solid, end: u32, i: usize, place: usize) -> Linear
     requires there { i ≤ length solid.now.fronts }
     requires place { place < length solid.now.fronts + length solid.now.backs + 1 }
-    ensures { result ≡ get_or (front_orders solid.now far i) place (level 0) }
+    ensures { result ≡ get_or (front_orders solid.now end i) place (level 0) }
 {
     let fronts = solid.fronts();
     let plane = front_plane(fronts, i);
     if place >= fronts.len() {
         above(
-            &back_plane(solid.backs(), far, place - fronts.len()),
+            &back_plane(solid.backs(), end, place - fronts.len()),
             &plane,
         )
     } else if place < i {
@@ -81,19 +81,19 @@ fn front_edge(solid: &Solid, far: u32, i: usize, place: usize) -> Linear
 }
 
 /// A back against the other backs, then against the fronts. The far limit is the last back.
-fn back_edge(solid: &Solid, far: u32, i: usize, place: usize) -> Linear
+fn back_edge(solid: &Solid, end: u32, i: usize, place: usize) -> Linear
     requires there { i ≤ length solid.now.backs }
     requires place { place < length solid.now.fronts + length solid.now.backs + 1 }
-    ensures { result ≡ get_or (back_orders solid.now far i) place (level 0) }
+    ensures { result ≡ get_or (back_orders solid.now end i) place (level 0) }
 {
     let backs = solid.backs();
-    let plane = back_plane(backs, far, i);
+    let plane = back_plane(backs, end, i);
     if place >= backs.len() {
         above(&plane, &front_plane(solid.fronts(), place - backs.len()))
     } else if place < i {
-        above(&back_plane(backs, far, place), &plane)
+        above(&back_plane(backs, end, place), &plane)
     } else {
-        at_least(&back_plane(backs, far, place + 1), &plane)
+        at_least(&back_plane(backs, end, place + 1), &plane)
     }
 }
 

@@ -1,6 +1,6 @@
 //! The faces of a solid by their index.
 ghost use Rattle.std.specs.Prelude.{◌≡◌, ◌<◌, ◌≤◌, ◌++◌, ◌∷◌, [], All, length, get_or};
-ghost use Rattle.px_num.specs.Forms.{IsInTreeRange};
+ghost use Rattle.px_num.specs.Forms.{IsInHalfRange, IsInTreeRange};
 ghost use Rattle.px_scene.specs.Solids.{IsPlane};
 ghost use Rattle.px_face.specs.Faces.{
   back_planes,
@@ -57,18 +57,19 @@ fn back_number(backs: &[Face], i: usize) -> u32
     if i < backs.len() { backs[i].number } else { 0 }
 }
 
-/// The face's plane: depth 0 for the near face, and `far` for the far limit.
-#[tactic(auto, using(crate::proofs::RangeLemmas::plane_range))]
-pub fn plane_of(solid: &Solid, far: u32, face: usize) -> Linear
+/// The face's plane: depth 0 for the near face, and `end` for the far limit.
+#[tactic(auto, using(crate::proofs::RangeLemmas::plane_range, crate::proofs::RangeLemmas::half_range))]
+pub fn plane_of(solid: &Solid, end: u32, face: usize) -> Linear
     requires { face < face_count solid.now }
-    ensures plane { result ≡ plane_of solid.now far face }
+    ensures plane { result ≡ plane_of solid.now end face }
     ensures range { IsInTreeRange result }
+    ensures half { IsInHalfRange result }
 {
     let fronts = solid.fronts();
     if face <= fronts.len() {
         front_plane(fronts, face)
     } else {
-        back_plane(solid.backs(), far, face - fronts.len() - 1)
+        back_plane(solid.backs(), end, face - fronts.len() - 1)
     }
 }
 
@@ -87,16 +88,16 @@ pub(crate) fn front_plane(fronts: &[Face], i: usize) -> Linear
 }
 
 /// The plane of a back or of the far limit, which is the last back.
-pub(crate) fn back_plane(backs: &[Face], far: u32, i: usize) -> Linear
+pub(crate) fn back_plane(backs: &[Face], end: u32, i: usize) -> Linear
     requires there { i ≤ length backs.now }
     requires planes { All (λ f. IsPlane f.plane) backs.now }
-    ensures plane { result ≡ get_or (back_planes backs.now far) i (level 0) }
+    ensures plane { result ≡ get_or (back_planes backs.now end) i (level 0) }
     ensures limits { IsPlane result }
 {
     if i < backs.len() {
         backs[i].plane
     } else {
-        level(far)
+        level(end)
     }
 }
 

@@ -6,7 +6,7 @@ pub returns-clause-count : goal.returns-clause-count
 returns-clause-count c = edges_count
 
 pub returns-clause-range : goal.returns-clause-range
-returns-clause-range c = λ s lawful far face small there. edges_range s lawful far small face there
+returns-clause-range c = λ s lawful end face small there. edges_range s lawful end small face there
 
 pub returns-clause-planes : goal.returns-clause-planes
-returns-clause-planes c = λ s lawful far face small there. plane_of_range s lawful far small face there
+returns-clause-planes c = λ s lawful end face small there. plane_of_range s lawful end small face there

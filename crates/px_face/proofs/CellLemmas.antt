@@ -1,0 +1,48 @@
+-- The cells of a solid at a pixel, by the cells of the greatest front and of the least back.
+use Rattle.std.proofs.Common.{◌≡◌, ◌<◌, ◌≤◌, ℕ, Bool, true, false, ◌&&◌, nat_le, nat_lt, refl, ◌∙◌, arith, inl, inr}
+use Rattle.std.proofs.lemmas.Int.{ints}
+use Rattle.std.proofs.lemmas.Bool.{cases_lt}
+use Rattle.std.proofs.lemmas.Bool.Decides.{nat_tests}
+use Rattle.px_scene.specs.Solids.{SolidView}
+use Rattle.px_scene.specs.Cells.{Depths, cell_of, end_of, enters_at, is_inside, leaves_at, value_of}
+use Rattle.px_scene.specs.CellLaws.{cell_is_first, cell_is_least, cells_end, cells_grow}
+use Rattle.px_face.specs.Covering.{HasCells, is_met}
+use Rattle.px_face.proofs.DepthLemmas.{cells_are, depths_are}
+
+le_true : (m n : ℕ) → m ≤ n → nat_le m n ≡ true
+le_true m n h = grind (arith, nat_tests)
+
+lt_true : (m n : ℕ) → m < n → nat_lt m n ≡ true
+lt_true m n h = grind (arith, nat_tests)
+
+never : (b : Bool) → b ≡ false → b ≡ true → ⊥
+never b p q = cc
+
+module _ (s : SolidView) (d : Depths) (x y : ℕ) where
+  abbrev end : ℕ
+  end = end_of d
+
+  abbrev first : ℕ
+  first = cell_of d (enters_at s x y)
+
+  abbrev last : ℕ
+  last = cell_of d (leaves_at s end x y)
+
+  by_cells : (z : ℕ) → is_inside s d x y z ≡ (is_met s end x y && nat_le first z && nat_lt z last)
+  by_cells z =
+      cells_are s end x y (value_of d z)
+      ∙ rw (cell_is_first d (enters_at s x y) z, cell_is_least d (leaves_at s end x y) z) refl
+
+  pub in_order : is_met s end x y ≡ true → first ≤ last
+  in_order met = cells_grow d (enters_at s x y) (leaves_at s end x y) (omega (arith, ints, (depths_are s end x y met).1))
+
+  pub has_cells : HasCells s d x y
+  has_cells = record {
+    cells = by_cells;
+    none = λ met outside. elim (cases_lt first last) [
+      | inl some ↦ absurd (never (is_inside s d x y first) (outside first)
+          (by_cells first ∙ rw (met, le_true first first (omega arith), lt_true first last some) refl))
+      | inr past ↦ let le = in_order met in omega (arith, le, past)
+    ];
+    within = λ met. cells_end d (leaves_at s end x y) (depths_are s end x y met).2;
+  }

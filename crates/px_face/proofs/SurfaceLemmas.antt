@@ -1,0 +1,194 @@
+-- Where a solid begins it shows a front, and just behind its end it hides a back; and so does a scene.
+use Rattle.std.proofs.Common.{◌≡◌, ◌<◌, ◌≤◌, ◌&&◌, ◌==◌, ℕ, zero, suc, ℤ, pos, Bool, true, false, nat_le, nat_lt, List, [], ◌∷◌, ◌++◌, length, map, Option, Some, None, refl, ap, sym, ◌∙◌, arith, inl, inr, if◌then◌else◌, slice_get}
+use Rattle.std.specs.List.{Contains}
+use Rattle.std.specs.Option.{option_map_or}
+use Rattle.std.specs.Ordering.{int_eq}
+use Rattle.std.proofs.lemmas.Int.{fold-int_max_reached, fold-int_min_reached, ints}
+use Rattle.std.proofs.lemmas.Bool.{cases_Bool}
+use Rattle.std.proofs.lemmas.Bool.Decides.{nat_tests}
+use Rattle.std.proofs.lemmas.List.{length-append}
+use lib.Signed.{lt_z}
+use Rattle.px_num.specs.Forms.{value_at}
+use Rattle.px_expr.specs.Cells.{Cell, HasSurface, cell, is_member}
+use Rattle.px_expr.specs.Tree.{HasLeavesBelow, Tree, join, leaf}
+use Rattle.px_expr.specs.declared.node.Op.TheVariants as o
+use Rattle.px_scene.specs.declared.solid.Face.{Face}
+use Rattle.px_scene.specs.Solids.{SolidView}
+use Rattle.px_scene.specs.Scenes.{IsLawfulScene, SceneView}
+use Rattle.px_scene.specs.Cells.{Depths, backs_at, cell_of, depths_of, end_of, enters_at, far_of, faces_at, fronts_at, greatest_fronts, is_inside, leaf_cell, leaves_at, no_cell, scene_cell, solid_cell, value_of}
+use Rattle.px_scene.specs.CellLaws.{before_end, cell_is_least}
+use Rattle.px_face.specs.Covering.{is_met}
+use Rattle.px_face.specs.Surfaces.{NoMemberBehind, ScenesHaveSurfaces, scene_before, solid_before}
+use Rattle.px_face.proofs.CellLemmas.{has_cells}
+
+-- the faces of a value that one of them has
+faces_there : (fs : List Face) (x y : ℕ) (v : ℤ) → Contains (map (λ f. value_at f.plane x y) fs) v → 0 < length (faces_at fs x y v)
+faces_there [] x y v c = absurd (omega (arith, c.1))
+faces_there (f ∷ fs) x y v (zero, low, c) = let e : int_eq (value_at f.plane x y) v ≡ true = same (value_at f.plane x y) v c in rw e (omega arith)
+  where
+    same : (u v : ℤ) → u ≡ v → int_eq u v ≡ true
+    same u v h = grind (arith, ints)
+faces_there (f ∷ fs) x y v (suc k, low, c) =
+    let later = faces_there fs x y v (k, omega (arith, low), c) in
+    elim (cases_Bool (int_eq (value_at f.plane x y) v)) [ inl yea ↦ rw yea (omega arith) | inr nay ↦ rw nay later ]
+
+module _ (s : SolidView) (d : Depths) (x y : ℕ) where
+  abbrev limit : ℕ
+  limit = end_of d
+
+  abbrev enters : ℤ
+  enters = enters_at s x y
+
+  abbrev leaves : ℤ
+  leaves = leaves_at s limit x y
+
+  abbrev start : ℕ
+  start = cell_of d enters
+
+  abbrev last : ℕ
+  last = cell_of d leaves
+
+  greatest_there : 0 < length (greatest_fronts s x y)
+  greatest_there = elim (fold-int_max_reached (pos 0) (map (λ f. value_at f.plane x y) s.fronts) enters refl) [
+    | inl e ↦ near (int_eq (pos 0) enters) (same enters e)
+    | inr c ↦ omega (arith, length-append {A = ℕ} (if int_eq (pos 0) enters then s.near_number ∷ [] else []) (faces_at s.fronts x y enters), faces_there s.fronts x y enters c)
+  ]
+    where
+      same : (v : ℤ) → v ≡ pos 0 → int_eq (pos 0) v ≡ true
+      same v h = grind (arith, ints)
+
+      near : (b : Bool) → b ≡ true → 0 < length ((if b then s.near_number ∷ [] else []) ++ faces_at s.fronts x y enters)
+      near true e = omega arith
+      near false e = absurd cc
+
+  fronts_there : (z : ℕ) → start ≡ z → 0 < length (fronts_at s d x y z)
+  fronts_there z e = rw (same start z e) greatest_there where
+    same : (m n : ℕ) → m ≡ n → (m == n) ≡ true
+    same m n h = grind (arith, nat_tests)
+
+  inside_is : (z : ℕ) → (is_met s limit x y && nat_le start z && nat_lt z last) ≡ is_inside s d x y z
+  inside_is z = sym ((has_cells s d x y).cells z)
+
+  front_starts : is_inside s d x y 0 ≡ true → 0 < length (fronts_at s d x y 0)
+  front_starts inside = fronts_there 0 (first_is (is_met s limit x y) start last (inside_is 0 ∙ inside)) where
+    first_is : (m : Bool) (first last : ℕ) → (m && nat_le first 0 && nat_lt 0 last) ≡ true → first ≡ 0
+    first_is m first last h = grind arith
+
+  front_begins : (z : ℕ) → is_inside s d x y z ≡ false → is_inside s d x y (suc z) ≡ true
+      → 0 < length (fronts_at s d x y (suc z))
+  front_begins z outside inside =
+      fronts_there (suc z) (next_is (is_met s limit x y) start last z (inside_is z ∙ outside) (inside_is (suc z) ∙ inside))
+    where
+      next_is : (m : Bool) (first last z : ℕ) → (m && nat_le first z && nat_lt z last) ≡ false → (m && nat_le first (suc z) && nat_lt (suc z) last) ≡ true → first ≡ suc z
+      next_is m first last z p q = grind arith
+
+  -- the cell of the far limit's value is not before it
+  not_limit : (z : ℕ) → z < d.far → leaves ≡ pos limit → last ≡ z → ⊥
+  not_limit z before is e =
+      let test : nat_lt z last ≡ true =
+      cell_is_least d leaves z ∙ ap (λ v. lt_z (pos (value_of d z)) v) is ∙ sym (less_same (value_of d z) limit)
+      ∙ before_end d z ∙ lt_true z d.far before in
+      absurd (lt_never z last test e)
+    where
+      less_same : (m n : ℕ) → nat_lt m n ≡ lt_z (pos m) (pos n)
+      less_same m n = grind (arith, ints)
+
+      lt_true : (m n : ℕ) → m < n → nat_lt m n ≡ true
+      lt_true m n h = grind (arith, nat_tests)
+
+      lt_never : (m n : ℕ) → nat_lt m n ≡ true → n ≡ m → ⊥
+      lt_never m n h e = grind (arith, nat_tests)
+
+  back_ends : (z : ℕ) → suc z < d.far → is_inside s d x y z ≡ true → is_inside s d x y (suc z) ≡ false
+      → 0 < length (backs_at s d x y (suc z))
+  back_ends z before inside outside =
+      let e = last_is (is_met s limit x y) start last z (inside_is z ∙ inside) (inside_is (suc z) ∙ outside) in
+      elim (fold-int_min_reached (pos limit) (map (λ f. value_at f.plane x y) s.backs) leaves refl) [
+        | inl at_end ↦ absurd (not_limit (suc z) before at_end e)
+        | inr c ↦ rw (inside, same last (suc z) e) (faces_there s.backs x y leaves c)
+      ]
+    where
+      last_is : (m : Bool) (first last z : ℕ) → (m && nat_le first z && nat_lt z last) ≡ true → (m && nat_le first (suc z) && nat_lt (suc z) last) ≡ false → last ≡ suc z
+      last_is m first last z p q = grind arith
+
+      same : (m n : ℕ) → m ≡ n → (m == n) ≡ true
+      same m n h = grind (arith, nat_tests)
+
+pub solid_surface : (s : SolidView) (d : Depths) (x y z : ℕ) → z < d.far → HasSurface (solid_before d x y z s) (solid_cell d x y z s)
+solid_surface s d x y zero low = record { first = λ before now. front_starts s d x y now; behind = λ before now. absurd cc }
+solid_surface s d x y (suc z) low = record { first = front_begins s d x y z; behind = back_ends s d x y z low }
+
+-- no solid is inside at the far limit or behind it
+outside_behind : (s : SolidView) (d : Depths) (x y z : ℕ) → d.far ≤ z → is_inside s d x y z ≡ false
+outside_behind s d x y z past = rw (before_end d z, not_before z d.far past) refl where
+  not_before : (m n : ℕ) → n ≤ m → nat_lt m n ≡ false
+  not_before m n h = grind (arith, nat_tests)
+
+-- where no solid has a cell, no expression has one
+none_member : (inside : ℕ → Bool) → ((solid : ℕ) → inside solid ≡ false) → (tree : Tree) → is_member inside tree ≡ false
+none_member inside none (leaf solid) = none solid
+none_member inside none (join o.Union left right) = rw (none_member inside none left, none_member inside none right) refl
+none_member inside none (join o.Meet left right) = rw (none_member inside none left) refl
+none_member inside none (join o.Minus left right) = rw (none_member inside none left) refl
+none_member inside none (join o.Differ left right) = rw (none_member inside none left, none_member inside none right) refl
+
+-- the laws of the cells of expressions
+abbrev pub SurfaceLaw : Type 0
+SurfaceLaw = (before : ℕ → Cell) (now : ℕ → Cell) (count : ℕ) →
+    ((solid : ℕ) → solid < count → HasSurface (before solid) (now solid)) →
+    (tree : Tree) → HasLeavesBelow count tree → HasSurface (cell before tree) (cell now tree)
+
+abbrev pub MemberLaw : Type 0
+MemberLaw = (solid_at : ℕ → Cell) (tree : Tree) → (cell solid_at tree).member ≡ is_member (λ solid. (solid_at solid).member) tree
+
+pub none_behind : MemberLaw → NoMemberBehind
+none_behind member scene x y z past =
+    let d = depths_of scene in
+    member (leaf_cell scene.solids d x y z) scene.show
+    ∙ none_member (λ solid. (leaf_cell scene.solids d x y z solid).member) (λ solid. each d (slice_get scene.solids solid) past) scene.show
+  where
+    each : (d : Depths) (found : Option SolidView) → d.far ≤ z → (option_map_or (solid_cell d x y z) found no_cell).member ≡ false
+    each d None past = refl
+    each d (Some s) past = outside_behind s d x y z past
+
+-- the solid of an index at the cell before
+abbrev leaf_before : List SolidView → Depths → (x y z solid : ℕ) → Cell
+leaf_before solids d x y z solid = option_map_or (solid_before d x y z) (slice_get solids solid) no_cell
+
+leaf_surface : (solids : List SolidView) (d : Depths) (x y z solid : ℕ) → z < d.far
+    → HasSurface (leaf_before solids d x y z solid) (leaf_cell solids d x y z solid)
+leaf_surface solids d x y z solid low = each (slice_get solids solid) where
+  each : (found : Option SolidView) → HasSurface (option_map_or (solid_before d x y z) found no_cell) (option_map_or (solid_cell d x y z) found no_cell)
+  each None = record { first = λ before now. absurd cc; behind = λ before now. absurd cc }
+  each (Some s) = solid_surface s d x y z low
+
+module _ (surface : SurfaceLaw) (member : MemberLaw) (scene : SceneView) (lawful : IsLawfulScene scene) (x y : ℕ) where
+  abbrev d : Depths
+  d = depths_of scene
+
+  abbrev at_before : ℕ → ℕ → Cell
+  at_before z = leaf_before scene.solids d x y z
+
+  surface_of : (z : ℕ) → z < far_of scene → HasSurface (cell (at_before z) scene.show) (scene_cell scene x y z)
+  surface_of z low =
+      surface (at_before z) (leaf_cell scene.solids d x y z) (length scene.solids)
+      (λ solid h. leaf_surface scene.solids d x y z solid low) scene.show lawful.shown
+
+  none_at_start : (cell (at_before 0) scene.show).member ≡ false
+  none_at_start =
+      member (at_before 0) scene.show
+      ∙ none_member (λ solid. (at_before 0 solid).member) (λ solid. each (slice_get scene.solids solid)) scene.show
+    where
+      each : (found : Option SolidView) → (option_map_or (solid_before d x y 0) found no_cell).member ≡ false
+      each None = refl
+      each (Some s) = refl
+
+  pub scene_has_surface : (z : ℕ) → z < far_of scene → HasSurface (scene_before scene x y z) (scene_cell scene x y z)
+  scene_has_surface zero low = record {
+    first = λ before now. (surface_of 0 low).first none_at_start now;
+    behind = λ before now. absurd cc;
+  }
+  scene_has_surface (suc z) low = surface_of (suc z) low
+
+pub scene_surface : SurfaceLaw → MemberLaw → ScenesHaveSurfaces
+scene_surface surface member scene lawful x y z low = scene_has_surface surface member scene lawful x y z low

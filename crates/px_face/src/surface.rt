@@ -1,0 +1,26 @@
+//! Where solids and scenes begin and end along a ray, and where a picture has its background.
+ghost use Rattle.px_face.specs.Surfaces.{
+  FirstCellsAreFirst,
+  NoMemberBehind,
+  PicturesShowBackground,
+  PicturesShowFaces,
+  ScenesHaveSurfaces,
+  SolidsHaveSurfaces,
+};
+
+use px_expr::{member_law, surface_law};
+
+/// Where a solid or a scene begins along a ray it shows a face, and just behind its end, before the
+/// far limit, it hides one (docs/PICTURE.md, "What a pixel shows"). A pixel shows face 0, and the
+/// far limit's depth, exactly where no cell of it is a member.
+pub fn laws_of_surfaces()
+    ensures solids { SolidsHaveSurfaces }
+    ensures scenes { ScenesHaveSurfaces }
+    ensures behind { NoMemberBehind }
+    ensures first { FirstCellsAreFirst }
+    ensures faces { PicturesShowFaces }
+    ensures background { PicturesShowBackground }
+{
+    surface_law();
+    member_law();
+}
