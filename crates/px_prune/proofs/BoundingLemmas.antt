@@ -2,10 +2,11 @@
 use Rattle.std.proofs.Common.{ℕ, suc, zero, ◌≡◌, ◌+◌, ◌-◌, ◌==◌, ◌||◌, ◌&&◌, nat_le, nat_lt, Bool, true, false, refl, ap, sym, arith, Option, Some, None, slice_get}
 use Rattle.std.proofs.Math.Path.{fun_ext}
 use Rattle.std.specs.Option.{option_map_or}
-use Rattle.px_scene.specs.Cells.{far_of, leaf_cell, no_cell, solid_cell}
+use Rattle.px_scene.specs.Cells.{Depths, depths_of, far_of, leaf_cell, no_cell, solid_cell}
+use Rattle.px_scene.specs.CellLaws.{before_end}
 use Rattle.px_scene.specs.Scenes.{SceneView}
 use Rattle.px_scene.specs.Solids.{SolidView}
-use Rattle.px_prune.specs.declared.cell_box.CellBox.{CellBox}
+use Rattle.px_normal.specs.declared.cell_box.CellBox.{CellBox}
 use Rattle.px_prune.specs.Boxes.{is_part}
 use Rattle.px_prune.specs.Bounding.{IsBoxOf, IsBoundingBox, in_rows, cells_of, cell_box, pixel_hull, row_hull, rows_hull, bounding_box}
 use Rattle.px_prune.proofs.HullLemmas.{at_pixel, in_row, joined_box, same_box, no_box, no_row, no_rows, pixel_box, no_pixel, next_pixel, next_row}
@@ -71,17 +72,21 @@ one_box c None u p q = sym (q.none.1 (p.none.0 refl))
 one_box c (Some a) None p q = p.none.1 (q.none.0 refl)
 one_box c (Some a) (Some b) p q = same_parts a b (p.least b q.holds) (q.least a p.holds)
 
-inside_before : (found : Option SolidView) (far x y z : ℕ) → nat_lt z far && (option_map_or (solid_cell far x y z) found no_cell).member ≡ (option_map_or (solid_cell far x y z) found no_cell).member
-inside_before None far x y z = grind arith
-inside_before (Some s) far x y z = grind arith
+inside_before : (found : Option SolidView) (d : Depths) (x y z : ℕ) → nat_lt z d.far && (option_map_or (solid_cell d x y z) found no_cell).member ≡ (option_map_or (solid_cell d x y z) found no_cell).member
+inside_before None d x y z = grind arith
+inside_before (Some s) d x y z = let same = before_end d z in grind arith
 
 pub bounding_is : (scene : SceneView) (q : ℕ) → IsBoundingBox scene q (bounding_box scene q)
 bounding_is scene q =
-    let f : ℕ → ℕ → ℕ → Bool = λ x y z. (leaf_cell scene.solids (far_of scene) x y z q).member
+    let f : ℕ → ℕ → ℕ → Bool = λ x y z. (leaf_cell scene.solids (depths_of scene) x y z q).member
     in same_box (in_rows (before f (far_of scene)) scene.width scene.height) (cells_of scene q) (bounding_box scene q)
-    (λ x y z. ap (λ b. nat_lt x scene.width && nat_lt y scene.height && b) (inside_before (slice_get scene.solids q) (far_of scene) x y z))
+    (λ x y z. ap (λ b. nat_lt x scene.width && nat_lt y scene.height && b) (inside_before (slice_get scene.solids q) (depths_of scene) x y z))
     (rows_box_of f (far_of scene) scene.width scene.height)
+
+-- the least box is the boxes of the cells joined
+pub is_bounding_box : (scene : SceneView) (q : ℕ) (box : Option CellBox) → IsBoundingBox scene q box → box ≡ bounding_box scene q
+is_bounding_box scene q box bounding = one_box (cells_of scene q) box (bounding_box scene q) bounding (bounding_is scene q)
 
 -- boxes that bound the solids are the bounding boxes
 pub bounding_boxes : (scene : SceneView) (boxes : ℕ → Option CellBox) → ((q : ℕ) → IsBoundingBox scene q (boxes q)) → boxes ≡ bounding_box scene
-bounding_boxes scene boxes bounding = fun_ext λ q. one_box (cells_of scene q) (boxes q) (bounding_box scene q) (bounding q) (bounding_is scene q)
+bounding_boxes scene boxes bounding = fun_ext λ q. is_bounding_box scene q (boxes q) (bounding q)

@@ -1,8 +1,12 @@
 -- The depths that the greatest front and the least back leave.
-use Rattle.std.proofs.Common.{ℕ, ℤ, pos, ◌≡◌, ◌^◌, ◌≤ℤ◌, ◌<ℤ◌, ◌&&◌, Bool, true, false, nat_le, nat_lt, List, [], ◌∷◌, refl, ap, sym, ◌∙◌, arith, map, fold, w64, to_z, of_z}
+use Rattle.std.proofs.Common.{ℕ, ℤ, pos, negsuc, ◌≡◌, ◌<◌, ◌≤◌, ◌*◌, ◌^◌, ◌≤ℤ◌, ◌<ℤ◌, ◌&&◌, Bool, true, false, nat_le, nat_lt, List, [], ◌∷◌, refl, ap, sym, ◌∙◌, arith, map, fold, w64, to_z, of_z}
 use Rattle.std.specs.Int.{int_max, int_min}
 use Rattle.std.specs.List.{list_all}
 use Rattle.std.proofs.lemmas.Int.{ints}
+use Rattle.px_scene.specs.Cells.{Depths, cell_of, depths}
+use Rattle.px_scene.specs.CellLaws.{cell_is_first, cell_is_least, cells_end, cells_grow}
+use Rattle.std.proofs.Math.Nat.{mul-le-mul}
+use Rattle.std.proofs.Math.Pow.{pow_mono}
 use lib.Signed.{lt_z, le_z}
 use lib.IntN.{nat_abs}
 
@@ -28,32 +32,63 @@ all_min : {X : Type 0} (v : X → ℤ) (xs : List X) (m z : ℤ) → lt_z z (fol
 all_min v [] m z = sym (and_true (lt_z z m))
 all_min v (x ∷ xs) m z = all_min v xs (int_min m (v x)) z ∙ ap (λ b. b && list_all (λ x'. lt_z z (v x')) xs) (and_min m (v x) z) ∙ turned (lt_z z m) (lt_z z (v x)) (list_all (λ x'. lt_z z (v x')) xs)
 
--- a depth is at or behind all fronts from the greatest one on
-at_or_behind : (m : ℤ) (z : ℕ) (b : Bool) → pos 0 ≤ℤ m → le_z m (pos z) ≡ (le_z (pos 0) (pos z) && b) → b ≡ nat_le (nat_abs m) z
-at_or_behind m z b low h = grind (arith, ints)
-
 -- a depth keeps in 64 bits
-pub in_bits : (m : ℤ) → pos 0 ≤ℤ m → m <ℤ pos (2 ^ 39) → nat_abs (to_z w64 (of_z w64 m)) ≡ nat_abs m
+in_bits : (m : ℤ) → pos 0 ≤ℤ m → m <ℤ pos (2 ^ 39) → nat_abs (to_z w64 (of_z w64 m)) ≡ nat_abs m
 in_bits m low high = ap nat_abs (kept m low high) where
   kept : (m : ℤ) → pos 0 ≤ℤ m → m <ℤ pos (2 ^ 39) → to_z w64 (of_z w64 m) ≡ m
   kept m low high = omega (arith, ints)
 
-pub behind_all : {X : Type 0} (v : X → ℤ) (xs : List X) (m : ℤ) → pos 0 ≤ℤ m → m ≡ fold int_max (pos 0) (map v xs) → (z : ℕ) → list_all (λ x. le_z (v x) (pos z)) xs ≡ nat_le (nat_abs m) z
-behind_all v xs m low is z = at_or_behind m z (list_all (λ x. le_z (v x) (pos z)) xs) low (ap (λ k. le_z k (pos z)) is ∙ all_max v xs (pos 0) (pos z))
+pub small_bits : (m : ℤ) → pos 0 ≤ℤ m → m <ℤ pos (2 ^ 39) → nat_abs (to_z w64 (of_z w64 m)) < 2 ^ 39
+small_bits m low high = rw (in_bits m low high) (omega (arith, ints))
 
--- and before all backs below the least one
-before_end : (m : ℤ) (z far : ℕ) (b : Bool) → pos 0 ≤ℤ m → lt_z (pos z) m ≡ (lt_z (pos z) (pos far) && b) → (nat_lt z far && b) ≡ nat_lt z (nat_abs m)
-before_end m z far b low h = grind (arith, ints)
+pub as_value : (m : ℤ) → pos 0 ≤ℤ m → m <ℤ pos (2 ^ 39) → pos (nat_abs (to_z w64 (of_z w64 m))) ≡ m
+as_value m low high = ap pos (in_bits m low high) ∙ abs m low where
+  abs : (m : ℤ) → pos 0 ≤ℤ m → pos (nat_abs m) ≡ m
+  abs (pos n) low = refl
+  abs (negsuc n) low = absurd (omega (arith, ints))
 
-before_none : (m : ℤ) (z far : ℕ) (b : Bool) → m ≤ℤ pos 0 → lt_z (pos z) m ≡ (lt_z (pos z) (pos far) && b) → (nat_lt z far && b) ≡ nat_lt z 0
-before_none m z far b low h = grind (arith, ints)
+zero_holds : (n : ℕ) → nat_le n 0 ≡ true → n ≤ 0
+zero_holds n h = grind arith
 
-module _ {X : Type 0} (v : X → ℤ) (xs : List X) (m : ℤ) (far : ℕ) (is : m ≡ fold int_min (pos far) (map v xs)) where
-  all_before : (z : ℕ) → lt_z (pos z) m ≡ (lt_z (pos z) (pos far) && list_all (λ x. lt_z (pos z) (v x)) xs)
-  all_before z = ap (λ k. lt_z (pos z) k) is ∙ all_min v xs (pos far) (pos z)
+cell_zero : (d : Depths) → cell_of d (pos 0) ≤ 0
+cell_zero d = zero_holds _ (cell_is_first d (pos 0) 0 ∙ grind (arith, ints))
 
-  pub before_all : pos 0 ≤ℤ m → (z : ℕ) → (nat_lt z far && list_all (λ x. lt_z (pos z) (v x)) xs) ≡ nat_lt z (nat_abs m)
-  before_all low z = before_end m z far (list_all (λ x. lt_z (pos z) (v x)) xs) low (all_before z)
+pub no_cells : (d : Depths) (m : ℤ) → m ≤ℤ pos 0 → cell_of d m ≡ 0
+no_cells d m low = omega (arith, cells_grow d m (pos 0) low, cell_zero d)
 
-  pub none_before : m ≤ℤ pos 0 → (z : ℕ) → (nat_lt z far && list_all (λ x. lt_z (pos z) (v x)) xs) ≡ nat_lt z 0
-  none_before low z = before_none m z far (list_all (λ x. lt_z (pos z) (v x)) xs) low (all_before z)
+pub far_cell : (far f : ℕ) (m : ℤ) → m ≤ℤ pos (far * 2 ^ f) → cell_of (depths far f) m ≤ far
+far_cell far f m h = cells_end (depths far f) m h
+
+-- the cells at or behind all fronts are those from the cell of the greatest one on
+pub cells_behind : {X : Type 0} (v : X → ℤ) (xs : List X) (m : ℤ) (far f : ℕ) → m ≡ fold int_max (pos 0) (map v xs) → (z : ℕ)
+    → list_all (λ x. le_z (v x) (pos (z * 2 ^ f))) xs ≡ nat_le (cell_of (depths far f) m) z
+cells_behind v xs m far f is z =
+    and_first (le_z (pos 0) (pos (z * 2 ^ f))) _ (grind (arith, ints))
+    ∙ sym (cell_is_first (depths far f) m z ∙ ap (λ k. le_z k (pos (z * 2 ^ f))) is ∙ all_max v xs (pos 0) (pos (z * 2 ^ f)))
+  where
+    and_first : (a b : Bool) → a ≡ true → b ≡ (a && b)
+    and_first a b e = rw e refl
+
+nat_before : (m n : ℕ) → nat_lt m n ≡ lt_z (pos m) (pos n)
+nat_before m n = grind (arith, ints)
+
+-- and those before all backs are those before the cell of the least one
+pub cells_before : {X : Type 0} (v : X → ℤ) (xs : List X) (m : ℤ) (far f : ℕ) → m ≡ fold int_min (pos (far * 2 ^ f)) (map v xs) → (z : ℕ)
+    → (nat_lt (z * 2 ^ f) (far * 2 ^ f) && list_all (λ x. lt_z (pos (z * 2 ^ f)) (v x)) xs) ≡ nat_lt z (cell_of (depths far f) m)
+cells_before v xs m far f is z =
+    ap (λ b. b && list_all (λ x. lt_z (pos (z * 2 ^ f)) (v x)) xs) (nat_before (z * 2 ^ f) (far * 2 ^ f))
+    ∙ sym (cell_is_least (depths far f) m z ∙ ap (λ k. lt_z (pos (z * 2 ^ f)) k) is ∙ all_min v xs (pos (far * 2 ^ f)) (pos (z * 2 ^ f)))
+
+pub end_small : (far f : ℕ) → far < 2 ^ 24 → f ≤ 8 → far * 2 ^ f < 2 ^ 39
+end_small far f low few =
+    let unit : 2 ^ f ≤ 2 ^ 8 = pow_mono {i = f} {j = 8} few in
+    let most : far ≤ 2 ^ 24 = omega arith in
+    let whole : far * 2 ^ f ≤ 2 ^ 24 * 2 ^ 8 = mul-le-mul most unit in
+    omega (arith, whole)
+
+pub value_is : {X : Type 0} (v : X → ℤ) (xs : List X) (m : ℤ) (a b far f : ℕ) → a ≡ far → b ≡ 2 ^ f
+    → m ≡ fold int_min (pos (a * b)) (map v xs) → m ≡ fold int_min (pos (far * 2 ^ f)) (map v xs)
+value_is v xs m a b far f p q e = e ∙ rw (p, q) refl
+
+pub high_is : (m : ℤ) (a b far f : ℕ) → a ≡ far → b ≡ 2 ^ f → m ≤ℤ pos (a * b) → m ≤ℤ pos (far * 2 ^ f)
+high_is m a b far f p q h = rw (p, q) at h

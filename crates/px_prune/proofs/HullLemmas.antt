@@ -1,7 +1,8 @@
 -- Boxes of cells that are joined to one.
 use Rattle.std.proofs.Common.{ℕ, ◌≡◌, ◌<◌, ◌≤◌, ◌+◌, ◌-◌, ◌==◌, ◌||◌, ◌&&◌, nat_le, nat_lt, Bool, true, false, refl, sym, ◌∙◌, arith, inl, inr, ◌⊎◌, Option, Some, None}
-use Rattle.px_prune.specs.declared.cell_box.CellBox.{CellBox}
-use Rattle.px_prune.specs.Boxes.{lies_in, is_in, hull, is_part}
+use Rattle.px_normal.specs.declared.cell_box.CellBox.{CellBox}
+use Rattle.px_normal.specs.Boxes.{lies_in, is_in}
+use Rattle.px_prune.specs.Boxes.{hull, is_part}
 use Rattle.px_prune.specs.Bounding.{IsBoxOf, in_rows}
 
 -- the cells of a pixel, and of the first pixels of a row

@@ -1,5 +1,5 @@
 -- The bounding boxes of a scene's solids at the cells of its picture.
-use Rattle.std.proofs.Common.{ℕ, suc, zero, ◌≡◌, ◌<◌, ◌≤◌, ◌-◌, ◌^◌, ◌&&◌, Bool, true, false, List, [], nat_lt, refl, arith, Option, Some, None, ◌+◌, ◌∷◌, ◌++◌, length, get_or, slice_index_or, inl, inr, ap, ◌∙◌, if◌then◌else◌, slice_get}
+use Rattle.std.proofs.Common.{ℕ, suc, zero, ◌≡◌, ◌<◌, ◌≤◌, ◌-◌, ◌^◌, ◌&&◌, ◌==◌, Bool, true, false, List, [], nat_lt, refl, arith, Option, Some, None, ◌+◌, ◌∷◌, ◌++◌, length, get_or, slice_index_or, inl, inr, ap, ◌∙◌, if◌then◌else◌, slice_get}
 use Rattle.std.specs.Option.{option_map_or}
 use Rattle.std.proofs.Math.Pow.{pow_mono}
 use Rattle.std.proofs.Math.ListN.{get_or-append, get_or-eq_default}
@@ -7,11 +7,11 @@ use Rattle.std.proofs.Math.Seq.{get_or-append_seam}
 use Rattle.std.proofs.lemmas.Bool.{cases_eq, cases_lt}
 use Rattle.std.proofs.lemmas.Option.{slice_get_past, slice_get_read}
 use Rattle.px_expr.specs.Cells.{has_face}
-use Rattle.px_scene.specs.Cells.{faces_at, far_of, is_inside, leaf_cell, no_cell, solid_cell}
+use Rattle.px_scene.specs.Cells.{Depths, cell_of, depths, depths_of, end_of, faces_at, far_of, is_inside, leaf_cell, leaves_at, no_cell, solid_cell}
 use Rattle.px_scene.specs.Scenes.{SceneView}
 use Rattle.px_scene.specs.Solids.{SolidView}
-use Rattle.px_prune.specs.declared.cell_box.CellBox.{CellBox}
-use Rattle.px_prune.specs.Boxes.{is_in}
+use Rattle.px_normal.specs.declared.cell_box.CellBox.{CellBox}
+use Rattle.px_normal.specs.Boxes.{is_in}
 use Rattle.px_normal.specs.declared.product.Product.{Product}
 use Rattle.px_prune.specs.Kept.{kept_of, kept_products}
 use Rattle.px_prune.specs.declared.block.Block.{Block}
@@ -28,45 +28,47 @@ one_behind : (box : Option CellBox) (x y z : ℕ) → is_in box x y z ≡ true �
 one_behind None x y z h = h
 one_behind (Some b) x y z h = grind arith
 
-was : (n : ℕ) (b : Bool) (faces : List ℕ) → has_face n (if b then faces else []) ≡ true → b ≡ true
-was n true faces h = refl
-was n false faces h = h
+was : (n : ℕ) (b c : Bool) (faces : List ℕ) → has_face n (if b && c then faces else []) ≡ true → b ≡ true
+was n true c faces h = refl
+was n false c faces h = h
 
 -- a solid that hides a face was there one cell before
-member_behind : (found : Option SolidView) (far x y z n : ℕ) → has_face n (option_map_or (solid_cell far x y (suc z)) found no_cell).hidden ≡ true → (option_map_or (solid_cell far x y z) found no_cell).member ≡ true
-member_behind None far x y z n h = h
-member_behind (Some s) far x y z n h = was n (is_inside s far x y z) (faces_at s.backs x y (suc z)) h
+member_behind : (found : Option SolidView) (d : Depths) (x y z n : ℕ) → has_face n (option_map_or (solid_cell d x y (suc z)) found no_cell).hidden ≡ true → (option_map_or (solid_cell d x y z) found no_cell).member ≡ true
+member_behind None d x y z n h = h
+member_behind (Some s) d x y z n h =
+    let leaves = leaves_at s (end_of d) x y in
+    was n (is_inside s d x y z) (cell_of d leaves == suc z) (faces_at s.backs x y leaves) h
 
 -- and none is before the first cell
-none_behind : (found : Option SolidView) (far x y n : ℕ) → has_face n (option_map_or (solid_cell far x y zero) found no_cell).hidden ≡ true → false ≡ true
-none_behind None far x y n h = h
-none_behind (Some s) far x y n h = h
+none_behind : (found : Option SolidView) (d : Depths) (x y n : ℕ) → has_face n (option_map_or (solid_cell d x y zero) found no_cell).hidden ≡ true → false ≡ true
+none_behind None d x y n h = h
+none_behind (Some s) d x y n h = h
 
 module _ (scene : SceneView) (boxes : ℕ → Option CellBox) (bounding : (q : ℕ) → IsBoundingBox scene q (boxes q)) (x y : ℕ) (left : x < scene.width) (up : y < scene.height) where
-  member_in : (z q : ℕ) → (leaf_cell scene.solids (far_of scene) x y z q).member ≡ true → is_in (boxes q) x y z ≡ true
-  member_in z q h = (bounding q).holds x y z (in_picture x y scene.width scene.height (leaf_cell scene.solids (far_of scene) x y z q).member left up h)
+  member_in : (z q : ℕ) → (leaf_cell scene.solids (depths_of scene) x y z q).member ≡ true → is_in (boxes q) x y z ≡ true
+  member_in z q h = (bounding q).holds x y z (in_picture x y scene.width scene.height (leaf_cell scene.solids (depths_of scene) x y z q).member left up h)
 
-  hidden_in : (z q n : ℕ) → has_face n (leaf_cell scene.solids (far_of scene) x y z q).hidden ≡ true → is_in_or_behind (boxes q) x y z ≡ true
-  hidden_in zero q n h = absurd_face (none_behind (slice_get scene.solids q) (far_of scene) x y n h) where
+  hidden_in : (z q n : ℕ) → has_face n (leaf_cell scene.solids (depths_of scene) x y z q).hidden ≡ true → is_in_or_behind (boxes q) x y z ≡ true
+  hidden_in zero q n h = absurd_face (none_behind (slice_get scene.solids q) (depths_of scene) x y n h) where
     absurd_face : false ≡ true → is_in_or_behind (boxes q) x y zero ≡ true
     absurd_face e = cc
-  hidden_in (suc z) q n h = one_behind (boxes q) x y z (member_in z q (member_behind (slice_get scene.solids q) (far_of scene) x y z n h))
+  hidden_in (suc z) q n h = one_behind (boxes q) x y z (member_in z q (member_behind (slice_get scene.solids q) (depths_of scene) x y z n h))
 
-  pub boxes_have_cells : (z : ℕ) → HasCells boxes x y z (leaf_cell scene.solids (far_of scene) x y z)
+  pub boxes_have_cells : (z : ℕ) → HasCells boxes x y z (leaf_cell scene.solids (depths_of scene) x y z)
   boxes_have_cells z = record { members = member_in z; hidden = hidden_in z }
 
 -- the box of a scene's solid
 pub known : (scene : SceneView) (q : ℕ) (ss : List SolidView) (s : SolidView) (b : Block) (box : Option CellBox)
-    (far width height : ℕ) → q < length scene.solids → ss ≡ scene.solids → s ≡ get_or ss q s
-    → far ≡ far_of scene → width ≡ scene.width → height ≡ scene.height
+    (far fraction_bits width height : ℕ) → q < length scene.solids → ss ≡ scene.solids → s ≡ get_or ss q s
+    → far ≡ far_of scene → fraction_bits ≡ scene.fraction_bits → width ≡ scene.width → height ≡ scene.height
     → ((x y : ℕ) → has_pixel b x y ≡ (nat_lt x width && nat_lt y height))
-    → ((cells : ℕ → ℕ → ℕ → Bool) → IsBoxOf cells None → IsBoxOf (with_block cells (is_inside s far) b) box)
+    → ((cells : ℕ → ℕ → ℕ → Bool) → IsBoxOf cells None → IsBoxOf (with_block cells (is_inside s (depths far fraction_bits)) b) box)
     → IsBoundingBox scene q box
-known scene q ss s b box far width height there solids read is_far is_width is_height pixels grown =
+known scene q ss s b box far fraction_bits width height there solids read is_far is_fraction is_width is_height pixels grown =
     let found : slice_get scene.solids q ≡ Some s = slice_get_read scene.solids (length scene.solids) q s refl there (read ∙ ap (λ ts. get_or ts q s) solids)
     in let none : ℕ → ℕ → ℕ → Bool = λ x y z. false
-    in same_box (with_block none (is_inside s far) b) (cells_of scene q) box
-    (λ x y z. ap (λ there. there && is_inside s far x y z) (pixels x y) ∙ rw (found, is_far, is_width, is_height) refl)
+    in same_box (with_block none (is_inside s (depths far fraction_bits)) b) (cells_of scene q) box
+    (λ x y z. ap (λ there. there && is_inside s (depths far fraction_bits) x y z) (pixels x y) ∙ rw (found, is_far, is_fraction, is_width, is_height) refl)
     (grown none (no_box none (λ x y z. refl)))
 
 -- no cell of a scene is past the places that a box can hold

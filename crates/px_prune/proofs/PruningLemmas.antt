@@ -1,14 +1,15 @@
 -- Kept products say the same.
-use Rattle.std.proofs.Common.{ℕ, ◌≡◌, ◌<◌, ◌≤◌, ◌^◌, length, arith, ◌||◌, ◌&&◌, not, Bool, true, false, List, [], ◌∷◌, refl, ap, sym, ◌∙◌, Option, Some, None}
-use Rattle.std.specs.List.{list_all, list_any, filter, filter_map}
+use Rattle.std.proofs.Common.{ℕ, ◌≡◌, ◌<◌, ◌≤◌, ◌^◌, length, arith, ◌||◌, ◌&&◌, not, Bool, true, false, List, [], ◌∷◌, refl, ap, sym, ◌∙◌, Option, Some, None, if◌then◌else◌}
+use Rattle.std.specs.List.{list_all, list_any, filter, filter_map, cons_option}
 use Rattle.px_expr.specs.Cells.{Cell, has_face}
 use Rattle.px_normal.specs.declared.product.Product.{Product}
 use Rattle.px_normal.specs.Sets.{solids}
 use Rattle.px_normal.specs.SetLaws.{LawsOfSets}
 use Rattle.px_normal.specs.NormalLaw.{holds, shows, some_holds, some_shows}
-use Rattle.px_prune.specs.declared.cell_box.CellBox.{CellBox}
-use Rattle.px_prune.specs.Boxes.{lies_in, has_cell, everything, is_in}
-use Rattle.px_prune.specs.Kept.{meets, box_of_all, set_of, is_void, pruned, pruned_within, kept_products}
+use Rattle.px_normal.specs.declared.cell_box.CellBox.{CellBox}
+use Rattle.px_normal.specs.Boxes.{lies_in, has_cell, everything, is_in}
+use Rattle.px_normal.specs.Live.{box_of_all, has_some_cell, is_live, is_void}
+use Rattle.px_prune.specs.Kept.{meets, set_of, staying, pruned, pruned_within, kept_products}
 use Rattle.px_prune.proofs.BehindLemmas.{HasCells}
 use Rattle.px_prune.proofs.WithinLemmas.{in_fold, inside_has, inside_everything, in_or_behind, meets_cell, all_filter, any_filter, filtered_solids, all-set_of, any-set_of, void_solids}
 
@@ -91,5 +92,30 @@ fewer {Y = Y} g (x ∷ xs) = step (g x) refl (fewer g xs) where
   step None e ih = rw e (omega (arith, ih))
   step (Some y) e ih = rw e (omega (arith, ih))
 
-pub kept_fewer : (boxes : ℕ → Option CellBox) (products kept : List Product) (whole : ℕ) → kept ≡ kept_products boxes products → whole ≡ length products → length kept ≤ whole
-kept_fewer boxes products kept whole list count = rw (list, count) (fewer (pruned boxes) products)
+pub kept_fewer : (boxes : ℕ → Option CellBox) (products kept : List Product) → kept ≡ kept_products boxes products → length kept ≤ length products
+kept_fewer boxes products kept list = rw list (fewer (pruned boxes) products)
+
+-- of a product that is not live nothing is kept
+module _ (boxes : ℕ → Option CellBox) where
+  dead : (p : Product) → is_live boxes p ≡ false → pruned boxes p ≡ None
+  unfolding is_live
+  dead p = by_box (box_of_all boxes (solids p.plain)) where
+    by_box : (box : Option CellBox) → not (is_void p) && has_some_cell box ≡ false → pruned_within boxes p box ≡ None
+    by_box None e = refl
+    by_box (Some part) e = by_test (has_cell part) (is_void p) e where
+      by_test : (some void : Bool) → not void && some ≡ false
+          → (if some && not void then Some (record p { barred = staying boxes part p.barred }) else None) ≡ None
+      by_test true true e = refl
+      by_test true false e = cc
+      by_test false void e = refl
+
+  pub kept_of_live : (ps : List Product) → kept_products boxes (filter (is_live boxes) ps) ≡ kept_products boxes ps
+  kept_of_live [] = refl
+  kept_of_live (p ∷ ps) = step (is_live boxes p) refl (kept_of_live ps) where
+    same : (o : Option Product) (us vs : List Product) → us ≡ vs → cons_option o us ≡ cons_option o vs
+    same o us vs e = ap (cons_option o) e
+
+    step : (b : Bool) → is_live boxes p ≡ b → kept_products boxes (filter (is_live boxes) ps) ≡ kept_products boxes ps
+        → kept_products boxes (filter (is_live boxes) (p ∷ ps)) ≡ kept_products boxes (p ∷ ps)
+    step true e rest = rw e (same (pruned boxes p) _ _ rest)
+    step false e rest = rw (e, dead p e) rest

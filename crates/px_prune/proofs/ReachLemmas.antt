@@ -6,10 +6,11 @@ use Rattle.std.proofs.lemmas.Int.{ints}
 use lib.Signed.{lt_z, le_z}
 use Rattle.px_num.specs.Forms.{value_at}
 use Rattle.px_scene.specs.Solids.{SolidView}
-use Rattle.px_scene.specs.Cells.{is_inside}
+use Rattle.px_scene.specs.Cells.{Depths, end_of, is_inside, value_of}
 use Rattle.px_prune.specs.declared.block.Block.{Block}
-use Rattle.px_prune.specs.declared.cell_box.CellBox.{CellBox}
-use Rattle.px_prune.specs.Boxes.{hull, is_covered, is_in, lies_in}
+use Rattle.px_normal.specs.declared.cell_box.CellBox.{CellBox}
+use Rattle.px_normal.specs.Boxes.{is_in, lies_in}
+use Rattle.px_prune.specs.Boxes.{hull, is_covered}
 use Rattle.px_prune.specs.Blocks.{IsReachOf, greatest_in, has_pixel, in_block, is_pixel, least_in, with_block}
 use Rattle.px_prune.specs.Bounding.{IsBoxOf}
 use Rattle.px_prune.proofs.BlockLemmas.{greatest_at_pixel, greatest_bounds, least_at_pixel, least_bounds, one_column, one_row}
@@ -44,37 +45,37 @@ ending_there : (f : ℕ → ℕ → ℕ → Bool) (x x1 y y1 s t : ℕ) → x1 �
     → IsBoxOf (at_pixel f x y) (Some (record { x0 = x; x1 = x1; y0 = y; y1 = y1; z0 = s; z1 = t - 1 }))
 ending_there f x x1 y y1 s t e d is = rw (e, d) is
 
-module _ (s : SolidView) (far : ℕ) (b : Block) where
+module _ (s : SolidView) (d : Depths) (b : Block) where
   abbrev inside : ℕ → ℕ → ℕ → Bool
-  inside = is_inside s far
+  inside = is_inside s d
 
   abbrev sides_can : Bool
   sides_can = list_all (λ side. le_z (pos 0) (greatest_in b side)) s.sides
 
   abbrev fronts_can : ℕ → Bool
-  fronts_can z = list_all (λ front. le_z (least_in b front.plane) (pos z)) s.fronts
+  fronts_can z = list_all (λ front. le_z (least_in b front.plane) (pos (value_of d z))) s.fronts
 
   abbrev backs_can : ℕ → Bool
-  backs_can z = list_all (λ back. lt_z (pos z) (greatest_in b back.plane)) s.backs
+  backs_can z = list_all (λ back. lt_z (pos (value_of d z)) (greatest_in b back.plane)) s.backs
 
   -- each half-space has the depth somewhere in the block
   abbrev can_reach : ℕ → Bool
-  can_reach z = nat_lt z far && sides_can && fronts_can z && backs_can z
+  can_reach z = nat_lt (value_of d z) (end_of d) && sides_can && fronts_can z && backs_can z
 
   inside_reaches : (x y z : ℕ) → in_block inside b x y z ≡ true → can_reach z ≡ true
-  inside_reaches x y z h = step (has_pixel b x y) (nat_lt z far) _ _ _ sides_can (fronts_can z) (backs_can z) h
+  inside_reaches x y z h = step (has_pixel b x y) (nat_lt (value_of d z) (end_of d)) _ _ _ sides_can (fronts_can z) (backs_can z) h
       (λ there. all_pass _ _ (λ side e. le_above (pos 0) (value_at side x y) _ (greatest_bounds b side x y there) e) s.sides)
-      (λ there. all_pass _ _ (λ f e. le_below _ (value_at f.plane x y) (pos z) (least_bounds b f.plane x y there) e) s.fronts)
-      (λ there. all_pass _ _ (λ f e. lt_above (pos z) (value_at f.plane x y) _ (greatest_bounds b f.plane x y there) e) s.backs) where
+      (λ there. all_pass _ _ (λ f e. le_below _ (value_at f.plane x y) (pos (value_of d z)) (least_bounds b f.plane x y there) e) s.fronts)
+      (λ there. all_pass _ _ (λ f e. lt_above (pos (value_of d z)) (value_at f.plane x y) _ (greatest_bounds b f.plane x y there) e) s.backs) where
         step : (t n p q r u v w : Bool) → t && (n && p && q && r) ≡ true → (t ≡ true → p ≡ true → u ≡ true)
             → (t ≡ true → q ≡ true → v ≡ true) → (t ≡ true → r ≡ true → w ≡ true) → n && u && v && w ≡ true
         step t n p q r u v w h f g k = grind arith
 
   inside_pixel : is_pixel b ≡ true → (z : ℕ) → inside b.x0 b.y0 z ≡ can_reach z
-  inside_pixel one z = parts (nat_lt z far) _ _ _ sides_can (fronts_can z) (backs_can z)
+  inside_pixel one z = parts (nat_lt (value_of d z) (end_of d)) _ _ _ sides_can (fronts_can z) (backs_can z)
       (all_same _ _ (λ side. ap (le_z (pos 0)) (sym (greatest_at_pixel b side one))) s.sides)
-      (all_same _ _ (λ f. ap (λ v. le_z v (pos z)) (sym (least_at_pixel b f.plane one))) s.fronts)
-      (all_same _ _ (λ f. ap (lt_z (pos z)) (sym (greatest_at_pixel b f.plane one))) s.backs) where
+      (all_same _ _ (λ f. ap (λ v. le_z v (pos (value_of d z))) (sym (least_at_pixel b f.plane one))) s.fronts)
+      (all_same _ _ (λ f. ap (lt_z (pos (value_of d z))) (sym (greatest_at_pixel b f.plane one))) s.backs) where
         parts : (n p q r u v w : Bool) → p ≡ u → q ≡ v → r ≡ w → n && p && q && r ≡ n && u && v && w
         parts n p q r u v w e f g = grind arith
 
@@ -98,9 +99,9 @@ module _ (s : SolidView) (far : ℕ) (b : Block) where
   no_side e = no_reach (side_missed e)
 
   module _ (first end : ℕ) (fronts : (z : ℕ) → fronts_can z ≡ nat_le first z)
-      (backs : (z : ℕ) → (nat_lt z far && backs_can z) ≡ nat_lt z end) where
+      (backs : (z : ℕ) → (nat_lt (value_of d z) (end_of d) && backs_can z) ≡ nat_lt z end) where
     depth_missed : end ≤ first → (z : ℕ) → can_reach z ≡ false
-    depth_missed h z = step (nat_lt z far) sides_can (fronts_can z) (backs_can z) (fronts z) (backs z) where
+    depth_missed h z = step (nat_lt (value_of d z) (end_of d)) sides_can (fronts_can z) (backs_can z) (fronts z) (backs z) where
       step : (n p q r : Bool) → q ≡ nat_le first z → (n && r) ≡ nat_lt z end → n && p && q && r ≡ false
       step n p q r e f = grind arith
 
@@ -108,8 +109,8 @@ module _ (s : SolidView) (far : ℕ) (b : Block) where
     no_depth h = no_reach (depth_missed h)
 
     module _ (sides : sides_can ≡ true) where
-      depths : (z : ℕ) → can_reach z ≡ nat_le first z && nat_lt z end
-      depths z = step (nat_lt z far) sides_can (fronts_can z) (backs_can z) sides (fronts z) (backs z) where
+      reached_at : (z : ℕ) → can_reach z ≡ nat_le first z && nat_lt z end
+      reached_at z = step (nat_lt (value_of d z) (end_of d)) sides_can (fronts_can z) (backs_can z) sides (fronts z) (backs z) where
         step : (n p q r : Bool) → p ≡ true → q ≡ nat_le first z → (n && r) ≡ nat_lt z end
             → n && p && q && r ≡ nat_le first z && nat_lt z end
         step n p q r d e f = grind arith
@@ -118,7 +119,7 @@ module _ (s : SolidView) (far : ℕ) (b : Block) where
       reached = record { x0 = b.x0; x1 = b.x1; y0 = b.y0; y1 = b.y1; z0 = first; z1 = end - 1 }
 
       some_inside : (x y z : ℕ) → in_block inside b x y z ≡ true → is_in (Some reached) x y z ≡ true
-      some_inside x y z h = step (inside x y z) h (sym (depths z) ∙ inside_reaches x y z h) where
+      some_inside x y z h = step (inside x y z) h (sym (reached_at z) ∙ inside_reaches x y z h) where
         step : (v : Bool) → has_pixel b x y && v ≡ true → nat_le first z && nat_lt z end ≡ true → lies_in reached x y z ≡ true
         step v e f = grind arith
 
@@ -128,7 +129,7 @@ module _ (s : SolidView) (far : ℕ) (b : Block) where
         least = λ one. same_box (at_pixel inside b.x0 b.y0) (in_block inside b) (Some reached)
             (λ x y z. same_pixel b one x y (inside x y z))
             (ending_there inside b.x0 b.x1 b.y0 b.y1 first end (one_column b one) (one_row b one)
-            (pixel_box inside b.x0 b.y0 first end lt (λ z. inside_pixel one z ∙ depths z)));
+            (pixel_box inside b.x0 b.y0 first end lt (λ z. inside_pixel one z ∙ reached_at z)));
       }
 
 in_cover : (o u : Option CellBox) (x y z : ℕ) → is_covered o u ≡ true → is_in o x y z ≡ true → is_in u x y z ≡ true

@@ -10,9 +10,10 @@ use Rattle.px_normal.specs.declared.product.Product.{Product}
 use Rattle.px_normal.specs.Sets.{has, solids, below}
 use Rattle.px_normal.specs.Forms.{HasPlain, HasSolidsBelow}
 use Rattle.px_normal.specs.SetLaws.{LawsOfSets}
-use Rattle.px_prune.specs.declared.cell_box.CellBox.{CellBox}
-use Rattle.px_prune.specs.Boxes.{has_cell}
-use Rattle.px_prune.specs.Kept.{box_of_all, is_void, kept_products, meets, pruned, pruned_within, set_of, staying}
+use Rattle.px_normal.specs.declared.cell_box.CellBox.{CellBox}
+use Rattle.px_normal.specs.Boxes.{has_cell}
+use Rattle.px_normal.specs.Live.{box_of_all, is_void}
+use Rattle.px_prune.specs.Kept.{kept_products, meets, pruned, pruned_within, set_of, staying}
 use Rattle.px_prune.proofs.WithinLemmas.{any-set_of, filtered_solids, is_solid}
 
 any_last : (P h : ℕ → Bool) (xs : List ℕ) (n : ℕ) → list_any P (filter h (xs ++ n ∷ [])) ≡ list_any P (filter h xs) || (h n && P n)

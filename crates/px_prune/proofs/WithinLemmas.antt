@@ -4,8 +4,9 @@ use Rattle.std.specs.List.{list_all, list_any, filter}
 use Rattle.px_normal.specs.declared.set.SolidSet.{SolidSet}
 use Rattle.px_normal.specs.Sets.{has, empty, one, joined, solids}
 use Rattle.px_normal.specs.SetLaws.{LawsOfSets}
-use Rattle.px_prune.specs.declared.cell_box.CellBox.{CellBox}
-use Rattle.px_prune.specs.Boxes.{lies_in, has_cell, common_part, with_cells_behind, everything, narrowed, is_in}
+use Rattle.px_normal.specs.declared.cell_box.CellBox.{CellBox}
+use Rattle.px_normal.specs.Boxes.{lies_in, has_cell, common_part, everything, narrowed, is_in}
+use Rattle.px_prune.specs.Boxes.{with_cells_behind}
 use Rattle.px_prune.proofs.BehindLemmas.{is_in_or_behind}
 use Rattle.px_prune.specs.Kept.{meets, set_of}
 

@@ -2,9 +2,10 @@
 use Rattle.std.specs.Prelude.{ℕ, ◌≡◌, ◌↔◌, Bool, true, false, ◌&&◌, nat_lt, Option, Some, None, if◌then◌else◌}
 use Prim.Native.Nat.{zero, suc}
 use Rattle.px_scene.specs.Scenes.{SceneView}
-use Rattle.px_scene.specs.Cells.{leaf_cell, far_of}
-use Rattle.px_prune.specs.declared.cell_box.CellBox.{CellBox}
-use Rattle.px_prune.specs.Boxes.{lies_in, is_in, is_part, hull}
+use Rattle.px_scene.specs.Cells.{leaf_cell, depths_of, far_of}
+use Rattle.px_normal.specs.declared.cell_box.CellBox.{CellBox}
+use Rattle.px_normal.specs.Boxes.{lies_in, is_in}
+use Rattle.px_prune.specs.Boxes.{is_part, hull}
 
 -- the box holds all the cells, and each box that does has it as a part;
 -- none comes exactly where there is no cell
@@ -21,7 +22,7 @@ in_rows cells width height a b z = nat_lt a width && nat_lt b height && cells a 
 -- a solid's cells at the pixels of the picture
 abbrev pub cells_of : SceneView → ℕ → ℕ → ℕ → ℕ → Bool
 cells_of scene solid =
-    in_rows (λ x y z. (leaf_cell scene.solids (far_of scene) x y z solid).member)
+    in_rows (λ x y z. (leaf_cell scene.solids (depths_of scene) x y z solid).member)
     scene.width scene.height
 
 -- the box of one cell, where it is among the cells
@@ -45,7 +46,7 @@ rows_hull cells far width (suc y) = hull (rows_hull cells far width y) (row_hull
 -- the bounding box of a solid: the boxes of its cells in the picture, joined
 abbrev pub bounding_box : SceneView → ℕ → Option CellBox
 bounding_box scene solid =
-    rows_hull (λ x y z. (leaf_cell scene.solids (far_of scene) x y z solid).member)
+    rows_hull (λ x y z. (leaf_cell scene.solids (depths_of scene) x y z solid).member)
     (far_of scene) scene.width scene.height
 
 abbrev pub IsBoundingBox : SceneView → ℕ → Option CellBox → Type 0

@@ -1,21 +1,17 @@
 -- The products that can show anything, by the bounding boxes of their solids.
 use Rattle.std.specs.Prelude.{ℕ, Bool, false, ◌&&◌, not, List, Option, Some, None, if◌then◌else◌, filter, fold}
-use Rattle.std.specs.List.{list_any, filter_map}
+use Rattle.std.specs.List.{filter_map}
 use Rattle.px_normal.specs.declared.set.SolidSet.{SolidSet}
 use Rattle.px_normal.specs.declared.product.Product.{Product}
-use Rattle.px_normal.specs.Sets.{has, empty, one, joined, solids}
+use Rattle.px_normal.specs.Sets.{empty, one, joined, solids}
 use Rattle.px_scene.specs.Scenes.{SceneView}
-use Rattle.px_prune.specs.declared.cell_box.CellBox.{CellBox}
-use Rattle.px_prune.specs.Boxes.{common_part, everything, has_cell, narrowed, with_cells_behind}
+use Rattle.px_normal.specs.declared.cell_box.CellBox.{CellBox}
+use Rattle.px_normal.specs.Boxes.{common_part, has_cell}
+use Rattle.px_normal.specs.Live.{is_void, box_of_all, live_products}
+use Rattle.px_normal.specs.Crowd.{crowd}
+use Rattle.px_normal.specs.Forms.{sum_of_products}
+use Rattle.px_prune.specs.Boxes.{with_cells_behind}
 use Rattle.px_prune.specs.Bounding.{bounding_box}
-
--- a solid is both plain and barred
-abbrev pub is_void : Product → Bool
-is_void product = list_any (λ q. has product.barred q) (solids product.plain)
-
--- the common part of the boxes of some solids, where each has one
-abbrev pub box_of_all : (ℕ → Option CellBox) → List ℕ → Option CellBox
-box_of_all boxes plain = fold (λ part q. narrowed part (boxes q)) (Some everything) plain
 
 -- a barred solid's box, with the cells just behind it, meets the product's
 abbrev pub meets : Option CellBox → CellBox → Bool
@@ -46,3 +42,14 @@ kept_products boxes products = filter_map (pruned boxes) products
 -- the products of a scene that can show anything, by the bounding boxes of its solids
 abbrev pub kept_of : SceneView → List Product → List Product
 kept_of scene products = kept_products (bounding_box scene) products
+
+-- the live products of a scene's expression, and the first wanted list past the limit
+abbrev pub live_of : SceneView → List Product
+live_of scene = live_products (bounding_box scene) scene.show
+
+abbrev pub crowd_of : SceneView → Option ℕ
+crowd_of scene = crowd (bounding_box scene) scene.show
+
+-- the kept products of a scene's expression
+abbrev pub plan_of : SceneView → List Product
+plan_of scene = kept_of scene (sum_of_products scene.show)

@@ -1,4 +1,5 @@
 pub use Rattle.px_scene.specs.Cells
+pub use Rattle.px_scene.specs.CellLaws
 pub use Rattle.px_scene.specs.Scenes
 pub mod Boxes
 pub mod Bounding

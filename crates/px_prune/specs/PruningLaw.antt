@@ -1,21 +1,16 @@
 -- The pruning law: at every cell of every pixel of the picture the kept products have the same
 -- members, and show the same faces, as the whole list.
-use Rattle.std.specs.Prelude.{ℕ, ◌≡◌, ◌<◌, All, List}
-use Rattle.px_expr.specs.Cells.{Cell}
+use Rattle.std.specs.Prelude.{ℕ, ◌<◌, All, List}
 use Rattle.px_normal.specs.declared.product.Product.{Product}
 use Rattle.px_normal.specs.Forms.{HasPlain}
-use Rattle.px_normal.specs.NormalLaw.{some_holds, some_shows}
+use Rattle.px_normal.specs.LiveLaw.{ShowTheSame}
 use Rattle.px_scene.specs.Scenes.{SceneView}
-use Rattle.px_scene.specs.Cells.{leaf_cell, far_of}
+use Rattle.px_scene.specs.Cells.{leaf_cell, depths_of, far_of}
 use Rattle.px_prune.specs.Kept.{kept_of}
-
-pub record ShowTheSame (solid_at : ℕ → Cell) (products kept : List Product) : Type 0 where
-  pub members : some_holds solid_at kept ≡ some_holds solid_at products
-  pub faces : (face : ℕ) → some_shows solid_at face kept ≡ some_shows solid_at face products
 
 abbrev pub PruningLaw : SceneView → List Product → List Product → Type 0
 PruningLaw scene products kept = (x y z : ℕ) → x < scene.width → y < scene.height → z < far_of scene →
-    ShowTheSame (leaf_cell scene.solids (far_of scene) x y z) products kept
+    ShowTheSame (leaf_cell scene.solids (depths_of scene) x y z) products kept
 
 -- a product that is kept has its plain solids
 abbrev pub PlainIsKept : Type 0

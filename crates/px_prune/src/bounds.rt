@@ -4,6 +4,7 @@ ghost use Rattle.std.specs.Prelude.{
   ◌<◌,
   ◌≤◌,
   ◌^◌,
+  ◌*◌,
   ◌≤ℤ◌,
   ◌<ℤ◌,
   ◌&&◌,
@@ -17,7 +18,6 @@ ghost use Rattle.std.specs.Prelude.{
   map,
   fold,
   Option,
-  slice_index_or,
   None,
   IfOk,
 };
@@ -26,31 +26,41 @@ ghost use Rattle.std.specs.List.{list_all};
 ghost use Rattle.std.specs.Int.Signed.{le_z, lt_z};
 ghost use Rattle.px_scene.specs.Solids.{IsPlane};
 ghost use Rattle.px_scene.specs.Scenes.{IsLawfulScene};
-ghost use Rattle.px_scene.specs.Cells.{is_inside};
+ghost use Rattle.px_scene.specs.Cells.{cell_of, depths, is_inside};
 ghost use Rattle.px_prune.specs.Blocks.{IsReachOf, greatest_in, least_in, with_block};
-ghost use Rattle.px_prune.specs.Bounding.{IsBoundingBox, IsBoxOf};
+ghost use Rattle.px_normal.specs.Live.{boxes_in};
+ghost use Rattle.px_prune.specs.Bounding.{bounding_box, IsBoundingBox, IsBoxOf};
 
 use crate::CellBox;
 use crate::block::Block;
 use crate::cell_box::{hull, is_covered};
-use px_num::Linear;
+use px_num::{Linear, power};
 use px_scene::{Face, Scene, Solid};
 use std::alloc::{AllocError, Global};
 
 /// The least box that holds all cells of a solid at the pixels of the picture, or none where the
-/// solid has no cell there (docs/PICTURE.md, "Boxes and pruning").
+/// solid has no cell there (docs/PICTURE.md, "Live products").
 pub fn box_of(scene: &Scene, solid: usize) -> Option<CellBox>
     requires { solid < length scene.now.solids }
-    ensures { IsBoundingBox scene.now solid result }
+    ensures least { IsBoundingBox scene.now solid result }
+    ensures joined { result ≡ bounding_box scene.now solid }
 {
     let picture = Block::of_picture(scene.width(), scene.height());
-    grown(None, &scene.solids()[solid], scene.far(), &picture)
+    grown(
+        None,
+        &scene.solids()[solid],
+        scene.far(),
+        scene.fraction_bits(),
+        &picture,
+    )
 }
 
-/// The boxes of the solids, in their order.
-pub(crate) fn boxes_of(alloc: Global, scene: &Scene) -> Result<Vec<Option<CellBox>>, AllocError>
+/// The boxes of the solids of a scene, in their order.
+pub fn boxes_of(alloc: Global, scene: &Scene) -> Result<Vec<Option<CellBox>>, AllocError>
     ensures boxes { IfOk result (λ boxes. (solid : ℕ)
-        → IsBoundingBox scene.now solid (slice_index_or boxes.items solid None)) }
+        → IsBoundingBox scene.now solid (boxes_in boxes.items solid)) }
+    ensures all { IfOk result (λ boxes. boxes_in boxes.items ≡ bounding_box scene.now) }
+    ensures count { IfOk result (λ boxes. length boxes.items ≡ length scene.now.solids) }
     ensures lawful { IsLawfulScene scene.now }
 {
     let mut boxes = Vec::new(alloc);
@@ -63,11 +73,19 @@ pub(crate) fn boxes_of(alloc: Global, scene: &Scene) -> Result<Vec<Option<CellBo
 /// The least box of some cells, whose box is `found`, and of a solid's cells in a block.
 ///
 /// Where the cells that the solid can have in the block lie in `found`, its pixels are passed over.
-fn grown(found: Option<CellBox>, solid: &Solid, far: u32, block: &Block) -> Option<CellBox>
+fn grown(
+    found: Option<CellBox>,
+    solid: &Solid,
+    far: u32,
+    fraction_bits: u32,
+    block: &Block,
+) -> Option<CellBox>
+    requires fraction { fraction_bits ≤ 8 }
+    requires far { far < 2 ^ 24 }
     ensures { (cells : ℕ → ℕ → ℕ → Bool) → IsBoxOf cells found
-        → IsBoxOf (with_block cells (is_inside solid.now far) block.now) result }
+        → IsBoxOf (with_block cells (is_inside solid.now (depths far fraction_bits)) block.now) result }
 {
-    let reach = reach(solid, far, block);
+    let reach = reach(solid, far, fraction_bits, block);
     if is_covered(reach, found) {
         return found;
     }
@@ -75,20 +93,22 @@ fn grown(found: Option<CellBox>, solid: &Solid, far: u32, block: &Block) -> Opti
         return hull(found, reach);
     }
     let (first, second) = block.halves();
-    let half_grown = grown(found, solid, far, &first);
-    grown(half_grown, solid, far, &second)
+    let half_grown = grown(found, solid, far, fraction_bits, &first);
+    grown(half_grown, solid, far, fraction_bits, &second)
 }
 
 /// A box that holds a solid's cells in a block, and is their least box where that is one pixel.
-fn reach(solid: &Solid, far: u32, block: &Block) -> Option<CellBox>
-    ensures { IsReachOf (is_inside solid.now far) block.now result }
+fn reach(solid: &Solid, far: u32, fraction_bits: u32, block: &Block) -> Option<CellBox>
+    requires fraction { fraction_bits ≤ 8 }
+    requires far { far < 2 ^ 24 }
+    ensures { IsReachOf (is_inside solid.now (depths far fraction_bits)) block.now result }
 {
     if !sides_reach(solid.sides(), block) {
         return None;
     }
-    let first = first_depth(solid.fronts(), block);
-    let end = end_depth(solid.backs(), far, block);
-    if first >= u64::from(end) {
+    let first = first_depth(solid.fronts(), fraction_bits, block);
+    let end = end_depth(solid.backs(), far, fraction_bits, block);
+    if first >= end {
         return None;
     }
     Some(CellBox {
@@ -97,7 +117,7 @@ fn reach(solid: &Solid, far: u32, block: &Block) -> Option<CellBox>
         y0: block.y0,
         y1: block.y1,
         z0: first as u32,
-        z1: end - 1,
+        z1: end as u32 - 1,
     })
 }
 
@@ -110,23 +130,43 @@ fn sides_reach(sides: &[Linear], block: &Block) -> bool
 }
 
 /// The first depth that each front, the near face among them, is at or before somewhere in a block.
-fn first_depth(fronts: &[Face], block: &Block) -> u64
-    requires { All (λ f. IsPlane f.plane) fronts.now }
-    ensures { (z : ℕ) → list_all (λ f. le_z (least_in block.now f.plane) (pos z)) fronts.now
+fn first_depth(fronts: &[Face], fraction_bits: u32, block: &Block) -> u64
+    requires planes { All (λ f. IsPlane f.plane) fronts.now }
+    requires fraction { fraction_bits ≤ 8 }
+    ensures { (z : ℕ) → list_all (λ f. le_z (least_in block.now f.plane) (pos (z * 2 ^ fraction_bits))) fronts.now
         ≡ nat_le result z }
 {
-    greatest_front(fronts, block) as u64
+    cell_of(greatest_front(fronts, block) as u64, fraction_bits)
+}
+
+/// The first cell whose value is at least this.
+fn cell_of(value: u64, fraction_bits: u32) -> u64
+    requires value { value < 2 ^ 39 }
+    requires fraction { fraction_bits ≤ 8 }
+    ensures { (far : ℕ) → result ≡ cell_of (depths far fraction_bits) (pos value) }
+{
+    let unit = power(fraction_bits) as u64;
+    (value + (unit - 1)) / unit
 }
 
 /// The first depth from which some back, the far limit among them, is passed all over a block.
-fn end_depth(backs: &[Face], far: u32, block: &Block) -> u32
-    requires { All (λ f. IsPlane f.plane) backs.now }
-    ensures { (z : ℕ) →
-        (nat_lt z far && list_all (λ f. lt_z (pos z) (greatest_in block.now f.plane)) backs.now)
+fn end_depth(backs: &[Face], far: u32, fraction_bits: u32, block: &Block) -> u64
+    requires planes { All (λ f. IsPlane f.plane) backs.now }
+    requires fraction { fraction_bits ≤ 8 }
+    requires far { far < 2 ^ 24 }
+    ensures depth { (z : ℕ) →
+        (nat_lt (z * 2 ^ fraction_bits) (far * 2 ^ fraction_bits)
+        && list_all (λ f. lt_z (pos (z * 2 ^ fraction_bits)) (greatest_in block.now f.plane)) backs.now)
         ≡ nat_lt z result }
+    ensures far { result ≤ far }
 {
-    let least = least_back(backs, far, block);
-    if least <= 0 { 0 } else { least as u32 }
+    let end = u64::from(far) * power(fraction_bits) as u64;
+    let least = least_back(backs, end, block);
+    if least <= 0 {
+        0
+    } else {
+        cell_of(least as u64, fraction_bits)
+    }
 }
 
 /// The greatest of the near face's value, which is 0, and the least values of the fronts in a block.
@@ -145,13 +185,14 @@ fn greatest_front(fronts: &[Face], block: &Block) -> i64
 }
 
 /// The least of the far limit's value and the greatest values of the backs in a block.
-fn least_back(backs: &[Face], far: u32, block: &Block) -> i64
-    requires { All (λ f. IsPlane f.plane) backs.now }
+fn least_back(backs: &[Face], end: u64, block: &Block) -> i64
+    requires planes { All (λ f. IsPlane f.plane) backs.now }
+    requires small { end < 2 ^ 32 }
     ensures value { result ≡
-        fold int_min (pos far) (map (λ f. greatest_in block.now f.plane) backs.now) }
-    ensures high { result ≤ℤ pos far }
+        fold int_min (pos end) (map (λ f. greatest_in block.now f.plane) backs.now) }
+    ensures high { result ≤ℤ pos end }
 {
-    let mut least = i64::from(far);
+    let mut least = end as i64;
     for face in backs {
         least = block.greatest(&face.plane).min(least);
     }

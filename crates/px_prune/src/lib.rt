@@ -8,6 +8,6 @@ mod plan;
 #[cfg(test)]
 mod tests;
 
-pub use bounds::box_of;
-pub use cell_box::CellBox;
-pub use plan::{Plan, laws_of_pruning, prune};
+pub use bounds::{box_of, boxes_of};
+pub use plan::{Plan, laws_of_pruning, plan_of, prune};
+pub use px_normal::CellBox;

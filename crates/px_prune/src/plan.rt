@@ -1,57 +1,68 @@
 //! The products that can show anything.
-ghost use Rattle.std.specs.Prelude.{◌≡◌, ◌≤◌, ℕ, false, All, List, Option, None, slice_index_or, IfOk, length};
+ghost use Rattle.std.specs.Prelude.{◌≡◌, ◌≤◌, ◌^◌, ℕ, false, All, List, Option, Some, None, filter, IfOk, length};
 ghost use Rattle.px_normal.specs.Forms.{HasSolidsBelow};
 ghost use Rattle.px_normal.specs.Sets.{empty, solids};
-ghost use Rattle.px_prune.specs.Kept.{
-  box_of_all,
-  is_void,
-  kept_of,
-  kept_products,
-  meets,
-  pruned,
-  staying,
-};
+ghost use Rattle.px_prune.specs.Kept.{crowd_of, kept_of, kept_products, meets, plan_of, pruned, staying};
+ghost use Rattle.px_normal.specs.Live.{boxes_in, is_live, is_void};
+ghost use Rattle.px_prune.specs.Bounding.{bounding_box};
 ghost use Rattle.px_prune.specs.PruningLaw.{PlainIsKept, PruningLaw};
 ghost use Rattle.px_normal.specs.declared.product.Product.{Product};
 ghost use Rattle.px_scene.specs.Scenes.{SceneView, IsLawfulScene};
 
 use crate::CellBox;
 use crate::bounds::boxes_of;
-use crate::cell_box::{EVERYTHING, common_part, has_cell, narrowed};
-use px_normal::{Product, Products, SolidSet, laws_of_sets};
+use px_normal::{NormalFault, Product, Products, SolidSet, laws_of_sets, normalise};
 use px_num::Memory;
 use px_scene::Scene;
 use std::alloc::{AllocError, Global};
 
-/// The products of a scene that can show anything, and how many it had.
+/// The products of a scene that can show anything.
 #[derive(Debug, Drop)]
 pub struct Plan {
-    pub whole: u32,
     pub products: Vec<Product>,
 }
 
 /// Keeps the products that can show anything, in their order (docs/PICTURE.md, "Boxes and
 /// pruning").
 ///
-/// At most 1024 products.
+/// At most 1024 products. Where they are the live ones of an expression, the same is kept as of the
+/// whole list.
 pub fn prune(alloc: Global, scene: &Scene, products: &Products) -> Result<Plan, Memory>
     requires few { length products.now ≤ 1024 }
-    ensures whole { IfOk result (λ plan. plan.whole ≡ length products.now) }
     ensures kept { IfOk result (λ plan. plan.products.items ≡ kept_of scene.now products.now) }
-    ensures fewer { IfOk result (λ plan. length plan.products.items ≤ plan.whole) }
+    ensures fewer { IfOk result (λ plan. length plan.products.items ≤ length products.now) }
     ensures law { IfOk result (λ plan. PruningLaw scene.now products.now plan.products.items) }
 {
     let boxes = boxes_of(alloc, scene)?;
     let kept = kept_products(alloc, boxes.as_slice(), products.as_slice())?;
     laws_of_pruning();
-    Ok(Plan {
-        whole: products.as_slice().len() as u32,
-        products: kept,
-    })
+    Ok(Plan { products: kept })
+}
+
+/// The plan of a scene: what is kept of the sum of products of its expression.
+///
+/// Only the live products are made. `TooMany` has the length of the first wanted list that is too
+/// long (docs/PICTURE.md, "Live products").
+pub fn plan_of(alloc: Global, scene: &Scene) -> Result<Plan, NormalFault>
+    ensures kept { IfOk result (λ plan. plan.products.items ≡ plan_of scene.now) }
+    ensures few { IfOk result (λ plan. length plan.products.items ≤ 1024) }
+    ensures lawful { IfOk result (λ plan. crowd_of scene.now ≡ None) }
+    ensures small { (count : ℕ) → result ≡ Err (NormalFault.TooMany count) → count ≤ 2 ^ 21 }
+    ensures many { (count : ℕ) → result ≡ Err (NormalFault.TooMany count) →
+        crowd_of scene.now ≡ Some count }
+{
+    laws_of_pruning();
+    let boxes = boxes_of(alloc, scene)?;
+    let products = normalise(alloc, scene.show(), boxes.as_slice())?;
+    match prune(alloc, scene, &products) {
+        Ok(plan) => Ok(plan),
+        Err(_) => Err(NormalFault::Memory),
+    }
 }
 
 /// What is kept by the boxes of the solids shows the same as the whole. No product of it has a solid
-/// both plain and barred, and its solids are below each count that those of the whole are below.
+/// both plain and barred, and its solids are below each count that those of the whole are below. Of
+/// the live ones alone the same is kept.
 pub fn laws_of_pruning()
     ensures law { (scene : SceneView) → IsLawfulScene scene → (products : List Product)
         → PruningLaw scene products (kept_of scene products) }
@@ -60,6 +71,8 @@ pub fn laws_of_pruning()
     ensures plain { PlainIsKept }
     ensures known { (count : ℕ) (scene : SceneView) (products : List Product) →
         All (HasSolidsBelow count) products → All (HasSolidsBelow count) (kept_of scene products) }
+    ensures live { (scene : SceneView) (products : List Product) →
+        kept_of scene (filter (is_live (bounding_box scene)) products) ≡ kept_of scene products }
 {
     laws_of_sets();
 }
@@ -70,7 +83,7 @@ fn kept_products(
     products: &[Product],
 ) -> Result<Vec<Product>, AllocError>
     ensures { IfOk result (λ kept.
-        kept.items ≡ kept_products (λ q. slice_index_or boxes.now q None) products.now) }
+        kept.items ≡ kept_products (boxes_in boxes.now) products.now) }
 {
     let mut kept = Vec::new(alloc);
     for product in products.iter().filter_map(|product| pruned(boxes, product)) {
@@ -81,13 +94,13 @@ fn kept_products(
 
 /// A product with the barred solids that count, if it can have a cell.
 fn pruned(boxes: &[Option<CellBox>], product: &Product) -> Option<Product>
-    ensures { result ≡ pruned (λ q. slice_index_or boxes.now q None) product.now }
+    ensures { result ≡ pruned (boxes_in boxes.now) product.now }
 {
-    if is_void(product) {
+    if product.is_void() {
         return None;
     }
-    let part = box_of_all(boxes, &product.plain)?;
-    if !has_cell(&part) {
+    let part = product.common_box(boxes)?;
+    if !part.has_cell() {
         return None;
     }
     Some(Product {
@@ -96,28 +109,9 @@ fn pruned(boxes: &[Option<CellBox>], product: &Product) -> Option<Product>
     })
 }
 
-/// Whether a solid is both plain and barred.
-fn is_void(product: &Product) -> bool
-    ensures { result ≡ is_void product.now }
-{
-    let plain = product.plain.solids();
-    plain.iter().any(|q| product.barred.has(*q))
-}
-
-/// The common part of the boxes of some solids, if each has one.
-fn box_of_all(boxes: &[Option<CellBox>], plain: &SolidSet) -> Option<CellBox>
-    ensures { result ≡ box_of_all (λ q. slice_index_or boxes.now q None) (solids plain.now) }
-{
-    let plain = plain.solids();
-    plain.iter().fold(
-        Some(EVERYTHING),
-        |part, q| narrowed(part, box_at(boxes, *q)),
-    )
-}
-
 /// The barred solids that can take a cell from the product's box, or show a back in it.
 fn staying(boxes: &[Option<CellBox>], part: CellBox, barred: &SolidSet) -> SolidSet
-    ensures { result ≡ staying (λ q. slice_index_or boxes.now q None) part barred.now }
+    ensures { result ≡ staying (boxes_in boxes.now) part barred.now }
 {
     let barred = barred.solids();
     barred
@@ -145,13 +139,13 @@ fn meets(barred: Option<CellBox>, part: CellBox) -> bool
                 z1: barred.z1.saturating_add(1),
                 ..barred
             };
-            has_cell(&common_part(&behind, &part))
+            behind.common_part(&part).has_cell()
         }
     }
 }
 
 fn box_at(boxes: &[Option<CellBox>], solid: u8) -> Option<CellBox>
-    ensures { result ≡ slice_index_or boxes.now solid None }
+    ensures { result ≡ boxes_in boxes.now solid }
 {
     match boxes.get(usize::from(solid)) {
         Some(found) => *found,

@@ -1,5 +1,5 @@
 //! Boxes of solids, and the products of a scene that are kept, worked out by hand.
-use crate::{CellBox, box_of, prune};
+use crate::{CellBox, box_of, boxes_of, prune};
 use px_normal::{SolidSet, normalise};
 use px_scene::read_scene;
 use std::test::Fail;
@@ -64,15 +64,39 @@ fn boxes_of_solids(rt: HostRuntime) {
 #[test]
 fn products_of_a_scene(rt: HostRuntime) -> Result<(), Fail> {
     let scene = read_scene(rt.alloc(), SCENE).expect(&rt, "a scene");
-    let products = normalise(rt.alloc(), scene.show()).expect(&rt, "products");
+    let boxes = boxes_of(rt.alloc(), &scene)?;
+    let products = normalise(rt.alloc(), scene.show(), boxes.as_slice()).expect(&rt, "products");
     assert!(rt; products.as_slice().len() <= 1024);
     let plan = prune(rt.alloc(), &scene, &products)?;
     let none = SolidSet::default();
     let kept = [(none.with(0), none.with(1)), (none.with(0).with(5), none)];
-    assert_eq!(rt; plan.whole, 5);
     assert_eq!(rt; plan.products.as_slice().len(), kept.len());
     for (product, (plain, barred)) in plan.products.as_slice().iter().zip(kept.iter()) {
         assert!(rt; product.plain == *plain && product.barred == *barred);
+    }
+    Ok(())
+}
+
+/// Values in quarters of a cell. At column 0 the back of `y` stands at 19, and no cell from 17 to 18;
+/// at column 1 it stands at 36, so cells 5 to 8 are inside. The front of `x` at 20 is cell 5.
+const IN_QUARTERS: &[u8] = b"pxscene 3\npicture 2 1\ndepth 4 2\n\
+    solid y 0 0 0\nfront 0 0 17\nback 17 0 19\nsolid x 0 0 0\nfront 0 0 20\n\
+    solid none 0 0 0\nfront 0 0 17\nback 0 0 20\nshow (x - y)\nend\n";
+
+#[test]
+fn boxes_in_quarters_of_a_cell(rt: HostRuntime) -> Result<(), Fail> {
+    let scene = read_scene(rt.alloc(), IN_QUARTERS)?;
+    let boxes = [
+        cells((1, 1), (0, 0), (5, 8)),
+        cells((0, 1), (0, 0), (5, 14)),
+        None,
+    ];
+    assert_eq!(rt; scene.solids().len(), boxes.len());
+    for solid in 0..scene.solids().len() {
+        assert!(rt;
+            boxes.get(solid).copied() == Some(box_of(&scene, solid)),
+            "solid {solid}"
+        );
     }
     Ok(())
 }

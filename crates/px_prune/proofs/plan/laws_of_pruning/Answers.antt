@@ -1,9 +1,9 @@
 use Rattle.std.proofs.Common.{arith, ◌<◌, ◌^◌}
-use Rattle.px_scene.specs.Cells.{far_of, leaf_cell}
+use Rattle.px_scene.specs.Cells.{depths_of, leaf_cell}
 use Rattle.px_prune.specs.Bounding.{bounding_box}
 use Rattle.px_prune.proofs.BoundingLemmas.{bounding_is}
 use Rattle.px_prune.proofs.PictureLemmas.{boxes_have_cells, small_far}
-use Rattle.px_prune.proofs.PruningLemmas.{kept_holds, kept_shows}
+use Rattle.px_prune.proofs.PruningLemmas.{kept_holds, kept_shows, kept_of_live}
 use Rattle.px_prune.proofs.StayingLemmas.{kept_apart, kept_below, kept_plain}
 use Rattle.px_prune.proofs.plan.laws_of_pruning.Goals as goal
 
@@ -11,8 +11,8 @@ pub returns-clause-law : goal.returns-clause-law
 returns-clause-law c scene lawful products x y z left up before =
     let near_x : x < 2 ^ 32 = omega (arith, left, lawful.width)
     in let near_y : y < 2 ^ 32 = omega (arith, up, lawful.height)
-    in let near_z : z < 2 ^ 32 = omega (arith, before, small_far scene.depth_bits lawful.depth)
-    in let at = leaf_cell scene.solids (far_of scene) x y z
+    in let near_z : z < 2 ^ 32 = omega (arith, before, small_far scene.depth_bits (omega (arith, lawful.depth)))
+    in let at = leaf_cell scene.solids (depths_of scene) x y z
     in let fits = boxes_have_cells scene (bounding_box scene) (bounding_is scene) x y left up z
     in record {
       members = kept_holds c.laws_of_sets.ensures (bounding_box scene) at x y z near_x near_y near_z fits products;
@@ -27,3 +27,6 @@ returns-clause-known c count scene products known = kept_below c.laws_of_sets.en
 
 pub returns-clause-plain : goal.returns-clause-plain
 returns-clause-plain c = λ scene products all. kept_plain (bounding_box scene) products all
+
+pub returns-clause-live : goal.returns-clause-live
+returns-clause-live c scene products = kept_of_live (bounding_box scene) products

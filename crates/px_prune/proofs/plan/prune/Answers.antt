@@ -1,4 +1,3 @@
-use Rattle.std.proofs.Common.{arith}
 use Rattle.px_prune.specs.Bounding.{bounding_box}
 use Rattle.px_prune.proofs.PictureLemmas.{is_kept}
 use Rattle.px_prune.proofs.PruningLemmas.{kept_fewer}
@@ -11,4 +10,4 @@ pub returns-clause-law : goal.returns-clause-law
 returns-clause-law c = rw (returns-clause-kept c) (c.laws_of_pruning.ensures.law c.args.scene.now c.boxes_of.ensures.lawful c.args.products.now)
 
 pub returns-clause-fewer : goal.returns-clause-fewer
-returns-clause-fewer c = kept_fewer (bounding_box c.args.scene.now) c.args.products.now _ _ (returns-clause-kept c) (grind arith)
+returns-clause-fewer c = kept_fewer (bounding_box c.args.scene.now) c.args.products.now _ (returns-clause-kept c)
