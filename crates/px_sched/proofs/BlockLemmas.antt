@@ -1,48 +1,65 @@
 -- What the passes of one literal leave, and what all of them leave.
-use Rattle.std.proofs.Common.{◌≡◌, ◌<◌, ◌≤◌, ◌+◌, ◌*◌, ◌^◌, ℕ, zero, suc, Bool, true, false, ◌&&◌, nat_lt, min, List, [], ◌∷◌, ◌++◌, length, eqb, refl, ap, sym, ◌∙◌, arith, inl, inr, if◌then◌else◌}
+use Rattle.std.proofs.Common.{◌≡◌, ◌<◌, ◌≤◌, ◌+◌, ◌+ℤ◌, ◌-◌, ◌*◌, ◌^◌, ◌||◌, ◌==◌, pos, ℕ, Bool, true, false, ◌&&◌, nat_lt, min, List, [], ◌∷◌, ◌++◌, length, eqb, refl, ap, sym, ◌∙◌, arith, inl, inr, if◌then◌else◌}
 use Rattle.std.specs.Bool.{beq}
-use Rattle.std.specs.List.{fold, flat_map, range_with_len, list_all}
-use Rattle.std.proofs.lemmas.Bool.{cases_eq, cases_lt, cond-false}
+use Rattle.std.specs.List.{fold, flat_map, list_all}
+use Rattle.std.proofs.lemmas.Bool.{cases_Bool, cases_lt}
 use Rattle.std.proofs.lemmas.Bool.Decides.{nat_tests}
 use Rattle.std.proofs.lemmas.List.Sums.{fold-append}
+use Rattle.px_num.specs.Bits.{modulo}
+use Rattle.px_num.specs.Forms.{plus}
+use Rattle.px_num.specs.FormLaws.{value_at-plus}
 use Rattle.px_scene.specs.Solids.{SolidView}
 use Rattle.px_scene.specs.Scenes.{SceneView}
-use Rattle.px_scene.specs.Cells.{far_of}
-use Rattle.px_face.specs.Covering.{CoveringLaw, ParityLaw, covering_back, covering_front, is_met}
+use Rattle.px_scene.specs.Cells.{Depths, cell_of, depths_of, end_of, enters_at, is_inside, is_inside_before, leaves_at, value_of}
+use Rattle.px_face.specs.Covering.{CoveringLaw, ValueParityLaw, covering_back, covering_front, is_met}
 use Rattle.px_face.specs.Edges.{covers}
 use Rattle.px_face.specs.Faces.{number_of, plane_of}
 use Rattle.px_normal.specs.declared.product.Product.{Product}
 use Rattle.px_sched.specs.declared.literal.Literal.{Literal}
 use Rattle.px_sched.specs.Passes.{candidate_faces, literals, others, solid_of}
-use Rattle.px_sched.specs.Numbers.{Keys, Numbers, Place, after, all, candidate_on_numbers, classify_on_numbers, key, literal_on_numbers, load_best, merge_on_numbers, passes_on_numbers, residue, set_alive}
-use Rattle.px_sched.proofs.RunLemmas.{after-append, and_both, and_true, at, candidate_keys, classified, classify_keys, keys_in_range, loaded, part_along, suits}
+use Rattle.px_sched.specs.Numbers.{Keys, Numbers, Place, after, all, candidate_on_numbers, classify_on_numbers, key, literal_on_numbers, load_best, merge_on_numbers, passes_on_numbers, residue, set_alive, cleared, confirm_on_numbers, where_fraction}
+use Rattle.px_sched.proofs.RunLemmas.{HasRoom, after-append, and_both, and_left, and_true, at, candidate_keys, classified, classify_keys, end_small, enters_depth, keys_in_range, leaves_depth, loaded, part_along, rounded, suits}
+use Rattle.px_sched.proofs.FoldLemmas.{and_false, elsewhere, fold_none, fold_single, where_test}
+use Rattle.px_sched.proofs.ConfirmLemmas.{IsConfirmed, barred_test, confirmed, plain_test, test}
 
 -- a candidate face covers the pixel
-abbrev pub is_found : SolidView → (plain : Bool) → (far x y : ℕ) → Bool
-is_found s plain far x y =
-    if plain then is_met s far x y
-    else (is_met s far x y && nat_lt (covering_back s far x y) (length s.fronts + 1 + length s.backs))
+abbrev pub is_covered : SolidView → (plain : Bool) → (end x y : ℕ) → Bool
+is_covered s plain end x y =
+    if plain then is_met s end x y
+    else (is_met s end x y && nat_lt (covering_back s end x y) (length s.fronts + 1 + length s.backs))
 
--- that face, with its depth and its number
-abbrev pub face_found : SolidView → (plain : Bool) → (far x y : ℕ) → ℕ
-face_found s plain far x y = if plain then covering_front s x y else covering_back s far x y
+-- that face, with its cell and its number
+abbrev pub face_found : SolidView → (plain : Bool) → (end x y : ℕ) → ℕ
+face_found s plain end x y = if plain then covering_front s x y else covering_back s end x y
 
-abbrev pub depth_found : Place → SolidView → (plain : Bool) → (far : ℕ) → ℕ
-depth_found l s plain far = residue l (plane_of s far (face_found s plain far l.x l.y))
+abbrev pub cell_found : SolidView → (plain : Bool) → Depths → (x y : ℕ) → ℕ
+cell_found s plain d x y = if plain then cell_of d (enters_at s x y) else cell_of d (leaves_at s (end_of d) x y)
 
-abbrev pub number_found : Place → SolidView → (plain : Bool) → (far : ℕ) → ℕ
-number_found l s plain far = number_of s (face_found s plain far l.x l.y)
+abbrev pub number_found : SolidView → (plain : Bool) → Depths → (x y : ℕ) → ℕ
+number_found s plain d x y = number_of s (face_found s plain (end_of d) x y)
+
+-- the solid has a cell at a front, or just before a back
+abbrev pub has_cell : SolidView → (plain : Bool) → Depths → (x y c : ℕ) → Bool
+has_cell s plain d x y c = if plain then is_inside s d x y c else is_inside_before s d x y c
+
+-- a candidate face covers the pixel, and the solid has a cell there
+abbrev pub is_found : SolidView → (plain : Bool) → Depths → (x y : ℕ) → Bool
+is_found s plain d x y = is_covered s plain (end_of d) x y && has_cell s plain d x y (cell_found s plain d x y)
+
+abbrev pub suited_at : SceneView → Place → (v : ℕ) → Literal → Bool
+suited_at scene l v r = suits (solid_of scene r.solid) r.plain (end_of (depths_of scene)) l.x l.y v
 
 abbrev pub suited : SceneView → Place → (z : ℕ) → Literal → Bool
-suited scene l z r = suits (solid_of scene r.solid) r.plain (far_of scene) l.x l.y z
+suited scene l z r = suited_at scene l (value_of (depths_of scene) z) r
 
 -- the key of a literal's candidate, where it stays alive
 abbrev pub keys_found : SceneView → Place → Product → Literal → List ℕ
 keys_found scene l product q =
     let s = solid_of scene q.solid
-    in let z = depth_found l s q.plain (far_of scene)
-    in if is_found s q.plain (far_of scene) l.x l.y && list_all (suited scene l z) (others q product)
-    then key l z (number_found l s q.plain (far_of scene)) ∷ [] else []
+    in let d = depths_of scene
+    in let z = cell_found s q.plain d l.x l.y
+    in if is_found s q.plain d l.x l.y && list_all (suited scene l z) (others q product)
+    then key l (value_of d z) (number_found s q.plain d l.x l.y) ∷ [] else []
 
 abbrev pub all_found : SceneView → Place → List Product → List ℕ
 all_found scene l products = flat_map (λ product. flat_map (keys_found scene l product) (literals product)) products
@@ -59,48 +76,6 @@ lt_holds i n h = grind (arith, nat_tests)
 pub lt_fails : (i n : ℕ) → nat_lt i n ≡ false → n ≤ i
 lt_fails i n h = grind (arith, nat_tests)
 
-and_false : (a : Bool) → a && false ≡ false
-and_false true = refl
-and_false false = refl
-
-eqb_same : (k : ℕ) → eqb k k ≡ true
-eqb_same k = grind (arith, nat_tests)
-
-eqb_other : (i k : ℕ) → (i ≡ k → ⊥) → eqb i k ≡ false
-eqb_other i k h = grind (arith, nat_tests)
-
-elsewhere : (m : Bool) (i n k : ℕ) → i < n → n ≤ k → (m && eqb i k) ≡ false
-elsewhere true i n k p q = grind (arith, nat_tests)
-elsewhere false i n k p q = refl
-
--- a fold over places of which at most one does something
-abbrev where_test : {S : Type 0} → (ℕ → Bool) → (S → ℕ → S) → S → ℕ → S
-where_test t f s i = if t i then f s i else s
-
-fold_none : {S : Type 0} (t : ℕ → Bool) (f : S → ℕ → S) (s : S) (a n : ℕ) → ((i : ℕ) → a ≤ i → i < a + n → t i ≡ false)
-    → fold (where_test t f) s (range_with_len a n) ≡ s
-fold_none t f s a zero none = refl
-fold_none t f s a (suc n) none =
-    ap (λ v. fold (where_test t f) v (range_with_len (a + 1) n)) (cond-false (t a) (f s a) s (none a (omega arith) (omega arith)))
-    ∙ fold_none t f s (a + 1) n (λ i p q. none i (omega arith) (omega arith))
-
-fold_single : {S : Type 0} (t : ℕ → Bool) (f : S → ℕ → S) (s : S) (a n k : ℕ) (g : Bool)
-    → ((i : ℕ) → a ≤ i → i < a + n → t i ≡ (g && eqb i k)) → a ≤ k → k < a + n
-    → fold (where_test t f) s (range_with_len a n) ≡ (if g then f s k else s)
-fold_single t f s a zero k g one low high = absurd (omega arith)
-fold_single t f s a (suc n) k g one low high = elim (cases_eq a k) [
-  | inl e ↦
-      let here : t a ≡ g = one a (omega arith) (omega arith) ∙ rw (e, eqb_same k) (and_true g) in
-      let first : where_test t f s a ≡ (if g then f s k else s) = rw (here, e) refl in
-      ap (λ v. fold (where_test t f) v (range_with_len (a + 1) n)) first
-      ∙ fold_none t f (if g then f s k else s) (a + 1) n (λ i p q. one i (omega arith) (omega arith)
-      ∙ rw (eqb_other i k (λ x. omega arith)) (and_false g))
-  | inr ne ↦
-      let here : t a ≡ false = one a (omega arith) (omega arith) ∙ rw (eqb_other a k ne) (and_false g) in
-      ap (λ v. fold (where_test t f) v (range_with_len (a + 1) n)) (cond-false (t a) (f s a) s here)
-      ∙ fold_single t f s (a + 1) n k g (λ i p q. one i (omega arith) (omega arith)) (omega arith) (omega arith)
-]
-
 fold-flat_map : {X Y Z : Type 0} (f : Z → Y → Z) (g : X → List Y) (xs : List X) (a : Z)
     → fold (λ b x. fold f b (g x)) a xs ≡ fold f a (flat_map g xs)
 fold-flat_map f g [] a = refl
@@ -112,7 +87,7 @@ pick false a b = refl
 
 -- where a live candidate is less, its key is the best
 abbrev merged : Place → Keys → ℕ
-merged l k = if k.alive && nat_lt (key l k.depth k.number) k.best then key l k.depth k.number else k.best
+merged l k = if k.alive && nat_lt (key l k.deep k.number) k.best then key l k.deep k.number else k.best
 
 alive_is : (a : Bool) → beq a true ≡ a
 alive_is true = refl
@@ -120,11 +95,11 @@ alive_is false = refl
 
 merge_best : (l : Place) (p : Numbers) → (after l merge_on_numbers p).keys.best ≡ merged l p.keys
 merge_best l p =
-    let less = nat_lt (key l p.keys.depth p.keys.number) p.keys.best in
-    pick ((true && beq p.keys.alive true) && less) (record p.keys { best = key l p.keys.depth p.keys.number }) p.keys
-    ∙ ap (λ a. if (true && a) && less then key l p.keys.depth p.keys.number else p.keys.best) (alive_is p.keys.alive)
+    let less = nat_lt (key l p.keys.deep p.keys.number) p.keys.best in
+    pick ((true && beq p.keys.alive true) && less) (record p.keys { best = key l p.keys.deep p.keys.number }) p.keys
+    ∙ ap (λ a. if (true && a) && less then key l p.keys.deep p.keys.number else p.keys.best) (alive_is p.keys.alive)
 
-merged_is : (l : Place) (k : Keys) (a : Bool) (b d n : ℕ) → k.alive ≡ a → k.best ≡ b → k.depth ≡ d → k.number ≡ n
+merged_is : (l : Place) (k : Keys) (a : Bool) (b d n : ℕ) → k.alive ≡ a → k.best ≡ b → k.deep ≡ d → k.number ≡ n
     → merged l k ≡ (if a && nat_lt (key l d n) b then key l d n else b)
 merged_is l k a b d n p q r t = rw (p, q, r, t) refl
 
@@ -132,20 +107,26 @@ least_of : (a : Bool) (b c : ℕ) → (if a && nat_lt c b then c else b) ≡ fol
 least_of true b c = grind (arith, nat_tests)
 least_of false b c = refl
 
-module _ (covering : CoveringLaw) (parity : ParityLaw) (scene : SceneView) (l : Place) (big : far_of scene < 2 ^ l.depth_bits) where
+never : (a b : Bool) → a ≡ false → (a && b) ≡ true → ⊥
+never a b p q = cc
+
+module _ (covering : CoveringLaw) (parity : ValueParityLaw) (scene : SceneView) (l : Place) (room : HasRoom l (depths_of scene)) where
+  abbrev d : Depths
+  d = depths_of scene
+
   abbrev far : ℕ
-  far = far_of scene
+  far = end_of d
 
   -- the candidate of a literal
   candidates_keys : (s : SolidView) (plain : Bool) (p : Numbers)
-      → (after l (flat_map (candidate_on_numbers far s) (candidate_faces s plain)) p).keys
-      ≡ (if is_found s plain far l.x l.y then loaded l far s p.keys (face_found s plain far l.x l.y) else p.keys)
+      → (after l (flat_map (candidate_on_numbers d s) (candidate_faces s plain)) p).keys
+      ≡ (if is_covered s plain far l.x l.y then loaded l d s p.keys (face_found s plain far l.x l.y) else p.keys)
   candidates_keys s true p =
       let law = covering s far l.x l.y in
       let nf = length s.fronts + 1 in
       let t : ℕ → Bool = λ i. covers s far i l.x l.y in
-      keys_in_range l (candidate_on_numbers far s) (where_test t (loaded l far s)) 0 nf (λ i low high e k. candidate_keys l far s i e k) p
-      ∙ fold_single t (loaded l far s) p.keys 0 nf (covering_front s l.x l.y) (is_met s far l.x l.y) (λ i low high. law.fronts i (lt_true i nf (omega arith)))
+      keys_in_range l (candidate_on_numbers d s) (where_test t (loaded l d s)) 0 nf (λ i low high e k. candidate_keys l d room s i e k) p
+      ∙ fold_single t (loaded l d s) p.keys 0 nf (covering_front s l.x l.y) (is_met s far l.x l.y) (λ i low high. law.fronts i (lt_true i nf (omega arith)))
       (omega arith) (omega (arith, lt_holds (covering_front s l.x l.y) nf law.front_there))
   candidates_keys s false p =
       let law = covering s far l.x l.y in
@@ -156,10 +137,10 @@ module _ (covering : CoveringLaw) (parity : ParityLaw) (scene : SceneView) (l : 
       let t : ℕ → Bool = λ i. covers s far i l.x l.y in
       let back : (i : ℕ) → nf ≤ i → i < nf + nb → t i ≡ (m && eqb i k) =
       λ i low high. law.backs i (omega arith) (lt_false i nf low) in
-      keys_in_range l (candidate_on_numbers far s) (where_test t (loaded l far s)) nf nb (λ i low high e k. candidate_keys l far s i e k) p
+      keys_in_range l (candidate_on_numbers d s) (where_test t (loaded l d s)) nf nb (λ i low high e k. candidate_keys l d room s i e k) p
       ∙ elim (cases_lt k (nf + nb)) [
-        | inl numbered ↦ rw (lt_true k (nf + nb) numbered, and_true m) (fold_single t (loaded l far s) p.keys nf nb k m back (lt_fails k nf law.back_behind) numbered)
-        | inr limit ↦ rw (lt_false k (nf + nb) limit, and_false m) (fold_none t (loaded l far s) p.keys nf nb (λ i low high. back i low high
+        | inl numbered ↦ rw (lt_true k (nf + nb) numbered, and_true m) (fold_single t (loaded l d s) p.keys nf nb k m back (lt_fails k nf law.back_behind) numbered)
+        | inr limit ↦ rw (lt_false k (nf + nb) limit, and_false m) (fold_none t (loaded l d s) p.keys nf nb (λ i low high. back i low high
             ∙ elsewhere m i (nf + nb) k high limit))
       ]
 
@@ -169,9 +150,9 @@ module _ (covering : CoveringLaw) (parity : ParityLaw) (scene : SceneView) (l : 
   -- what the other literals leave but for the parity
   record IsJudged (k new : Keys) (rs : List Literal) : Type 0 where
     best : new.best ≡ k.best
-    depth : new.depth ≡ k.depth
+    depth : new.deep ≡ k.deep
     number : new.number ≡ k.number
-    alive : new.alive ≡ (k.alive && list_all (suited scene l k.depth) rs)
+    alive : new.alive ≡ (k.alive && list_all (suited_at scene l k.deep) rs)
 
   judged : (rs : List Literal) (k : Keys) → IsJudged k (fold classified_by k rs) rs
   judged [] k = record { best = refl; depth = refl; number = refl; alive = sym (and_true k.alive) }
@@ -182,43 +163,103 @@ module _ (covering : CoveringLaw) (parity : ParityLaw) (scene : SceneView) (l : 
         depth = rest.depth;
         number = rest.number;
         alive = rest.alive
-            ∙ and_both k.alive (suited scene l k.depth r) (list_all (suited scene l k.depth) rs);
+            ∙ and_both k.alive (suited_at scene l k.deep r) (list_all (suited_at scene l k.deep) rs);
       }
 
-  ended : (f a : Bool) (none some : Keys) (rs : List Literal) → none.alive ≡ false → some.alive ≡ true
-      → some.best ≡ none.best
-      → list_all (suited scene l some.depth) rs ≡ a
-      → merged l (fold classified_by (if f then some else none) rs) ≡ fold min none.best (if f && a then key l some.depth some.number ∷ [] else [])
-  ended false a none some rs dead live same tested =
-      let j = judged rs none in
-      merged_is l (fold classified_by none rs) false none.best none.depth none.number (j.alive
-      ∙ rw dead refl) j.best j.depth j.number
-  ended true a none some rs dead live same tested =
-      let j = judged rs some in
-      merged_is l (fold classified_by some rs) a none.best some.depth some.number (j.alive
-      ∙ rw (live, tested) refl) (j.best ∙ same) j.depth j.number
-      ∙ least_of a none.best (key l some.depth some.number)
+  record HasKey (k : Keys) (deep number : ℕ) : Type 0 where
+    is_deep : k.deep ≡ deep
+    is_number : k.number ≡ number
+
+  ended : (new : Keys) (b deep n : ℕ) (alive a : Bool) (rs : List Literal) → new.best ≡ b → new.alive ≡ alive
+      → (alive ≡ true → HasKey new deep n)
+      → list_all (suited_at scene l deep) rs ≡ a
+      → merged l (fold classified_by new rs) ≡ fold min b (if alive && a then key l deep n ∷ [] else [])
+  ended new b deep n false a rs best dead has tested =
+      let j = judged rs new in
+      merged_is l (fold classified_by new rs) false b new.deep new.number (j.alive
+      ∙ rw dead refl) (j.best ∙ best) j.depth j.number
+  ended new b deep n true a rs best live has tested =
+      let j = judged rs new in
+      let is = has refl in
+      merged_is l (fold classified_by new rs) a b deep n (j.alive
+      ∙ rw (live, is.is_deep, tested) refl) (j.best ∙ best) (j.depth ∙ is.is_deep) (j.number ∙ is.is_number)
+      ∙ least_of a b (key l deep n)
+
+  -- the depth of a candidate is that of its cell
+  loaded_deep : (s : SolidView) (plain : Bool) → is_covered s plain far l.x l.y ≡ true
+      → cleared l (residue l (plus (plane_of s far (face_found s plain far l.x l.y)) (2 ^ d.fraction_bits - 1))) ≡ value_of d (cell_found s plain d l.x l.y)
+  loaded_deep s true met =
+      let more = 2 ^ d.fraction_bits - 1 in
+      ap (λ v. cleared l (modulo v (l.depth_bits + l.fraction_bits))) (value_at-plus (plane_of s far (covering_front s l.x l.y)) more l.x l.y
+      ∙ ap (λ v. v +ℤ pos more) (covering s far l.x l.y).front_value)
+      ∙ rounded l d room (enters_at s l.x l.y) (enters_depth covering far s l.x l.y met)
+  loaded_deep s false both =
+      let more = 2 ^ d.fraction_bits - 1 in
+      let met = and_left (is_met s far l.x l.y) _ both in
+      ap (λ v. cleared l (modulo v (l.depth_bits + l.fraction_bits))) (value_at-plus (plane_of s far (covering_back s far l.x l.y)) more l.x l.y
+      ∙ ap (λ v. v +ℤ pos more) (covering s far l.x l.y).back_value)
+      ∙ rounded l d room (leaves_at s far l.x l.y) (leaves_depth covering far s l.x l.y met)
+
+  cell_test : (s : SolidView) (plain : Bool) → is_covered s plain far l.x l.y ≡ true
+      → ((d.fraction_bits == 0) || test covering l d room s plain (value_of d (cell_found s plain d l.x l.y))) ≡ has_cell s plain d l.x l.y (cell_found s plain d l.x l.y)
+  cell_test s true met = plain_test covering l d room s (cell_found s true d l.x l.y) refl met
+  cell_test s false both = barred_test covering l d room s (cell_found s false d l.x l.y) refl (and_left (is_met s far l.x l.y) _ both)
+
+  -- the candidate of a literal that stays alive
+  record IsKept (s : SolidView) (plain : Bool) (k new : Keys) : Type 0 where
+    best : new.best ≡ k.best
+    alive : new.alive ≡ is_found s plain d l.x l.y
+    has : is_found s plain d l.x l.y ≡ true → HasKey new (value_of d (cell_found s plain d l.x l.y)) (number_found s plain d l.x l.y)
+
+  kept : (s : SolidView) (plain : Bool) (k start new : Keys) → k.alive ≡ false
+      → start ≡ (if is_covered s plain far l.x l.y then loaded l d s k (face_found s plain far l.x l.y) else k)
+      → IsConfirmed covering l d room s plain start new → IsKept s plain k new
+  kept s plain k start new dead is c = elim (cases_Bool (is_covered s plain far l.x l.y)) [
+    | inl yea ↦
+        let z = cell_found s plain d l.x l.y in
+        let some = loaded l d s k (face_found s plain far l.x l.y) in
+        let here : start ≡ some = is ∙ rw yea refl in
+        let deep : some.deep ≡ value_of d z = loaded_deep s plain yea in
+        record {
+          best = c.best ∙ ap (λ (k : Keys). k.best) here;
+          alive = c.alive ∙ ap (λ (k : Keys). k.alive && ((d.fraction_bits == 0) || test covering l d room s plain k.deep)) here
+              ∙ ap (λ v. (d.fraction_bits == 0) || test covering l d room s plain v) deep
+              ∙ cell_test s plain yea ∙ rw yea refl;
+          has = λ _. record { is_deep = c.deep ∙ ap (λ (k : Keys). k.deep) here ∙ deep; is_number = c.number ∙ ap (λ (k : Keys). k.number) here };
+        }
+    | inr nay ↦
+        let here : start ≡ k = is ∙ rw nay refl in
+        record {
+          best = c.best ∙ ap (λ (k : Keys). k.best) here;
+          alive = c.alive ∙ ap (λ (k : Keys). k.alive && ((d.fraction_bits == 0) || test covering l d room s plain k.deep)) here
+              ∙ rw (dead, nay) refl;
+          has = λ e. absurd (never (is_covered s plain far l.x l.y) (has_cell s plain d l.x l.y (cell_found s plain d l.x l.y)) nay e);
+        }
+  ]
 
   -- the passes of one literal
   literal_best : (product : Product) (q : Literal) (e : Bool) (k : Keys)
       → (after l (literal_on_numbers scene product q) (at e k)).keys.best ≡ fold min k.best (keys_found scene l product q)
   literal_best product q e k =
       let s = solid_of scene q.solid in
-      let f = is_found s q.plain far l.x l.y in
       let rs = others q product in
+      let z = cell_found s q.plain d l.x l.y in
       let tests = flat_map (λ r. classify_on_numbers far (solid_of scene r.solid) r.plain) rs in
       let fresh = record k { alive = false } in
-      let first = all ∷ set_alive false ∷ flat_map (candidate_on_numbers far s) (candidate_faces s q.plain) in
-      let some = loaded l far s fresh (face_found s q.plain far l.x l.y) in
-      let start : (after l first (at e k)).keys ≡ (if f then some else fresh) = candidates_keys s q.plain (at true fresh) in
-      let middle : (after l (first ++ tests) (at e k)).keys ≡ fold classified_by (if f then some else fresh) rs =
-      ap (λ (p : Numbers). p.keys) (after-append l first tests (at e k))
-      ∙ part_along l (λ k. k) (λ r. classify_on_numbers far (solid_of scene r.solid) r.plain) classified_by (λ r e k. classify_keys covering parity far l big (solid_of scene r.solid) r.plain e k) rs (after l first (at e k))
-      ∙ ap (λ c. fold classified_by c rs) start in
-      ap (λ (p : Numbers). p.keys.best) (after-append l (first ++ tests) merge_on_numbers (at e k))
-      ∙ merge_best l (after l (first ++ tests) (at e k))
+      let first = all ∷ set_alive false ∷ flat_map (candidate_on_numbers d s) (candidate_faces s q.plain) in
+      let confirm = where_fraction d.fraction_bits (confirm_on_numbers d s q.plain) in
+      let start = after l first (at e k) in
+      let new = (after l confirm start).keys in
+      let same : (after l (first ++ confirm) (at e k)).keys ≡ new = ap (λ (p : Numbers). p.keys) (after-append l first confirm (at e k)) in
+      let r = kept s q.plain fresh start.keys new refl (candidates_keys s q.plain (at true fresh)) (confirmed covering l d room s q.plain start.enable start.keys) in
+      let middle : (after l ((first ++ confirm) ++ tests) (at e k)).keys ≡ fold classified_by new rs =
+      ap (λ (p : Numbers). p.keys) (after-append l (first ++ confirm) tests (at e k))
+      ∙ part_along l (λ k. k) (λ r. classify_on_numbers far (solid_of scene r.solid) r.plain) classified_by (λ r e k. classify_keys covering parity far l (end_small l d room) (solid_of scene r.solid) r.plain e k) rs (after l (first ++ confirm) (at e k))
+      ∙ ap (λ c. fold classified_by c rs) same in
+      ap (λ (p : Numbers). p.keys.best) (after-append l ((first ++ confirm) ++ tests) merge_on_numbers (at e k))
+      ∙ merge_best l (after l ((first ++ confirm) ++ tests) (at e k))
       ∙ ap (merged l) middle
-      ∙ ended f (list_all (suited scene l (depth_found l s q.plain far)) rs) fresh some rs refl refl refl refl
+      ∙ ended new k.best (value_of d z) (number_found s q.plain d l.x l.y) (is_found s q.plain d l.x l.y) (list_all (suited scene l z) rs) rs r.best r.alive r.has refl
 
   background : far * 2 ^ l.number_bits ≡ key l far 0
   background = omega arith

@@ -1,11 +1,14 @@
 -- How many passes there can be.
-use Rattle.std.proofs.Common.{◌≡◌, ℕ, ◌+◌, ◌*◌, ◌^◌, ◌<◌, ◌≤◌, All, Bool, true, false, not, ◌==◌, List, [], ◌∷◌, ◌++◌, filter, get_or, length, refl, ap, arith, length-append}
+use Rattle.std.proofs.Common.{◌≡◌, ℕ, inl, inr, ◌+◌, ◌-◌, ◌*◌, ◌^◌, ◌<◌, ◌≤◌, All, Bool, true, false, not, ◌==◌, List, [], ◌∷◌, ◌++◌, filter, get_or, length, refl, ap, arith, length-append}
 use Rattle.std.specs.List.{flat_map, range_with_len}
 use Rattle.std.proofs.lemmas.List.{length-map}
 use Rattle.std.proofs.lemmas.List.Elements.{All-cons, All-head, All-nil, All-tail, filter-append}
 use Rattle.std.proofs.lemmas.List.FromFn.{length-range_with_len}
 use Rattle.std.proofs.lemmas.List.Sums.{count_by-le-length, length-filter}
 use Prim.Native.Nat.{zero, suc}
+use Rattle.std.proofs.lemmas.Bool.{cases_Bool}
+use Rattle.px_num.specs.Forms.{plus}
+use Rattle.px_num.specs.declared.linear.Linear.{Linear}
 use Rattle.px_face.specs.EdgeLaws.{EdgesAreCounted}
 use Rattle.px_face.specs.Edges.{edges}
 use Rattle.px_face.specs.Faces.{face_count, number_of, plane_of}
@@ -14,12 +17,12 @@ use Rattle.px_macro.specs.declared.operation.Macro.TheVariants as m
 use Rattle.px_normal.specs.declared.product.Product.{Product}
 use Rattle.px_normal.specs.declared.set.SolidSet.{SolidSet}
 use Rattle.px_normal.specs.Sets.{below, has, solids}
-use Rattle.px_scene.specs.Cells.{far_of}
+use Rattle.px_scene.specs.Cells.{Depths, depths_of, end_of}
 use Rattle.px_scene.specs.Scenes.{SceneView}
 use Rattle.px_scene.specs.Solids.{IsLawfulSolid, SolidView}
 use Rattle.px_sched.specs.declared.literal.Literal.{Literal}
-use Rattle.px_sched.specs.Layouts.{LayoutView, depth_part, number_part}
-use Rattle.px_sched.specs.Passes.{candidate, candidate_faces, classify, keep_covered, literal_passes, literals, literals_of, merge, no_solid, others, passes_with, solid_of, turn}
+use Rattle.px_sched.specs.Layouts.{LayoutView, deep_part, fraction_part, number_part}
+use Rattle.px_sched.specs.Passes.{candidate, candidate_faces, classify, confirm, drop_behind, where_fraction, keep_covered, literal_passes, literals, literals_of, merge, no_solid, others, passes_with, solid_of, turn}
 
 -- each number of a range
 pub range_all : (Q : ℕ → Type 0) (a n : ℕ) → ((i : ℕ) → a ≤ i → i < a + n → Q i) → All Q (range_with_len a n)
@@ -84,35 +87,67 @@ candidate_faces_there s false = range_all (λ face. face < face_count s) (length
 pub faces_there : (s : SolidView) → All (λ face. face < face_count s) (range_with_len 0 (face_count s))
 faces_there s = range_all (λ face. face < face_count s) 0 (face_count s) (λ i low high. omega arith)
 
-module _ (counted : EdgesAreCounted) (l : LayoutView) (far : ℕ) where
-  few_signs : (s : SolidView) (face : ℕ) → IsLawfulSolid s → face < face_count s → length (keep_covered far s face) ≤ 97
-  few_signs s face lawful there = omega (arith, length-map (edges s far face) m.KeepSign, counted s far face there, lawful.fronts.few, lawful.backs.few, lawful.few_sides)
+module _ (counted : EdgesAreCounted) (l : LayoutView) (d : Depths) where
+  abbrev end : ℕ
+  end = end_of d
 
-  few_candidate : (s : SolidView) → IsLawfulSolid s → (face : ℕ) → face < face_count s → length (candidate l far s face) ≤ 101
+  few_signs : (s : SolidView) (face : ℕ) → IsLawfulSolid s → face < face_count s → length (keep_covered end s face) ≤ 97
+  few_signs s face lawful there = omega (arith, length-map (edges s end face) m.KeepSign, counted s end face there, lawful.fronts.few, lawful.backs.few, lawful.few_sides)
+
+  few_fraction : (ms : List Macro) → length (where_fraction d ms) ≤ length ms
+  few_fraction ms = elim (cases_Bool (d.fraction_bits == 0)) [
+    | inl none ↦ rw none (omega arith)
+    | inr some ↦ rw some (omega arith)
+  ]
+
+  few_candidate : (s : SolidView) → IsLawfulSolid s → (face : ℕ) → face < face_count s → length (candidate l d s face) ≤ 102
   few_candidate s lawful face there =
-      let tail : List Macro = m.LoadLinear (plane_of s far face) (depth_part l l.key_t) ∷ m.LoadConst (number_part l l.key_t) (number_of s face) ∷ m.SetBit l.alive true ∷ [] in
-      omega (arith, length-append (keep_covered far s face) tail, few_signs s face lawful there)
+      let load = m.LoadLinear (plus (plane_of s end face) (2 ^ d.fraction_bits - 1)) (deep_part l l.key_t) in
+      let clear : List Macro = m.LoadConst (fraction_part l l.key_t) 0 ∷ [] in
+      let last : List Macro = m.LoadConst (number_part l l.key_t) (number_of s face) ∷ m.SetBit l.alive true ∷ [] in
+      omega (arith, length-append (keep_covered end s face) (load ∷ where_fraction d clear ++ last), length-append (load ∷ where_fraction d clear) last, few_fraction clear, few_signs s face lawful there)
 
-  few_turn : (s : SolidView) → IsLawfulSolid s → (face : ℕ) → face < face_count s → length (turn l far s face) ≤ 101
-  few_turn s lawful face there =
-      let tail : List Macro = m.KeepAtMost (plane_of s far face) (depth_part l l.key_t) ∷ m.Toggle l.par ∷ [] in
-      omega (arith, length-append (keep_covered far s face) tail, few_signs s face lawful there)
+  few_turn : (s : SolidView) → IsLawfulSolid s → (form : ℕ → Linear) (face : ℕ) → face < face_count s → length (turn l end s face (form face)) ≤ 101
+  few_turn s lawful form face there =
+      let tail : List Macro = m.KeepAtMost (form face) (deep_part l l.key_t) ∷ m.Toggle l.par ∷ [] in
+      omega (arith, length-append (keep_covered end s face) tail, few_signs s face lawful there)
+
+  few_drop : (s : SolidView) → IsLawfulSolid s → (face : ℕ) → face < face_count s → length (drop_behind l end s face) ≤ 101
+  few_drop s lawful face there =
+      let tail : List Macro = m.KeepAtMost (plane_of s end face) (deep_part l l.key_t) ∷ m.SetBit l.alive false ∷ [] in
+      omega (arith, length-append (keep_covered end s face) tail, few_signs s face lawful there)
 
   few_faces : (s : SolidView) (plain : Bool) → IsLawfulSolid s → length (candidate_faces s plain) ≤ 33
   few_faces s true lawful = omega (arith, length-range_with_len 0 (length s.fronts + 1), lawful.fronts.few)
   few_faces s false lawful = omega (arith, length-range_with_len (length s.fronts + 1) (length s.backs), lawful.backs.few)
 
-  few_classify : (s : SolidView) (plain : Bool) → IsLawfulSolid s → length (classify l far s plain) ≤ 6671
-  few_classify s plain lawful =
-      let turns = flat_map (turn l far s) (range_with_len 0 (face_count s)) in
+  few_turns : (s : SolidView) → IsLawfulSolid s → (form : ℕ → Linear) (v : Bool) (n : ℕ) → n ≤ face_count s
+      → length (m.All ∷ m.SetBit l.par false ∷ flat_map (λ face. turn l end s face (form face)) (range_with_len 0 n) ++ m.All ∷ m.KeepBit l.par v ∷ m.SetBit l.alive false ∷ []) ≤ 6671
+  few_turns s lawful form v n le =
+      let turns = flat_map (λ face. turn l end s face (form face)) (range_with_len 0 n) in
       omega (
         arith,
-        length-append turns (m.All ∷ m.KeepBit l.par (not plain) ∷ m.SetBit l.alive false ∷ []),
-        few_flat (λ face. face < face_count s) (turn l far s) 101 (few_turn s lawful) (range_with_len 0 (face_count s)) (faces_there s),
-        length-range_with_len 0 (face_count s),
+        length-append (m.All ∷ m.SetBit l.par false ∷ turns) (m.All ∷ m.KeepBit l.par v ∷ m.SetBit l.alive false ∷ []),
+        few_flat (λ face. face < face_count s) (λ face. turn l end s face (form face)) 101 (few_turn s lawful form) (range_with_len 0 n) (range_all (λ face. face < face_count s) 0 n (λ i low high. omega arith)),
+        length-range_with_len 0 n,
         lawful.fronts.few,
         lawful.backs.few,
       )
+
+  few_classify : (s : SolidView) (plain : Bool) → IsLawfulSolid s → length (classify l end s plain) ≤ 6671
+  few_classify s plain lawful = few_turns s lawful (plane_of s end) (not plain) (face_count s) (omega arith)
+
+  few_confirm : (s : SolidView) (plain : Bool) → IsLawfulSolid s → length (confirm l d s plain) ≤ 6671
+  few_confirm s true lawful =
+      let n = length s.backs + 1 in
+      let faces = range_with_len (length s.fronts + 1) n in
+      omega (
+        arith,
+        few_flat (λ face. face < face_count s) (drop_behind l end s) 101 (few_drop s lawful) faces (range_all (λ face. face < face_count s) (length s.fronts + 1) n (λ i low high. omega arith)),
+        length-range_with_len (length s.fronts + 1) n,
+        lawful.backs.few,
+      )
+  few_confirm s false lawful = few_turns s lawful (λ face. plus (plane_of s end face) (2 ^ d.fraction_bits)) false (length s.fronts + 1) (omega arith)
 
 module _ (counted : EdgesAreCounted) (scene : SceneView) (l : LayoutView) (lawful : All IsLawfulSolid scene.solids) where
   solid_lawful : (i : ℕ) → IsLawfulSolid (solid_of scene i)
@@ -121,21 +156,26 @@ module _ (counted : EdgesAreCounted) (scene : SceneView) (l : LayoutView) (lawfu
   few_literal : (p : Product) (q : Literal) → length (literal_passes scene l p q) ≤ 2 ^ 22
   few_literal p q =
       let s = solid_of scene q.solid in
-      let far = far_of scene in
+      let d = depths_of scene in
+      let far = end_of d in
       let judge : Literal → List Macro = λ r. classify l far (solid_of scene r.solid) r.plain in
-      let cs = flat_map (candidate l far s) (candidate_faces s q.plain) in
+      let cs = flat_map (candidate l d s) (candidate_faces s q.plain) in
       let js = flat_map judge (others q p) in
-      let many : length cs ≤ length (candidate_faces s q.plain) * 101 =
-      few_flat (λ face. face < face_count s) (candidate l far s) 101 (few_candidate counted l far s (solid_lawful q.solid)) (candidate_faces s q.plain) (candidate_faces_there s q.plain) in
+      let sure = where_fraction d (confirm l d s q.plain) in
+      let many : length cs ≤ length (candidate_faces s q.plain) * 102 =
+      few_flat (λ face. face < face_count s) (candidate l d s) 102 (few_candidate counted l d s (solid_lawful q.solid)) (candidate_faces s q.plain) (candidate_faces_there s q.plain) in
       let others_many : length js ≤ length (others q p) * 6671 =
-      few_flat (λ _. Unit {0}) judge 6671 (λ r _. few_classify counted l far (solid_of scene r.solid) r.plain (solid_lawful r.solid)) (others q p) (anything (others q p)) in
+      few_flat (λ _. Unit {0}) judge 6671 (λ r _. few_classify counted l d (solid_of scene r.solid) r.plain (solid_lawful r.solid)) (others q p) (anything (others q p)) in
       omega (
         arith,
-        length-append (cs ++ js) (merge l),
-        length-append cs js,
+        length-append ((cs ++ sure) ++ js) (merge l),
+        length-append (cs ++ sure) js,
+        length-append cs sure,
+        few_fraction counted l d (confirm l d s q.plain),
+        few_confirm counted l d s q.plain (solid_lawful q.solid),
         many,
         others_many,
-        few_faces counted l far s q.plain (solid_lawful q.solid),
+        few_faces counted l d s q.plain (solid_lawful q.solid),
         few_kept (λ r. not (r.solid == q.solid)) (literals p),
         few_literals p,
       )

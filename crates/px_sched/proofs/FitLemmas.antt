@@ -1,7 +1,11 @@
 -- The passes are lawful in as many memory bits as the layout needs.
-use Rattle.std.proofs.Common.{◌≡◌, ℕ, ◌+◌, ◌*◌, ◌^◌, ◌<◌, ◌≤◌, All, Bool, true, false, not, List, [], ◌∷◌, ◌++◌, count_by, get_or, nat_le, refl, ap, sym, subst, ◌∙◌, arith, inl, inr}
+use Rattle.std.proofs.Common.{◌≡◌, ℕ, ℤ, pos, ◌+ℤ◌, ◌-◌, ◌==◌, lit≤, length, ◌+◌, ◌*◌, ◌^◌, ◌<◌, ◌≤◌, All, Bool, true, false, not, List, [], ◌∷◌, ◌++◌, count_by, get_or, nat_le, refl, ap, sym, subst, ◌∙◌, arith, inl, inr}
 use Rattle.std.specs.List.{flat_map, range_with_len}
-use Rattle.std.proofs.lemmas.Bool.{cases_lt}
+use Rattle.std.proofs.lemmas.Bool.{cases_Bool, cases_lt}
+use Rattle.std.proofs.lemmas.Bool.Decides.{nat_tests}
+use Rattle.std.proofs.lemmas.Int.{ints}
+use Rattle.px_num.specs.Forms.{IsInTreeRange, IsWithin, plus}
+use Rattle.px_num.specs.declared.linear.Linear.{Linear}
 use Rattle.std.proofs.lemmas.List.Elements.{All-append, All-cons, All-head, All-map, All-nil, All-tail}
 use Rattle.std.proofs.lemmas.List.Sums.{sum_by-cons}
 use Rattle.std.proofs.lemmas.Nat.{pow-add, pow_pos}
@@ -15,14 +19,15 @@ use Rattle.px_macro.specs.Macros.{IsField, IsLawful}
 use Rattle.px_macro.specs.declared.operation.Macro.{Macro}
 use Rattle.px_macro.specs.declared.operation.Macro.TheVariants as m
 use Rattle.px_normal.specs.declared.product.Product.{Product}
-use Rattle.px_scene.specs.Cells.{far_of}
+use Rattle.px_scene.specs.Cells.{Depths, depths_of, end_of}
+use Rattle.px_scene.specs.CellLaws.{end_is_small}
 use Rattle.px_scene.specs.Scenes.{AreNumberedFrom, IsLawfulScene, IsNumberedFrom, SceneView, faces_of}
-use Rattle.px_scene.specs.Solids.{IsLawfulSolid, SolidView, faces_in}
+use Rattle.px_scene.specs.Solids.{IsLawfulSolid, IsPlane, SolidView, faces_in}
 use Rattle.px_scene.specs.declared.solid.Face.{Face}
 use Rattle.px_sched.specs.declared.literal.Literal.{Literal}
-use Rattle.px_sched.specs.Layouts.{LayoutView, bit_length, depth_part, layout_of, layout_with, need_of, number_part}
-use Rattle.px_sched.specs.Passes.{candidate, candidate_faces, classify, keep_covered, literal_passes, literals, merge, no_solid, others, passes_with, solid_of, turn}
-use Rattle.px_sched.proofs.FewLemmas.{any_solid, candidate_faces_there, faces_there, no_solid_lawful}
+use Rattle.px_sched.specs.Layouts.{LayoutView, bit_length, deep_part, fraction_part, layout_of, layout_with, need_of, number_part}
+use Rattle.px_sched.specs.Passes.{candidate, candidate_faces, classify, confirm, drop_behind, where_fraction, keep_covered, literal_passes, literals, merge, no_solid, others, passes_with, solid_of, turn}
+use Rattle.px_sched.proofs.FewLemmas.{any_solid, candidate_faces_there, range_all, no_solid_lawful}
 use Rattle.px_sched.proofs.LayoutLemmas.{counted, passed_over, le_false, le_true, scene_layout}
 
 all_flat : {X : Type 0} (P : Macro → Type 0) (Q : X → Type 0) (f : X → List Macro) → ((x : X) → Q x → All P (f x)) → (xs : List X) → All Q xs → All P (flat_map f xs)
@@ -39,15 +44,57 @@ shifted far w i small =
     let more : (far + 1) * 2 ^ i ≡ far * 2 ^ i + 2 ^ i = omega arith in
     omega (arith, most, more, pow-add 2 w i, pow_pos i)
 
-module _ (ranges : EdgesAreInRange) (planes : PlanesAreInRange) (w i : ℕ) (w_some : 1 ≤ w) (w_most : w ≤ 24) (i_some : 1 ≤ i) (i_most : i ≤ 12) where
+wider : (m n : ℕ) (v : ℤ) → m ≤ n → IsWithin m v → IsWithin n v
+wider m n v le (low, high) = (omega (arith, ints), omega (arith, ints))
+
+more_within : (v : ℤ) (n : ℕ) → n ≤ 2 ^ 9 → IsWithin (2 ^ 33) v → IsWithin (2 ^ 38) (v +ℤ pos n)
+more_within v n le (low, high) = (omega (arith, ints), omega (arith, ints))
+
+plane_range : (p : Linear) → IsPlane p → IsInTreeRange p
+plane_range p h = record { a = wider (2 ^ 23) (2 ^ 27) p.a (lit≤ tt) h.a; b = wider (2 ^ 23) (2 ^ 27) p.b (lit≤ tt) h.b; c = wider (2 ^ 33) (2 ^ 38) p.c (lit≤ tt) h.c }
+
+plus_range : (p : Linear) (n : ℕ) → n ≤ 2 ^ 9 → IsPlane p → IsInTreeRange (plus p n)
+plus_range p n le h = record { a = wider (2 ^ 23) (2 ^ 27) p.a (lit≤ tt) h.a; b = wider (2 ^ 23) (2 ^ 27) p.b (lit≤ tt) h.b; c = more_within p.c n le h.c }
+
+module _ (ranges : EdgesAreInRange) (planes : PlanesAreInRange) (w i : ℕ) (scene : SceneView) (w_some : 1 ≤ w) (f_most : scene.fraction_bits ≤ 8) (w_most : w + scene.fraction_bits ≤ 24) (i_some : 1 ≤ i) (i_most : i ≤ 12) where
+  abbrev d : Depths
+  d = depths_of scene
+
+  abbrev f : ℕ
+  f = scene.fraction_bits
+
+  abbrev end : ℕ
+  end = end_of d
+
   abbrev l : LayoutView
-  l = layout_with w i
+  l = layout_with w f i
 
   abbrev Fits : Macro → Type 0
   Fits one = IsLawful one (need_of l)
 
-  depth_field : IsField (depth_part l l.key_t) (need_of l)
-  depth_field = record { from_one = w_some; to_forty = omega arith; within = omega arith }
+  deep_field : IsField (deep_part l l.key_t) (need_of l)
+  deep_field = record { from_one = omega arith; to_forty = omega arith; within = omega arith }
+
+  fraction_field : 1 ≤ f → IsField (fraction_part l l.key_t) (need_of l)
+  fraction_field some = record { from_one = some; to_forty = omega arith; within = omega arith }
+
+  unit_most : 2 ^ f ≤ 2 ^ 8
+  unit_most = pow_mono {i = f} {j = 8} f_most
+
+  one : (m : Macro) → Fits m → All Fits (m ∷ [])
+  one m fits = All-cons Fits m [] fits (All-nil Fits)
+
+  cons : (m : Macro) (ms : List Macro) → Fits m → All Fits ms → All Fits (m ∷ ms)
+  cons m ms fits rest = All-cons Fits m ms fits rest
+
+  fraction_fits : (ms : List Macro) → (1 ≤ f → All Fits ms) → All Fits (where_fraction d ms)
+  fraction_fits ms fits = elim (cases_Bool (f == 0)) [
+    | inl none ↦ rw none (All-nil Fits)
+    | inr some ↦ rw some (fits (is_some some))
+  ]
+    where
+      is_some : (f == 0) ≡ false → 1 ≤ f
+      is_some e = grind (arith, nat_tests)
 
   number_field : IsField (number_part l l.key_t) (need_of l)
   number_field = record { from_one = i_some; to_forty = omega arith; within = omega arith }
@@ -64,42 +111,70 @@ module _ (ranges : EdgesAreInRange) (planes : PlanesAreInRange) (w i : ℕ) (w_s
   par_there : l.par < need_of l
   par_there = omega arith
 
-  module _ (far : ℕ) (small : far < 2 ^ 32) where
-    signs_fit : (s : SolidView) (face : ℕ) → IsLawfulSolid s → face < face_count s → All Fits (keep_covered far s face)
-    signs_fit s face lawful there = All-map Fits m.KeepSign (edges s far face) (ranges s lawful far face small there)
+  module _ (small : end < 2 ^ 32) where
+    signs_fit : (s : SolidView) (face : ℕ) → IsLawfulSolid s → face < face_count s → All Fits (keep_covered end s face)
+    signs_fit s face lawful there = All-map Fits m.KeepSign (edges s end face) (ranges s lawful end face small there)
 
-    candidate_fits : (s : SolidView) → IsLawfulSolid s → ((face : ℕ) → number_of s face < 2 ^ i) → (face : ℕ) → face < face_count s → All Fits (candidate l far s face)
+    candidate_fits : (s : SolidView) → IsLawfulSolid s → ((face : ℕ) → number_of s face < 2 ^ i) → (face : ℕ) → face < face_count s → All Fits (candidate l d s face)
     candidate_fits s lawful number face there =
-        let load = m.LoadLinear (plane_of s far face) (depth_part l l.key_t) in
+        let load = m.LoadLinear (plus (plane_of s end face) (2 ^ f - 1)) (deep_part l l.key_t) in
+        let zero = m.LoadConst (fraction_part l l.key_t) 0 in
+        let clear = where_fraction d (zero ∷ []) in
         let take = m.LoadConst (number_part l l.key_t) (number_of s face) in
         let set = m.SetBit l.alive true in
-        All-cons Fits m.All (keep_covered far s face ++ (load ∷ take ∷ set ∷ [])) tt
-        (All-append Fits (keep_covered far s face) (load ∷ take ∷ set ∷ []) (signs_fit s face lawful there)
-        (All-cons Fits load (take ∷ set ∷ []) (planes s lawful far face small there, depth_field)
-        (All-cons Fits take (set ∷ []) (number_field, number face) (All-cons Fits set [] alive_there (All-nil Fits)))))
+        let rest = load ∷ clear ++ take ∷ set ∷ [] in
+        cons m.All (keep_covered end s face ++ rest) tt
+        (All-append Fits (keep_covered end s face) rest (signs_fit s face lawful there)
+        (All-append Fits (load ∷ clear) (take ∷ set ∷ [])
+        (cons load clear (plus_range (plane_of s end face) (2 ^ f - 1) (omega (arith, unit_most)) (planes s lawful end face small there), deep_field)
+        (fraction_fits (zero ∷ []) (λ some. one zero (fraction_field some, pow_pos f))))
+        (cons take (set ∷ []) (number_field, number face) (one set alive_there))))
 
-    turn_fits : (s : SolidView) → IsLawfulSolid s → (face : ℕ) → face < face_count s → All Fits (turn l far s face)
-    turn_fits s lawful face there =
-        let test = m.KeepAtMost (plane_of s far face) (depth_part l l.key_t) in
+    turn_fits : (s : SolidView) → IsLawfulSolid s → (form : ℕ → Linear) → ((face : ℕ) → face < face_count s → IsInTreeRange (form face))
+        → (face : ℕ) → face < face_count s → All Fits (turn l end s face (form face))
+    turn_fits s lawful form range face there =
+        let test = m.KeepAtMost (form face) (deep_part l l.key_t) in
         let toggle = m.Toggle l.par in
         let keep = m.KeepBit l.alive true in
-        All-cons Fits m.All (keep ∷ (keep_covered far s face ++ (test ∷ toggle ∷ []))) tt
-        (All-cons Fits keep (keep_covered far s face ++ (test ∷ toggle ∷ [])) alive_there
-        (All-append Fits (keep_covered far s face) (test ∷ toggle ∷ []) (signs_fit s face lawful there)
-        (All-cons Fits test (toggle ∷ []) (planes s lawful far face small there, depth_field) (All-cons Fits toggle [] par_there (All-nil Fits)))))
+        let signs = keep_covered end s face in
+        cons m.All (keep ∷ (signs ++ (test ∷ toggle ∷ []))) tt
+        (cons keep (signs ++ (test ∷ toggle ∷ [])) alive_there
+        (All-append Fits signs (test ∷ toggle ∷ []) (signs_fit s face lawful there)
+        (cons test (toggle ∷ []) (range face there, deep_field) (one toggle par_there))))
 
-    close_fits : (plain : Bool) → All Fits (m.All ∷ m.KeepBit l.par (not plain) ∷ m.SetBit l.alive false ∷ [])
-    close_fits plain =
-        All-cons Fits m.All (m.KeepBit l.par (not plain) ∷ m.SetBit l.alive false ∷ []) tt
-        (All-cons Fits (m.KeepBit l.par (not plain)) (m.SetBit l.alive false ∷ []) par_there (All-cons Fits (m.SetBit l.alive false) [] alive_there (All-nil Fits)))
+    drop_fits : (s : SolidView) → IsLawfulSolid s → (face : ℕ) → face < face_count s → All Fits (drop_behind l end s face)
+    drop_fits s lawful face there =
+        let test = m.KeepAtMost (plane_of s end face) (deep_part l l.key_t) in
+        let set = m.SetBit l.alive false in
+        let keep = m.KeepBit l.alive true in
+        let signs = keep_covered end s face in
+        cons m.All (keep ∷ (signs ++ (test ∷ set ∷ []))) tt
+        (cons keep (signs ++ (test ∷ set ∷ [])) alive_there
+        (All-append Fits signs (test ∷ set ∷ []) (signs_fit s face lawful there)
+        (cons test (set ∷ []) (plane_range (plane_of s end face) (planes s lawful end face small there), deep_field) (one set alive_there))))
 
-    classify_fits : (s : SolidView) (plain : Bool) → IsLawfulSolid s → All Fits (classify l far s plain)
+    turns_fit : (s : SolidView) → IsLawfulSolid s → (form : ℕ → Linear) → ((face : ℕ) → face < face_count s → IsInTreeRange (form face)) → (v : Bool) (n : ℕ) → n ≤ face_count s
+        → All Fits (m.All ∷ m.SetBit l.par false ∷ flat_map (λ face. turn l end s face (form face)) (range_with_len 0 n) ++ m.All ∷ m.KeepBit l.par v ∷ m.SetBit l.alive false ∷ [])
+    turns_fit s lawful form range v n le =
+        let turns = flat_map (λ face. turn l end s face (form face)) (range_with_len 0 n) in
+        let close : List Macro = m.All ∷ m.KeepBit l.par v ∷ m.SetBit l.alive false ∷ [] in
+        cons m.All (m.SetBit l.par false ∷ (turns ++ close)) tt
+        (cons (m.SetBit l.par false) (turns ++ close) par_there
+        (All-append Fits turns close
+        (all_flat Fits (λ face. face < face_count s) (λ face. turn l end s face (form face)) (turn_fits s lawful form range) (range_with_len 0 n) (range_all (λ face. face < face_count s) 0 n (λ i low high. omega arith)))
+        (cons m.All (m.KeepBit l.par v ∷ m.SetBit l.alive false ∷ []) tt (cons (m.KeepBit l.par v) (m.SetBit l.alive false ∷ []) par_there (one (m.SetBit l.alive false) alive_there)))))
+
+    classify_fits : (s : SolidView) (plain : Bool) → IsLawfulSolid s → All Fits (classify l end s plain)
     classify_fits s plain lawful =
-        let turns = flat_map (turn l far s) (range_with_len 0 (face_count s)) in
-        let close : List Macro = m.All ∷ m.KeepBit l.par (not plain) ∷ m.SetBit l.alive false ∷ [] in
-        All-cons Fits m.All (m.SetBit l.par false ∷ (turns ++ close)) tt
-        (All-cons Fits (m.SetBit l.par false) (turns ++ close) par_there
-        (All-append Fits turns close (all_flat Fits (λ face. face < face_count s) (turn l far s) (turn_fits s lawful) (range_with_len 0 (face_count s)) (faces_there s)) (close_fits plain)))
+        turns_fit s lawful (plane_of s end) (λ face there. plane_range (plane_of s end face) (planes s lawful end face small there)) (not plain) (face_count s) (omega arith)
+
+    confirm_fits : (s : SolidView) (plain : Bool) → IsLawfulSolid s → All Fits (confirm l d s plain)
+    confirm_fits s true lawful =
+        let n = length s.backs + 1 in
+        all_flat Fits (λ face. face < face_count s) (drop_behind l end s) (drop_fits s lawful) (range_with_len (length s.fronts + 1) n)
+        (range_all (λ face. face < face_count s) (length s.fronts + 1) n (λ i low high. omega arith))
+    confirm_fits s false lawful =
+        turns_fit s lawful (λ face. plus (plane_of s end face) (2 ^ f)) (λ face there. plus_range (plane_of s end face) (2 ^ f) (omega (arith, unit_most)) (planes s lawful end face small there)) false (length s.fronts + 1) (omega arith)
 
     merge_fits : All Fits (merge l)
     merge_fits =
@@ -111,36 +186,38 @@ module _ (ranges : EdgesAreInRange) (planes : PlanesAreInRange) (w i : ℕ) (w_s
         (All-cons Fits less (copy ∷ []) (record { fields = (field_t, field_b); length = refl })
         (All-cons Fits copy [] (record { fields = (field_t, field_b); length = refl }, inr (omega arith)) (All-nil Fits))))
 
-  module _ (scene : SceneView) (small : far_of scene < 2 ^ w) (lawful : All IsLawfulSolid scene.solids) (numbers : (solid face : ℕ) → number_of (solid_of scene solid) face < 2 ^ i) where
-    far_small : far_of scene < 2 ^ 32
-    far_small = let bound : 2 ^ w ≤ 2 ^ 24 = pow_mono w_most in omega (arith, small, bound)
+  module _ (small : end < 2 ^ (w + f)) (lawful : All IsLawfulSolid scene.solids) (numbers : (solid face : ℕ) → number_of (solid_of scene solid) face < 2 ^ i) where
+    end_small : end < 2 ^ 32
+    end_small = let bound : 2 ^ (w + f) ≤ 2 ^ 24 = pow_mono {i = w + f} {j = 24} w_most in omega (arith, small, bound)
 
     solid_lawful : (i : ℕ) → IsLawfulSolid (solid_of scene i)
     solid_lawful i = any_solid IsLawfulSolid scene lawful no_solid_lawful i
 
     literal_fits : (p : Product) (q : Literal) → All Fits (literal_passes scene l p q)
     literal_fits p q =
-        let far = far_of scene in
         let s = solid_of scene q.solid in
-        let judge : Literal → List Macro = λ r. classify l far (solid_of scene r.solid) r.plain in
-        let cs = flat_map (candidate l far s) (candidate_faces s q.plain) in
+        let judge : Literal → List Macro = λ r. classify l end (solid_of scene r.solid) r.plain in
+        let cs = flat_map (candidate l d s) (candidate_faces s q.plain) in
+        let sure = where_fraction d (confirm l d s q.plain) in
         let js = flat_map judge (others q p) in
-        All-cons Fits m.All (m.SetBit l.alive false ∷ (cs ++ js ++ merge l)) tt
-        (All-cons Fits (m.SetBit l.alive false) (cs ++ js ++ merge l) alive_there
-        (All-append Fits (cs ++ js) (merge l)
-        (All-append Fits cs js
-        (all_flat Fits (λ face. face < face_count s) (candidate l far s) (candidate_fits far far_small s (solid_lawful q.solid) (numbers q.solid)) (candidate_faces s q.plain) (candidate_faces_there s q.plain))
-        (all_flat Fits (λ _. Unit {0}) judge (λ r _. classify_fits far far_small (solid_of scene r.solid) r.plain (solid_lawful r.solid)) (others q p) (anything (others q p))))
-        (merge_fits far far_small)))
+        cons m.All (m.SetBit l.alive false ∷ (((cs ++ sure) ++ js) ++ merge l)) tt
+        (cons (m.SetBit l.alive false) (((cs ++ sure) ++ js) ++ merge l) alive_there
+        (All-append Fits ((cs ++ sure) ++ js) (merge l)
+        (All-append Fits (cs ++ sure) js
+        (All-append Fits cs sure
+        (all_flat Fits (λ face. face < face_count s) (candidate l d s) (candidate_fits end_small s (solid_lawful q.solid) (numbers q.solid)) (candidate_faces s q.plain) (candidate_faces_there s q.plain))
+        (fraction_fits (confirm l d s q.plain) (λ some. confirm_fits end_small s q.plain (solid_lawful q.solid))))
+        (all_flat Fits (λ _. Unit {0}) judge (λ r _. classify_fits end_small (solid_of scene r.solid) r.plain (solid_lawful r.solid)) (others q p) (anything (others q p))))
+        (merge_fits end_small)))
 
-    start_fits : Fits (m.LoadConst l.key_b (far_of scene * 2 ^ i))
-    start_fits = (field_b, shifted (far_of scene) w i small)
+    start_fits : Fits (m.LoadConst l.key_b (end * 2 ^ i))
+    start_fits = (field_b, shifted end (w + f) i small)
 
     pub passes_fit : (products : List Product) → All Fits (passes_with scene l products)
     passes_fit products =
         let each : Product → List Macro = λ product. flat_map (literal_passes scene l product) (literals product) in
-        All-cons Fits m.All (m.LoadConst l.key_b (far_of scene * 2 ^ i) ∷ flat_map each products) tt
-        (All-cons Fits (m.LoadConst l.key_b (far_of scene * 2 ^ i)) (flat_map each products) start_fits
+        cons m.All (m.LoadConst l.key_b (end * 2 ^ i) ∷ flat_map each products) tt
+        (cons (m.LoadConst l.key_b (end * 2 ^ i)) (flat_map each products) start_fits
         (all_flat Fits (λ _. Unit {0}) each (λ p _. all_flat Fits (λ _. Unit {0}) (literal_passes scene l p) (λ q _. literal_fits p q) (literals p) (anything (literals p))) products (anything products)))
 
 -- so many bits have room for a number
@@ -203,4 +280,4 @@ pub scene_passes_fit : EdgesAreInRange → PlanesAreInRange → (scene : SceneVi
     → All (λ one. IsLawful one (need_of (layout_of scene))) (passes_with scene (layout_of scene) products)
 scene_passes_fit ranges planes scene lawful solids products =
     let is = scene_layout scene lawful in
-    passes_fit ranges planes scene.depth_bits (bit_length (faces_of scene.solids)) is.some_depth is.depth is.some_number is.number scene (omega (arith, pow_pos scene.depth_bits)) solids (numbers_fit scene lawful) products
+    passes_fit ranges planes scene.depth_bits (bit_length (faces_of scene.solids)) scene is.some_depth is.fraction is.depth is.some_number is.number (end_is_small scene.depth_bits scene.fraction_bits) solids (numbers_fit scene lawful) products

@@ -1,79 +1,103 @@
 -- The least key found is that of the first depth at which the products show something, with the least number there.
-use Rattle.std.proofs.Common.{◌≡◌, ◌<◌, ◌≤◌, ◌+◌, ◌*◌, ◌^◌, ◌&&◌, ℕ, pos, Bool, true, false, not, nat_lt, List, length, min, refl, ap, sym, ◌∙◌, arith, inl, inr, ◌⊎◌, eqb}
+use Rattle.std.proofs.Common.{◌≡◌, ◌<◌, ◌≤◌, ◌+◌, ◌*◌, ◌^◌, ◌&&◌, ℕ, zero, suc, nat_le, Bool, true, false, not, nat_lt, List, length, min, refl, ap, sym, ◌∙◌, arith, inl, inr, ◌⊎◌, eqb}
 use Rattle.std.specs.List.{All, fold, flat_map, list_all}
 use Rattle.std.proofs.lemmas.Bool.{cases_Bool}
 use Rattle.std.proofs.lemmas.Bool.Decides.{nat_tests}
-use Rattle.px_num.specs.Bits.{modulo}
 use Rattle.px_scene.specs.Scenes.{AreNumberedFrom, IsNumberedFrom, SceneView, faces_of}
 use Rattle.px_scene.specs.Solids.{IsLawfulSolid, SolidView, faces_in}
-use Rattle.px_scene.specs.Cells.{far_of, leaf_cell}
-use Rattle.px_face.specs.Covering.{CoveringLaw, covering_back, enters_at, is_met, leaves_at}
+use Rattle.px_scene.specs.Cells.{Depths, cell_of, depths_of, end_of, enters_at, far_of, is_inside, is_inside_before, leaf_cell, leaves_at, value_of}
+use Rattle.px_face.specs.Covering.{CellsLaw, CoveringLaw, covering_back, is_met}
 use Rattle.px_normal.specs.declared.product.Product.{Product}
 use Rattle.px_normal.specs.NormalLaw.{holds, shows, some_shows}
 use Rattle.px_sched.specs.declared.literal.Literal.{Literal}
 use Rattle.px_sched.specs.Numbers.{Place, key}
 use Rattle.px_sched.specs.Passes.{literals, no_solid, others, solid_of}
-use Rattle.px_sched.proofs.RunLemmas.{IsDepth, and_left, and_right, enters_depth, leaves_depth, modulo_is, suits}
-use Rattle.px_sched.proofs.BlockLemmas.{all_found, depth_found, is_found, keys_found, lt_holds, lt_true, number_found, suited}
+use Rattle.px_sched.proofs.RunLemmas.{and_left, and_right, suits}
+use Rattle.px_sched.proofs.BlockLemmas.{all_found, cell_found, is_covered, is_found, keys_found, lt_false, lt_holds, lt_true, number_found, suited}
+use Rattle.px_sched.proofs.FoldLemmas.{and_false}
 use Rattle.px_sched.proofs.MemberLemmas.{In, all_kept, all_of, any_in, any_out, in_filter, in_flat, in_where, min_below, min_reached, min_start, one_of, out_flat}
-use Rattle.px_sched.proofs.LiteralLemmas.{backs_below, barred_seen, barred_shows, fronts_below, not_behind, plain_cell, plain_seen, plain_shows}
+use Rattle.px_sched.proofs.LiteralLemmas.{backs_below, barred_seen, barred_there, fronts_below, plain_seen, plain_shows}
 use Rattle.px_sched.proofs.ProductLemmas.{IsFit, each_holds, holds_there, numbered_at, shown_of, shows_out, shows_there}
 
-module _ (covering : CoveringLaw) (l : Place) (far : ℕ) (big : far < 2 ^ l.depth_bits) (s : SolidView) where
-  plain_depth : (d : IsDepth (enters_at s l.x l.y) far) → depth_found l s true far ≡ d.depth
-  plain_depth d = ap (λ v. modulo v l.depth_bits) (covering s far l.x l.y).front_value
-      ∙ modulo_is (enters_at s l.x l.y) far l.depth_bits big d
-
-  barred_depth : (d : IsDepth (leaves_at s far l.x l.y) far) → depth_found l s false far ≡ d.depth
-  barred_depth d = ap (λ v. modulo v l.depth_bits) (covering s far l.x l.y).back_value
-      ∙ modulo_is (leaves_at s far l.x l.y) far l.depth_bits big d
-
+module _ (covering : CoveringLaw) (cells : CellsLaw) (d : Depths) (s : SolidView) (x y : ℕ) where
   -- what is found at a literal
   record IsCandidate (plain : Bool) : Type 0 where
-    within : depth_found l s plain far ≤ far
-    suited : suits s plain far l.x l.y (depth_found l s plain far) ≡ true
-    shown : In (number_found l s plain far) (shown_of s plain far l.x l.y (depth_found l s plain far))
+    within : cell_found s plain d x y ≤ d.far
+    suited : suits s plain (end_of d) x y (value_of d (cell_found s plain d x y)) ≡ true
+    shown : In (number_found s plain d x y) (shown_of s plain d x y (cell_found s plain d x y))
 
-  is_candidate : (plain : Bool) → is_found s plain far l.x l.y ≡ true → IsCandidate plain
-  is_candidate true met =
-      let d = enters_depth covering far s l.x l.y met in
-      let e = plain_depth d in
-      let depth = d.is ∙ ap pos (sym e) in
+  not_behind : (c : ℕ) → cell_of d (leaves_at s (end_of d) x y) ≡ c → is_inside s d x y c ≡ false
+  not_behind c e =
+      (cells s d x y).cells c ∙ last_of (is_met s (end_of d) x y) (cell_of d (enters_at s x y)) (cell_of d (leaves_at s (end_of d) x y)) c e
+    where
+      last_of : (m : Bool) (first last c : ℕ) → last ≡ c → (m && nat_le first c && nat_lt c last) ≡ false
+      last_of false first last c h = refl
+      last_of true first last c h = let past : nat_lt c last ≡ false = lt_false c last (omega arith) in rw past (and_false (nat_le first c))
+
+  met_inside : (z : ℕ) → is_inside s d x y z ≡ true → is_met s (end_of d) x y ≡ true
+  met_inside z inside =
+      first_of (is_met s (end_of d) x y) (nat_le (cell_of d (enters_at s x y)) z) (nat_lt z (cell_of d (leaves_at s (end_of d) x y))) (sym ((cells s d x y).cells z) ∙ inside)
+    where
+      first_of : (a b c : Bool) → (a && b && c) ≡ true → a ≡ true
+      first_of true b c h = refl
+      first_of false b c h = h
+
+  is_candidate : (plain : Bool) → is_found s plain d x y ≡ true → IsCandidate plain
+  is_candidate true found =
+      let c = cell_of d (enters_at s x y) in
+      let inside = and_right (is_met s (end_of d) x y) (is_inside s d x y c) found in
+      let met = and_left (is_met s (end_of d) x y) (is_inside s d x y c) found in
       record {
-        within = omega (arith, e, d.below);
-        suited = plain_cell covering s far l.x l.y met (depth_found l s true far) depth;
-        shown = plain_shows covering s far l.x l.y (depth_found l s true far) depth;
+        within = let le = (cells s d x y).within met in omega (arith, le, before (is_met s (end_of d) x y) c (cell_of d (leaves_at s (end_of d) x y)) (sym ((cells s d x y).cells c) ∙ inside));
+        suited = inside;
+        shown = plain_shows covering s d x y;
       }
-  is_candidate false both =
-      let numbered = nat_lt (covering_back s far l.x l.y) (length s.fronts + 1 + length s.backs) in
-      let met = and_left (is_met s far l.x l.y) numbered both in
-      let there = lt_holds _ _ (and_right (is_met s far l.x l.y) numbered both) in
-      let d = leaves_depth covering far s l.x l.y met in
-      let e = barred_depth d in
-      let depth = d.is ∙ ap pos (sym e) in
+    where
+      third_of : (a b c : Bool) → (a && b && c) ≡ true → c ≡ true
+      third_of true true c h = h
+      third_of true false c h = cc
+      third_of false b c h = cc
+
+      before : (m : Bool) (c last : ℕ) → (m && nat_le c c && nat_lt c last) ≡ true → c < last
+      before m c last h = lt_holds c last (third_of m (nat_le c c) (nat_lt c last) h)
+  is_candidate false found =
+      let c = cell_of d (leaves_at s (end_of d) x y) in
+      let both = and_left (is_covered s false (end_of d) x y) (is_inside_before s d x y c) found in
+      let before = and_right (is_covered s false (end_of d) x y) (is_inside_before s d x y c) found in
+      let numbered = nat_lt (covering_back s (end_of d) x y) (length s.fronts + 1 + length s.backs) in
+      let met = and_left (is_met s (end_of d) x y) numbered both in
+      let there = lt_holds _ _ (and_right (is_met s (end_of d) x y) numbered both) in
       record {
-        within = omega (arith, e, d.below);
-        suited = rw (not_behind covering s far l.x l.y (depth_found l s false far) depth) refl;
-        shown = barred_shows covering s far l.x l.y met there (depth_found l s false far) depth;
+        within = (cells s d x y).within met;
+        suited = rw (not_behind c refl) refl;
+        shown = barred_there covering s d x y c there before refl;
       }
 
   record IsSeen (plain : Bool) (z n : ℕ) : Type 0 where
-    found : is_found s plain far l.x l.y ≡ true
-    depth : depth_found l s plain far ≡ z
-    number : number_found l s plain far ≤ n
+    found : is_found s plain d x y ≡ true
+    cell : cell_found s plain d x y ≡ z
+    number : number_found s plain d x y ≤ n
 
-  is_seen : (plain : Bool) (z n : ℕ) → IsLawfulSolid s → z ≤ far → suits s plain far l.x l.y z ≡ true
-      → In n (shown_of s plain far l.x l.y z) → IsSeen plain z n
-  is_seen true z n lawful low inside shown =
-      let r = plain_seen covering s far l.x l.y lawful z n inside shown in
-      record { found = r.met; depth = plain_depth (record { depth = z; is = r.depth; below = low }); number = r.number }
-  is_seen false z n lawful low outside shown =
-      let r = barred_seen covering s far l.x l.y lawful z n shown in
+  is_seen : (plain : Bool) (z n : ℕ) → IsLawfulSolid s → suits s plain (end_of d) x y (value_of d z) ≡ true
+      → In n (shown_of s plain d x y z) → IsSeen plain z n
+  is_seen true z n lawful inside shown =
+      let r = plain_seen covering s d x y lawful z n shown in
       record {
-        found = rw (r.met) (lt_true _ _ r.there);
-        depth = barred_depth (record { depth = z; is = r.depth; below = low });
+        found = rw (r.cell, met_inside z inside) inside;
+        cell = r.cell;
         number = r.number;
       }
+  is_seen false z n lawful outside shown =
+      let r = barred_seen covering s d x y lawful z n shown in
+      record {
+        found = rw (r.cell, met_before z r.before, lt_true _ _ r.there) r.before;
+        cell = r.cell;
+        number = r.number;
+      }
+    where
+      met_before : (z : ℕ) → is_inside_before s d x y z ≡ true → is_met s (end_of d) x y ≡ true
+      met_before zero e = absurd (cc)
+      met_before (suc z) e = met_inside z e
 
 differs : (i k : ℕ) → (eqb i k ≡ true) ⊎ (not (eqb i k) ≡ true)
 differs i k = elim (cases_Bool (eqb i k)) [ inl a ↦ inl a | inr b ↦ inr (rw b refl) ]
@@ -81,22 +105,25 @@ differs i k = elim (cases_Bool (eqb i k)) [ inl a ↦ inl a | inr b ↦ inr (rw 
 same : (i k : ℕ) → eqb i k ≡ true → i ≡ k
 same i k h = grind (arith, nat_tests)
 
-module _ (covering : CoveringLaw) (scene : SceneView) (lawful : All IsLawfulSolid scene.solids) (numbered : AreNumberedFrom 1 scene.solids)
-    (l : Place) (big : far_of scene < 2 ^ l.depth_bits) (products : List Product)
+module _ (covering : CoveringLaw) (cells : CellsLaw) (scene : SceneView) (lawful : All IsLawfulSolid scene.solids) (numbered : AreNumberedFrom 1 scene.solids)
+    (l : Place) (products : List Product)
     (fit : (p : Product) → In p products → IsFit (length scene.solids) p) where
+  abbrev d : Depths
+  d = depths_of scene
+
   abbrev far : ℕ
   far = far_of scene
 
   -- the products show a face at a depth
   abbrev pub Shows : (z n : ℕ) → Type 0
-  Shows z n = some_shows (leaf_cell scene.solids far l.x l.y z) n products ≡ true
+  Shows z n = some_shows (leaf_cell scene.solids d l.x l.y z) n products ≡ true
 
   pub record IsShownKey (k : ℕ) : Type 0 where
     pub depth : ℕ
     pub number : ℕ
     pub within : depth ≤ far
     pub shown : Shows depth number
-    pub is : k ≡ key l depth number
+    pub is : k ≡ key l (value_of d depth) number
 
   -- each key that is found is shown
   sound : (k : ℕ) → In k (all_found scene l products) → IsShownKey k
@@ -107,30 +134,30 @@ module _ (covering : CoveringLaw) (scene : SceneView) (lawful : All IsLawfulSoli
       let b = out_flat (keys_found scene l p) (literals p) k a.gives in
       let q = b.from in
       let s = solid_of scene q.solid in
-      let z = depth_found l s q.plain far in
-      let n = number_found l s q.plain far in
-      let c = in_where (is_found s q.plain far l.x l.y && list_all (suited scene l z) (others q p)) k (key l z n) b.gives in
-      let here = and_left (is_found s q.plain far l.x l.y) (list_all (suited scene l z) (others q p)) c.0 in
-      let rest = and_right (is_found s q.plain far l.x l.y) (list_all (suited scene l z) (others q p)) c.0 in
-      let d = is_candidate covering l far big s q.plain here in
+      let z = cell_found s q.plain d l.x l.y in
+      let n = number_found s q.plain d l.x l.y in
+      let c = in_where (is_found s q.plain d l.x l.y && list_all (suited scene l z) (others q p)) k (key l (value_of d z) n) b.gives in
+      let here = and_left (is_found s q.plain d l.x l.y) (list_all (suited scene l z) (others q p)) c.0 in
+      let rest = and_right (is_found s q.plain d l.x l.y) (list_all (suited scene l z) (others q p)) c.0 in
+      let found = is_candidate covering cells d s l.x l.y q.plain here in
       let each : (r : Literal) → In r (literals p) → suited scene l z r ≡ true = λ r there. elim (differs r.solid q.solid) [
-        | inl e ↦ ap (suited scene l z) (whole.once q r b.there there (same r.solid q.solid e)) ∙ d.suited
+        | inl e ↦ ap (suited scene l z) (whole.once q r b.there there (same r.solid q.solid e)) ∙ found.suited
         | inr e ↦ one_of (suited scene l z) (others q p) r (in_filter (λ t. not (eqb t.solid q.solid)) (literals p) r there e) rest
       ] in
-      let at = leaf_cell scene.solids far l.x l.y z in
-      let shows_p : (holds at p && shows at n p) ≡ true = rw (holds_there scene l p whole z each) (shows_there scene l p whole z n q b.there d.shown) in
-      record { depth = z; number = n; within = d.within; shown = any_in (λ p. holds at p && shows at n p) products p a.there shows_p; is = sym c.1 }
+      let at = leaf_cell scene.solids d l.x l.y z in
+      let shows_p : (holds at p && shows at n p) ≡ true = rw (holds_there scene l p whole z each) (shows_there scene l p whole z n q b.there found.shown) in
+      record { depth = z; number = n; within = found.within; shown = any_in (λ p. holds at p && shows at n p) products p a.there shows_p; is = sym c.1 }
 
   record IsFoundKey (z n : ℕ) : Type 0 where
     is : ℕ
     there : In is (all_found scene l products)
-    least : is ≤ key l z n
+    least : is ≤ key l (value_of d z) n
     small : n < 1 + faces_of scene.solids
 
   -- for each number that is shown a key is found that is no greater
   complete : (z n : ℕ) → z ≤ far → Shows z n → IsFoundKey z n
   complete z n low h =
-      let at = leaf_cell scene.solids far l.x l.y z in
+      let at = leaf_cell scene.solids d l.x l.y z in
       let a = any_out (λ p. holds at p && shows at n p) products h in
       let p = a.from in
       let whole = fit p a.there in
@@ -139,43 +166,43 @@ module _ (covering : CoveringLaw) (scene : SceneView) (lawful : All IsLawfulSoli
       let q = b.from in
       let s = solid_of scene q.solid in
       let there = whole.known q b.there in
-      let d = is_seen covering l far big s q.plain z n (lawful q.solid no_solid there) low (all q b.there) b.gives in
-      let y = depth_found l s q.plain far in
-      let k = key l y (number_found l s q.plain far) in
+      let found = is_seen covering cells d s l.x l.y q.plain z n (lawful q.solid no_solid there) (all q b.there) b.gives in
+      let y = cell_found s q.plain d l.x l.y in
+      let k = key l (value_of d y) (number_found s q.plain d l.x l.y) in
       let rest : list_all (suited scene l y) (others q p) ≡ true =
-      ap (λ t. list_all (suited scene l t) (others q p)) d.depth
+      ap (λ t. list_all (suited scene l t) (others q p)) found.cell
       ∙ all_kept (suited scene l z) (λ t. not (eqb t.solid q.solid)) (literals p) (all_of (suited scene l z) (literals p) all) in
-      let here : In k (keys_found scene l p q) = rw (d.found, rest) (inl refl) in
+      let here : In k (keys_found scene l p q) = rw (found.found, rest) (inl refl) in
       record {
         is = k;
         there = in_flat (λ p. flat_map (keys_found scene l p) (literals p)) products p k a.there (in_flat (keys_found scene l p) (literals p) q k b.there here);
-        least = omega (arith, ap (λ t. 2 ^ l.number_bits * t) d.depth, d.number);
+        least = omega (arith, ap (λ t. 2 ^ l.number_bits * value_of d t) found.cell, found.number);
         small = bounded q there b.gives;
       }
     where
       by_kind : (s : SolidView) (plain : Bool) (first : ℕ) → IsNumberedFrom first s
           → first + faces_in s ≤ 1 + faces_of scene.solids
-          → In n (shown_of s plain far l.x l.y z) → n < 1 + faces_of scene.solids
-      by_kind s true first numbers le h = omega (arith, le, fronts_below s first l.x l.y z n numbers h)
-      by_kind s false first numbers le h = omega (arith, le, backs_below s first far l.x l.y z n numbers h)
+          → In n (shown_of s plain d l.x l.y z) → n < 1 + faces_of scene.solids
+      by_kind s true first numbers le h = omega (arith, le, fronts_below s d first l.x l.y z n numbers h)
+      by_kind s false first numbers le h = omega (arith, le, backs_below s d first l.x l.y z n numbers h)
 
       bounded : (q : Literal) → q.solid < length scene.solids
-          → In n (shown_of (solid_of scene q.solid) q.plain far l.x l.y z) → n < 1 + faces_of scene.solids
+          → In n (shown_of (solid_of scene q.solid) q.plain d l.x l.y z) → n < 1 + faces_of scene.solids
       bounded q there h =
           let i = numbered_at scene.solids 1 q.solid numbered there in
           by_kind (solid_of scene q.solid) q.plain i.first i.numbers i.within h
 
   -- the least key found, by what is shown
   pub record IsLeast (b : ℕ) : Type 0 where
-    pub background : b ≤ key l far 0
-    pub below : (z n : ℕ) → z ≤ far → Shows z n → (b ≤ key l z n) × (n < 1 + faces_of scene.solids)
-    pub reached : (b ≡ key l far 0) ⊎ IsShownKey b
+    pub background : b ≤ key l (value_of d far) 0
+    pub below : (z n : ℕ) → z ≤ far → Shows z n → (b ≤ key l (value_of d z) n) × (n < 1 + faces_of scene.solids)
+    pub reached : (b ≡ key l (value_of d far) 0) ⊎ IsShownKey b
 
-  pub best_is_least : IsLeast (fold min (key l far 0) (all_found scene l products))
+  pub best_is_least : IsLeast (fold min (key l (value_of d far) 0) (all_found scene l products))
   best_is_least =
       let found = all_found scene l products in
       record {
-        background = min_start (key l far 0) found;
-        below = λ z n low h. let r = complete z n low h in (omega (arith, min_below (key l far 0) found r.is r.there, r.least), r.small);
-        reached = elim (min_reached (key l far 0) found) [ inl e ↦ inl e | inr h ↦ inr (sound (fold min (key l far 0) found) h) ];
+        background = min_start (key l (value_of d far) 0) found;
+        below = λ z n low h. let r = complete z n low h in (omega (arith, min_below (key l (value_of d far) 0) found r.is r.there, r.least), r.small);
+        reached = elim (min_reached (key l (value_of d far) 0) found) [ inl e ↦ inl e | inr h ↦ inr (sound (fold min (key l (value_of d far) 0) found) h) ];
       }

@@ -35,6 +35,7 @@ pub scene_layout : (scene : SceneView) → IsLawfulScene scene → IsLayout (lay
 scene_layout scene lawful = record {
   some_depth = lawful.some_depth;
   depth = lawful.depth;
+  fraction = lawful.fraction;
   some_number = bit_length_some (faces_of scene.solids) (some_face scene.solids (some_solid scene.show (length scene.solids) lawful.shown));
   number = bit_length_most (faces_of scene.solids);
   fields = refl;

@@ -1,7 +1,9 @@
 pub mod BlockLemmas
 pub mod BridgeLemmas
 pub mod DrawnLemmas
+pub mod ConfirmLemmas
 pub mod FewLemmas
+pub mod FoldLemmas
 pub mod FitLemmas
 pub mod GroupLemmas
 pub mod JoinLemmas

@@ -8,13 +8,13 @@ use Rattle.std.proofs.lemmas.Option.{slice_get-get_or}
 use Rattle.px_expr.specs.Cells.{Cell, has_face}
 use Rattle.px_scene.specs.Scenes.{AreNumberedFrom, IsNumberedFrom, SceneView, faces_of}
 use Rattle.px_scene.specs.Solids.{SolidView, faces_in}
-use Rattle.px_scene.specs.Cells.{backs_at, far_of, fronts_at, leaf_cell, no_cell, solid_cell}
+use Rattle.px_scene.specs.Cells.{Depths, backs_at, depths_of, fronts_at, leaf_cell, no_cell, solid_cell}
 use Rattle.px_normal.specs.declared.set.SolidSet.{SolidSet}
 use Rattle.px_normal.specs.declared.product.Product.{Product}
 use Rattle.px_normal.specs.Sets.{below, has, solids}
 use Rattle.px_normal.specs.Forms.{HasSolidsBelow}
 use Rattle.px_normal.specs.NormalLaw.{holds, shows}
-use Rattle.px_prune.specs.Kept.{is_void}
+use Rattle.px_normal.specs.Live.{is_void}
 use Rattle.px_sched.specs.declared.literal.Literal.{Literal}
 use Rattle.px_sched.specs.Numbers.{Place}
 use Rattle.px_sched.specs.Passes.{literals, literals_of, no_solid, solid_of}
@@ -79,26 +79,26 @@ fit count p low apart = record {
         let both : is_void p ≡ true = any_in (has p.barred) (solids p.plain) q h (in_solids p.barred q g).1 in
         absurd (cc)
 
-pub leaf_is : (scene : SceneView) (far x y z q : ℕ) → q < length scene.solids
-    → leaf_cell scene.solids far x y z q ≡ solid_cell far x y z (solid_of scene q)
-leaf_is scene far x y z q h = ap (λ found. option_map_or (solid_cell far x y z) found no_cell) (slice_get-get_or scene.solids q no_solid h)
+pub leaf_is : (scene : SceneView) (d : Depths) (x y z q : ℕ) → q < length scene.solids
+    → leaf_cell scene.solids d x y z q ≡ solid_cell d x y z (solid_of scene q)
+leaf_is scene d x y z q h = ap (λ found. option_map_or (solid_cell d x y z) found no_cell) (slice_get-get_or scene.solids q no_solid h)
 
 -- what a literal shows at a cell
-abbrev pub shown_of : SolidView → (plain : Bool) → (far x y z : ℕ) → List ℕ
-shown_of s plain far x y z = if plain then fronts_at s x y z else backs_at s far x y z
+abbrev pub shown_of : SolidView → (plain : Bool) → Depths → (x y z : ℕ) → List ℕ
+shown_of s plain d x y z = if plain then fronts_at s d x y z else backs_at s d x y z
 
 module _ (scene : SceneView) (l : Place) (p : Product) (whole : IsFit (length scene.solids) p) (z : ℕ) where
-  abbrev far : ℕ
-  far = far_of scene
+  abbrev d : Depths
+  d = depths_of scene
 
   abbrev at : ℕ → Cell
-  at = leaf_cell scene.solids far l.x l.y z
+  at = leaf_cell scene.solids d l.x l.y z
 
-  plain_at : (q : ℕ) → In q (solids p.plain) → at q ≡ solid_cell far l.x l.y z (solid_of scene q)
-  plain_at q h = leaf_is scene far l.x l.y z q (whole.known (literal true q) (plain_literal p q h))
+  plain_at : (q : ℕ) → In q (solids p.plain) → at q ≡ solid_cell d l.x l.y z (solid_of scene q)
+  plain_at q h = leaf_is scene d l.x l.y z q (whole.known (literal true q) (plain_literal p q h))
 
-  barred_at : (q : ℕ) → In q (solids p.barred) → at q ≡ solid_cell far l.x l.y z (solid_of scene q)
-  barred_at q h = leaf_is scene far l.x l.y z q (whole.known (literal false q) (barred_literal p q h))
+  barred_at : (q : ℕ) → In q (solids p.barred) → at q ≡ solid_cell d l.x l.y z (solid_of scene q)
+  barred_at q h = leaf_is scene d l.x l.y z q (whole.known (literal false q) (barred_literal p q h))
 
   -- a product holds where each literal has its cell
   pub holds_there : ((r : Literal) → In r (literals p) → suited scene l z r ≡ true) → holds at p ≡ true
@@ -120,7 +120,7 @@ module _ (scene : SceneView) (l : Place) (p : Product) (whole : IsFit (length sc
 
   -- a product shows what a literal shows
   abbrev pub Gives : ℕ → Literal → Type 0
-  Gives n r = In n (shown_of (solid_of scene r.solid) r.plain far l.x l.y z)
+  Gives n r = In n (shown_of (solid_of scene r.solid) r.plain d l.x l.y z)
 
   pub shows_there : (n : ℕ) (r : Literal) → In r (literals p) → Gives n r → shows at n p ≡ true
   shows_there n =

@@ -1,20 +1,22 @@
 -- Each number that the passes load has room.
-use Rattle.std.proofs.Common.{◌≡◌, ℕ, suc, zero, ◌+◌, ◌*◌, ◌^◌, ◌<◌, Bool, true, false, not, List, [], ◌∷◌, ◌++◌, All, map, get_or, refl, arith}
+use Rattle.std.proofs.Common.{◌≡◌, ℕ, suc, zero, ◌+◌, ◌-◌, ◌*◌, ◌^◌, ◌==◌, ◌<◌, inl, inr, length, Bool, true, false, not, List, [], ◌∷◌, ◌++◌, All, map, get_or, refl, arith}
 use Rattle.std.specs.List.{flat_map, range_with_len}
 use Rattle.std.proofs.lemmas.List.Elements.{All-append, All-cons, All-head, All-nil, All-tail}
 use Rattle.std.proofs.lemmas.List.Sums.{sum_by-append}
 use Rattle.std.proofs.lemmas.Nat.{pow-add}
+use Rattle.std.proofs.lemmas.Bool.{cases_Bool}
+use Rattle.px_num.specs.Forms.{plus}
 use Rattle.px_num.specs.BitLaws.{pow_above}
 use Rattle.px_num.specs.declared.linear.Linear.{Linear}
 use Rattle.px_scene.specs.Scenes.{SceneView, AreNumberedFrom, IsNumberedFrom, faces_of}
 use Rattle.px_scene.specs.Solids.{SolidView, faces_in}
-use Rattle.px_scene.specs.Cells.{far_of}
+use Rattle.px_scene.specs.Cells.{Depths, depths_of, end_of}
 use Rattle.px_scene.specs.declared.solid.Face.{Face}
 use Rattle.px_face.specs.Edges.{edges}
 use Rattle.px_face.specs.Faces.{face_count, number_of, numbers_of, plane_of}
 use Rattle.px_normal.specs.declared.product.Product.{Product}
 use Rattle.px_sched.specs.declared.literal.Literal.{Literal}
-use Rattle.px_sched.specs.Numbers.{Pass, candidate_on_numbers, classify_on_numbers, keep_covered_on_numbers, literal_on_numbers, merge_on_numbers, passes_on_numbers, turn_on_numbers, all, keep_sign, load_depth, load_number, load_best, set_alive, set_par, keep_par, keep_alive, keep_at_most, keep_less, toggle_par, copy}
+use Rattle.px_sched.specs.Numbers.{Pass, where_fraction, confirm_on_numbers, drop_on_numbers, candidate_on_numbers, classify_on_numbers, keep_covered_on_numbers, literal_on_numbers, merge_on_numbers, passes_on_numbers, turn_on_numbers, all, keep_sign, load_deep, clear_fraction, load_number, load_best, set_alive, set_par, keep_par, keep_alive, keep_at_most, keep_less, toggle_par, copy}
 use Rattle.px_sched.specs.Passes.{candidate_faces, literals, no_solid, others, solid_of}
 use Rattle.px_sched.proofs.BridgeLemmas.{HasRoom}
 
@@ -56,30 +58,39 @@ numbers_below first (s ∷ ss) some h zero face = omega (arith, number_below fir
 numbers_below first (s ∷ ss) some h (suc q) face =
     omega (arith, numbers_below (first + faces_in s) ss (omega arith) h.1 q face, faces_of_more s ss)
 
-covered_room : (w i far : ℕ) (s : SolidView) (face : ℕ) → All (HasRoom w i) (keep_covered_on_numbers far s face)
-covered_room w i far s face = signs (edges s far face)
+covered_room : (w f i end : ℕ) (s : SolidView) (face : ℕ) → All (HasRoom w f i) (keep_covered_on_numbers end s face)
+covered_room w f i end s face = signs (edges s end face)
   where
-    signs : (forms : List Linear) → All (HasRoom w i) (map keep_sign forms)
-    signs [] = All-nil (HasRoom w i)
-    signs (form ∷ forms) = All-cons (HasRoom w i) (keep_sign form) (map keep_sign forms) tt (signs forms)
+    signs : (forms : List Linear) → All (HasRoom w f i) (map keep_sign forms)
+    signs [] = All-nil (HasRoom w f i)
+    signs (form ∷ forms) = All-cons (HasRoom w f i) (keep_sign form) (map keep_sign forms) tt (signs forms)
+
+times_room : (m a b : ℕ) → m < a → 0 < b → m * b < a * b
+times_room m a b less some = grind arith
 
 -- in the passes of a scene whose face numbers have so many bits, and its depths so many
 pub passes_have_room : (w i : ℕ) (scene : SceneView) (products : List Product) → AreNumberedFrom 1 scene.solids →
-    faces_of scene.solids < 2 ^ i → far_of scene < 2 ^ w → All (HasRoom w i) (passes_on_numbers scene i products)
-passes_have_room w i scene products numbered faces depths =
+    faces_of scene.solids < 2 ^ i → end_of (depths_of scene) < 2 ^ (w + scene.fraction_bits) → All (HasRoom w scene.fraction_bits i) (passes_on_numbers scene i products)
+passes_have_room w i scene products numbered faces small =
     let of_product : Product → List Pass = λ product. flat_map (literal_on_numbers scene product) (literals product)
-    in let first = load_best (far_of scene * 2 ^ i)
+    in let first = load_best (end * 2 ^ i)
     in cons all (first ∷ flat_map of_product products) tt (cons first (flat_map of_product products) best
     (All-flat_map P of_product (λ product. All-flat_map P (literal_on_numbers scene product) (literal product) (literals product)) products))
   where
+    d : Depths
+    d = depths_of scene
+
+    end : ℕ
+    end = end_of d
+
     P : Pass → Type 0
-    P = HasRoom w i
+    P = HasRoom w scene.fraction_bits i
 
     cons : (p : Pass) (ps : List Pass) → P p → All P ps → All P (p ∷ ps)
     cons p ps room rest = All-cons P p ps room rest
 
-    best : far_of scene * 2 ^ i < 2 ^ (w + i)
-    best = rw (pow-add 2 w i) (grind (arith, pow_above i, depths))
+    best : end * 2 ^ i < 2 ^ (w + scene.fraction_bits + i)
+    best = rw (pow-add 2 (w + scene.fraction_bits) i) (times_room end (2 ^ (w + scene.fraction_bits)) (2 ^ i) small (pow_above i))
 
     number : (q face : ℕ) → number_of (solid_of scene q) face < 2 ^ i
     number q face = omega (arith, numbers_below 1 scene.solids (omega arith) numbered q face)
@@ -94,40 +105,68 @@ passes_have_room w i scene products numbered faces depths =
     three : (p q r : Pass) → P p → P q → P r → All P (p ∷ q ∷ r ∷ [])
     three p q r first second third = All-cons P p (q ∷ r ∷ []) first (two q r second third)
 
-    candidate : (q face : ℕ) → All P (candidate_on_numbers (far_of scene) (solid_of scene q) face)
+    covered : (s : SolidView) (face : ℕ) → All P (keep_covered_on_numbers end s face)
+    covered s face = covered_room w scene.fraction_bits i end s face
+
+    fraction : (ps : List Pass) → All P ps → All P (where_fraction d.fraction_bits ps)
+    fraction ps fits = elim (cases_Bool (d.fraction_bits == 0)) [
+      | inl none ↦ rw none (All-nil P)
+      | inr some ↦ rw some fits
+    ]
+
+    candidate : (q face : ℕ) → All P (candidate_on_numbers d (solid_of scene q) face)
     candidate q face =
         let s = solid_of scene q
-        in let load = load_depth (plane_of s (far_of scene) face)
+        in let load = load_deep (plus (plane_of s end face) (2 ^ d.fraction_bits - 1))
+        in let clear = where_fraction d.fraction_bits (clear_fraction ∷ [])
         in let label = load_number (number_of s face)
-        in cons all (keep_covered_on_numbers (far_of scene) s face ++ load ∷ label ∷ set_alive true ∷ []) tt
-        (All-append P (keep_covered_on_numbers (far_of scene) s face) (load ∷ label ∷ set_alive true ∷ [])
-        (covered_room w i (far_of scene) s face) (three load label (set_alive true) tt (number q face) tt))
+        in let rest = load ∷ clear ++ label ∷ set_alive true ∷ []
+        in cons all (keep_covered_on_numbers end s face ++ rest) tt
+        (All-append P (keep_covered_on_numbers end s face) rest (covered s face)
+        (All-append P (load ∷ clear) (label ∷ set_alive true ∷ []) (cons load clear tt (fraction (clear_fraction ∷ []) (one clear_fraction tt)))
+        (two label (set_alive true) (number q face) tt)))
 
-    turned : (s : SolidView) (face : ℕ) → All P (turn_on_numbers (far_of scene) s face)
-    turned s face =
-        let covered = keep_covered_on_numbers (far_of scene) s face
-        in let last = keep_at_most (plane_of s (far_of scene) face) ∷ toggle_par ∷ []
-        in cons all (keep_alive true ∷ covered ++ last) tt (cons (keep_alive true) (covered ++ last) tt
-        (All-append P covered last (covered_room w i (far_of scene) s face)
-        (two (keep_at_most (plane_of s (far_of scene) face)) toggle_par tt tt)))
+    turned : (s : SolidView) (face : ℕ) (form : Linear) → All P (turn_on_numbers end s face form)
+    turned s face form =
+        let signs = keep_covered_on_numbers end s face
+        in let last = keep_at_most form ∷ toggle_par ∷ []
+        in cons all (keep_alive true ∷ signs ++ last) tt (cons (keep_alive true) (signs ++ last) tt
+        (All-append P signs last (covered s face) (two (keep_at_most form) toggle_par tt tt)))
 
-    classified : (s : SolidView) (plain : Bool) → All P (classify_on_numbers (far_of scene) s plain)
-    classified s plain =
-        let turns = flat_map (turn_on_numbers (far_of scene) s) (range_with_len 0 (face_count s))
-        in let last = all ∷ keep_par (not plain) ∷ set_alive false ∷ []
+    dropped : (s : SolidView) (face : ℕ) → All P (drop_on_numbers end s face)
+    dropped s face =
+        let signs = keep_covered_on_numbers end s face
+        in let form = plane_of s end face
+        in let last = keep_at_most form ∷ set_alive false ∷ []
+        in cons all (keep_alive true ∷ signs ++ last) tt (cons (keep_alive true) (signs ++ last) tt
+        (All-append P signs last (covered s face) (two (keep_at_most form) (set_alive false) tt tt)))
+
+    judged : (s : SolidView) (form : ℕ → Linear) (faces : List ℕ) (v : Bool)
+        → All P (all ∷ set_par false ∷ flat_map (λ face. turn_on_numbers end s face (form face)) faces ++ all ∷ keep_par v ∷ set_alive false ∷ [])
+    judged s form faces v =
+        let turns = flat_map (λ face. turn_on_numbers end s face (form face)) faces
+        in let last = all ∷ keep_par v ∷ set_alive false ∷ []
         in cons all (set_par false ∷ turns ++ last) tt (cons (set_par false) (turns ++ last) tt
-        (All-append P turns last (All-flat_map P (turn_on_numbers (far_of scene) s) (turned s) (range_with_len 0 (face_count s)))
-        (three all (keep_par (not plain)) (set_alive false) tt tt tt)))
+        (All-append P turns last (All-flat_map P (λ face. turn_on_numbers end s face (form face)) (λ face. turned s face (form face)) faces)
+        (three all (keep_par v) (set_alive false) tt tt tt)))
+
+    confirmed : (s : SolidView) (plain : Bool) → All P (confirm_on_numbers d s plain)
+    confirmed s true = All-flat_map P (drop_on_numbers end s) (dropped s) (range_with_len (length s.fronts + 1) (length s.backs + 1))
+    confirmed s false = judged s (λ face. plus (plane_of s end face) (2 ^ d.fraction_bits)) (range_with_len 0 (length s.fronts + 1)) false
 
     literal : (product : Product) (q : Literal) → All P (literal_on_numbers scene product q)
     literal product q =
         let s = solid_of scene q.solid
-        in let candidates = flat_map (candidate_on_numbers (far_of scene) s) (candidate_faces s q.plain)
-        in let judged : List Pass = flat_map (λ r. classify_on_numbers (far_of scene) (solid_of scene r.solid) r.plain) (others q product)
-        in cons all (set_alive false ∷ (candidates ++ judged) ++ merge_on_numbers) tt
-        (cons (set_alive false) ((candidates ++ judged) ++ merge_on_numbers) tt
-        (All-append P (candidates ++ judged) merge_on_numbers
-        (All-append P candidates judged
-        (All-flat_map P (candidate_on_numbers (far_of scene) s) (candidate q.solid) (candidate_faces s q.plain))
-        (All-flat_map P (λ r. classify_on_numbers (far_of scene) (solid_of scene r.solid) r.plain) (λ r. classified (solid_of scene r.solid) r.plain) (others q product)))
+        in let candidates = flat_map (candidate_on_numbers d s) (candidate_faces s q.plain)
+        in let sure = where_fraction d.fraction_bits (confirm_on_numbers d s q.plain)
+        in let tests : List Pass = flat_map (λ r. classify_on_numbers end (solid_of scene r.solid) r.plain) (others q product)
+        in cons all (set_alive false ∷ ((candidates ++ sure) ++ tests) ++ merge_on_numbers) tt
+        (cons (set_alive false) (((candidates ++ sure) ++ tests) ++ merge_on_numbers) tt
+        (All-append P ((candidates ++ sure) ++ tests) merge_on_numbers
+        (All-append P (candidates ++ sure) tests
+        (All-append P candidates sure
+        (All-flat_map P (candidate_on_numbers d s) (candidate q.solid) (candidate_faces s q.plain))
+        (fraction (confirm_on_numbers d s q.plain) (confirmed s q.plain)))
+        (All-flat_map P (λ r. classify_on_numbers end (solid_of scene r.solid) r.plain)
+        (λ r. judged (solid_of scene r.solid) (plane_of (solid_of scene r.solid) end) (range_with_len 0 (face_count (solid_of scene r.solid))) (not r.plain)) (others q product)))
         (cons all (keep_alive true ∷ keep_less ∷ copy ∷ []) tt (three (keep_alive true) keep_less copy tt tt tt))))

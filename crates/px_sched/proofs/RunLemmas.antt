@@ -1,23 +1,24 @@
 -- What lists of passes leave of the keys.
-use Rattle.std.proofs.Common.{◌≡◌, ◌<◌, ◌≤◌, ◌≤ℤ◌, ◌+◌, ◌*◌, ◌%◌, ◌^◌, ℕ, zero, suc, ℤ, pos, negsuc, Bool, true, false, ◌&&◌, not, nat_le, List, [], ◌∷◌, ◌++◌, map, count_by, eqb, refl, ap, sym, ◌∙◌, arith, inl, inr, if◌then◌else◌}
+use Rattle.std.proofs.Common.{◌≡◌, ◌<◌, ◌≤◌, ◌≤ℤ◌, ◌+◌, ◌+ℤ◌, ◌-◌, ◌*◌, ◌/◌, ◌%◌, ◌==◌, ◌^◌, ℕ, zero, suc, ℤ, pos, negsuc, Bool, true, false, ◌&&◌, not, nat_le, List, [], ◌∷◌, ◌++◌, map, count_by, eqb, refl, ap, sym, ◌∙◌, arith, inl, inr, if◌then◌else◌}
 use Rattle.std.specs.Bool.{beq}
 use Rattle.std.specs.Int.{is_negative}
 use Rattle.std.specs.List.{fold, flat_map, range_with_len}
 use Rattle.std.proofs.lemmas.Bool.{cases_Bool}
 use Rattle.std.proofs.lemmas.Bool.Decides.{nat_tests}
 use Rattle.std.proofs.lemmas.Int.{ints}
-use Rattle.std.proofs.lemmas.Nat.{mod-mul-add}
+use Rattle.std.proofs.lemmas.Nat.{mod-mul-add, pow-add, pow_pos}
+use Rattle.std.proofs.Math.Nat.{mul-le-mul}
 use lib.Signed.{le_z}
 use Rattle.px_num.specs.Bits.{modulo}
-use Rattle.px_num.specs.Forms.{value_at}
+use Rattle.px_num.specs.Forms.{plus, value_at}
 use Rattle.px_num.specs.declared.linear.Linear.{Linear}
 use Rattle.px_scene.specs.Solids.{SolidView}
-use Rattle.px_scene.specs.Cells.{is_inside}
-use Rattle.px_face.specs.Covering.{CoveringLaw, ParityLaw, covering_back, covering_front, enters_at, is_met, is_odd, is_passed, leaves_at}
+use Rattle.px_scene.specs.Cells.{Depths, cell_of, end_of, enters_at, is_inside_at, leaves_at, value_of}
+use Rattle.px_face.specs.Covering.{CoveringLaw, ValueParityLaw, covering_back, covering_front, is_met, is_odd, is_passed_at}
 use Rattle.px_face.specs.Edges.{covers, edges, hold_at}
 use Rattle.px_face.specs.Faces.{face_count, is_front, number_of, plane_of}
 use Rattle.px_face.specs.ParityLaws.{turned_is_odd, turned_where}
-use Rattle.px_sched.specs.Numbers.{Keys, Numbers, Pass, Place, after, all, candidate_on_numbers, classify_on_numbers, keep_at_most, keep_covered_on_numbers, keep_par, keep_sign, load_depth, load_number, meaning, residue, set_alive, toggle_par, turn_on_numbers}
+use Rattle.px_sched.specs.Numbers.{Keys, Numbers, Pass, Place, after, all, candidate_on_numbers, classify_on_numbers, keep_at_most, keep_covered_on_numbers, keep_par, keep_sign, load_deep, clear_fraction, cleared, load_number, meaning, residue, set_alive, toggle_par, turn_on_numbers, where_fraction}
 
 abbrev pub at : Bool → Keys → Numbers
 at e k = record { enable = e; keys = k }
@@ -46,17 +47,17 @@ and_same : (c a b : Bool) → (c ≡ true → a ≡ b) → (c && a) ≡ (c && b)
 and_same true a b h = h refl
 and_same false a b h = refl
 
-same_place : (i k : ℕ) → eqb i k ≡ true → i ≡ k
+pub same_place : (i k : ℕ) → eqb i k ≡ true → i ≡ k
 same_place i k h = grind (arith, nat_tests)
 
 not_negative : (v : ℤ) → not (is_negative v) ≡ le_z (pos 0) v
 not_negative v = grind (arith, ints)
 
-beq_true : (a : Bool) → beq a true ≡ a
+pub beq_true : (a : Bool) → beq a true ≡ a
 beq_true true = refl
 beq_true false = refl
 
-signed : (l : Place) (es : List Linear) (e : Bool) (k : Keys)
+pub signed : (l : Place) (es : List Linear) (e : Bool) (k : Keys)
     → after l (map keep_sign es) (at e k) ≡ at (e && hold_at es l.x l.y) k
 signed l [] e k = ap (λ b. at b k) (sym (and_true e))
 signed l (f ∷ fs) e k =
@@ -86,43 +87,101 @@ keys_in_range l f g a (suc n) same p =
     ∙ ap (λ k. fold g k (range_with_len (a + 1) n)) (same a (omega arith) (omega arith) p.enable p.keys)
 
 -- a value that is a depth
-pub record IsDepth (v : ℤ) (far : ℕ) : Type 0 where
+pub record IsDepth (v : ℤ) (end : ℕ) : Type 0 where
   pub depth : ℕ
   pub is : v ≡ pos depth
-  pub below : depth ≤ far
+  pub below : depth ≤ end
 
-depth_of : (v : ℤ) (far : ℕ) → pos 0 ≤ℤ v → v ≤ℤ pos far → IsDepth v far
-depth_of (pos n) far low high = record { depth = n; is = refl; below = omega (arith, ints) }
-depth_of (negsuc n) far low high = absurd (omega (arith, ints))
+depth_of : (v : ℤ) (end : ℕ) → pos 0 ≤ℤ v → v ≤ℤ pos end → IsDepth v end
+depth_of (pos n) end low high = record { depth = n; is = refl; below = omega (arith, ints) }
+depth_of (negsuc n) end low high = absurd (omega (arith, ints))
 
 mod_small : (n m : ℕ) → n < m → n % m ≡ n
 mod_small n m h = let e : 0 * m + n ≡ n = omega arith in ap (λ k. k % m) (sym e) ∙ mod-mul-add 0 m n h
 
 -- and is kept as itself
-pub modulo_is : (v : ℤ) (far bits : ℕ) → far < 2 ^ bits → (d : IsDepth v far) → modulo v bits ≡ d.depth
-modulo_is v far bits big d = let small : d.depth < 2 ^ bits = omega (arith, d.below) in rw d.is (mod_small d.depth (2 ^ bits) small)
+pub modulo_is : (v : ℤ) (end bits : ℕ) → end < 2 ^ bits → (d : IsDepth v end) → modulo v bits ≡ d.depth
+modulo_is v end bits big d = let small : d.depth < 2 ^ bits = omega (arith, d.below) in rw d.is (mod_small d.depth (2 ^ bits) small)
 
-le_same : (m n : ℕ) → nat_le m n ≡ le_z (pos m) (pos n)
+pub le_same : (m n : ℕ) → nat_le m n ≡ le_z (pos m) (pos n)
 le_same m n = grind (arith, nat_tests, ints)
 
-at_most_is : (v : ℤ) (far bits z : ℕ) → far < 2 ^ bits → IsDepth v far → nat_le (modulo v bits) z ≡ le_z v (pos z)
-at_most_is v far bits z big d = rw (modulo_is v far bits big d, d.is) (le_same d.depth z)
+pub at_most_is : (v : ℤ) (end bits z : ℕ) → end < 2 ^ bits → IsDepth v end → nat_le (modulo v bits) z ≡ le_z v (pos z)
+at_most_is v end bits z big d = rw (modulo_is v end bits big d, d.is) (le_same d.depth z)
 
-abbrev pub loaded : Place → (far : ℕ) → SolidView → Keys → (face : ℕ) → Keys
-loaded l far s k i = record k { depth = residue l (plane_of s far i); number = number_of s i; alive = true }
+-- the bits of a place are enough for the values of the depths
+pub record HasRoom (l : Place) (d : Depths) : Type 0 where
+  pub big : d.far < 2 ^ l.depth_bits
+  pub same : l.fraction_bits ≡ d.fraction_bits
 
-load_where : (l : Place) (far : ℕ) (s : SolidView) (i : ℕ) (c : Bool) (k : Keys)
-    → (after l (load_depth (plane_of s far i) ∷ load_number (number_of s i) ∷ set_alive true ∷ []) (at c k)).keys ≡ (if c then loaded l far s k i else k)
-load_where l far s i true k = refl
-load_where l far s i false k = refl
+pub end_room : (l : Place) (d : Depths) → HasRoom l d → end_of d + 2 ^ d.fraction_bits ≤ 2 ^ (l.depth_bits + l.fraction_bits)
+end_room l d room =
+    let most : d.far + 1 ≤ 2 ^ l.depth_bits = omega (arith, room.big) in
+    let u = 2 ^ d.fraction_bits in
+    let one : (d.far + 1) * u ≡ d.far * u + u = grind arith in
+    let le : (d.far + 1) * u ≤ 2 ^ l.depth_bits * u = mul-le-mul most (omega arith) in
+    let parts : 2 ^ (l.depth_bits + l.fraction_bits) ≡ 2 ^ l.depth_bits * u = rw room.same (pow-add 2 l.depth_bits d.fraction_bits) in
+    omega (arith, one, le, parts)
 
-pub candidate_keys : (l : Place) (far : ℕ) (s : SolidView) (i : ℕ) (e : Bool) (k : Keys)
-    → (after l (candidate_on_numbers far s i) (at e k)).keys ≡ (if covers s far i l.x l.y then loaded l far s k i else k)
-candidate_keys l far s i e k =
-    let last = load_depth (plane_of s far i) ∷ load_number (number_of s i) ∷ set_alive true ∷ [] in
-    ap (λ (q : Numbers). q.keys) (after-append l (keep_covered_on_numbers far s i) last (at true k))
-    ∙ ap (λ (q : Numbers). (after l last q).keys) (signed l (edges s far i) true k)
-    ∙ load_where l far s i (covers s far i l.x l.y) k
+pub end_small : (l : Place) (d : Depths) → HasRoom l d → end_of d < 2 ^ (l.depth_bits + l.fraction_bits)
+end_small l d room = omega (arith, end_room l d room, pow_pos d.fraction_bits)
+
+cleared_none : (l : Place) (n : ℕ) → l.fraction_bits ≡ 0 → cleared l n ≡ n
+cleared_none l n e = rw e (omega arith)
+
+-- a value that is rounded up is that of its cell
+pub rounded : (l : Place) (d : Depths) → HasRoom l d → (v : ℤ) → IsDepth v (end_of d)
+    → cleared l (modulo (v +ℤ pos (2 ^ d.fraction_bits - 1)) (l.depth_bits + l.fraction_bits)) ≡ value_of d (cell_of d v)
+rounded l d room v is =
+    let u = 2 ^ d.fraction_bits in
+    let n = is.depth in
+    let some : 0 < u = pow_pos d.fraction_bits in
+    let small : n + (u - 1) < 2 ^ (l.depth_bits + l.fraction_bits) = omega (arith, is.below, end_room l d room, some) in
+    rw is.is (ap (cleared l) (mod_small (n + (u - 1)) (2 ^ (l.depth_bits + l.fraction_bits)) small)
+    ∙ ap (λ f. (n + (u - 1)) / 2 ^ f * 2 ^ f) room.same)
+
+-- a value with something added, as a test
+pub more_at_most : (v : ℤ) (n bits z : ℕ) (d : IsDepth v n) (more : ℕ) → d.depth + more < 2 ^ bits
+    → nat_le (modulo (v +ℤ pos more) bits) z ≡ le_z (v +ℤ pos more) (pos z)
+more_at_most v n bits z d more small =
+    rw d.is (ap (λ k. nat_le k z) (mod_small (d.depth + more) (2 ^ bits) small) ∙ le_same (d.depth + more) z)
+
+abbrev pub loaded : Place → Depths → SolidView → Keys → (face : ℕ) → Keys
+loaded l d s k i = record k {
+  deep = cleared l (residue l (plus (plane_of s (end_of d) i) (2 ^ d.fraction_bits - 1)));
+  number = number_of s i;
+  alive = true;
+}
+
+load_where : (l : Place) (d : Depths) → HasRoom l d → (s : SolidView) (i : ℕ) (c : Bool) (k : Keys)
+    → (after l (load_deep (plus (plane_of s (end_of d) i) (2 ^ d.fraction_bits - 1)) ∷ where_fraction d.fraction_bits (clear_fraction ∷ []) ++ load_number (number_of s i) ∷ set_alive true ∷ []) (at c k)).keys
+    ≡ (if c then loaded l d s k i else k)
+load_where l d room s i c k = elim (cases_Bool (d.fraction_bits == 0)) [
+  | inl yea ↦ rw yea (without (none yea) c)
+  | inr nay ↦ rw nay (with_fraction c)
+]
+  where
+    form : Linear
+    form = plus (plane_of s (end_of d) i) (2 ^ d.fraction_bits - 1)
+
+    with_fraction : (c : Bool) → (after l (load_deep form ∷ clear_fraction ∷ load_number (number_of s i) ∷ set_alive true ∷ []) (at c k)).keys ≡ (if c then loaded l d s k i else k)
+    with_fraction true = refl
+    with_fraction false = refl
+
+    none : (d.fraction_bits == 0) ≡ true → d.fraction_bits ≡ 0
+    none e = grind (arith, nat_tests)
+
+    without : d.fraction_bits ≡ 0 → (c : Bool) → (after l (load_deep form ∷ load_number (number_of s i) ∷ set_alive true ∷ []) (at c k)).keys ≡ (if c then loaded l d s k i else k)
+    without zero_is true = ap (λ n. record k { deep = n; number = number_of s i; alive = true }) (sym (cleared_none l (residue l form) (room.same ∙ zero_is)))
+    without zero_is false = refl
+
+pub candidate_keys : (l : Place) (d : Depths) → HasRoom l d → (s : SolidView) (i : ℕ) (e : Bool) (k : Keys)
+    → (after l (candidate_on_numbers d s i) (at e k)).keys ≡ (if covers s (end_of d) i l.x l.y then loaded l d s k i else k)
+candidate_keys l d room s i e k =
+    let last = load_deep (plus (plane_of s (end_of d) i) (2 ^ d.fraction_bits - 1)) ∷ where_fraction d.fraction_bits (clear_fraction ∷ []) ++ load_number (number_of s i) ∷ set_alive true ∷ [] in
+    ap (λ (q : Numbers). q.keys) (after-append l (keep_covered_on_numbers (end_of d) s i) last (at true k))
+    ∙ ap (λ (q : Numbers). (after l last q).keys) (signed l (edges s (end_of d) i) true k)
+    ∙ load_where l d room s i (covers s (end_of d) i l.x l.y) k
 
 abbrev pub flipped : Keys → Keys
 flipped k = record k { par = not k.par }
@@ -131,13 +190,13 @@ flip_is : (b : Bool) (k : Keys) → (if b then flipped k else k) ≡ record k { 
 flip_is true k = refl
 flip_is false k = refl
 
-abbrev flip_step : (ℕ → ℕ → Bool) → Keys → ℕ → Keys
-flip_step t k i = if k.alive && t k.depth i then flipped k else k
+abbrev pub flip_step : (ℕ → ℕ → Bool) → Keys → ℕ → Keys
+flip_step t k i = if k.alive && t k.deep i then flipped k else k
 
-flips : (t : ℕ → ℕ → Bool) (k : Keys) (is : List ℕ) → fold (flip_step t) k is ≡ record k { par = fold (turned_where (λ i. k.alive && t k.depth i)) k.par is }
+pub flips : (t : ℕ → ℕ → Bool) (k : Keys) (is : List ℕ) → fold (flip_step t) k is ≡ record k { par = fold (turned_where (λ i. k.alive && t k.deep i)) k.par is }
 flips t k [] = refl
 flips t k (i ∷ is) =
-    let b = k.alive && t k.depth i in
+    let b = k.alive && t k.deep i in
     ap (λ q. fold (flip_step t) q is) (flip_is b k) ∙ flips t (record k { par = if b then not k.par else k.par }) is
 
 itself : (b : Bool) → (if b then not false else false) ≡ b
@@ -151,17 +210,17 @@ alive_odd false t [] = refl
 alive_odd false t (i ∷ is) = alive_odd false t is
 
 -- a candidate at depth z is where a literal wants it
-abbrev pub suits : SolidView → (plain : Bool) → (far x y z : ℕ) → Bool
-suits s plain far x y z = if plain then is_inside s far x y z else not (is_inside s far x y z)
+abbrev pub suits : SolidView → (plain : Bool) → (end x y z : ℕ) → Bool
+suits s plain end x y z = if plain then is_inside_at s end x y z else not (is_inside_at s end x y z)
 
-abbrev keys_of : ℕ → ℕ → ℕ → Bool → Bool → Keys
-keys_of b d n a p = record { best = b; depth = d; number = n; alive = a; par = p }
+abbrev pub keys_of : ℕ → ℕ → ℕ → Bool → Bool → Keys
+keys_of b d n a p = record { best = b; deep = d; number = n; alive = a; par = p }
 
-abbrev pub classified : Place → (far : ℕ) → SolidView → (plain : Bool) → Keys → Keys
-classified l far s plain k =
-    keys_of k.best k.depth k.number (k.alive && suits s plain far l.x l.y k.depth) (k.alive && is_inside s far l.x l.y k.depth)
+abbrev pub classified : Place → (end : ℕ) → SolidView → (plain : Bool) → Keys → Keys
+classified l end s plain k =
+    keys_of k.best k.deep k.number (k.alive && suits s plain end l.x l.y k.deep) (k.alive && is_inside_at s end l.x l.y k.deep)
 
-ended : (b d n : ℕ) (a inside plain : Bool)
+pub ended : (b d n : ℕ) (a inside plain : Bool)
     → (if true && beq (a && inside) (not plain) then keys_of b d n false (a && inside) else keys_of b d n a (a && inside))
     ≡ keys_of b d n (a && (if plain then inside else not inside)) (a && inside)
 ended b d n true true true = refl
@@ -173,75 +232,84 @@ ended b d n false true false = refl
 ended b d n false false true = refl
 ended b d n false false false = refl
 
-module _ (covering : CoveringLaw) (far : ℕ) (s : SolidView) (x y : ℕ) where
-  pub enters_depth : is_met s far x y ≡ true → IsDepth (enters_at s x y) far
+module _ (covering : CoveringLaw) (end : ℕ) (s : SolidView) (x y : ℕ) where
+  pub enters_depth : is_met s end x y ≡ true → IsDepth (enters_at s x y) end
   enters_depth met =
-      let d = (covering s far x y).depths met in
-      depth_of (enters_at s x y) far d.0 (omega (arith, ints, d.1, d.2))
+      let d = (covering s end x y).depths met in
+      depth_of (enters_at s x y) end d.0 (omega (arith, ints, d.1, d.2))
 
-  pub leaves_depth : is_met s far x y ≡ true → IsDepth (leaves_at s far x y) far
+  pub leaves_depth : is_met s end x y ≡ true → IsDepth (leaves_at s end x y) end
   leaves_depth met =
-      let d = (covering s far x y).depths met in
-      depth_of (leaves_at s far x y) far (omega (arith, ints, d.0, d.1)) d.2
+      let d = (covering s end x y).depths met in
+      depth_of (leaves_at s end x y) end (omega (arith, ints, d.0, d.1)) d.2
 
-  front_value : (i : ℕ) → (is_met s far x y && eqb i (covering_front s x y)) ≡ true
-      → IsDepth (value_at (plane_of s far i) x y) far
+  front_value : (i : ℕ) → (is_met s end x y && eqb i (covering_front s x y)) ≡ true
+      → IsDepth (value_at (plane_of s end i) x y) end
   front_value i e =
-      let one = enters_depth (and_left (is_met s far x y) (eqb i (covering_front s x y)) e) in
-      let same = same_place i (covering_front s x y) (and_right (is_met s far x y) (eqb i (covering_front s x y)) e) in
+      let one = enters_depth (and_left (is_met s end x y) (eqb i (covering_front s x y)) e) in
+      let same = same_place i (covering_front s x y) (and_right (is_met s end x y) (eqb i (covering_front s x y)) e) in
       record {
         depth = one.depth;
-        is = ap (λ j. value_at (plane_of s far j) x y) same
-            ∙ (covering s far x y).front_value ∙ one.is;
+        is = ap (λ j. value_at (plane_of s end j) x y) same
+            ∙ (covering s end x y).front_value ∙ one.is;
         below = one.below;
       }
 
-  back_value : (i : ℕ) → (is_met s far x y && eqb i (covering_back s far x y)) ≡ true
-      → IsDepth (value_at (plane_of s far i) x y) far
+  back_value : (i : ℕ) → (is_met s end x y && eqb i (covering_back s end x y)) ≡ true
+      → IsDepth (value_at (plane_of s end i) x y) end
   back_value i e =
-      let one = leaves_depth (and_left (is_met s far x y) (eqb i (covering_back s far x y)) e) in
-      let same = same_place i (covering_back s far x y) (and_right (is_met s far x y) (eqb i (covering_back s far x y)) e) in
+      let one = leaves_depth (and_left (is_met s end x y) (eqb i (covering_back s end x y)) e) in
+      let same = same_place i (covering_back s end x y) (and_right (is_met s end x y) (eqb i (covering_back s end x y)) e) in
       record {
         depth = one.depth;
-        is = ap (λ j. value_at (plane_of s far j) x y) same
-            ∙ (covering s far x y).back_value ∙ one.is;
+        is = ap (λ j. value_at (plane_of s end j) x y) same
+            ∙ (covering s end x y).back_value ∙ one.is;
         below = one.below;
       }
 
   -- the value of a face that covers is a depth
-  covering_value : (i : ℕ) → i < face_count s → covers s far i x y ≡ true → IsDepth (value_at (plane_of s far i) x y) far
+  covering_value : (i : ℕ) → i < face_count s → covers s end i x y ≡ true → IsDepth (value_at (plane_of s end i) x y) end
   covering_value i there c = elim (cases_Bool (is_front s i)) [
-    | inl front ↦ front_value i (sym ((covering s far x y).fronts i front) ∙ c)
-    | inr back ↦ back_value i (sym ((covering s far x y).backs i there back) ∙ c)
+    | inl front ↦ front_value i (sym ((covering s end x y).fronts i front) ∙ c)
+    | inr back ↦ back_value i (sym ((covering s end x y).backs i there back) ∙ c)
   ]
 
-module _ (covering : CoveringLaw) (parity : ParityLaw) (far : ℕ) (l : Place) (big : far < 2 ^ l.depth_bits) (s : SolidView) where
-  turn_keys : (i : ℕ) → i < face_count s → (e : Bool) (k : Keys)
-      → (after l (turn_on_numbers far s i) (at e k)).keys ≡ (if k.alive && is_passed s far l.x l.y k.depth i then flipped k else k)
-  turn_keys i there e k =
-      let c = covers s far i l.x l.y in
-      let v = value_at (plane_of s far i) l.x l.y in
-      let last = keep_at_most (plane_of s far i) ∷ toggle_par ∷ [] in
-      ap (λ (q : Numbers). q.keys) (after-append l (keep_covered_on_numbers far s i) last (at (true && beq k.alive true) k))
-      ∙ ap (λ (q : Numbers). (after l last q).keys) (signed l (edges s far i) (true && beq k.alive true) k)
-      ∙ ap (λ b. if b then flipped k else k)
-      (ap (λ a. ((true && a) && c) && nat_le (residue l (plane_of s far i)) k.depth) (beq_true k.alive)
-      ∙ and_both k.alive c (nat_le (residue l (plane_of s far i)) k.depth)
-      ∙ ap (λ b. k.alive && b) (and_same c (nat_le (residue l (plane_of s far i)) k.depth) (le_z v (pos k.depth)) (λ h. at_most_is v far l.depth_bits k.depth big (covering_value covering far s l.x l.y i there h))))
+-- what a face turns where a form is not above the candidate
+pub turn_keys : (l : Place) (end : ℕ) (s : SolidView) (i : ℕ) (form : Linear) (e : Bool) (k : Keys)
+    → (after l (turn_on_numbers end s i form) (at e k)).keys
+    ≡ (if k.alive && (covers s end i l.x l.y && nat_le (residue l form) k.deep) then flipped k else k)
+turn_keys l end s i form e k =
+    let c = covers s end i l.x l.y in
+    let last = keep_at_most form ∷ toggle_par ∷ [] in
+    ap (λ (q : Numbers). q.keys) (after-append l (keep_covered_on_numbers end s i) last (at (true && beq k.alive true) k))
+    ∙ ap (λ (q : Numbers). (after l last q).keys) (signed l (edges s end i) (true && beq k.alive true) k)
+    ∙ ap (λ b. if b then flipped k else k)
+    (ap (λ a. ((true && a) && c) && nat_le (residue l form) k.deep) (beq_true k.alive)
+    ∙ and_both k.alive c (nat_le (residue l form) k.deep))
+
+module _ (covering : CoveringLaw) (parity : ValueParityLaw) (end : ℕ) (l : Place) (big : end < 2 ^ (l.depth_bits + l.fraction_bits)) (s : SolidView) where
+  pass_keys : (i : ℕ) → i < face_count s → (e : Bool) (k : Keys)
+      → (after l (turn_on_numbers end s i (plane_of s end i)) (at e k)).keys ≡ (if k.alive && is_passed_at s end l.x l.y k.deep i then flipped k else k)
+  pass_keys i there e k =
+      let c = covers s end i l.x l.y in
+      let v = value_at (plane_of s end i) l.x l.y in
+      turn_keys l end s i (plane_of s end i) e k
+      ∙ ap (λ b. if k.alive && b then flipped k else k)
+      (and_same c (nat_le (residue l (plane_of s end i)) k.deep) (le_z v (pos k.deep)) (λ h. at_most_is v end (l.depth_bits + l.fraction_bits) k.deep big (covering_value covering end s l.x l.y i there h)))
 
   -- a candidate that is classified
   pub classify_keys : (plain e : Bool) (k : Keys)
-      → (after l (classify_on_numbers far s plain) (at e k)).keys ≡ classified l far s plain k
+      → (after l (classify_on_numbers end s plain) (at e k)).keys ≡ classified l end s plain k
   classify_keys plain e k =
-      let faces = flat_map (turn_on_numbers far s) (range_with_len 0 (face_count s)) in
+      let faces = flat_map (λ i. turn_on_numbers end s i (plane_of s end i)) (range_with_len 0 (face_count s)) in
       let last = all ∷ keep_par (not plain) ∷ set_alive false ∷ [] in
       let start = record k { par = false } in
-      let t : ℕ → ℕ → Bool = λ z i. is_passed s far l.x l.y z i in
-      let passed : (after l faces (at true start)).keys ≡ keys_of k.best k.depth k.number k.alive (k.alive && is_inside s far l.x l.y k.depth) =
-      keys_in_range l (turn_on_numbers far s) (flip_step t) 0 (face_count s) (λ i low high. turn_keys i (omega arith)) (at true start)
+      let t : ℕ → ℕ → Bool = λ z i. is_passed_at s end l.x l.y z i in
+      let passed : (after l faces (at true start)).keys ≡ keys_of k.best k.deep k.number k.alive (k.alive && is_inside_at s end l.x l.y k.deep) =
+      keys_in_range l (λ i. turn_on_numbers end s i (plane_of s end i)) (flip_step t) 0 (face_count s) (λ i low high. pass_keys i (omega arith)) (at true start)
       ∙ flips t start (range_with_len 0 (face_count s))
-      ∙ ap (λ b. keys_of k.best k.depth k.number k.alive b) (alive_odd k.alive (t k.depth) (range_with_len 0 (face_count s))
-      ∙ ap (λ b. k.alive && b) (sym (parity s far l.x l.y k.depth))) in
+      ∙ ap (λ b. keys_of k.best k.deep k.number k.alive b) (alive_odd k.alive (t k.deep) (range_with_len 0 (face_count s))
+      ∙ ap (λ b. k.alive && b) (sym (parity s end l.x l.y k.deep))) in
       ap (λ (q : Numbers). q.keys) (after-append l faces last (at true start))
       ∙ ap (λ (q : Keys). if true && beq q.par (not plain) then record q { alive = false } else q) passed
-      ∙ ended k.best k.depth k.number k.alive (is_inside s far l.x l.y k.depth) plain
+      ∙ ended k.best k.deep k.number k.alive (is_inside_at s end l.x l.y k.deep) plain

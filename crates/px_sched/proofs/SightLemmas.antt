@@ -6,11 +6,11 @@ use Rattle.std.proofs.lemmas.Bool.{cases_lt}
 use Rattle.std.proofs.lemmas.Bool.Decides.{nat_tests}
 use Rattle.std.proofs.lemmas.List.Sums.{sum_by-append}
 use Rattle.std.proofs.Math.Nat.{pow-suc}
-use Rattle.px_num.specs.BitLaws.{pow_above}
 use Rattle.px_macro.specs.Macros.{PixelBits, after_macros}
 use Rattle.px_scene.specs.Scenes.{IsLawfulScene, SceneView, faces_of}
 use Rattle.px_scene.specs.Solids.{IsLawfulSolid}
 use Rattle.px_scene.specs.Cells.{picture}
+use Rattle.px_scene.specs.CellLaws.{end_is_small}
 use Rattle.px_normal.specs.Forms.{sum_of_products}
 use Rattle.px_prune.specs.Kept.{kept_of}
 use Rattle.px_sched.specs.Layouts.{bit_length, layout_with}
@@ -69,19 +69,20 @@ bits_enough n h = below_power n 12 (omega arith)
 
 sight_with : FieldLaws → NumbersShowThePicture → (scene : SceneView) → IsLawfulScene scene → All IsLawfulSolid scene.solids →
     (i x y : ℕ) → faces_of scene.solids < 2 ^ i → x < scene.width → y < scene.height →
-    (p : PixelBits) → need scene.depth_bits i ≤ length p.memory →
-    HasSight (layout_with scene.depth_bits i)
-    (after_macros (passes_with scene (layout_with scene.depth_bits i) (kept_of scene (sum_of_products scene.show))) x y p).memory
+    (p : PixelBits) → need scene.depth_bits scene.fraction_bits i ≤ length p.memory →
+    HasSight (layout_with scene.depth_bits scene.fraction_bits i)
+    (after_macros (passes_with scene (layout_with scene.depth_bits scene.fraction_bits i) (kept_of scene (sum_of_products scene.show))) x y p).memory
     (picture scene x y)
 sight_with fields law scene lawful solids i x y faces left up p long =
     let w = scene.depth_bits
+    in let f = scene.fraction_bits
     in let products = kept_of scene (sum_of_products scene.show)
-    in let place : Place = record { depth_bits = w; number_bits = i; x = x; y = y }
-    in let shown = law scene lawful solids place (record { depth_bits = refl; number_bits = faces; left = left; up = up }) (numbers_in w i p)
-    in let room = passes_have_room w i scene products lawful.numbers faces (omega (arith, pow_above w))
-    in let same = all_on_numbers fields w i x y (passes_on_numbers scene i products) room p long
+    in let place : Place = record { depth_bits = w; fraction_bits = f; number_bits = i; x = x; y = y }
+    in let shown = law scene lawful solids place (record { depth_bits = refl; fraction_bits = refl; number_bits = faces; left = left; up = up }) (numbers_in w f i p)
+    in let room = passes_have_room w i scene products lawful.numbers faces (end_is_small w f)
+    in let same = all_on_numbers fields w f i x y (passes_on_numbers scene i products) room p long
     in rw (passes_shape w i scene products)
-    (let parts = b_parts fields w i (picture scene x y).depth (picture scene x y).face _ shown.face (ap (λ n. n.keys.best) same ∙ shown.key)
+    (let parts = b_parts fields w f i (picture scene x y).depth (picture scene x y).face _ shown.face (ap (λ n. n.keys.best) same ∙ shown.key)
     in record { depth = parts.0; face = parts.1 })
 
 pub passes_law : FieldLaws → NumbersShowThePicture → PassesLaw

@@ -12,7 +12,7 @@ use Rattle.px_sched.specs.declared.cursor.Cursor.{Cursor}
 use Rattle.px_sched.specs.declared.group.Stage.{Stage}
 use Rattle.px_sched.specs.declared.group.Stage.TheVariants.{At, End, Start}
 use Rattle.px_sched.specs.declared.step.Step.{Step}
-use Rattle.px_sched.specs.declared.step.Step.TheVariants.{Begin, Candidate, Close, Merge, Open, Turn}
+use Rattle.px_sched.specs.declared.step.Step.TheVariants.{Begin, Candidate, Clear, Close, Confirm, Drop, Front, Merge, Open, Turn}
 use Rattle.px_sched.specs.Cursors.{IsPlaceIn, StandsIn}
 use Rattle.px_sched.specs.Groups.{IsStage, behind_stage, from_stage, stage_operations}
 use Rattle.px_sched.specs.Layouts.{LayoutView}
@@ -118,6 +118,10 @@ module _ (scene : SceneView) (l : LayoutView) (products : List Product) where
     step_some : (step : Step) → 0 < length (step_operations scene l step)
     step_some Open = omega arith
     step_some (Candidate solid face) = omega arith
+    step_some (Drop solid face) = omega arith
+    step_some Clear = omega arith
+    step_some (Front solid face) = omega arith
+    step_some Confirm = omega arith
     step_some (Begin other) = omega arith
     step_some (Turn other solid face) = omega arith
     step_some (Close other plain) = omega arith

@@ -1,13 +1,14 @@
 -- Where a cursor stands in the passes of a scene.
 use Rattle.std.specs.Prelude.{◌≡◌, ℕ, ◌^◌, ◌<◌, ◌≤◌, ⊤, List, ◌++◌, drop, length}
 use Rattle.px_normal.specs.declared.product.Product.{Product}
+use Rattle.px_prune.specs.Kept.{plan_of}
 use Rattle.px_scene.specs.Scenes.{SceneView}
 use Rattle.px_sched.specs.declared.cursor.Cursor.{Cursor}
 use Rattle.px_sched.specs.declared.group.Stage.{Stage}
 use Rattle.px_sched.specs.declared.group.Stage.TheVariants.{At, End, Start}
 use Rattle.px_sched.specs.Layouts.{LayoutView, layout_of}
 use Rattle.px_sched.specs.Groups.{IsStage, behind_stage, stage_operations}
-use Rattle.px_sched.specs.Passes.{passes_with, products_of}
+use Rattle.px_sched.specs.Passes.{passes_with}
 
 -- where there are operations, the place is one of theirs
 abbrev pub IsPlaceIn : SceneView → LayoutView → Stage → (at : ℕ) → Type 0
@@ -26,4 +27,4 @@ pub record StandsIn (scene : SceneView) (l : LayoutView) (products : List Produc
 
 -- a cursor stands in the passes of a scene where it has given as many of them as it counts
 abbrev pub Stands : SceneView → Cursor → Type 0
-Stands scene cursor = StandsIn scene (layout_of scene) (products_of scene) cursor
+Stands scene cursor = StandsIn scene (layout_of scene) (plan_of scene) cursor

@@ -5,7 +5,7 @@ use Rattle.px_macro.specs.declared.operation.Macro.{Macro}
 use Rattle.px_macro.specs.declared.operation.Macro.TheVariants as m
 use Rattle.px_normal.specs.declared.product.Product.{Product}
 use Rattle.px_scene.specs.Scenes.{SceneView}
-use Rattle.px_scene.specs.Cells.{far_of}
+use Rattle.px_scene.specs.Cells.{depths_of, end_of}
 use Rattle.px_sched.specs.declared.group.Group.{Group}
 use Rattle.px_sched.specs.declared.group.Stage.{Stage}
 use Rattle.px_sched.specs.declared.group.Stage.TheVariants.{At, End, Start}
@@ -38,7 +38,7 @@ literals_from scene l products i j =
     flat_map (literal_passes scene l product) (drop j (literals product)) ++ products_from scene l products (i + 1)
 
 abbrev pub stage_operations : SceneView → LayoutView → Stage → List Macro
-stage_operations scene l Start = m.All ∷ m.LoadConst l.key_b (far_of scene * 2 ^ l.number_bits) ∷ []
+stage_operations scene l Start = m.All ∷ m.LoadConst l.key_b (end_of (depths_of scene) * 2 ^ l.number_bits) ∷ []
 stage_operations scene l (At g) = step_operations scene l g.step
 stage_operations scene l End = []
 

@@ -1,6 +1,7 @@
 pub use Rattle.px_macro.specs.Fields
 pub use Rattle.px_macro.specs.Macros
 pub use Rattle.px_scene.specs.Cells
+pub use Rattle.px_scene.specs.CellLaws
 pub use Rattle.px_scene.specs.Scenes
 pub use Rattle.px_scene.specs.Solids
 pub mod Cursors

@@ -1,5 +1,5 @@
 -- The passes law on numbers: whatever the numbers of a pixel of the picture were, the passes leave the key of what it shows.
-use Rattle.std.specs.Prelude.{◌≡◌, ◌<◌, ◌^◌, ℕ, All}
+use Rattle.std.specs.Prelude.{◌≡◌, ◌<◌, ◌*◌, ◌^◌, ℕ, All}
 use Rattle.px_scene.specs.Scenes.{IsLawfulScene, SceneView, faces_of}
 use Rattle.px_scene.specs.Solids.{IsLawfulSolid}
 use Rattle.px_scene.specs.Cells.{Sight, picture}
@@ -9,13 +9,14 @@ use Rattle.px_sched.specs.Numbers.{Numbers, Place, after, key, passes_on_numbers
 
 -- the best key is that of a depth and a face number, which have room in it
 pub record IsKeyOf (l : Place) (sight : Sight) (best : ℕ) : Type 0 where
-  pub key : best ≡ key l sight.depth sight.face
+  pub key : best ≡ key l (sight.depth * 2 ^ l.fraction_bits) sight.face
   pub depth : sight.depth < 2 ^ l.depth_bits
   pub face : sight.face < 2 ^ l.number_bits
 
 -- a pixel of the picture, with bits enough for each depth and each face number
 pub record IsPlaceIn (scene : SceneView) (l : Place) : Type 0 where
   pub depth_bits : l.depth_bits ≡ scene.depth_bits
+  pub fraction_bits : l.fraction_bits ≡ scene.fraction_bits
   pub number_bits : faces_of scene.solids < 2 ^ l.number_bits
   pub left : l.x < scene.width
   pub up : l.y < scene.height

@@ -1,10 +1,11 @@
 -- What holds of the passes of every scene: that they are lawful, and how many there can be.
 use Rattle.std.specs.Prelude.{◌^◌, ◌≤◌, All, length}
 use Rattle.px_macro.specs.Macros.{IsLawful}
+use Rattle.px_prune.specs.Kept.{plan_of}
 use Rattle.px_scene.specs.Scenes.{IsLawfulScene, SceneView}
 use Rattle.px_scene.specs.Solids.{IsLawfulSolid}
 use Rattle.px_sched.specs.Layouts.{IsLayout, layout_of, need_of}
-use Rattle.px_sched.specs.Passes.{passes, products_of}
+use Rattle.px_sched.specs.Passes.{passes}
 
 abbrev pub LayoutsAreLawful : Type 0
 LayoutsAreLawful = (scene : SceneView) → IsLawfulScene scene → IsLayout (layout_of scene)
@@ -16,4 +17,4 @@ PassesAreLawful = (scene : SceneView) → IsLawfulScene scene → All IsLawfulSo
 
 abbrev pub PassesAreFew : Type 0
 PassesAreFew = (scene : SceneView) → All IsLawfulSolid scene.solids →
-    length (products_of scene) ≤ 1024 → length (passes scene) ≤ 2 ^ 43
+    length (plan_of scene) ≤ 1024 → length (passes scene) ≤ 2 ^ 43

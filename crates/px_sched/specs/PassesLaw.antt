@@ -14,6 +14,11 @@ pub record HasSight (l : LayoutView) (memory : List Bool) (sight : Sight) : Type
   pub depth : number_in (depth_part l l.key_b) memory ≡ sight.depth
   pub face : number_in (number_part l l.key_b) memory ≡ sight.face
 
+-- each pixel of the picture has in its memory what it shows
+abbrev pub ShowsThePicture : SceneView → LayoutView → (memory_at : (x y : ℕ) → List Bool) → Type 0
+ShowsThePicture scene l memory_at = (x y : ℕ) → x < scene.width → y < scene.height →
+    HasSight l (memory_at x y) (picture scene x y)
+
 abbrev pub PassesLaw : Type 0
 PassesLaw = (scene : SceneView) → IsLawfulScene scene → All IsLawfulSolid scene.solids →
     (x y : ℕ) → x < scene.width → y < scene.height →

@@ -11,11 +11,12 @@ ghost use Rattle.std.specs.Prelude.{
   length,
   slice_get,
 };
+ghost use Rattle.px_prune.specs.Kept.{plan_of};
 ghost use Rattle.px_scene.specs.Scenes.{SceneView};
 ghost use Rattle.px_sched.specs.Cursors.{Stands, StandsIn};
 ghost use Rattle.px_sched.specs.Groups.{IsDrawn, IsStage, stage_operations};
 ghost use Rattle.px_sched.specs.Layouts.{LayoutView, layout_of};
-ghost use Rattle.px_sched.specs.Passes.{passes, passes_with, products_of};
+ghost use Rattle.px_sched.specs.Passes.{passes, passes_with};
 
 use crate::group::Stage;
 use crate::layout::Layout;
@@ -26,7 +27,7 @@ use px_scene::{Scene, laws_of_scenes};
 
 /// A place in the passes of a scene (docs/PASSES.md). It takes no memory, and finds the next
 /// operation without those before it.
-#[derive(Clone, Copy, Debug, Default, PartialEq, Eq)]
+#[derive(Clone, Copy, Debug, PartialEq, Eq)]
 pub struct Cursor {
     /// How many operations it has given.
     pub given: u64,
@@ -51,10 +52,9 @@ impl Cursor {
 
     /// Gives the next operation of the passes of a scene, by its plan and its layout.
     ///
-    /// The plan's products are those that `prune` keeps of the scene's sum of products, and the
-    /// layout is the one that `Layout::of` gives for the scene.
+    /// The plan is the one that `plan_of` gives for the scene, and the layout that of `Layout::of`.
     pub fn next_macro(&mut self, scene: &Scene, plan: &Plan, layout: &Layout) -> Option<Macro>
-        requires products { plan.now.products.items ≡ products_of scene.now }
+        requires products { plan.now.products.items ≡ plan_of scene.now }
         requires layout { layout.now ≡ layout_of scene.now }
         requires stands { Stands scene.now self.old }
         ensures operation { result ≡ slice_get (passes scene.now) self.old.given }
@@ -72,6 +72,7 @@ impl Cursor {
     /// Gives the next operation of the passes over some products.
     fn give(&mut self, scene: &Scene, products: &[Product], layout: &Layout) -> Option<Macro>
         requires drawn { All (IsDrawn scene.now) products.now }
+        requires bits { layout.now.fraction_bits ≡ scene.now.fraction_bits }
         requires stands { StandsIn scene.now layout.now products.now self.old }
         ensures operation { result ≡
             slice_get (passes_with scene.now layout.now products.now) self.old.given }

@@ -2,7 +2,7 @@
 ghost use Rattle.std.specs.Bool.{OnFalse, OnTrue};
 ghost use Rattle.std.specs.Prelude.{◌≡◌, ◌≢◌, ◌+◌, ◌*◌, ◌^◌, ◌<◌, ◌≤◌, All, IfSome, get_or, length};
 ghost use Rattle.px_macro.specs.declared.operation.Macro.TheVariants as m;
-ghost use Rattle.px_scene.specs.Cells.{far_of};
+ghost use Rattle.px_scene.specs.Cells.{depths_of, end_of};
 ghost use Rattle.px_sched.specs.Groups.{
   IsDrawn,
   IsGroup,
@@ -39,10 +39,9 @@ pub(crate) struct Group {
 }
 
 /// How far the passes are.
-#[derive(Clone, Copy, Debug, Default, PartialEq, Eq)]
+#[derive(Clone, Copy, Debug, PartialEq, Eq)]
 pub(crate) enum Stage {
     /// The background becomes the best.
-    #[default]
     Start,
     At(Group),
     End,
@@ -61,7 +60,7 @@ impl Stage {
     pub(crate) fn count(self, scene: &Scene, products: &[Product]) -> usize
         requires { IsStage scene.now products.now self }
         ensures count { (l : LayoutView) → length (stage_operations scene.now l self) ≡ result }
-        ensures few { result ≤ 101 }
+        ensures few { result ≤ 102 }
     {
         match self {
             Stage::Start => 2,
@@ -79,6 +78,7 @@ impl Stage {
         at: usize,
     ) -> Macro
         requires stage { IsStage scene.now products.now self }
+        requires bits { layout.now.fraction_bits ≡ scene.now.fraction_bits }
         requires at { at < length (stage_operations scene.now layout.now self) }
         ensures { result ≡ get_or (stage_operations scene.now layout.now self) at m.All }
     {
@@ -191,8 +191,8 @@ fn product_from(scene: &Scene, products: &[Product], product: usize) -> Stage
 /// The background becomes the best.
 fn background(scene: &Scene, layout: &Layout) -> Macro
     ensures { result ≡
-        m.LoadConst layout.now.key_b (far_of scene.now * 2 ^ layout.now.number_bits) }
+        m.LoadConst layout.now.key_b (end_of (depths_of scene.now) * 2 ^ layout.now.number_bits) }
 {
-    let number = u64::from(scene.far()) * power(layout.number_bits) as u64;
+    let number = u64::from(scene.end()) * power(layout.number_bits) as u64;
     Macro::LoadConst(layout.key_b, number)
 }

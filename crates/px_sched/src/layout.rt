@@ -1,9 +1,11 @@
 //! Where the passes keep their numbers in the memory of a pixel.
-ghost use Rattle.std.specs.Prelude.{◌≡◌, ◌<◌, ◌≤◌, ◌↔◌, IfErr, IfOk, IsOk};
+ghost use Rattle.std.specs.Prelude.{◌≡◌, ◌+◌, ◌<◌, ◌≤◌, ◌↔◌, IfErr, IfOk, IsOk};
 ghost use Rattle.px_sched.specs.Layouts.{
   IsLayout,
   bit_length,
+  deep_part,
   depth_part,
+  fraction_part,
   layout_of,
   layout_with,
   need_of,
@@ -24,6 +26,7 @@ use thiserror::Error;
 #[derive(Clone, Copy, Debug)]
 pub struct Layout {
     pub depth_bits: u32,
+    pub fraction_bits: u32,
     pub number_bits: u32,
     pub key_b: Field,
     pub key_t: Field,
@@ -40,6 +43,7 @@ impl Model for Layout {
 
     ghost view = { λ l. record {
       depth_bits = l.depth_bits;
+      fraction_bits = l.fraction_bits;
       number_bits = l.number_bits;
       key_b = l.key_b;
       key_t = l.key_t;
@@ -49,6 +53,7 @@ impl Model for Layout {
 
     ghost invariant = { λ l. IsLayout (record {
       depth_bits = l.depth_bits;
+      fraction_bits = l.fraction_bits;
       number_bits = l.number_bits;
       key_b = l.key_b;
       key_t = l.key_t;
@@ -58,6 +63,7 @@ impl Model for Layout {
 
     ghost inverse = { λ l. record {
       depth_bits = l.depth_bits;
+      fraction_bits = l.fraction_bits;
       number_bits = l.number_bits;
       key_b = l.key_b;
       key_t = l.key_t;
@@ -81,7 +87,11 @@ impl Layout {
         ensures need { IfErr result (λ fault. fault.need ≡ need_of (layout_of scene.now)) }
         ensures fits { IsOk result ↔ (need_of (layout_of scene.now) ≤ bits) }
     {
-        let layout = Layout::with(scene.depth_bits(), bit_length(scene.faces()));
+        let layout = Layout::with(
+            scene.depth_bits(),
+            scene.fraction_bits(),
+            bit_length(scene.faces()),
+        );
         let need = layout.par + 1;
         if need <= bits {
             Ok(layout)
@@ -122,17 +132,47 @@ impl Layout {
         self.depth_part(self.key_t)
     }
 
+    /// The best depth with its fraction.
+    pub fn b_deep(&self) -> Field
+        ensures field { result ≡ deep_part self.now self.now.key_b }
+        ensures lawful { IsLayout self.now }
+    {
+        self.deep_part(self.key_b)
+    }
+
+    /// The candidate's depth with its fraction.
+    pub fn t_deep(&self) -> Field
+        ensures field { result ≡ deep_part self.now self.now.key_t }
+        ensures lawful { IsLayout self.now }
+    {
+        self.deep_part(self.key_t)
+    }
+
+    /// The fraction of the candidate's depth, where a depth has a fraction.
+    pub fn t_fraction(&self) -> Field
+        requires some { 1 ≤ self.now.fraction_bits }
+        ensures field { result ≡ fraction_part self.now self.now.key_t }
+        ensures lawful { IsLayout self.now }
+    {
+        Field {
+            at: self.key_t.at + self.number_bits,
+            len: self.fraction_bits,
+        }
+    }
+
     /// A layout for depths and face numbers of so many bits.
-    fn with(depth_bits: u32, number_bits: u32) -> Layout
+    fn with(depth_bits: u32, fraction_bits: u32, number_bits: u32) -> Layout
         requires some_depth { 1 ≤ depth_bits }
-        requires depth { depth_bits ≤ 24 }
+        requires depth { depth_bits + fraction_bits ≤ 24 }
+        requires fraction { fraction_bits ≤ 8 }
         requires some_number { 1 ≤ number_bits }
         requires number { number_bits ≤ 12 }
-        ensures { result ≡ layout_with depth_bits number_bits }
+        ensures { result ≡ layout_with depth_bits fraction_bits number_bits }
     {
-        let len = depth_bits + number_bits;
+        let len = depth_bits + fraction_bits + number_bits;
         Layout {
             depth_bits,
+            fraction_bits,
             number_bits,
             key_b: Field { at: 0, len },
             key_t: Field { at: len, len },
@@ -155,8 +195,18 @@ impl Layout {
         ensures { result ≡ depth_part self.now key }
     {
         Field {
-            at: key.at + self.number_bits,
+            at: key.at + self.number_bits + self.fraction_bits,
             len: self.depth_bits,
+        }
+    }
+
+    fn deep_part(&self, key: Field) -> Field
+        requires { key.at ≤ 36 }
+        ensures { result ≡ deep_part self.now key }
+    {
+        Field {
+            at: key.at + self.number_bits,
+            len: self.depth_bits + self.fraction_bits,
         }
     }
 }

@@ -1,8 +1,7 @@
 //! The passes law on numbers.
 ghost use Rattle.px_sched.specs.NumbersLaw.{NumbersShowThePicture};
 
-use px_expr::surface_law;
-use px_face::laws_of_covering;
+use px_face::{laws_of_covering, laws_of_surfaces};
 use px_normal::laws_of_normal_forms;
 use px_prune::laws_of_pruning;
 
@@ -10,7 +9,7 @@ use px_prune::laws_of_pruning;
 pub fn law_of_numbers()
     ensures { NumbersShowThePicture }
 {
-    surface_law();
+    laws_of_surfaces();
     laws_of_covering();
     laws_of_normal_forms();
     laws_of_pruning();

@@ -1,13 +1,13 @@
 //! The steps of a literal's passes. Each is a few operations that begin with "all".
-ghost use Rattle.std.specs.Prelude.{◌≡◌, ◌+◌, ◌<◌, ◌≤◌, ◌++◌, All, IfSome, get_or, length};
+ghost use Rattle.std.specs.Prelude.{◌≡◌, ◌+◌, ◌<◌, ◌≤◌, ◌++◌, ◌==◌, if◌then◌else◌, All, IfSome, get_or, length};
 ghost use Rattle.px_face.specs.Edges.{edge_count};
 ghost use Rattle.px_face.specs.Faces.{face_count};
 ghost use Rattle.px_macro.specs.declared.operation.Macro.TheVariants as m;
-ghost use Rattle.px_scene.specs.Cells.{far_of};
+ghost use Rattle.px_scene.specs.Cells.{depths_of, end_of};
 ghost use Rattle.px_scene.specs.Scenes.{SceneView};
 ghost use Rattle.px_sched.specs.declared.literal.Literal.{Literal};
 ghost use Rattle.px_sched.specs.Layouts.{LayoutView};
-ghost use Rattle.px_sched.specs.Passes.{candidate, keep_covered, solid_of, turn};
+ghost use Rattle.px_sched.specs.Passes.{candidate, drop_behind, keep_covered, solid_of, turn};
 ghost use Rattle.px_sched.specs.Steps.{
   AreKnown,
   IsFace,
@@ -16,6 +16,11 @@ ghost use Rattle.px_sched.specs.Steps.{
   behind_step,
   candidates_end,
   candidates_from,
+  confirmed_from,
+  drops_from,
+  face_turn,
+  front_turn,
+  fronts_from,
   first_candidate,
   from_step,
   from_step_if_any,
@@ -29,6 +34,7 @@ use crate::layout::Layout;
 use crate::literal::Literal;
 use px_face::{edge_at, edge_count, face_count, laws_of_edges, number_of, plane_of};
 use px_macro::Macro;
+use px_num::{Linear, power};
 use px_scene::{Scene, Solid};
 
 /// A step of the passes of a literal (docs/PASSES.md, "Steps").
@@ -41,6 +47,14 @@ pub(crate) enum Step {
     Open,
     /// A face of the literal's solid becomes the candidate where it covers.
     Candidate(u8, usize),
+    /// A back of the literal's plain solid drops the candidate that is not before it.
+    Drop(u8, usize),
+    /// The fronts of the literal's barred solid are to be counted.
+    Clear,
+    /// A front of it turns the parity where it is a whole cell before the candidate, or more.
+    Front(u8, usize),
+    /// The candidate stays alive where a front was.
+    Confirm,
     /// Another literal begins to judge: no face was passed.
     Begin(usize),
     /// A face of the other literal's solid turns the parity where it is passed.
@@ -56,14 +70,15 @@ impl Step {
     pub(crate) fn count(self, scene: &Scene) -> usize
         requires { IsStep scene.now self }
         ensures count { (l : LayoutView) → length (step_operations scene.now l self) ≡ result }
-        ensures few { result ≤ 101 }
+        ensures few { result ≤ 102 }
     {
         match self {
-            Step::Open | Step::Begin(_) => 2,
-            Step::Candidate(solid, _) | Step::Turn(_, solid, _) => {
-                edge_count(solid_at(scene, solid)) + 4
-            }
-            Step::Close(_, _) => 3,
+            Step::Open | Step::Clear | Step::Begin(_) => 2,
+            Step::Candidate(solid, _) => candidate_count(scene, solid_at(scene, solid)),
+            Step::Drop(solid, _) => edge_count(solid_at(scene, solid)) + 4,
+            Step::Front(solid, _) => edge_count(solid_at(scene, solid)) + 4,
+            Step::Turn(_, solid, _) => edge_count(solid_at(scene, solid)) + 4,
+            Step::Confirm | Step::Close(_, _) => 3,
             Step::Merge => 4,
         }
     }
@@ -71,18 +86,31 @@ impl Step {
     /// One of the operations.
     pub(crate) fn operation(self, scene: &Scene, layout: &Layout, at: usize) -> Macro
         requires step { IsStep scene.now self }
+        requires bits { layout.now.fraction_bits ≡ scene.now.fraction_bits }
         requires at { at < length (step_operations scene.now layout.now self) }
         ensures { result ≡ get_or (step_operations scene.now layout.now self) at m.All }
     {
         match self {
             Step::Open => [Macro::All, Macro::SetBit(layout.alive, false)][at],
             Step::Candidate(solid, face) => {
-                candidate(solid_at(scene, solid), scene.far(), face, layout, at)
+                candidate(scene, solid_at(scene, solid), face, layout, at)
             }
+            Step::Drop(solid, face) => drop_behind(scene, solid_at(scene, solid), face, layout, at),
+            Step::Clear => [Macro::All, Macro::SetBit(layout.par, false)][at],
+            Step::Front(solid, face) => front_turn(scene, solid_at(scene, solid), face, layout, at),
+            Step::Confirm => [
+                Macro::All,
+                Macro::KeepBit(layout.par, false),
+                Macro::SetBit(layout.alive, false),
+            ][at],
             Step::Begin(_) => [Macro::All, Macro::SetBit(layout.par, false)][at],
-            Step::Turn(_, solid, face) => {
-                turn(solid_at(scene, solid), scene.far(), face, layout, at)
-            }
+            Step::Turn(_, solid, face) => face_turn(
+                scene,
+                solid_at(scene, solid),
+                face,
+                layout,
+                at,
+            ),
             Step::Close(_, plain) => [
                 Macro::All,
                 Macro::KeepBit(layout.par, !plain),
@@ -111,6 +139,10 @@ impl Step {
         match self {
             Step::Open => Some(candidate_from(scene, q, rs, first_candidate(scene, q))),
             Step::Candidate(_, face) => Some(candidate_from(scene, q, rs, face + 1)),
+            Step::Drop(_, face) => Some(drop_from(scene, q, rs, face + 1)),
+            Step::Clear => Some(front_from(scene, q, rs, 0)),
+            Step::Front(_, face) => Some(front_from(scene, q, rs, face + 1)),
+            Step::Confirm => Some(judge_from(rs, 0)),
             Step::Begin(other) => Some(turn_from(scene, rs, other, 0)),
             Step::Turn(other, _, face) => Some(turn_from(scene, rs, other, face + 1)),
             Step::Close(other, _) => Some(judge_from(rs, other + 1)),
@@ -130,7 +162,55 @@ fn candidate_from(scene: &Scene, q: Literal, rs: &[Literal], face: usize) -> Ste
     if face < candidates_end(scene, q) {
         Step::Candidate(q.solid, face)
     } else {
+        confirm_from(scene, q, rs)
+    }
+}
+
+/// The steps that confirm a candidate, where there is a fraction, and the other literals behind them.
+fn confirm_from(scene: &Scene, q: Literal, rs: &[Literal]) -> Step
+    requires q { q.solid < length scene.now.solids }
+    ensures left { (l : LayoutView) → confirmed_from scene.now l q rs.now ≡
+        from_step scene.now l q rs.now result }
+    ensures step { IsStepOf scene.now q rs.now result }
+    ensures faces { IsStep scene.now result }
+{
+    if scene.fraction_bits() == 0 {
         judge_from(rs, 0)
+    } else if q.plain {
+        let solid = solid_at(scene, q.solid);
+        Step::Drop(q.solid, solid.fronts().len() + 1)
+    } else {
+        Step::Clear
+    }
+}
+
+/// The backs that drop a plain solid's candidates, from one on, and the other literals behind them.
+fn drop_from(scene: &Scene, q: Literal, rs: &[Literal], face: usize) -> Step
+    requires q { q.solid < length scene.now.solids }
+    ensures left { (l : LayoutView) → drops_from scene.now l q rs.now face ≡
+        from_step scene.now l q rs.now result }
+    ensures step { IsStepOf scene.now q rs.now result }
+    ensures faces { IsStep scene.now result }
+{
+    if face < face_count(solid_at(scene, q.solid)) {
+        Step::Drop(q.solid, face)
+    } else {
+        judge_from(rs, 0)
+    }
+}
+
+/// The fronts that a barred solid's candidates stand behind, from one on, and what is behind them.
+fn front_from(scene: &Scene, q: Literal, rs: &[Literal], face: usize) -> Step
+    requires q { q.solid < length scene.now.solids }
+    ensures left { (l : LayoutView) → fronts_from scene.now l q rs.now face ≡
+        from_step scene.now l q rs.now result }
+    ensures step { IsStepOf scene.now q rs.now result }
+    ensures faces { IsStep scene.now result }
+{
+    if face < solid_at(scene, q.solid).fronts().len() + 1 {
+        Step::Front(q.solid, face)
+    } else {
+        Step::Confirm
     }
 }
 
@@ -197,53 +277,118 @@ fn solid_at(scene: &Scene, solid: u8) -> &Solid
     &scene.solids()[usize::from(solid)]
 }
 
-/// An operation of a step that makes a face the candidate where it covers.
-fn candidate(solid: &Solid, far: u32, face: usize, layout: &Layout, at: usize) -> Macro
-    requires face { face < face_count solid.now }
-    requires at { at < length (candidate layout.now far solid.now face) }
-    ensures { result ≡ get_or (candidate layout.now far solid.now face) at m.All }
+/// How many operations make a face the candidate.
+fn candidate_count(scene: &Scene, solid: &Solid) -> usize
+    ensures count { result ≡ edge_count solid.now + (if scene.now.fraction_bits == 0 then 4 else 5) }
+    ensures few { result ≤ 102 }
 {
-    let tail = [
-        Macro::LoadLinear(plane_of(solid, far, face), layout.t_depth()),
-        Macro::LoadConst(layout.t_number(), u64::from(number_of(solid, face))),
-        Macro::SetBit(layout.alive, true),
-    ];
-    where_covered(solid, far, face, &[Macro::All], &tail, at)
+    if scene.fraction_bits() == 0 {
+        edge_count(solid) + 4
+    } else {
+        edge_count(solid) + 5
+    }
 }
 
-/// An operation of a step that turns the parity where a face is passed.
-fn turn(solid: &Solid, far: u32, face: usize, layout: &Layout, at: usize) -> Macro
+/// An operation of a step that makes a face the candidate where it covers.
+fn candidate(scene: &Scene, solid: &Solid, face: usize, layout: &Layout, at: usize) -> Macro
     requires face { face < face_count solid.now }
-    requires at { at < length (turn layout.now far solid.now face) }
-    ensures { result ≡ get_or (turn layout.now far solid.now face) at m.All }
+    requires bits { layout.now.fraction_bits ≡ scene.now.fraction_bits }
+    requires at { at < length (candidate layout.now (depths_of scene.now) solid.now face) }
+    ensures { result ≡
+        get_or (candidate layout.now (depths_of scene.now) solid.now face) at m.All }
+{
+    let end = scene.end();
+    let unit = power(scene.fraction_bits()) as u32;
+    let plane = plane_of(solid, end, face).plus(unit - 1);
+    let load = Macro::LoadLinear(plane, layout.t_deep());
+    let number = Macro::LoadConst(layout.t_number(), u64::from(number_of(solid, face)));
+    let set = Macro::SetBit(layout.alive, true);
+    if scene.fraction_bits() == 0 {
+        where_covered(solid, end, face, &[Macro::All], &[load, number, set], at)
+    } else {
+        let clear = Macro::LoadConst(layout.t_fraction(), 0);
+        where_covered(
+            solid,
+            end,
+            face,
+            &[Macro::All],
+            &[load, clear, number, set],
+            at,
+        )
+    }
+}
+
+/// An operation of a step that drops candidates which are not before a back.
+fn drop_behind(scene: &Scene, solid: &Solid, face: usize, layout: &Layout, at: usize) -> Macro
+    requires face { face < face_count solid.now }
+    requires at { at < length (drop_behind layout.now (end_of (depths_of scene.now)) solid.now face) }
+    ensures { result ≡
+        get_or (drop_behind layout.now (end_of (depths_of scene.now)) solid.now face) at m.All }
+{
+    let end = scene.end();
+    let head = [Macro::All, Macro::KeepBit(layout.alive, true)];
+    let tail = [
+        Macro::KeepAtMost(plane_of(solid, end, face), layout.t_deep()),
+        Macro::SetBit(layout.alive, false),
+    ];
+    where_covered(solid, end, face, &head, &tail, at)
+}
+
+/// An operation of a step in which a front turns the parity.
+fn front_turn(scene: &Scene, solid: &Solid, face: usize, layout: &Layout, at: usize) -> Macro
+    requires face { face < face_count solid.now }
+    requires at { at < length (front_turn scene.now layout.now solid.now face) }
+    ensures { result ≡ get_or (front_turn scene.now layout.now solid.now face) at m.All }
+{
+    let end = scene.end();
+    let form = plane_of(solid, end, face).plus(power(scene.fraction_bits()) as u32);
+    turn(solid, end, face, &form, layout, at)
+}
+
+/// An operation of a step in which a face turns the parity.
+fn face_turn(scene: &Scene, solid: &Solid, face: usize, layout: &Layout, at: usize) -> Macro
+    requires face { face < face_count solid.now }
+    requires at { at < length (face_turn scene.now layout.now solid.now face) }
+    ensures { result ≡ get_or (face_turn scene.now layout.now solid.now face) at m.All }
+{
+    let end = scene.end();
+    let form = plane_of(solid, end, face);
+    turn(solid, end, face, &form, layout, at)
+}
+
+/// An operation of a step that turns the parity where a form is not above the candidate.
+fn turn(solid: &Solid, end: u32, face: usize, form: &Linear, layout: &Layout, at: usize) -> Macro
+    requires face { face < face_count solid.now }
+    requires at { at < length (turn layout.now end solid.now face form.now) }
+    ensures { result ≡ get_or (turn layout.now end solid.now face form.now) at m.All }
 {
     let head = [Macro::All, Macro::KeepBit(layout.alive, true)];
     let tail = [
-        Macro::KeepAtMost(plane_of(solid, far, face), layout.t_depth()),
+        Macro::KeepAtMost(*form, layout.t_deep()),
         Macro::Toggle(layout.par),
     ];
-    where_covered(solid, far, face, &head, &tail, at)
+    where_covered(solid, end, face, &head, &tail, at)
 }
 
 /// One of some operations: a head, those that keep the pixels that a face covers, and a tail.
 fn where_covered(
     solid: &Solid,
-    far: u32,
+    end: u32,
     face: usize,
     head: &[Macro],
     tail: &[Macro],
     at: usize,
 ) -> Macro
     requires face { face < face_count solid.now }
-    requires at { at < length (head.now ++ keep_covered far solid.now face ++ tail.now) }
-    ensures { result ≡ get_or (head.now ++ keep_covered far solid.now face ++ tail.now) at m.All }
+    requires at { at < length (head.now ++ keep_covered end solid.now face ++ tail.now) }
+    ensures { result ≡ get_or (head.now ++ keep_covered end solid.now face ++ tail.now) at m.All }
 {
     laws_of_edges();
     let edges = edge_count(solid);
     if at < head.len() {
         head[at]
     } else if at - head.len() < edges {
-        Macro::KeepSign(edge_at(solid, far, face, at - head.len()))
+        Macro::KeepSign(edge_at(solid, end, face, at - head.len()))
     } else {
         tail[at - head.len() - edges]
     }

@@ -1,14 +1,13 @@
 //! The passes of one solid, and the layouts of two scenes at the limit of pixel memory.
 ghost use Rattle.std.specs.Prelude.{◌≡◌, ◌≤◌, length};
-ghost use Rattle.px_sched.specs.Passes.{products_of};
+ghost use Rattle.px_prune.specs.Kept.{plan_of};
 ghost use Rattle.px_sched.specs.Cursors.{Stands};
 ghost use Rattle.px_sched.specs.Layouts.{layout_of};
 
 use crate::{Cursor, Layout, NeedBits, laws_of_passes};
 use px_macro::{Field, Macro};
-use px_normal::normalise;
 use px_num::Linear;
-use px_prune::{Plan, prune};
+use px_prune::{Plan, plan_of};
 use px_scene::{Scene, laws_of_scenes, read_scene};
 use std::alloc::{AllocError, Global};
 use std::test::Fail;
@@ -48,8 +47,7 @@ fn operations_of_one_solid(rt: HostRuntime) -> Result<(), Fail> {
         Macro::Copy(key_t, key_b),
     ];
     let scene = read_scene(rt.alloc(), ONE_SOLID.as_bytes())?;
-    let products = normalise(rt.alloc(), scene.show())?;
-    let plan = prune(rt.alloc(), &scene, &products)?;
+    let plan = plan_of(rt.alloc(), &scene)?;
     let layout = Layout::of(&scene, 72)?;
     assert_eq!(rt; plan.products.len(), 1);
     let mut cursor = started(&scene, &plan);
@@ -60,8 +58,70 @@ fn operations_of_one_solid(rt: HostRuntime) -> Result<(), Fail> {
     Ok(())
 }
 
+const IN_QUARTERS: &str = "pxscene 3\npicture 1 1\ndepth 4 2\nsolid a 200 100 50\n\
+front 0 0 18\nback 0 0 33\nshow a\nend\n";
+
+/// The same with values in quarters of a cell: planes are rounded up to a cell, and the back and
+/// the far limit, of value 60, drop a candidate that is not before them.
+#[test]
+fn operations_where_depths_have_a_fraction(rt: HostRuntime) -> Result<(), Fail> {
+    let key_b = field(0, 8);
+    let key_t = field(8, 8);
+    let number = field(8, 2);
+    let fraction = field(10, 2);
+    let deep = field(10, 6);
+    let wanted = [
+        Macro::All,
+        Macro::LoadConst(key_b, 240),
+        Macro::All,
+        Macro::SetBit(16, false),
+        Macro::All,
+        Macro::KeepSign(level(-18)),
+        Macro::KeepSign(level(32)),
+        Macro::KeepSign(level(59)),
+        Macro::LoadLinear(level(3), deep),
+        Macro::LoadConst(fraction, 0),
+        Macro::LoadConst(number, 1),
+        Macro::SetBit(16, true),
+        Macro::All,
+        Macro::KeepSign(level(17)),
+        Macro::KeepSign(level(14)),
+        Macro::KeepSign(level(41)),
+        Macro::LoadLinear(level(21), deep),
+        Macro::LoadConst(fraction, 0),
+        Macro::LoadConst(number, 2),
+        Macro::SetBit(16, true),
+        Macro::All,
+        Macro::KeepBit(16, true),
+        Macro::KeepSign(level(27)),
+        Macro::KeepSign(level(32)),
+        Macro::KeepSign(level(14)),
+        Macro::KeepAtMost(level(33), deep),
+        Macro::SetBit(16, false),
+        Macro::All,
+        Macro::KeepBit(16, true),
+        Macro::KeepSign(level(-28)),
+        Macro::KeepSign(level(59)),
+        Macro::KeepSign(level(41)),
+        Macro::KeepAtMost(level(60), deep),
+        Macro::SetBit(16, false),
+        Macro::All,
+        Macro::KeepBit(16, true),
+        Macro::KeepLess(key_t, key_b),
+        Macro::Copy(key_t, key_b),
+    ];
+    let scene = read_scene(rt.alloc(), IN_QUARTERS.as_bytes())?;
+    let plan = plan_of(rt.alloc(), &scene)?;
+    let layout = Layout::of(&scene, 72)?;
+    let mut cursor = started(&scene, &plan);
+    assert!(rt; gives(&mut cursor, &scene, &plan, &layout, &wanted));
+    assert_eq!(rt; cursor.given, 38);
+    assert_eq!(rt; cursor.next_macro(&scene, &plan, &layout), None);
+    Ok(())
+}
+
 fn started(scene: &Scene, plan: &Plan) -> Cursor
-    requires products { plan.now.products.items ≡ products_of scene.now }
+    requires products { plan.now.products.items ≡ plan_of scene.now }
     requires few { length plan.now.products.items ≤ 1024 }
     ensures { Stands scene.now result }
 {
@@ -72,7 +132,7 @@ fn started(scene: &Scene, plan: &Plan) -> Cursor
 
 /// Whether these are the next operations.
 fn gives(cursor: &mut Cursor, scene: &Scene, plan: &Plan, layout: &Layout, wanted: &[Macro]) -> bool
-    requires products { plan.now.products.items ≡ products_of scene.now }
+    requires products { plan.now.products.items ≡ plan_of scene.now }
     requires layout { layout.now ≡ layout_of scene.now }
     requires stands { Stands scene.now cursor.old }
     ensures { Stands scene.now cursor.new }

@@ -7,8 +7,10 @@ returns c =
     let pruning = c.laws_of_pruning.ensures in
     numbers_show_the_picture (record {
       covering = c.laws_of_covering.ensures.covering;
-      parity = c.laws_of_covering.ensures.parity;
-      surface = c.surface_law.ensures;
+      cells = c.laws_of_covering.ensures.cells;
+      parity = c.laws_of_covering.ensures.values;
+      surfaces = c.laws_of_surfaces.ensures.scenes;
+      first = c.laws_of_surfaces.ensures.first;
       normal = normal.law;
       known = normal.known;
       pruning = pruning.law;

@@ -5,9 +5,3 @@ use Rattle.px_sched.proofs.step.candidate_from.Goals as goal
 pub returns-then-face-candidates_end-clause-left : goal.returns-then-face-candidates_end-clause-left
 returns-then-face-candidates_end-clause-left c =
     λ l. candidate_more c.args.scene.now l c.args.q c.args.rs.now c.args.face (omega (arith, c.if-face-candidates_end.true, c.candidates_end.ensures.end))
-
-pub returns-else-face-candidates_end-clause-step : goal.returns-else-face-candidates_end-clause-step
-returns-else-face-candidates_end-clause-step c = c.judge_from.ensures.step c.args.scene.now c.args.q
-
-pub returns-else-face-candidates_end-clause-faces : goal.returns-else-face-candidates_end-clause-faces
-returns-else-face-candidates_end-clause-faces c = c.judge_from.ensures.faces c.args.scene.now

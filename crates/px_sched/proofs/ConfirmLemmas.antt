@@ -1,0 +1,266 @@
+-- Which candidates stay alive: those of pixels at which their solid has a cell.
+use Rattle.std.proofs.Common.{◌≡◌, ◌<◌, ◌≤◌, ◌+◌, ◌^◌, ◌+ℤ◌, ◌<ℤ◌, ◌≤ℤ◌, ℕ, zero, suc, ℤ, pos, Bool, true, false, ◌&&◌, ◌||◌, ◌==◌, ◌*◌, ◌-◌, inl, inr, not, nat_le, nat_lt, List, [], ◌∷◌, length, eqb, refl, ap, sym, ◌∙◌, arith, if◌then◌else◌}
+use Rattle.std.specs.Bool.{beq}
+use Rattle.std.specs.List.{fold, flat_map, range_with_len}
+use Rattle.std.proofs.lemmas.Int.{ints}
+use Rattle.std.proofs.lemmas.Bool.Decides.{nat_tests}
+use lib.Signed.{le_z, lt_z}
+use Rattle.std.proofs.lemmas.Bool.{cases_Bool}
+use Rattle.std.proofs.lemmas.Nat.{pow_pos}
+use Rattle.px_num.specs.Bits.{modulo}
+use Rattle.px_num.specs.Forms.{plus, value_at}
+use Rattle.px_num.specs.FormLaws.{value_at-plus}
+use Rattle.px_scene.specs.Solids.{SolidView}
+use Rattle.px_scene.specs.Cells.{Depths, cell_of, end_of, enters_at, is_inside, is_inside_before, leaves_at, value_of}
+use Rattle.px_scene.specs.CellLaws.{cell_is_first, cell_is_least}
+use Rattle.px_face.specs.Covering.{CoveringLaw, covering_back, covering_front, is_met}
+use Rattle.px_face.specs.Edges.{covers, edges}
+use Rattle.px_face.specs.Faces.{plane_of}
+use Rattle.px_sched.specs.Numbers.{Keys, Numbers, Pass, Place, after, all, confirm_on_numbers, drop_on_numbers, keep_at_most, keep_covered_on_numbers, keep_par, residue, set_alive, turn_on_numbers, where_fraction}
+use Rattle.px_sched.proofs.RunLemmas.{HasRoom, after-append, and_both, and_true, at, at_most_is, beq_true, end_room, end_small, ended, enters_depth, flip_step, flips, keys_in_range, keys_of, leaves_depth, more_at_most, same_place, signed, turn_keys}
+use Rattle.px_sched.proofs.FoldLemmas.{fold_single, where_test}
+
+-- a test that adds something where the place is the one
+where_here : (met here passed known : Bool) → (met ≡ true → here ≡ true → passed ≡ known) → ((met && here) && passed) ≡ ((met && known) && here)
+where_here false here passed known h = refl
+where_here true false passed true h = refl
+where_here true false passed false h = refl
+where_here true true passed true h = h refl refl
+where_here true true passed false h = h refl refl
+
+abbrev dropped : Keys → Keys
+dropped k = record k { alive = false }
+
+-- what a back drops
+drop_keys : (l : Place) (end : ℕ) (s : SolidView) (i : ℕ) (e : Bool) (k : Keys)
+    → (after l (drop_on_numbers end s i) (at e k)).keys
+    ≡ (if k.alive && (covers s end i l.x l.y && nat_le (residue l (plane_of s end i)) k.deep) then dropped k else k)
+drop_keys l end s i e k =
+    let c = covers s end i l.x l.y in
+    let form = plane_of s end i in
+    let last = keep_at_most form ∷ set_alive false ∷ [] in
+    ap (λ (q : Numbers). q.keys) (after-append l (keep_covered_on_numbers end s i) last (at (true && beq k.alive true) k))
+    ∙ ap (λ (q : Numbers). (after l last q).keys) (signed l (edges s end i) (true && beq k.alive true) k)
+    ∙ ap (λ b. if b then dropped k else k)
+    (ap (λ a. ((true && a) && c) && nat_le (residue l form) k.deep) (beq_true k.alive)
+    ∙ and_both k.alive c (nat_le (residue l form) k.deep))
+
+abbrev drop_step : (ℕ → ℕ → Bool) → Keys → ℕ → Keys
+drop_step t k i = if k.alive && t k.deep i then dropped k else k
+
+abbrev off : (ℕ → Bool) → Bool → ℕ → Bool
+off t = where_test t (λ alive i. false)
+
+drop_is : (a t : Bool) (k : Keys) → k.alive ≡ a → (if a && t then dropped k else k) ≡ record k { alive = if t then false else a }
+drop_is true true k e = refl
+drop_is true false k e = rw (← e) refl
+drop_is false true k e = rw (← e) refl
+drop_is false false k e = rw (← e) refl
+
+drops : (t : ℕ → ℕ → Bool) (k : Keys) (is : List ℕ) → fold (drop_step t) k is ≡ record k { alive = fold (off (t k.deep)) k.alive is }
+drops t k [] = refl
+drops t k (i ∷ is) =
+    let a = if t k.deep i then false else k.alive in
+    ap (λ q. fold (drop_step t) q is) (drop_is k.alive (t k.deep i) k refl) ∙ drops t (record k { alive = a }) is
+
+and_not : (g a : Bool) → (if g then false else a) ≡ (a && not g)
+and_not true true = refl
+and_not true false = refl
+and_not false true = refl
+and_not false false = refl
+
+itself : (b : Bool) → (if b then not false else false) ≡ b
+itself true = refl
+itself false = refl
+
+le_self : (c : ℕ) → nat_le c c ≡ true
+le_self c = grind (arith, nat_tests)
+
+lt_next : (z : ℕ) → nat_lt z (suc z) ≡ true
+lt_next z = grind (arith, nat_tests)
+
+not_le : (u v : ℤ) → lt_z v u ≡ not (le_z u v)
+not_le u v = grind (arith, ints)
+
+above : (u : ℤ) (v : ℕ) → pos v <ℤ u → le_z u (pos v) ≡ false
+above u v h = grind (arith, ints)
+
+at_most : (u : ℤ) (v : ℕ) → u ≤ℤ pos v → le_z u (pos v) ≡ true
+at_most u v h = grind (arith, ints)
+
+no_fraction : (f : ℕ) → (f == 0) ≡ true → f ≡ 0
+no_fraction f e = grind (arith, nat_tests)
+
+whole_value : (d : Depths) (n : ℕ) → (d.fraction_bits == 0) ≡ true → value_of d (cell_of d (pos n)) ≡ n
+whole_value d n none = let f = no_fraction d.fraction_bits none in rw f (let e : n + (2 ^ 0 - 1) ≡ n = omega arith in rw e (omega arith))
+
+one_unit : (d : Depths) → (d.fraction_bits == 0) ≡ true → 2 ^ d.fraction_bits ≡ 1
+one_unit d none = ap (λ f. 2 ^ f) (no_fraction d.fraction_bits none)
+
+first_unit : (n u : ℕ) → 0 < u → false ≡ le_z (pos n +ℤ pos u) (pos (0 * u))
+first_unit n u some = grind (arith, ints)
+
+one_more : (v : ℤ) (z u : ℕ) → (le_z v (pos (z * u)) && true) ≡ le_z (v +ℤ pos u) (pos (suc z * u))
+one_more v z u = let e : suc z * u ≡ z * u + u = grind arith in grind (arith, ints)
+
+module _ (covering : CoveringLaw) (l : Place) (d : Depths) (room : HasRoom l d) (s : SolidView) where
+  abbrev end : ℕ
+  end = end_of d
+
+  abbrev bits : ℕ
+  bits = l.depth_bits + l.fraction_bits
+
+  abbrev unit : ℕ
+  unit = 2 ^ d.fraction_bits
+
+  abbrev met : Bool
+  met = is_met s end l.x l.y
+
+  abbrev enters : ℤ
+  enters = enters_at s l.x l.y
+
+  abbrev leaves : ℤ
+  leaves = leaves_at s end l.x l.y
+
+  -- of the backs only the covering one can drop
+  back_drops : (v i : ℕ) → covers s end i l.x l.y ≡ (met && eqb i (covering_back s end l.x l.y))
+      → (covers s end i l.x l.y && nat_le (residue l (plane_of s end i)) v) ≡ ((met && le_z leaves (pos v)) && eqb i (covering_back s end l.x l.y))
+  back_drops v i is =
+      rw is (where_here met (eqb i (covering_back s end l.x l.y)) (nat_le (residue l (plane_of s end i)) v) (le_z leaves (pos v))
+      (λ m here.
+      ap (λ w. nat_le (modulo w bits) v) (ap (λ j. value_at (plane_of s end j) l.x l.y) (same_place i (covering_back s end l.x l.y) here) ∙ (covering s end l.x l.y).back_value)
+      ∙ at_most_is leaves end bits v (end_small l d room) (leaves_depth covering end s l.x l.y m)))
+
+  -- of the fronts only the covering one can turn
+  front_turns : (v i : ℕ) → covers s end i l.x l.y ≡ (met && eqb i (covering_front s l.x l.y))
+      → (covers s end i l.x l.y && nat_le (residue l (plus (plane_of s end i) unit)) v) ≡ ((met && le_z (enters +ℤ pos unit) (pos v)) && eqb i (covering_front s l.x l.y))
+  front_turns v i is =
+      rw is (where_here met (eqb i (covering_front s l.x l.y)) (nat_le (residue l (plus (plane_of s end i) unit)) v) (le_z (enters +ℤ pos unit) (pos v))
+      (λ m here.
+      let e = enters_depth covering end s l.x l.y m in
+      let below = (covering s end l.x l.y).depths m in
+      let less : e.depth < end = omega (arith, ints, e.is, below.1, below.2) in
+      ap (λ w. nat_le (modulo w bits) v) (value_at-plus (plane_of s end i) unit l.x l.y
+      ∙ ap (λ w. w +ℤ pos unit) (ap (λ j. value_at (plane_of s end j) l.x l.y) (same_place i (covering_front s l.x l.y) here) ∙ (covering s end l.x l.y).front_value))
+      ∙ more_at_most enters end bits v e unit (omega (arith, less, end_room l d room))))
+
+  -- a plain solid's candidate stays alive where its depth is before the least back
+  pub confirm_plain : (e : Bool) (k : Keys)
+      → (after l (confirm_on_numbers d s true) (at e k)).keys ≡ record k { alive = k.alive && not (met && le_z leaves (pos k.deep)) }
+  confirm_plain e k =
+      let law = covering s end l.x l.y in
+      let nf = length s.fronts + 1 in
+      let nb = length s.backs + 1 in
+      let kb = covering_back s end l.x l.y in
+      let g = met && le_z leaves (pos k.deep) in
+      let t : ℕ → ℕ → Bool = λ v i. covers s end i l.x l.y && nat_le (residue l (plane_of s end i)) v in
+      keys_in_range l (drop_on_numbers end s) (drop_step t) nf nb (λ i low high e k. drop_keys l end s i e k) (at e k)
+      ∙ drops t k (range_with_len nf nb)
+      ∙ ap (λ a. record k { alive = a })
+      (fold_single (t k.deep) (λ alive i. false) k.alive nf nb kb g
+      (λ i low high. back_drops k.deep i (law.backs i (omega arith) (is_back i nf low)))
+      (back_low kb nf law.back_behind) (omega (arith, law.back_there))
+      ∙ and_not g k.alive)
+    where
+      is_back : (i n : ℕ) → n ≤ i → nat_lt i n ≡ false
+      is_back i n h = grind (arith, nat_tests)
+
+      back_low : (i n : ℕ) → nat_lt i n ≡ false → n ≤ i
+      back_low i n h = grind (arith, nat_tests)
+
+  abbrev turns : List Pass
+  turns = flat_map (λ i. turn_on_numbers end s i (plus (plane_of s end i) unit)) (range_with_len 0 (length s.fronts + 1))
+
+  and_here : (a b c g h : Bool) → (b && c) ≡ (g && h) → (a && (b && c)) ≡ ((a && g) && h)
+  and_here true b c g h e = e
+  and_here false b c g h e = refl
+
+  -- a barred solid's where the greatest front is a whole cell before it, or more
+  pub confirm_barred : (e : Bool) (k : Keys)
+      → (let g = k.alive && (met && le_z (enters +ℤ pos unit) (pos k.deep)) in (after l (confirm_on_numbers d s false) (at e k)).keys ≡ keys_of k.best k.deep k.number g g)
+  confirm_barred e k =
+      let law = covering s end l.x l.y in
+      let nf = length s.fronts + 1 in
+      let kf = covering_front s l.x l.y in
+      let g = met && le_z (enters +ℤ pos unit) (pos k.deep) in
+      let t : ℕ → ℕ → Bool = λ v i. covers s end i l.x l.y && nat_le (residue l (plus (plane_of s end i) unit)) v in
+      let start = record k { par = false } in
+      let last = all ∷ keep_par false ∷ set_alive false ∷ [] in
+      let turned : (after l turns (at true start)).keys ≡ keys_of k.best k.deep k.number k.alive (k.alive && g) =
+      keys_in_range l (λ i. turn_on_numbers end s i (plus (plane_of s end i) unit)) (flip_step t) 0 nf (λ i low high e k. turn_keys l end s i (plus (plane_of s end i) unit) e k) (at true start)
+      ∙ flips t start (range_with_len 0 nf)
+      ∙ ap (λ b. keys_of k.best k.deep k.number k.alive b)
+      (fold_single (λ i. k.alive && t k.deep i) (λ odd i. not odd) false 0 nf kf (k.alive && g)
+      (λ i low high. and_here k.alive (covers s end i l.x l.y) (nat_le (residue l (plus (plane_of s end i) unit)) k.deep) g (eqb i kf) (front_turns k.deep i (law.fronts i (is_front_place i nf (omega arith)))))
+      (omega arith) (omega (arith, front_low kf nf law.front_there))
+      ∙ itself (k.alive && g)) in
+      ap (λ (q : Numbers). q.keys) (after-append l turns last (at true start))
+      ∙ ap (λ (q : Keys). if true && beq q.par false then record q { alive = false } else q) turned
+      ∙ ended k.best k.deep k.number k.alive g true
+    where
+      is_front_place : (i n : ℕ) → i < n → nat_lt i n ≡ true
+      is_front_place i n h = grind (arith, nat_tests)
+
+      front_low : (i n : ℕ) → nat_lt i n ≡ true → i < n
+      front_low i n h = grind (arith, nat_tests)
+
+  abbrev pub test : (plain : Bool) → (v : ℕ) → Bool
+  test plain v = if plain then not (met && le_z leaves (pos v)) else (met && le_z (enters +ℤ pos unit) (pos v))
+
+  -- what the passes leave that look for a cell, but for the parity
+  pub record IsConfirmed (plain : Bool) (k new : Keys) : Type 0 where
+    pub best : new.best ≡ k.best
+    pub deep : new.deep ≡ k.deep
+    pub number : new.number ≡ k.number
+    pub alive : new.alive ≡ (k.alive && ((d.fraction_bits == 0) || test plain k.deep))
+
+  by_kind : (plain e : Bool) (k : Keys) → (d.fraction_bits == 0) ≡ false → IsConfirmed plain k (after l (confirm_on_numbers d s plain) (at e k)).keys
+  by_kind true e k some = rw (confirm_plain e k) (record { best = refl; deep = refl; number = refl; alive = rw some refl })
+  by_kind false e k some = rw (confirm_barred e k) (record { best = refl; deep = refl; number = refl; alive = rw some refl })
+
+  pub confirmed : (plain e : Bool) (k : Keys) → IsConfirmed plain k (after l (where_fraction d.fraction_bits (confirm_on_numbers d s plain)) (at e k)).keys
+  confirmed plain e k = elim (cases_Bool (d.fraction_bits == 0)) [
+    | inl none ↦ rw none (record { best = refl; deep = refl; number = refl; alive = rw none (sym (and_true k.alive)) })
+    | inr some ↦ rw some (by_kind plain e k some)
+  ]
+
+  -- the cell of a plain solid's candidate
+  pub plain_test : (c : ℕ) → cell_of d enters ≡ c → met ≡ true → ((d.fraction_bits == 0) || test true (value_of d c)) ≡ is_inside s d l.x l.y c
+  plain_test c e m =
+      let v = value_of d c in
+      let low : le_z enters (pos v) ≡ true = sym (cell_is_first d enters c) ∙ ap (λ n. nat_le n c) e ∙ le_self c in
+      let inside : is_inside s d l.x l.y c ≡ not (met && le_z leaves (pos v)) =
+      (covering s end l.x l.y).values v ∙ rw (m, low) (not_le leaves (pos v)) in
+      elim (cases_Bool (d.fraction_bits == 0)) [
+        | inl none ↦ ap (λ b. b || test true v) none ∙ sym (inside ∙ rw (m, whole none) refl)
+        | inr some ↦ ap (λ b. b || test true v) some ∙ sym inside
+      ]
+    where
+      whole : (d.fraction_bits == 0) ≡ true → le_z leaves (pos (value_of d c)) ≡ false
+      whole none =
+          let is = enters_depth covering end s l.x l.y m in
+          let below = (covering s end l.x l.y).depths m in
+          let same : value_of d c ≡ is.depth = ap (value_of d) (sym e ∙ ap (cell_of d) is.is) ∙ whole_value d is.depth none in
+          above leaves (value_of d c) (omega (arith, ints, is.is, below.1, same))
+
+  -- the cell of a barred solid's candidate
+  pub barred_test : (c : ℕ) → cell_of d leaves ≡ c → met ≡ true → ((d.fraction_bits == 0) || test false (value_of d c)) ≡ is_inside_before s d l.x l.y c
+  barred_test c e m = elim (cases_Bool (d.fraction_bits == 0)) [
+    | inl none ↦ ap (λ b. b || test false (value_of d c)) none ∙ sym (before c e ∙ rw (m, whole none) refl)
+    | inr some ↦ ap (λ b. b || test false (value_of d c)) some ∙ sym (before c e)
+  ]
+    where
+      before : (c : ℕ) → cell_of d leaves ≡ c → is_inside_before s d l.x l.y c ≡ (met && le_z (enters +ℤ pos unit) (pos (value_of d c)))
+      before zero e =
+          let is = enters_depth covering end s l.x l.y m in
+          rw (m, is.is) (first_unit is.depth unit (pow_pos d.fraction_bits))
+      before (suc z) e =
+          let high : lt_z (pos (value_of d z)) leaves ≡ true = sym (cell_is_least d leaves z) ∙ ap (λ n. nat_lt z n) e ∙ lt_next z in
+          (covering s end l.x l.y).values (value_of d z) ∙ rw (m, high) (one_more enters z unit)
+
+      whole : (d.fraction_bits == 0) ≡ true → le_z (enters +ℤ pos unit) (pos (value_of d c)) ≡ true
+      whole none =
+          let is = leaves_depth covering end s l.x l.y m in
+          let below = (covering s end l.x l.y).depths m in
+          let same : value_of d c ≡ is.depth = ap (value_of d) (sym e ∙ ap (cell_of d) is.is) ∙ whole_value d is.depth none in
+          at_most (enters +ℤ pos unit) (value_of d c) (omega (arith, ints, is.is, below.1, same, one_unit d none))

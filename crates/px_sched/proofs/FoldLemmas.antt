@@ -1,0 +1,48 @@
+-- Folds over places of which at most one does something.
+use Rattle.std.proofs.Common.{◌≡◌, ◌<◌, ◌≤◌, ◌+◌, ℕ, zero, suc, Bool, true, false, ◌&&◌, eqb, refl, ap, ◌∙◌, arith, inl, inr, if◌then◌else◌}
+use Rattle.std.specs.List.{fold, range_with_len}
+use Rattle.std.proofs.lemmas.Bool.{cases_eq, cond-false}
+use Rattle.std.proofs.lemmas.Bool.Decides.{nat_tests}
+use Rattle.px_sched.proofs.RunLemmas.{and_true}
+
+pub and_false : (a : Bool) → a && false ≡ false
+and_false true = refl
+and_false false = refl
+
+eqb_same : (k : ℕ) → eqb k k ≡ true
+eqb_same k = grind (arith, nat_tests)
+
+eqb_other : (i k : ℕ) → (i ≡ k → ⊥) → eqb i k ≡ false
+eqb_other i k h = grind (arith, nat_tests)
+
+pub elsewhere : (m : Bool) (i n k : ℕ) → i < n → n ≤ k → (m && eqb i k) ≡ false
+elsewhere true i n k p q = grind (arith, nat_tests)
+elsewhere false i n k p q = refl
+
+-- a fold over places of which at most one does something
+abbrev pub where_test : {S : Type 0} → (ℕ → Bool) → (S → ℕ → S) → S → ℕ → S
+where_test t f s i = if t i then f s i else s
+
+pub fold_none : {S : Type 0} (t : ℕ → Bool) (f : S → ℕ → S) (s : S) (a n : ℕ) → ((i : ℕ) → a ≤ i → i < a + n → t i ≡ false)
+    → fold (where_test t f) s (range_with_len a n) ≡ s
+fold_none t f s a zero none = refl
+fold_none t f s a (suc n) none =
+    ap (λ v. fold (where_test t f) v (range_with_len (a + 1) n)) (cond-false (t a) (f s a) s (none a (omega arith) (omega arith)))
+    ∙ fold_none t f s (a + 1) n (λ i p q. none i (omega arith) (omega arith))
+
+pub fold_single : {S : Type 0} (t : ℕ → Bool) (f : S → ℕ → S) (s : S) (a n k : ℕ) (g : Bool)
+    → ((i : ℕ) → a ≤ i → i < a + n → t i ≡ (g && eqb i k)) → a ≤ k → k < a + n
+    → fold (where_test t f) s (range_with_len a n) ≡ (if g then f s k else s)
+fold_single t f s a zero k g one low high = absurd (omega arith)
+fold_single t f s a (suc n) k g one low high = elim (cases_eq a k) [
+  | inl e ↦
+      let here : t a ≡ g = one a (omega arith) (omega arith) ∙ rw (e, eqb_same k) (and_true g) in
+      let first : where_test t f s a ≡ (if g then f s k else s) = rw (here, e) refl in
+      ap (λ v. fold (where_test t f) v (range_with_len (a + 1) n)) first
+      ∙ fold_none t f (if g then f s k else s) (a + 1) n (λ i p q. one i (omega arith) (omega arith)
+      ∙ rw (eqb_other i k (λ x. omega arith)) (and_false g))
+  | inr ne ↦
+      let here : t a ≡ false = one a (omega arith) (omega arith) ∙ rw (eqb_other a k ne) (and_false g) in
+      ap (λ v. fold (where_test t f) v (range_with_len (a + 1) n)) (cond-false (t a) (f s a) s here)
+      ∙ fold_single t f s (a + 1) n k g (λ i p q. one i (omega arith) (omega arith)) (omega arith) (omega arith)
+]
