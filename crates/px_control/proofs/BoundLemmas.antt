@@ -1,32 +1,35 @@
 -- A scene of few products takes less than 2 ^ 43 clocks, and at least one for each operation.
-use Rattle.std.proofs.Common.{◌≡◌, ℕ, suc, zero, ◌+◌, ◌-◌, ◌*◌, ◌^◌, ◌<◌, ◌≤◌, Bool, true, false, not, cond, List, [], ◌∷◌, ◌++◌, Option, Some, None, length, map, drop, get_or, refl, ap, sym, ◌∙◌, arith}
+use Rattle.std.proofs.Common.{◌≡◌, ℕ, suc, zero, ◌+◌, ◌-◌, ◌*◌, ◌^◌, ◌==◌, ◌<◌, ◌≤◌, Bool, true, false, not, cond, List, [], ◌∷◌, ◌++◌, Option, Some, None, length, map, drop, get_or, refl, ap, sym, ◌∙◌, arith}
 use Rattle.std.specs.List.{All, filter, filter_map, flat_map, list_any, range_with_len, sum_by}
+use Rattle.std.proofs.lemmas.Bool.Decides.{nat_tests}
 use Rattle.std.proofs.lemmas.List.FromFn.{length-range_with_len}
 use Rattle.std.proofs.lemmas.List.Sums.{sum_by-append, sum_by-cons, sum_by-drop_more, sum_by-le, sum_by-le-sum_by}
 use Rattle.std.proofs.lemmas.Nat.{mul-le}
 use Rattle.px_asm.specs.Micros.{all_micros}
+use Rattle.px_num.specs.Forms as forms
 use Rattle.px_num.specs.declared.linear.Linear.{Linear}
 use Rattle.px_face.specs.Edges.{edges}
-use Rattle.px_face.specs.Faces.{face_count}
+use Rattle.px_face.specs.Faces.{face_count, plane_of}
 use Rattle.px_macro.specs.declared.operation.Macro.{Macro}
 use Rattle.px_macro.specs.declared.operation.Macro.TheVariants as m
 use Rattle.px_expr.specs.Tree.{HasLeavesBelow, Tree, join, leaf}
 use Rattle.px_normal.specs.declared.product.Product.{Product}
 use Rattle.px_normal.specs.Forms.{HasSolidsBelow, sum_of_products}
 use Rattle.px_prune.specs.Bounding.{bounding_box}
-use Rattle.px_prune.specs.Kept.{is_void, kept_of, pruned}
+use Rattle.px_normal.specs.Live.{is_void}
+use Rattle.px_prune.specs.Kept.{kept_of, pruned}
 use Rattle.px_normal.specs.Sets.{has, solids}
-use Rattle.px_scene.specs.Cells.{far_of}
+use Rattle.px_scene.specs.Cells.{Depths, depths_of, end_of}
 use Rattle.px_scene.specs.Scenes.{IsLawfulScene, SceneView, faces_of}
 use Rattle.px_scene.specs.Solids.{IsLawfulSolid, SolidView, faces_in}
 use Rattle.px_sched.specs.declared.literal.Literal.{Literal}
 use Rattle.px_sched.specs.Layouts.{layout_with}
-use Rattle.px_sched.specs.Passes.{candidate, candidate_faces, literal_passes, literals, merge, no_solid, others, passes, passes_with, solid_of, turn}
+use Rattle.px_sched.specs.Passes.{candidate, candidate_faces, confirm, drop_behind, literal_passes, literals, merge, no_solid, others, passes, passes_with, solid_of, turn}
 use Rattle.px_control.specs.declared.costs.Costs.{Costs}
 use Rattle.px_control.specs.declared.costs.Lengths.{Lengths}
-use Rattle.px_control.specs.Costs.{AreShort, cost_of, lengths_of, own_passes, passes_against, plus, product_passes, share, times}
+use Rattle.px_control.specs.Costs.{AreShort, clearing, confirming, cost_of, lengths_of, own_passes, passes_against, plus, product_passes, share, times}
 use Rattle.px_control.specs.Program.{columns_of, program, rows_of, total}
-use Rattle.px_control.proofs.CostLemmas.{candidate_costs, candidate_weight, classify_costs, clocked, clocks_on, counted, covered_costs, flat_weight, number_few, one, ones, own_costs, turn_costs, turn_weight}
+use Rattle.px_control.proofs.CostLemmas.{barred_costs, candidate_costs, candidate_more, candidate_weight, classify_costs, clocked, clocks_on, counted, covered_costs, drop_costs, drop_weight, five, flat_weight, layout_of_lengths, no_clearing, not_confirmed, number_few, one, ones, own_costs, own_more, plain_costs, some_clearing, turn_costs, turn_more, turn_weight}
 use Rattle.px_control.proofs.GridLemmas.{exponent_between}
 use Rattle.px_control.proofs.ProductLemmas.{literal_weight, literals_length, passes_weight, product_costs, solids_range}
 
@@ -69,11 +72,11 @@ total_is scene = refl
 
 pub counted_passes : (scene : SceneView) (lengths : Lengths) (products : List Product) (costs : Costs) →
     lengths ≡ lengths_of scene → products ≡ kept_of scene (sum_of_products scene.show) →
-    costs ≡ cost_of lengths (passes_with scene (layout_with lengths.depth lengths.number) products) →
+    costs ≡ cost_of lengths (passes_with scene (layout_with lengths.depth lengths.fraction lengths.number) products) →
     (costs.operations ≡ length (passes scene)) × (costs.clocks ≡ total scene)
 counted_passes scene lengths products costs lengths_is products_is costs_is =
     let counted_of : Lengths → List Product → Costs
-    = λ l ps. cost_of l (passes_with scene (layout_with l.depth l.number) ps)
+    = λ l ps. cost_of l (passes_with scene (layout_with l.depth l.fraction l.number) ps)
     in let whole : costs ≡ cost_of (lengths_of scene) (passes scene)
     = costs_is ∙ ap (λ l. counted_of l products) lengths_is ∙ ap (counted_of (lengths_of scene)) products_is
     in (
@@ -81,13 +84,13 @@ counted_passes scene lengths products costs lengths_is products_is costs_is =
       ap (λ (c : Costs). c.clocks) whole ∙ sym (total_is scene),
     )
 
--- the clocks that a solid adds to a product as a literal are no more: for each of its faces 5780 as a candidate, and 5770
--- for each of at most 254 other literals; besides 150 and 5 for each of those
+-- the clocks that a solid adds to a product as a literal are no more: for each of its faces 5790 as a candidate, 5770
+-- where it confirms one, and 5770 for each of at most 254 other literals; besides 155 and 5 for each of those
 abbrev most_added : SolidView → ℕ
-most_added s = face_count s * 1471360 + 1420
+most_added s = face_count s * 1477140 + 1425
 
 -- what a solid adds to a product as a literal, where the lengths are those of a scene
-module _ (lengths : Lengths) (far : ℕ) (s : SolidView) where
+module _ (lengths : Lengths) (d : Depths) (s : SolidView) where
   abbrev edge_count : ℕ
   edge_count = length s.sides + face_count s - 1
 
@@ -95,44 +98,53 @@ module _ (lengths : Lengths) (far : ℕ) (s : SolidView) where
   covered = times edge_count (record { operations = 1; clocks = 41 + lengths.columns + lengths.rows })
 
   abbrev turned : Costs
-  turned = plus covered (record { operations = 4; clocks = 5 + lengths.columns + lengths.rows + lengths.depth })
+  turned = plus covered (turn_more lengths)
 
   abbrev found : Costs
-  found = plus covered (record {
-    operations = 4;
-    clocks = 3 + lengths.columns + lengths.rows + lengths.depth + lengths.number;
-  })
+  found = plus (plus covered (cost_of lengths (clearing lengths d))) (candidate_more lengths)
 
-  turned_is : (face : ℕ) → face < face_count s →
-      turned ≡ cost_of lengths (turn (layout_with lengths.depth lengths.number) far s face)
-  turned_is face there =
-      ap (λ (costs : Costs). plus costs
-      (record { operations = 4; clocks = 5 + lengths.columns + lengths.rows + lengths.depth }))
-      (covered_costs lengths far s face edge_count there refl)
-      ∙ turn_costs lengths far s face
+  turned_is : (face : ℕ) (form : Linear) → face < face_count s →
+      turned ≡ cost_of lengths (turn (layout_of_lengths lengths) (end_of d) s face form)
+  turned_is face form there =
+      ap (λ (costs : Costs). plus costs (turn_more lengths))
+      (covered_costs lengths (end_of d) s face edge_count there refl)
+      ∙ turn_costs lengths (end_of d) s face form
+
+  dropped_is : (face : ℕ) → face < face_count s →
+      turned ≡ cost_of lengths (drop_behind (layout_of_lengths lengths) (end_of d) s face)
+  dropped_is face there =
+      ap (λ (costs : Costs). plus costs (turn_more lengths))
+      (covered_costs lengths (end_of d) s face edge_count there refl)
+      ∙ drop_costs lengths (end_of d) s face
 
   found_is : (face : ℕ) → face < face_count s →
-      found ≡ cost_of lengths (candidate (layout_with lengths.depth lengths.number) far s face)
+      found ≡ cost_of lengths (candidate (layout_of_lengths lengths) d s face)
   found_is face there =
-      ap (λ (costs : Costs). plus costs
-      (record { operations = 4; clocks = 3 + lengths.columns + lengths.rows + lengths.depth + lengths.number }))
-      (covered_costs lengths far s face edge_count there refl)
-      ∙ candidate_costs lengths far s face
+      ap (λ (costs : Costs). plus (plus costs (cost_of lengths (clearing lengths d))) (candidate_more lengths))
+      (covered_costs lengths (end_of d) s face edge_count there refl)
+      ∙ candidate_costs lengths d s face
 
   against_is : (plain : Bool) →
-      plus (times (face_count s) turned) (record { operations = 5; clocks = 5 })
-      ≡ cost_of lengths (passes_against lengths far s plain)
-  against_is plain = classify_costs lengths far s plain (face_count s) turned refl turned_is
+      plus (times (face_count s) turned) five ≡ cost_of lengths (passes_against lengths (end_of d) s plain)
+  against_is plain =
+      classify_costs lengths (end_of d) s plain (face_count s) turned refl
+      (λ face there. turned_is face (plane_of s (end_of d) face) there)
 
   own_is : (plain : Bool) →
-      plus (times (length (candidate_faces s plain)) found)
-      (record { operations = 6; clocks = 6 + 4 * (lengths.depth + lengths.number) })
-      ≡ cost_of lengths (own_passes lengths far s plain)
-  own_is plain = own_costs lengths far s plain (length (candidate_faces s plain)) found refl found_is
+      plus (plus (times (length (candidate_faces s plain)) found) (cost_of lengths (confirming lengths d s plain)))
+      (own_more lengths)
+      ≡ cost_of lengths (own_passes lengths d s plain)
+  own_is plain = own_costs lengths d s plain (length (candidate_faces s plain)) found refl found_is
 
   few_candidates : (plain : Bool) → length (candidate_faces s plain) ≤ face_count s
   few_candidates true = omega (arith, length-range_with_len 0 (length s.fronts + 1))
   few_candidates false = omega (arith, length-range_with_len (length s.fronts + 1) (length s.backs))
+
+  few_cleared : (cost_of lengths (clearing lengths d)).clocks ≤ lengths.fraction
+  few_cleared = step (d.fraction_bits == 0) refl where
+    step : (b : Bool) → (d.fraction_bits == 0) ≡ b → (cost_of lengths (clearing lengths d)).clocks ≤ lengths.fraction
+    step true none = omega (arith, ap (λ (costs : Costs). costs.clocks) (no_clearing lengths d none))
+    step false some = omega (arith, ap (λ (costs : Costs). costs.clocks) (some_clearing lengths d some))
 
   module _ (short : AreShort lengths) (lawful : IsLawfulSolid s) where
     few_covered : covered.clocks ≤ 5723
@@ -143,32 +155,56 @@ module _ (lengths : Lengths) (far : ℕ) (s : SolidView) where
     few_turned : turned.clocks ≤ 5770
     few_turned = omega (arith, few_covered, short.levels, short.depth)
 
-    few_found : found.clocks ≤ 5780
-    few_found = omega (arith, few_covered, short.levels, short.depth, short.number)
+    few_found : found.clocks ≤ 5790
+    few_found =
+        omega (arith, few_covered, few_cleared, short.levels, short.depth, short.fraction, short.number)
 
-    few_against : (plain : Bool) → (cost_of lengths (passes_against lengths far s plain)).clocks ≤ face_count s * 5770 + 5
+    few_against : (plain : Bool) →
+        (cost_of lengths (passes_against lengths (end_of d) s plain)).clocks ≤ face_count s * 5770 + 5
     few_against plain =
         let same = ap (λ (costs : Costs). costs.clocks) (against_is plain)
         in omega (arith, same, mul-le (face_count s) turned.clocks (face_count s) 5770 (omega arith) few_turned)
 
-    few_own : (plain : Bool) → (cost_of lengths (own_passes lengths far s plain)).clocks ≤ face_count s * 5780 + 150
+    few_confirmed : (plain : Bool) → (cost_of lengths (confirming lengths d s plain)).clocks ≤ face_count s * 5770 + 5
+    few_confirmed plain = step plain (d.fraction_bits == 0) refl where
+      step : (p b : Bool) → (d.fraction_bits == 0) ≡ b →
+          (cost_of lengths (confirming lengths d s p)).clocks ≤ face_count s * 5770 + 5
+      step p true none = omega (arith, ap (λ (costs : Costs). costs.clocks) (not_confirmed lengths d s p none))
+      step true false some =
+          omega (
+            arith,
+            ap (λ (costs : Costs). costs.clocks)
+                (plain_costs lengths d s (length s.backs + 1) turned some refl dropped_is),
+            mul-le (length s.backs + 1) turned.clocks (face_count s) 5770 (omega arith) few_turned,
+          )
+      step false false some =
+          omega (
+            arith,
+            ap (λ (costs : Costs). costs.clocks)
+                (barred_costs lengths d s (length s.fronts + 1) turned some refl turned_is),
+            mul-le (length s.fronts + 1) turned.clocks (face_count s) 5770 (omega arith) few_turned,
+          )
+
+    few_own : (plain : Bool) →
+        (cost_of lengths (own_passes lengths d s plain)).clocks ≤ face_count s * 11560 + 155
     few_own plain =
         let same = ap (λ (costs : Costs). costs.clocks) (own_is plain)
         in omega (
           arith,
           same,
-          mul-le (length (candidate_faces s plain)) found.clocks (face_count s) 5780 (few_candidates plain) few_found,
+          mul-le (length (candidate_faces s plain)) found.clocks (face_count s) 5790 (few_candidates plain) few_found,
+          few_confirmed plain,
           short.depth,
           short.number,
         )
 
     pub few_shared : (plain : Bool) (others : ℕ) → others ≤ 254 →
-        (share lengths far s plain others).clocks ≤ most_added s
+        (share lengths d s plain others).clocks ≤ most_added s
     few_shared plain others few =
         omega (
           arith,
           few_own plain,
-          mul-le others (cost_of lengths (passes_against lengths far s plain)).clocks 254
+          mul-le others (cost_of lengths (passes_against lengths (end_of d) s plain)).clocks 254
               (face_count s * 5770 + 5) few (few_against plain),
         )
 
@@ -247,7 +283,7 @@ module _ (w : SolidView → ℕ) (f g : ℕ → ℕ) (ss : List SolidView) (plai
 
 -- what all solids add
 weights_sum : (ss : List SolidView) →
-    sum_by most_added ss ≡ (faces_of ss + length ss) * 1471360 + length ss * 1420
+    sum_by most_added ss ≡ (faces_of ss + length ss) * 1477140 + length ss * 1425
 weights_sum [] = refl
 weights_sum (s ∷ ss) =
     omega (arith, sum_by-cons most_added s ss, sum_by-cons faces_in s ss, weights_sum ss)
@@ -261,6 +297,7 @@ module _ (scene : SceneView) (lawful : IsLawfulScene scene) (each : All IsLawful
       (exponent_between scene.height lawful.height).1,
     );
     depth = lawful.depth;
+    fraction = lawful.fraction;
     number = number_few (faces_of scene.solids);
   }
 
@@ -279,15 +316,15 @@ module _ (scene : SceneView) (lawful : IsLawfulScene scene) (each : All IsLawful
       )
 
   few_added : (product : Product) → HasSolidsBelow (length scene.solids) product → is_void product ≡ false →
-      (cost_of (lengths_of scene) (product_passes (lengths_of scene) scene product)).clocks ≤ 6400778100
+      (cost_of (lengths_of scene) (product_passes (lengths_of scene) scene product)).clocks ≤ 6425922375
   few_added product known apart =
       let lengths = lengths_of scene
       in let others = length (literals product) - 1
       in let few : others ≤ 254 = omega (arith, few_literals product known apart)
       in let added : Bool → ℕ → ℕ
-      = λ plain solid. (share lengths (far_of scene) (solid_of scene solid) plain others).clocks
+      = λ plain solid. (share lengths (depths_of scene) (solid_of scene solid) plain others).clocks
       in let within : (plain : Bool) (q : ℕ) → q < length scene.solids → added plain q ≤ most_added (solid_of scene q)
-      = λ plain q there. few_shared lengths (far_of scene) (solid_of scene q) scene_short
+      = λ plain q there. few_shared lengths (depths_of scene) (solid_of scene q) scene_short
       (each q no_solid there) plain others few
       in let same = ap (λ (costs : Costs). costs.clocks) (product_costs lengths scene product others refl apart)
       in omega (
@@ -300,12 +337,12 @@ module _ (scene : SceneView) (lawful : IsLawfulScene scene) (each : All IsLawful
         lawful.solids,
       )
 
-  pub few_clocks : AreKnown → length (sum_of_products scene.show) ≤ 1024 → total scene < 2 ^ 43
+  pub few_clocks : AreKnown → length (kept_of scene (sum_of_products scene.show)) ≤ 1024 → total scene < 2 ^ 43
   few_clocks known few =
       let lengths = lengths_of scene
       in let kept = kept_of scene (sum_of_products scene.show)
       in let weight : Product → ℕ = λ product. sum_by (clocks_on lengths) (product_passes lengths scene product)
-      in let below : All (λ product. weight product ≤ 6400778100) kept
+      in let below : All (λ product. weight product ≤ 6425922375) kept
       = λ k d there. omega (
         arith,
         few_added (get_or kept k d) (kept_known scene lawful known k d there)
@@ -317,14 +354,14 @@ module _ (scene : SceneView) (lawful : IsLawfulScene scene) (each : All IsLawful
         total_is scene,
         clocked lengths (passes scene),
         passes_weight lengths scene (clocks_on lengths) kept,
-        sum_by-le weight 6400778100 kept below,
-        kept_few scene (sum_of_products scene.show),
+        sum_by-le weight 6425922375 kept below,
+        few,
         scene_short.depth,
         scene_short.number,
       )
 
 -- at least a clock for each operation
-module _ (lengths : Lengths) (some : 1 ≤ lengths.depth) (scene : SceneView) where
+module _ (lengths : Lengths) (some : 1 ≤ lengths.depth) (scene : SceneView) (same : scene.fraction_bits ≡ lengths.fraction) where
   abbrev Pays : List Macro → Type 0
   Pays ms = sum_by one ms ≤ sum_by (clocks_on lengths) ms
 
@@ -348,55 +385,103 @@ module _ (lengths : Lengths) (some : 1 ≤ lengths.depth) (scene : SceneView) wh
       )
 
   module _ (s : SolidView) where
-    pays_turn : (face : ℕ) → Pays (turn (layout_with lengths.depth lengths.number) (far_of scene) s face)
-    pays_turn face =
+    abbrev end : ℕ
+    end = end_of (depths_of scene)
+
+    pays_turn : (face : ℕ) (form : Linear) → Pays (turn (layout_of_lengths lengths) end s face form)
+    pays_turn face form =
         omega (
           arith,
-          turn_weight one lengths.depth lengths.number (far_of scene) s face,
-          turn_weight (clocks_on lengths) lengths.depth lengths.number (far_of scene) s face,
-          pays_signs (edges s (far_of scene) face),
+          turn_weight one lengths end s face form,
+          turn_weight (clocks_on lengths) lengths end s face form,
+          pays_signs (edges s end face),
         )
 
-    pays_candidate : (face : ℕ) → Pays (candidate (layout_with lengths.depth lengths.number) (far_of scene) s face)
+    pays_drop : (face : ℕ) → Pays (drop_behind (layout_of_lengths lengths) end s face)
+    pays_drop face =
+        omega (
+          arith,
+          drop_weight one lengths end s face,
+          drop_weight (clocks_on lengths) lengths end s face,
+          pays_signs (edges s end face),
+        )
+
+    pays_clearing : Pays (clearing lengths (depths_of scene))
+    pays_clearing = step (scene.fraction_bits == 0) refl where
+      step : (b : Bool) → (scene.fraction_bits == 0) ≡ b → Pays (clearing lengths (depths_of scene))
+      step true none = rw none (omega arith)
+      step false there =
+          let least : 1 ≤ lengths.fraction = rw (← same) (grind (arith, nat_tests))
+          in rw there (omega (arith, least))
+
+    pays_candidate : (face : ℕ) → Pays (candidate (layout_of_lengths lengths) (depths_of scene) s face)
     pays_candidate face =
         omega (
           arith,
-          candidate_weight one lengths.depth lengths.number (far_of scene) s face,
-          candidate_weight (clocks_on lengths) lengths.depth lengths.number (far_of scene) s face,
-          pays_signs (edges s (far_of scene) face),
+          candidate_weight one lengths (depths_of scene) s face,
+          candidate_weight (clocks_on lengths) lengths (depths_of scene) s face,
+          pays_signs (edges s end face),
+          pays_clearing,
         )
 
-    pays_against : (plain : Bool) → Pays (passes_against lengths (far_of scene) s plain)
-    pays_against plain =
-        let l = layout_with lengths.depth lengths.number
-        in let turns = flat_map (turn l (far_of scene) s) (range_with_len 0 (face_count s))
+    abbrev turned_by : (ℕ → Linear) → ℕ → List Macro
+    turned_by form face = turn (layout_of_lengths lengths) end s face (form face)
+
+    pays_turns : (form : ℕ → Linear) (value : Bool) (count : ℕ) →
+        let l = layout_of_lengths lengths in
+        Pays (m.All ∷ m.SetBit l.par false
+        ∷ flat_map (turned_by form) (range_with_len 0 count)
+        ++ m.All ∷ m.KeepBit l.par value ∷ m.SetBit l.alive false ∷ [])
+    pays_turns form value count =
+        let l = layout_of_lengths lengths
+        in let turns = flat_map (turned_by form) (range_with_len 0 count)
         in let front = m.All ∷ m.SetBit l.par false ∷ []
-        in let back = m.All ∷ m.KeepBit l.par (not plain) ∷ m.SetBit l.alive false ∷ []
+        in let back = m.All ∷ m.KeepBit l.par value ∷ m.SetBit l.alive false ∷ []
         in omega (
           arith,
           sum_by-append one (front ++ turns) back,
           sum_by-append one front turns,
           sum_by-append (clocks_on lengths) (front ++ turns) back,
           sum_by-append (clocks_on lengths) front turns,
-          pays_flat (turn l (far_of scene) s) pays_turn (range_with_len 0 (face_count s)),
+          pays_flat (turned_by form) (λ face. pays_turn face (form face)) (range_with_len 0 count),
         )
 
-    pays_own : (plain : Bool) → Pays (own_passes lengths (far_of scene) s plain)
+    pays_against : (plain : Bool) → Pays (passes_against lengths end s plain)
+    pays_against plain = pays_turns (λ face. plane_of s end face) (not plain) (face_count s)
+
+    pays_confirm : (plain : Bool) → Pays (confirm (layout_of_lengths lengths) (depths_of scene) s plain)
+    pays_confirm true =
+        pays_flat (drop_behind (layout_of_lengths lengths) end s) pays_drop
+        (range_with_len (length s.fronts + 1) (length s.backs + 1))
+    pays_confirm false =
+        pays_turns (λ face. forms.plus (plane_of s end face) (2 ^ scene.fraction_bits)) false (length s.fronts + 1)
+
+    pays_confirming : (plain : Bool) → Pays (confirming lengths (depths_of scene) s plain)
+    pays_confirming plain = step (scene.fraction_bits == 0) refl where
+      step : (b : Bool) → (scene.fraction_bits == 0) ≡ b → Pays (confirming lengths (depths_of scene) s plain)
+      step true none = rw none (omega arith)
+      step false there = rw there (pays_confirm plain)
+
+    pays_own : (plain : Bool) → Pays (own_passes lengths (depths_of scene) s plain)
     pays_own plain =
-        let l = layout_with lengths.depth lengths.number
-        in let found_ones = flat_map (candidate l (far_of scene) s) (candidate_faces s plain)
+        let l = layout_of_lengths lengths
+        in let found_ones = flat_map (candidate l (depths_of scene) s) (candidate_faces s plain)
         in let front = m.All ∷ m.SetBit l.alive false ∷ []
+        in let confirmed = confirming lengths (depths_of scene) s plain
         in omega (
           arith,
-          sum_by-append one (front ++ found_ones) (merge l),
+          sum_by-append one (front ++ found_ones ++ confirmed) (merge l),
+          sum_by-append one (front ++ found_ones) confirmed,
           sum_by-append one front found_ones,
-          sum_by-append (clocks_on lengths) (front ++ found_ones) (merge l),
+          sum_by-append (clocks_on lengths) (front ++ found_ones ++ confirmed) (merge l),
+          sum_by-append (clocks_on lengths) (front ++ found_ones) confirmed,
           sum_by-append (clocks_on lengths) front found_ones,
-          pays_flat (candidate l (far_of scene) s) pays_candidate (candidate_faces s plain),
+          pays_flat (candidate l (depths_of scene) s) pays_candidate (candidate_faces s plain),
+          pays_confirming plain,
         )
 
   pays_literal : (product : Product) (q : Literal) →
-      Pays (literal_passes scene (layout_with lengths.depth lengths.number) product q)
+      Pays (literal_passes scene (layout_with lengths.depth lengths.fraction lengths.number) product q)
   pays_literal product q =
       omega (
         arith,
@@ -404,14 +489,14 @@ module _ (lengths : Lengths) (some : 1 ≤ lengths.depth) (scene : SceneView) wh
         literal_weight (clocks_on lengths) lengths scene product q,
         pays_own (solid_of scene q.solid) q.plain,
         sum_by-le-sum_by
-            (λ r. sum_by one (passes_against lengths (far_of scene) (solid_of scene r.solid) r.plain))
-            (λ r. sum_by (clocks_on lengths) (passes_against lengths (far_of scene) (solid_of scene r.solid) r.plain))
+            (λ r. sum_by one (passes_against lengths (end_of (depths_of scene)) (solid_of scene r.solid) r.plain))
+            (λ r. sum_by (clocks_on lengths) (passes_against lengths (end_of (depths_of scene)) (solid_of scene r.solid) r.plain))
             (others q product)
             (λ r. pays_against (solid_of scene r.solid) r.plain),
       )
 
   pub pays_passes : (products : List Product) →
-      Pays (passes_with scene (layout_with lengths.depth lengths.number) products)
+      Pays (passes_with scene (layout_with lengths.depth lengths.fraction lengths.number) products)
   pays_passes products =
       omega (
         arith,
@@ -421,7 +506,7 @@ module _ (lengths : Lengths) (some : 1 ≤ lengths.depth) (scene : SceneView) wh
             (λ product. sum_by one (product_passes lengths scene product))
             (λ product. sum_by (clocks_on lengths) (product_passes lengths scene product))
             products
-            (λ product. pays_flat (literal_passes scene (layout_with lengths.depth lengths.number) product)
+            (λ product. pays_flat (literal_passes scene (layout_with lengths.depth lengths.fraction lengths.number) product)
             (pays_literal product) (literals product)),
       )
 
@@ -432,5 +517,5 @@ some_clocks scene lawful =
       total_is scene,
       ones (passes scene),
       clocked (lengths_of scene) (passes scene),
-      pays_passes (lengths_of scene) lawful.some_depth scene (kept_of scene (sum_of_products scene.show)),
+      pays_passes (lengths_of scene) lawful.some_depth scene refl (kept_of scene (sum_of_products scene.show)),
     )

@@ -13,7 +13,8 @@ use Rattle.px_array.specs.declared.micro.Micro.{Micro}
 use Rattle.px_asm.specs.Micros.{all_micros, micros}
 use Rattle.px_macro.specs.declared.operation.Macro.{Macro}
 use Rattle.px_scene.specs.Scenes.{SceneView}
-use Rattle.px_control.specs.Program.{columns_of, cycles_in, ends_from, rows_of}
+use Rattle.px_sched.specs.Passes.{passes}
+use Rattle.px_control.specs.Program.{columns_of, cycles_in, ends_after, ends_from, operation_ends, program, rows_of, total}
 
 -- whether the micro is one of the operation's, or the first where none is left
 abbrev pub IsMicroOf : SceneView → (micro : ℕ) → Option Macro → Type 0
@@ -117,3 +118,17 @@ next_end_here scene ms k i n e m here micro more next at is =
     let one : e ≡ 0 + start_in scene ms k + cycles_in scene m = omega arith in
     let two : 0 + start_in scene ms (k + 1) ≡ 0 + start_in scene ms k + cycles_in scene m = omega arith in
     rw (first, then, d, two, add-one, one) refl
+
+none_after : (scene : SceneView) (ms : List Macro) (b n : ℕ) → b + length (all_micros ms (columns_of scene) (rows_of scene)) ≤ n →
+    filter (λ e. nat_lt n e) (ends_from scene ms b) ≡ []
+none_after scene [] b n h = refl
+none_after scene (x ∷ xs) b n h =
+    let l : length (all_micros (x ∷ xs) (columns_of scene) (rows_of scene)) ≡ cycles_in scene x + length (all_micros xs (columns_of scene) (rows_of scene)) =
+    simp (flat_map-cons, length-append, length-tabulate) in
+    let t = lt_no n (b + cycles_in scene x) (omega arith) in
+    rw t (none_after scene xs (b + cycles_in scene x) n (omega arith))
+
+-- no operation ends after the last clock
+pub none_after_all : (scene : SceneView) → ends_after scene (total scene) ≡ []
+unfolding operation_ends program
+none_after_all scene = none_after scene (passes scene) 0 (length (all_micros (passes scene) (columns_of scene) (rows_of scene))) (omega arith)

@@ -6,4 +6,5 @@ pub mod PictureLemmas
 pub mod PlaceLemmas
 pub mod ProductLemmas
 pub mod ProgramLemmas
+pub mod RunLemmas
 pub mod StepLemmas

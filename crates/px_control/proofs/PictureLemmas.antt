@@ -50,15 +50,15 @@ place_below : (nx ny x y : ℕ) → x < 2 ^ nx → y < 2 ^ ny → x * 2 ^ ny + y
 place_below nx ny x y column row = rw (pow-add 2 nx ny) (grind (arith, column, row))
 
 pub picture_law : IsLawfulInMore → LeaveTheMeanings → PassesAreLawful → PassesLaw → PictureLaw
-picture_law more meanings lawful shown bits scene device can at x y left up =
+picture_law more meanings lawful shown bits scene device law solids at x y left up =
     let nx = columns_of scene
     in let ny = rows_of scene
     in let start = zero_state bits nx ny
-    in let column : x < 2 ^ nx = omega (arith, (exponent_is scene.width can.lawful.width).enough)
-    in let row : y < 2 ^ ny = omega (arith, (exponent_is scene.height can.lawful.height).enough)
+    in let column : x < 2 ^ nx = omega (arith, (exponent_is scene.width law.width).enough)
+    in let row : y < 2 ^ ny = omega (arith, (exponent_is scene.height law.height).enough)
     in let pixel : pixel_of start x y ≡ zero_pixel bits = zero_pixel_at bits (2 ^ (nx + ny)) (x * 2 ^ ny + y) (place_below nx ny x y column row)
-    in let left_there = meanings bits nx ny (scene_grid scene can.lawful) (passes scene) (lawful_in more lawful bits scene can.lawful can.solids at.enough) start (zero_grid bits nx ny) x y column row
+    in let left_there = meanings bits nx ny (scene_grid scene law) (passes scene) (lawful_in more lawful bits scene law solids at.enough) start (zero_grid bits nx ny) x y column row
     in let state : device.state ≡ after_clocks (all_micros (passes scene) nx ny) start = ap (λ d. d.state) at.reached ∙ whole bits scene
     in let memory : (pixel_of device.state x y).memory ≡ (after_macros (passes scene) x y (bits_of (zero_pixel bits))).memory =
     ap (λ s. (pixel_of s x y).memory) state ∙ ap (λ p. p.memory) left_there ∙ ap (λ p. (after_macros (passes scene) x y (bits_of p)).memory) pixel
-    in rw memory (shown scene can.lawful can.solids x y left up (bits_of (zero_pixel bits)) (omega (arith, at.enough, length-replicate bits false)))
+    in rw memory (shown scene law solids x y left up (bits_of (zero_pixel bits)) (omega (arith, at.enough, length-replicate bits false)))

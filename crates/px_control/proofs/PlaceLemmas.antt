@@ -5,7 +5,6 @@ use Rattle.std.specs.Prelude.{IfNone, OnSome}
 use Rattle.std.proofs.lemmas.Option.{slice_get_cases, slice_get_within, slice_get-get_or}
 use Rattle.px_array.specs.declared.micro.Micro.{Micro}
 use Rattle.px_array.specs.Arrays.{Device, IsOpen}
-use Rattle.px_array.specs.Clocks.{clocked}
 use Rattle.px_asm.specs.Micros.{micro_at}
 use Rattle.px_macro.specs.Macros.{IsLawful}
 use Rattle.px_macro.specs.declared.operation.Macro.{Macro}
@@ -20,7 +19,7 @@ use Rattle.px_control.specs.Program.{IsAt, array_after, columns_of, cycles_in, e
 use Rattle.px_control.specs.ProgramLaws.{AreLawful, HaveClocks}
 use Rattle.px_control.specs.Standing.{IsWithin, StandsFor}
 use Rattle.px_control.proofs.EndLemmas.{next_end_here, operation_here, start_all, start_within}
-use Rattle.px_control.proofs.StepLemmas.{after_more, below_total, columns_at, lawful_here, micro_here, start_more}
+use Rattle.px_control.proofs.StepLemmas.{below_total, columns_at, lawful_here, micro_here, start_more}
 
 pub record Here (scene : SceneView) (p : Place) (m : Macro) : Type 0 where
   pub at : slice_get (passes scene) p.operation ≡ Some m
@@ -77,11 +76,11 @@ stands_first scene old new o lawful some z is cursor more stays =
     same (Some m) e = e
 
 -- the place behind the last micro of an operation
-pub stands_next : (scene : SceneView) (p : Place) (m : Macro) (new : Cursor) (o : Option Macro) → AreLawful scene → HaveClocks scene →
-    StandsFor scene p → p.current ≡ Some m → cycles_in scene m ≤ p.micro + 1 →
+pub stands_next : (scene : SceneView) (p : Place) (m : Macro) (new : Cursor) (o : Option Macro) (clock : ℕ) → AreLawful scene → HaveClocks scene →
+    StandsFor scene p → p.current ≡ Some m → clock ≡ p.clock + (cycles_in scene m - p.micro) →
     o ≡ slice_get (passes scene) p.cursor.given → Stands scene new → OnSome o (new.given ≡ p.cursor.given + 1) → IfNone o (new ≡ p.cursor) →
-    StandsFor scene record { cursor = new; clock = p.clock + 1; operation = p.operation + 1; micro = 0; current = o }
-stands_next scene p m new o lawful some stands e last is cursor more stays =
+    StandsFor scene record { cursor = new; clock = clock; operation = p.operation + 1; micro = 0; current = o }
+stands_next scene p m new o clock lawful some stands e end is cursor more stays =
     let h = here_of scene p m lawful stands e
     in let inside = slice_get_within (passes scene) p.operation m h.at
     in let given : p.cursor.given ≡ p.operation + 1 = omega (arith, stands.given)
@@ -99,10 +98,10 @@ stands_next scene p m new o lawful some stands e last is cursor more stays =
     same None e = ap (λ (c : Cursor). c.given) e
     same (Some m) e = e
 
--- the place behind another micro of it
-pub stands_on : (scene : SceneView) (p : Place) (m : Macro) → StandsFor scene p → p.current ≡ Some m → p.micro + 1 < cycles_in scene m →
-    StandsFor scene record p { clock = p.clock + 1; micro = p.micro + 1 }
-stands_on scene p m stands e below = record {
+-- the place before another micro of it
+pub stands_on : (scene : SceneView) (p : Place) (m : Macro) (clock to : ℕ) → StandsFor scene p → p.current ≡ Some m → p.micro ≤ to → to < cycles_in scene m →
+    clock ≡ p.clock + (to - p.micro) → StandsFor scene record p { clock = clock; micro = to }
+stands_on scene p m clock to stands e low below is = record {
   cursor = stands.cursor;
   given = stands.given;
   operation = stands.operation;
@@ -125,18 +124,6 @@ next_is scene p m lawful stands e =
     let h = here_of scene p m lawful stands e
     in let d = micro_at m (columns_of scene) (rows_of scene) p.micro
     in slice_get-get_or (program scene) p.clock d h.below ∙ ap (λ x. Some x) (next_broadcast scene p m lawful stands e d)
-
--- the array after it
-pub at_next : (bits : ℕ) (scene : SceneView) (p : Place) (m : Macro) (device : Device) → AreLawful scene → StandsFor scene p → p.current ≡ Some m →
-    IsAt bits scene p.clock device → IsAt bits scene (p.clock + 1) (clocked (micro_at m (columns_of scene) (rows_of scene) p.micro) device)
-at_next bits scene p m device lawful stands e at =
-    let h = here_of scene p m lawful stands e
-    in let d = micro_at m (columns_of scene) (rows_of scene) p.micro
-    in record {
-      enough = at.enough;
-      reached = rw at.reached (sym (after_more bits scene p.clock d h.below
-          ∙ ap (λ x. clocked x (array_after bits scene p.clock)) (next_broadcast scene p m lawful stands e d)));
-    }
 
 -- where no operation is left all broadcasts were made
 pub at_end : (scene : SceneView) (p : Place) → StandsFor scene p → p.current ≡ None → p.clock ≡ total scene

@@ -11,15 +11,15 @@ use Rattle.px_macro.specs.declared.operation.Macro.TheVariants as m
 use Rattle.px_normal.specs.declared.product.Product.{Product}
 use Rattle.px_normal.specs.declared.set.SolidSet.{SolidSet}
 use Rattle.px_normal.specs.Sets.{IsBelow, below, has, solids}
-use Rattle.px_prune.specs.Kept.{is_void}
-use Rattle.px_scene.specs.Cells.{far_of}
+use Rattle.px_normal.specs.Live.{is_void}
+use Rattle.px_scene.specs.Cells.{depths_of, end_of}
 use Rattle.px_scene.specs.Scenes.{SceneView}
 use Rattle.px_sched.specs.declared.literal.Literal.{Literal}
 use Rattle.px_sched.specs.Layouts.{layout_with}
 use Rattle.px_sched.specs.Passes.{candidate, candidate_faces, classify, literal_passes, literals, merge, others, passes_with, solid_of}
 use Rattle.px_control.specs.declared.costs.Costs.{Costs}
 use Rattle.px_control.specs.declared.costs.Lengths.{Lengths}
-use Rattle.px_control.specs.Costs.{cost_of, own_passes, passes_against, plus, product_passes, share, sum_of}
+use Rattle.px_control.specs.Costs.{confirming, cost_of, own_passes, passes_against, plus, product_passes, share, sum_of}
 use Rattle.px_control.proofs.CostLemmas.{clocked, clocks_on, cost_is, flat_weight, one, ones, sum_by-agree}
 
 -- the solids of a set stand in ascending order
@@ -231,32 +231,33 @@ less_one_times (suc n) whole all same =
 -- the passes of a product, weighed
 module _ (w : Macro → ℕ) (lengths : Lengths) (scene : SceneView) (product : Product) where
   abbrev own : Literal → ℕ
-  own q = sum_by w (own_passes lengths (far_of scene) (solid_of scene q.solid) q.plain)
+  own q = sum_by w (own_passes lengths (depths_of scene) (solid_of scene q.solid) q.plain)
 
   abbrev against : Literal → ℕ
-  against r = sum_by w (passes_against lengths (far_of scene) (solid_of scene r.solid) r.plain)
+  against r = sum_by w (passes_against lengths (end_of (depths_of scene)) (solid_of scene r.solid) r.plain)
 
   pub literal_weight : (q : Literal) →
-      sum_by w (literal_passes scene (layout_with lengths.depth lengths.number) product q)
+      sum_by w (literal_passes scene (layout_with lengths.depth lengths.fraction lengths.number) product q)
       ≡ own q + sum_by against (others q product)
   literal_weight q =
-      let l = layout_with lengths.depth lengths.number
+      let l = layout_with lengths.depth lengths.fraction lengths.number
       in let found = m.All ∷ m.SetBit l.alive false
-      ∷ flat_map (candidate l (far_of scene) (solid_of scene q.solid)) (candidate_faces (solid_of scene q.solid) q.plain)
-      in let judged = flat_map (λ r. classify l (far_of scene) (solid_of scene r.solid) r.plain) (others q product)
+      ∷ flat_map (candidate l (depths_of scene) (solid_of scene q.solid)) (candidate_faces (solid_of scene q.solid) q.plain)
+      in let confirmed = confirming lengths (depths_of scene) (solid_of scene q.solid) q.plain
+      in let judged = flat_map (λ r. classify l (end_of (depths_of scene)) (solid_of scene r.solid) r.plain) (others q product)
       in omega (
         arith,
-        sum_by-append w (found ++ judged) (merge l),
-        sum_by-append w found judged,
-        sum_by-append w found (merge l),
-        flat_weight w (λ r. classify l (far_of scene) (solid_of scene r.solid) r.plain) (others q product),
+        sum_by-append w (found ++ confirmed ++ judged) (merge l),
+        sum_by-append w (found ++ confirmed) judged,
+        sum_by-append w (found ++ confirmed) (merge l),
+        flat_weight w (λ r. classify l (end_of (depths_of scene)) (solid_of scene r.solid) r.plain) (others q product),
       )
 
   pub product_weight : AreApart (literals product) →
-      sum_by w (flat_map (literal_passes scene (layout_with lengths.depth lengths.number) product) (literals product))
+      sum_by w (flat_map (literal_passes scene (layout_with lengths.depth lengths.fraction lengths.number) product) (literals product))
       ≡ sum_by (λ q. own q + (length (literals product) - 1) * against q) (literals product)
   product_weight apart =
-      let passes_of = literal_passes scene (layout_with lengths.depth lengths.number) product
+      let passes_of = literal_passes scene (layout_with lengths.depth lengths.fraction lengths.number) product
       in let n = length (literals product) - 1
       in omega (
         arith,
@@ -272,26 +273,26 @@ module _ (w : Macro → ℕ) (lengths : Lengths) (scene : SceneView) (product : 
 -- what the solids of a product add is what its passes cost
 module _ (lengths : Lengths) (scene : SceneView) (product : Product) (count : ℕ) where
   abbrev shares_of : Bool → ℕ → Costs
-  shares_of plain solid = share lengths (far_of scene) (solid_of scene solid) plain count
+  shares_of plain solid = share lengths (depths_of scene) (solid_of scene solid) plain count
 
   shares_weight : (w : Macro → ℕ) (v : List Macro → ℕ) → ((ms : List Macro) → v ms ≡ sum_by w ms) →
       count ≡ length (literals product) - 1 → AreApart (literals product) →
       let added : Bool → ℕ → ℕ
-      = λ plain solid. v (own_passes lengths (far_of scene) (solid_of scene solid) plain)
-      + count * v (passes_against lengths (far_of scene) (solid_of scene solid) plain)
+      = λ plain solid. v (own_passes lengths (depths_of scene) (solid_of scene solid) plain)
+      + count * v (passes_against lengths (end_of (depths_of scene)) (solid_of scene solid) plain)
       in sum_by (added true) (solids product.plain) + sum_by (added false) (solids product.barred)
-      ≡ sum_by w (flat_map (literal_passes scene (layout_with lengths.depth lengths.number) product) (literals product))
+      ≡ sum_by w (flat_map (literal_passes scene (layout_with lengths.depth lengths.fraction lengths.number) product) (literals product))
   shares_weight w v same all apart =
-      let far = far_of scene
+      let d = depths_of scene
       in let weighed : Literal → ℕ
-      = λ q. v (own_passes lengths far (solid_of scene q.solid) q.plain)
-      + count * v (passes_against lengths far (solid_of scene q.solid) q.plain)
+      = λ q. v (own_passes lengths d (solid_of scene q.solid) q.plain)
+      + count * v (passes_against lengths (end_of d) (solid_of scene q.solid) q.plain)
       in let agree : (q : Literal) → weighed q ≡ own w lengths scene product q
       + (length (literals product) - 1) * against w lengths scene product q
       = λ q. rw (
-        same (own_passes lengths far (solid_of scene q.solid) q.plain),
+        same (own_passes lengths d (solid_of scene q.solid) q.plain),
         same
-            (passes_against lengths far (solid_of scene q.solid) q.plain),
+            (passes_against lengths (end_of d) (solid_of scene q.solid) q.plain),
         all,
       ) refl
       in omega (
@@ -307,10 +308,10 @@ module _ (lengths : Lengths) (scene : SceneView) (product : Product) (count : �
 
   pub product_costs : count ≡ length (literals product) - 1 → is_void product ≡ false →
       plus (sum_of (shares_of true) (solids product.plain)) (sum_of (shares_of false) (solids product.barred))
-      ≡ cost_of lengths (flat_map (literal_passes scene (layout_with lengths.depth lengths.number) product)
+      ≡ cost_of lengths (flat_map (literal_passes scene (layout_with lengths.depth lengths.fraction lengths.number) product)
       (literals product))
   product_costs all apart =
-      cost_is lengths _ (flat_map (literal_passes scene (layout_with lengths.depth lengths.number) product)
+      cost_is lengths _ (flat_map (literal_passes scene (layout_with lengths.depth lengths.fraction lengths.number) product)
       (literals product))
       (shares_weight one length ones all (literals_apart product apart))
       (shares_weight (clocks_on lengths) (λ ms. length (all_micros ms lengths.columns lengths.rows))
@@ -329,21 +330,21 @@ literals_length product =
 
 -- the passes of products are the background's, and then those of each product
 module _ (lengths : Lengths) (scene : SceneView) where
-  pub passes_weight : (w : Macro → ℕ) (products : List Product) → let l = layout_with lengths.depth lengths.number in
+  pub passes_weight : (w : Macro → ℕ) (products : List Product) → let l = layout_with lengths.depth lengths.fraction lengths.number in
       sum_by w (passes_with scene l products)
-      ≡ w m.All + w (m.LoadConst l.key_b (far_of scene * 2 ^ l.number_bits))
+      ≡ w m.All + w (m.LoadConst l.key_b (end_of (depths_of scene) * 2 ^ l.number_bits))
       + sum_by (λ product. sum_by w (product_passes lengths scene product)) products
   passes_weight w products =
-      let l = layout_with lengths.depth lengths.number
+      let l = layout_with lengths.depth lengths.fraction lengths.number
       in omega (
         arith,
-        sum_by-append w (m.All ∷ m.LoadConst l.key_b (far_of scene * 2 ^ l.number_bits) ∷ [])
+        sum_by-append w (m.All ∷ m.LoadConst l.key_b (end_of (depths_of scene) * 2 ^ l.number_bits) ∷ [])
             (flat_map (product_passes lengths scene) products),
         flat_weight w (product_passes lengths scene) products,
       )
 
   more_weight : (w : Macro → ℕ) (products : List Product) (product : Product) →
-      let l = layout_with lengths.depth lengths.number in
+      let l = layout_with lengths.depth lengths.fraction lengths.number in
       sum_by w (passes_with scene l products) + sum_by w (product_passes lengths scene product)
       ≡ sum_by w (passes_with scene l (products ++ product ∷ []))
   more_weight w products product =
@@ -354,11 +355,11 @@ module _ (lengths : Lengths) (scene : SceneView) where
         sum_by_push (λ p. sum_by w (product_passes lengths scene p)) products product,
       )
 
-  pub passes_more : (products : List Product) (product : Product) → let l = layout_with lengths.depth lengths.number in
+  pub passes_more : (products : List Product) (product : Product) → let l = layout_with lengths.depth lengths.fraction lengths.number in
       plus (cost_of lengths (passes_with scene l products)) (cost_of lengths (product_passes lengths scene product))
       ≡ cost_of lengths (passes_with scene l (products ++ product ∷ []))
   passes_more products product =
-      let l = layout_with lengths.depth lengths.number
+      let l = layout_with lengths.depth lengths.fraction lengths.number
       in cost_is lengths _ (passes_with scene l (products ++ product ∷ []))
       (omega (
         arith,

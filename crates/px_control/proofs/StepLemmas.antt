@@ -1,5 +1,5 @@
 -- One broadcast of a program after another.
-use Rattle.std.proofs.Common.{◌≡◌, ℕ, ◌+◌, ◌<◌, ◌≤◌, List, [], ◌∷◌, ◌++◌, length, take, get_or, Some, refl, ap, ◌∙◌, arith, length-append}
+use Rattle.std.proofs.Common.{◌≡◌, ℕ, ◌+◌, ◌<◌, ◌≤◌, List, [], ◌∷◌, length, take, get_or, Some, refl, ap, ◌∙◌, arith, length-append}
 use Rattle.std.specs.List.{slice_get}
 use Rattle.std.specs.Prelude.{All}
 use Rattle.std.proofs.lemmas.List.Elements.{All-get_or}
@@ -12,22 +12,13 @@ use Rattle.px_array.specs.declared.micro.Micro.{Micro}
 use Rattle.px_array.specs.declared.micro.TreeOp.{TreeOp}
 use Rattle.px_array.specs.declared.micro.TreeOp.TheVariants.{Hold, Clear, Feed}
 use Rattle.px_array.specs.Arrays.{Device, State, opened, zero_state}
-use Rattle.px_array.specs.Clocks.{after_clock, after_clocks, after_tree_op, clocked}
+use Rattle.px_array.specs.Clocks.{after_clock, after_clocks, after_tree_op}
 use Rattle.px_asm.specs.Micros.{all_micros, cycles, micro_at, micros}
 use Rattle.px_macro.specs.Macros.{IsLawful}
 use Rattle.px_macro.specs.declared.operation.Macro.{Macro}
 use Rattle.px_scene.specs.Scenes.{SceneView}
 use Rattle.px_sched.specs.Layouts.{layout_of, need_of}
-use Rattle.px_control.specs.Program.{IsAt, array_after, columns_of, program, rows_of, total}
-
-after_clocks-append : (xs ys : List Micro) (s : State) → after_clocks (xs ++ ys) s ≡ after_clocks ys (after_clocks xs s)
-after_clocks-append [] ys s = refl
-after_clocks-append (x ∷ xs) ys s = after_clocks-append xs ys (after_clock x s)
-
--- one broadcast more
-after_clocks_more : (ms : List Micro) (n : ℕ) (d : Micro) (s : State) → n < length ms →
-    after_clocks (take (n + 1) ms) s ≡ after_clock (get_or ms n d) (after_clocks (take n ms) s)
-after_clocks_more ms n d s h = rw (take_more ms n d h, after_clocks-append) refl
+use Rattle.px_control.specs.Program.{IsAt, array_after, columns_of, program, rows_of}
 
 columns_stay : (op : TreeOp) (t : _) → (after_tree_op op t).nx ≡ t.nx
 columns_stay Hold t = refl
@@ -87,14 +78,6 @@ micro_here ms nx ny k i m d e h =
 pub lawful_here : (bits : ℕ) (ms : List Macro) (k : ℕ) (m : Macro) → slice_get ms k ≡ Some m → All (λ m. IsLawful m bits) ms → IsLawful m bits
 lawful_here bits ms k m e h =
     rw (get_or_from_slice_get ms k m m e) at (All-get_or (λ m. IsLawful m bits) ms k m (slice_get_within ms k m e) h)
-
--- the array after one broadcast more
-pub after_more : (bits : ℕ) (scene : SceneView) (n : ℕ) (d : Micro) → n < total scene →
-    array_after bits scene (n + 1) ≡ clocked (get_or (program scene) n d) (array_after bits scene n)
-unfolding array_after
-after_more bits scene n d h =
-    ap (λ s. record { state = s; clocks = n + 1 })
-    (after_clocks_more (program scene) n d (zero_state bits (columns_of scene) (rows_of scene)) h)
 
 -- an array that was opened for a scene
 pub at_opened : (bits : ℕ) (scene : SceneView) (device : Device) → need_of (layout_of scene) ≤ bits →

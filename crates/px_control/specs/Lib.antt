@@ -1,5 +1,6 @@
 pub use Rattle.px_array.specs.Arrays
 pub use Rattle.px_array.specs.Clocks
+pub use Rattle.px_array.specs.Slots
 pub use Rattle.px_asm.specs.Micros
 pub use Rattle.px_sched.specs.Layouts
 pub use Rattle.px_sched.specs.Passes

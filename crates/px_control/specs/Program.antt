@@ -5,7 +5,7 @@ use Rattle.px_array.specs.Arrays.{Device, zero_state}
 use Rattle.px_array.specs.Clocks.{after_clocks}
 use Rattle.px_asm.specs.Micros.{all_micros, cycles}
 use Rattle.px_macro.specs.declared.operation.Macro.{Macro}
-use Rattle.px_normal.specs.Forms.{sum_of_products}
+use Rattle.px_prune.specs.Kept.{plan_of}
 use Rattle.px_scene.specs.Scenes.{IsLawfulScene, SceneView}
 use Rattle.px_scene.specs.Solids.{IsLawfulSolid}
 use Rattle.px_sched.specs.Layouts.{layout_of, need_of}
@@ -70,11 +70,11 @@ array_after bits scene n = record {
   clocks = n;
 }
 
--- a scene whose products are not too many
+-- a scene whose kept products are not too many
 pub record CanRun (scene : SceneView) : Type 0 where
   pub lawful : IsLawfulScene scene
   pub solids : All IsLawfulSolid scene.solids
-  pub few : length (sum_of_products scene.show) ≤ 1024
+  pub few : length (plan_of scene) ≤ 1024
 
 -- an array whose pixels have bits enough is as the first n broadcasts of a scene leave it
 pub record IsAt (bits : ℕ) (scene : SceneView) (n : ℕ) (device : Device) : Type 0 where

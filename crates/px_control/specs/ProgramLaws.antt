@@ -6,7 +6,7 @@ use Rattle.px_scene.specs.Scenes.{SceneView}
 use Rattle.px_tree.specs.Nodes.{IsGrid}
 use Rattle.px_sched.specs.Layouts.{layout_of, need_of}
 use Rattle.px_sched.specs.Passes.{passes}
-use Rattle.px_control.specs.Program.{CanRun, columns_of, cycles_in, rows_of, total}
+use Rattle.px_control.specs.Program.{columns_of, cycles_in, rows_of, total}
 
 -- pixels that have bits enough can carry every operation out
 abbrev pub AreLawful : SceneView → Type 0
@@ -24,6 +24,3 @@ pub record IsGoodProgram (scene : SceneView) : Type 0 where
   pub few : (m : Macro) → IsLawful m (need_of (layout_of scene)) → cycles_in scene m ≤ 82
   pub operations : length (passes scene) ≤ total scene
   pub clocks : total scene < 2 ^ 43
-
-abbrev pub AreGoodPrograms : Type 0
-AreGoodPrograms = (scene : SceneView) → CanRun scene → IsGoodProgram scene

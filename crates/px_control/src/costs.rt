@@ -36,11 +36,12 @@ impl Costs {
 }
 
 /// The lengths that the clocks of the passes depend on: the levels of the multiplier tree for the
-/// columns and for the rows, and the bits of a depth and of a face number.
+/// columns and for the rows, and the bits of a depth, of its fraction and of a face number.
 #[derive(Clone, Copy, Debug, PartialEq, Eq)]
 pub(crate) struct Lengths {
     pub(crate) columns: u64,
     pub(crate) rows: u64,
     pub(crate) depth: u64,
+    pub(crate) fraction: u64,
     pub(crate) number: u64,
 }

@@ -10,10 +10,10 @@ pub enum JobFault {
         /// The bits that they need.
         need: u32,
     },
-    /// The shown expression has more than 1024 products.
+    /// A list of live products that is wanted has more than 1024.
     #[error("{count} products")]
     Products {
-        /// How many it has, or `2^32` where there are more.
+        /// How many it has, at most `2^21`.
         count: u64,
     },
     /// Memory was wanted and not given.

@@ -1,12 +1,11 @@
 //! A scene's broadcasts, made on an array.
-ghost use Rattle.std.specs.Prelude.{◌≡◌, ◌∷◌, ◌+◌, ◌-◌, ◌^◌, ◌<◌, ◌≤◌, ℕ, Err, IfErr, IfOk, OnOk, Some, length, min, slice_get};
+ghost use Rattle.std.specs.Prelude.{◌≡◌, [], ◌∷◌, ◌+◌, ◌-◌, ◌^◌, ◌<◌, ◌≤◌, ℕ, Err, IfErr, IfOk, OnOk, Some, length, min, slice_get, None};
 ghost use Rattle.px_array.specs.Arrays.{IsOpen, closed, pixel_of};
-ghost use Rattle.px_normal.specs.Counting.{capped};
-ghost use Rattle.px_normal.specs.Forms.{sum_of_products};
-ghost use Rattle.px_scene.specs.Cells.{picture};
+ghost use Rattle.px_array.specs.Slots.{worked};
+ghost use Rattle.px_prune.specs.Kept.{crowd_of};
 ghost use Rattle.px_sched.specs.Layouts.{layout_of, need_of};
 ghost use Rattle.px_sched.specs.Passes.{passes};
-ghost use Rattle.px_sched.specs.PassesLaw.{HasSight};
+ghost use Rattle.px_sched.specs.PassesLaw.{ShowsThePicture};
 ghost use Rattle.px_control.specs.Program.{
   CanRun,
   IsAt,
@@ -17,11 +16,10 @@ ghost use Rattle.px_control.specs.Program.{
   total,
 };
 ghost use Rattle.px_control.specs.Standing.{JobView, LeavesOnRefusal, StandsFor};
-ghost use Rattle.px_control.specs.PictureLaw.{ShowsThePicture};
 ghost use Rattle.px_control.specs.declared.fault.JobFault.{JobFault};
 
 use crate::fault::JobFault;
-use crate::law::law_of_pictures;
+use crate::law::{law_of_needs, law_of_pictures};
 use crate::place::Place;
 use crate::program::Program;
 use px_array::{Array, Micro};
@@ -29,6 +27,9 @@ use px_scene::Scene;
 use px_sched::Layout;
 use std::alloc::Global;
 use std::marker::Model;
+
+/// No scene needs more bits of memory in a pixel.
+const MOST_BITS: usize = 74;
 
 /// A scene's broadcasts, and where they stand (docs/PASSES.md, "Clocks").
 #[derive(Drop)]
@@ -63,21 +64,22 @@ impl<'s> Job<'s> {
         scene: &'s Scene,
         array: &mut A,
     ) -> Result<Job<'s>, JobFault>
-        requires bits { A.BITS ≤ 256 }
         ensures job { IfOk result (λ job. (job.scene ≡ scene.now) × (job.place.clock ≡ 0)) }
         ensures at { OnOk result (IsAt A.BITS scene.now 0 (A.device array.new)) }
         ensures short { A.BITS < need_of (layout_of scene.now) →
             result ≡ Err (JobFault.PixelMemory (need_of (layout_of scene.now))) }
-        ensures many { need_of (layout_of scene.now) ≤ A.BITS →
-            1024 < length (sum_of_products scene.now.show) →
-            result ≡ Err (JobFault.Products (capped (length (sum_of_products scene.now.show)))) }
-        ensures memory { need_of (layout_of scene.now) ≤ A.BITS →
-            length (sum_of_products scene.now.show) ≤ 1024 →
+        ensures need { (need : ℕ) → result ≡ Err (JobFault.PixelMemory need) →
+            (A.BITS < need_of (layout_of scene.now)) × (need ≡ need_of (layout_of scene.now)) }
+        ensures lawful { IfOk result (λ job. crowd_of scene.now ≡ None) }
+        ensures many { (count : ℕ) → result ≡ Err (JobFault.Products count) →
+            (need_of (layout_of scene.now) ≤ A.BITS)
+            × (crowd_of scene.now ≡ Some count) × (count ≤ 2 ^ 21) }
+        ensures memory { need_of (layout_of scene.now) ≤ A.BITS → crowd_of scene.now ≡ None →
             IfErr result (λ fault. fault ≡ JobFault.Memory) }
         ensures array { IfErr result (λ fault.
             LeavesOnRefusal fault (A.device array.old) (A.device array.new)) }
     {
-        let program = Program::new(alloc, scene, A::BITS as u32)?;
+        let program = Program::new(alloc, scene, memory_bits::<A>(scene))?;
         program.laws();
         let (columns, rows) = program.grid();
         let Ok(()) = array.open(columns, rows) else {
@@ -100,6 +102,8 @@ impl<'s> Job<'s> {
         ensures scene { self.new.scene ≡ self.old.scene }
         ensures clock { self.new.place.clock ≡ self.old.place.clock + result }
         ensures at { IsAt A.BITS self.new.scene self.new.place.clock (A.device array.new) }
+        ensures slots { A.slots array.new ≡ A.slots array.old }
+        ensures work { A.work array.new ≡ worked result (A.work array.old) }
     {
         let made = clocks.min(self.left());
         self.place = self.program.advance(&self.place, array, made);
@@ -112,7 +116,11 @@ impl<'s> Job<'s> {
         ensures scene { self.new.scene ≡ self.old.scene }
         ensures clock { self.new.place.clock ≡ total self.new.scene }
         ensures at { IsAt A.BITS self.new.scene (total self.new.scene) (A.device array.new) }
-        ensures picture { ShowsThePicture self.new.scene (A.device array.new).state }
+        ensures picture { ShowsThePicture self.new.scene (layout_of self.new.scene)
+            (λ x y. (pixel_of (A.device array.new).state x y).memory) }
+        ensures slots { A.slots array.new ≡ A.slots array.old }
+        ensures work { A.work array.new
+            ≡ worked (total self.new.scene - self.old.place.clock) (A.work array.old) }
     {
         let left = self.left();
         self.advance(array, left);
@@ -144,6 +152,7 @@ impl<'s> Job<'s> {
     pub fn total_clocks(&self) -> u64
         ensures value { result ≡ total self.now.scene }
         ensures bound { result < 2 ^ 43 }
+        ensures last { ends_after self.now.scene result ≡ [] }
     {
         self.program.laws();
         self.clocks
@@ -213,4 +222,13 @@ impl<'s> Job<'s> {
     {
         self.place = place;
     }
+}
+
+/// How many bits of memory a pixel of an array has, as far as a scene can need them.
+fn memory_bits<A: Array>(scene: &Scene) -> u32
+    ensures within { result ≤ A.BITS }
+    ensures enough { need_of (layout_of scene.now) ≤ A.BITS → need_of (layout_of scene.now) ≤ result }
+{
+    law_of_needs(scene);
+    A::BITS.min(MOST_BITS) as u32
 }

@@ -1,6 +1,8 @@
 //! What holds of the program of every scene, and what it leaves in an array.
+ghost use Rattle.std.specs.Prelude.{◌≤◌};
 ghost use Rattle.px_macro.specs.Macros.{IsLawfulInMore};
-ghost use Rattle.px_control.specs.GridLaw.{GridLaw};
+ghost use Rattle.px_sched.specs.Layouts.{layout_of, need_of};
+ghost use Rattle.px_control.specs.GridLaw.{GridLaw, LeastGridLaw, SizeLaw};
 ghost use Rattle.px_control.specs.PictureLaw.{PictureLaw};
 ghost use Rattle.px_control.specs.Program.{CanRun};
 ghost use Rattle.px_control.specs.ProgramLaws.{IsGoodProgram};
@@ -8,7 +10,7 @@ ghost use Rattle.px_control.specs.ProgramLaws.{IsGoodProgram};
 use crate::total::law_of_clocks;
 use px_asm::law_of_microprograms;
 use px_macro::laws_of_operations;
-use px_scene::Scene;
+use px_scene::{Scene, laws_of_scenes};
 use px_sched::laws_of_passes;
 
 /// The keys that an array stores after the whole program of a scene are the picture.
@@ -21,10 +23,24 @@ pub fn law_of_pictures()
 }
 
 /// An array on which a scene's broadcasts are made is open, and has a pixel for each one of the
-/// picture.
+/// picture; its grid is the one that `Scene::grid` gives.
 pub fn law_of_grids()
-    ensures { GridLaw }
+    ensures covers { GridLaw }
+    ensures least { LeastGridLaw }
 {}
+
+/// The grid of such an array is one that an array can have, and its pixels have all their memory.
+pub fn law_of_sizes()
+    ensures { SizeLaw }
+{}
+
+/// No scene needs more than 74 bits of memory in a pixel.
+pub(crate) fn law_of_needs(scene: &Scene)
+    ensures { need_of (layout_of scene.now) ≤ 74 }
+{
+    laws_of_scenes(scene);
+    laws_of_passes();
+}
 
 /// What holds of the program of a scene that can be run.
 pub(crate) fn law_of_program(scene: &Scene)

@@ -1,10 +1,10 @@
 //! The program of a scene, given one operation at a time.
-ghost use Rattle.std.specs.Prelude.{◌≡◌, ◌∷◌, ◌+◌, ◌^◌, ◌<◌, ◌≤◌, ℕ, Err, IfErr, IfNone, IfOk, OnOk, OnSome, Some, length, slice_get};
+ghost use Rattle.std.specs.Prelude.{◌≡◌, ◌∷◌, ◌+◌, ◌-◌, ◌^◌, ◌<◌, ◌≤◌, ℕ, Err, IfErr, IfNone, IfOk, OnOk, OnSome, Some, None, length, slice_get};
 ghost use Rattle.px_sched.specs.Cursors.{Stands};
 ghost use Rattle.px_asm.specs.Micros.{cycles as cycles_of, micro_at as micro_of};
+ghost use Rattle.px_array.specs.Slots.{worked};
 ghost use Rattle.px_macro.specs.Macros.{IsLawful, IsLawfulInMore};
-ghost use Rattle.px_normal.specs.Counting.{capped};
-ghost use Rattle.px_normal.specs.Forms.{sum_of_products};
+ghost use Rattle.px_prune.specs.Kept.{crowd_of};
 ghost use Rattle.px_pixel.specs.Acts.{HasPlace};
 ghost use Rattle.px_scene.specs.Scenes.{SceneView};
 ghost use Rattle.px_sched.specs.Layouts.{layout_of, need_of};
@@ -19,11 +19,11 @@ use crate::law::law_of_program;
 use crate::place::Place;
 use crate::total::cost;
 use px_array::{Array, Micro, TreeOp};
-use px_asm::{cycles, micro_at};
+use px_asm::{cycles, make_micros, micro_at};
 use px_macro::Macro;
-use px_normal::{NormalFault, normalise};
+use px_normal::NormalFault;
 use px_pixel::Act;
-use px_prune::{Plan, prune};
+use px_prune::{Plan, plan_of};
 use px_scene::{Scene, laws_of_scenes};
 use px_sched::{Cursor, Layout, NeedBits};
 use std::alloc::Global;
@@ -61,11 +61,13 @@ impl<'s> Program<'s> {
         ensures enough { OnOk result (need_of (layout_of scene.now) ≤ bits) }
         ensures short { bits < need_of (layout_of scene.now) →
             result ≡ Err (JobFault.PixelMemory (need_of (layout_of scene.now))) }
-        ensures many { need_of (layout_of scene.now) ≤ bits →
-            1024 < length (sum_of_products scene.now.show) →
-            result ≡ Err (JobFault.Products (capped (length (sum_of_products scene.now.show)))) }
-        ensures memory { need_of (layout_of scene.now) ≤ bits →
-            length (sum_of_products scene.now.show) ≤ 1024 →
+        ensures need { (need : ℕ) → result ≡ Err (JobFault.PixelMemory need) →
+            (bits < need_of (layout_of scene.now)) × (need ≡ need_of (layout_of scene.now)) }
+        ensures lawful { IfOk result (λ program. crowd_of scene.now ≡ None) }
+        ensures many { (count : ℕ) → result ≡ Err (JobFault.Products count) →
+            (need_of (layout_of scene.now) ≤ bits)
+            × (crowd_of scene.now ≡ Some count) × (count ≤ 2 ^ 21) }
+        ensures memory { need_of (layout_of scene.now) ≤ bits → crowd_of scene.now ≡ None →
             IfErr result (λ fault. fault ≡ JobFault.Memory) }
     {
         laws_of_scenes(scene);
@@ -73,14 +75,10 @@ impl<'s> Program<'s> {
             Ok(layout) => layout,
             Err(NeedBits { need }) => return Err(JobFault::PixelMemory { need }),
         };
-        let products = match normalise(alloc, scene.show()) {
-            Ok(products) => products,
+        let plan = match plan_of(alloc, scene) {
+            Ok(plan) => plan,
             Err(NormalFault::TooMany { count }) => return Err(JobFault::Products { count }),
             Err(NormalFault::Memory) => return Err(JobFault::Memory),
-        };
-        let plan = match prune(alloc, scene, &products) {
-            Ok(plan) => plan,
-            Err(_) => return Err(JobFault::Memory),
         };
         let (columns, rows) = scene.grid();
         Ok(Program {
@@ -118,18 +116,22 @@ impl<'s> Program<'s> {
         }
     }
 
-    /// The place one broadcast on, where an operation runs.
-    pub(crate) fn after(&self, place: &Place, m: Macro) -> Place
+    /// The place behind the micros of the operation that runs, up to one of them.
+    fn after(&self, place: &Place, m: &Macro, cycles: u32, to: u32) -> Place
         requires stands { StandsFor self.now place.now }
-        requires here { place.now.current ≡ Some m }
+        requires here { place.now.current ≡ Some m.now }
+        requires cycles { cycles ≡ cycles_in self.now m.now }
+        requires forth { place.now.micro ≤ to }
+        requires within { to ≤ cycles }
         ensures stands { StandsFor self.now result }
-        ensures clock { result.clock ≡ place.now.clock + 1 }
+        ensures clock { result.clock ≡ place.now.clock + (to - place.now.micro) }
     {
         self.laws();
-        if place.micro + 1 < self.cycles(&m) {
+        let clock = place.clock + u64::from(to - place.micro);
+        if to < cycles {
             Place {
-                clock: place.clock + 1,
-                micro: place.micro + 1,
+                clock,
+                micro: to,
                 ..*place
             }
         } else {
@@ -137,7 +139,7 @@ impl<'s> Program<'s> {
             let current = self.give(&mut cursor);
             Place {
                 cursor,
-                clock: place.clock + 1,
+                clock,
                 operation: place.operation + 1,
                 micro: 0,
                 current,
@@ -168,25 +170,6 @@ impl<'s> Program<'s> {
         micro_at(m, self.columns, self.rows, place.micro)
     }
 
-    /// Makes the broadcast at a place, and answers the next place.
-    pub(crate) fn broadcast<A: Array>(&self, place: &Place, array: &mut A) -> Place
-        requires stands { StandsFor self.now place.now }
-        requires more { place.now.clock < total self.now }
-        requires at { IsAt A.BITS self.now place.now.clock (A.device array.old) }
-        ensures stands { StandsFor self.now result }
-        ensures clock { result.clock ≡ place.now.clock + 1 }
-        ensures at { IsAt A.BITS self.now result.clock (A.device array.new) }
-    {
-        self.laws();
-        match place.current {
-            Some(m) => {
-                array.clock(self.micro(place, &m));
-                self.after(place, m)
-            }
-            None => *place,
-        }
-    }
-
     /// Makes so many broadcasts from a place on, and answers the place behind them.
     pub(crate) fn advance<A: Array>(&self, from: &Place, array: &mut A, clocks: u64) -> Place
         requires stands { StandsFor self.now from.now }
@@ -195,12 +178,44 @@ impl<'s> Program<'s> {
         ensures stands { StandsFor self.now result }
         ensures clock { result.clock ≡ from.now.clock + clocks }
         ensures at { IsAt A.BITS self.now result.clock (A.device array.new) }
+        ensures slots { A.slots array.new ≡ A.slots array.old }
+        ensures work { A.work array.new ≡ worked clocks (A.work array.old) }
     {
+        self.laws();
+        let end = from.clock + clocks;
         let mut place = *from;
-        for _ in 0..clocks {
-            place = self.broadcast(&place, array);
+        while place.clock < end {
+            place = self.run_on(&place, array, end);
         }
         place
+    }
+
+    /// Makes the broadcasts of the operation at a place up to a clock, or all that it has left, and
+    /// answers the place behind them.
+    fn run_on<A: Array>(&self, place: &Place, array: &mut A, end: u64) -> Place
+        requires stands { StandsFor self.now place.now }
+        requires before { place.now.clock < end }
+        requires within { end ≤ total self.now }
+        requires at { IsAt A.BITS self.now place.now.clock (A.device array.old) }
+        ensures stands { StandsFor self.now result }
+        ensures later { place.now.clock < result.clock }
+        ensures within { result.clock ≤ end }
+        ensures at { IsAt A.BITS self.now result.clock (A.device array.new) }
+        ensures slots { A.slots array.new ≡ A.slots array.old }
+        ensures work { A.work array.new
+            ≡ worked (result.clock - place.now.clock) (A.work array.old) }
+    {
+        self.laws();
+        match &place.current {
+            Some(m) => {
+                let cycles = self.cycles(m);
+                let wanted = u64::from(place.micro) + (end - place.clock);
+                let to = wanted.min(u64::from(cycles)) as u32;
+                make_micros(array, m, place.micro, to);
+                self.after(place, m, cycles, to)
+            }
+            None => *place,
+        }
     }
 
     /// The broadcast at a place.

@@ -1,8 +1,9 @@
 //! What the passes of a scene cost, counted without clocking them.
 ghost use Rattle.std.specs.Prelude.{◌≡◌, ◌^◌, ◌<◌, ◌≤◌, false, length, All, []};
-ghost use Rattle.px_normal.specs.Forms.{HasSolidsBelow, sum_of_products};
-ghost use Rattle.px_prune.specs.Kept.{is_void, kept_of};
-ghost use Rattle.px_scene.specs.Cells.{far_of};
+ghost use Rattle.px_normal.specs.Forms.{HasSolidsBelow};
+ghost use Rattle.px_normal.specs.Live.{is_void};
+ghost use Rattle.px_prune.specs.Kept.{kept_of, plan_of};
+ghost use Rattle.px_scene.specs.Cells.{depths_of};
 ghost use Rattle.px_scene.specs.Scenes.{IsLawfulScene, SceneView};
 ghost use Rattle.px_sched.specs.Layouts.{layout_of, layout_with};
 ghost use Rattle.px_sched.specs.Passes.{passes, passes_with, solid_of};
@@ -28,13 +29,12 @@ use px_sched::Layout;
 /// How many operations the passes of a scene have, and how many clocks they take
 /// (docs/PASSES.md, "Clocks").
 ///
-/// The plan is the scene's own, of at most 1024 products before pruning. No operation is walked:
+/// The plan is the scene's own, of at most 1024 products. No operation is walked:
 /// the faces of a solid cost alike, so only the literals of the products are, each once. Takes no
 /// memory.
 pub fn cost(scene: &Scene, plan: &Plan, layout: &Layout) -> (u64, u64)
-    requires products { plan.now.products.items
-        ≡ kept_of scene.now (sum_of_products scene.now.show) }
-    requires few { length (sum_of_products scene.now.show) ≤ 1024 }
+    requires products { plan.now.products.items ≡ plan_of scene.now }
+    requires few { length (plan_of scene.now) ≤ 1024 }
     requires layout { layout.now ≡ layout_of scene.now }
     ensures macros { result.0 ≡ length (passes scene.now) }
     ensures clocks { result.1 ≡ total scene.now }
@@ -46,7 +46,7 @@ pub fn cost(scene: &Scene, plan: &Plan, layout: &Layout) -> (u64, u64)
     (costs.operations, costs.clocks)
 }
 
-/// A scene of at most 1024 products takes less than `2^43` clocks, and every scene at least one for
+/// A scene of at most 1024 kept products takes less than `2^43` clocks, and every scene at least one for
 /// each of its operations.
 pub fn law_of_clocks()
     ensures bound { ClockBound }
@@ -67,6 +67,7 @@ fn lengths_of(scene: &Scene, layout: &Layout) -> Lengths
         columns: u64::from(columns),
         rows: u64::from(rows),
         depth: u64::from(scene.depth_bits()),
+        fraction: u64::from(scene.fraction_bits()),
         number: u64::from(number_bits(layout)),
     }
 }
@@ -80,11 +81,12 @@ fn number_bits(layout: &Layout) -> u32
 /// The background, and then each product.
 fn products_cost(scene: &Scene, products: &[Product], lengths: &Lengths) -> Costs
     requires short { AreShort lengths.now }
+    requires fraction { scene.now.fraction_bits ≡ lengths.now.fraction }
     requires few { length products.now ≤ 1024 }
     requires apart { All (λ product. is_void product ≡ false) products.now }
     requires known { All (HasSolidsBelow (length scene.now.solids)) products.now }
     ensures { result ≡ cost_of lengths.now
-        (passes_with scene.now (layout_with lengths.now.depth lengths.now.number) products.now) }
+        (passes_with scene.now (layout_with lengths.now.depth lengths.now.fraction lengths.now.number) products.now) }
 {
     let mut costs = background_cost(lengths);
     for product in products {
@@ -97,18 +99,19 @@ fn products_cost(scene: &Scene, products: &[Product], lengths: &Lengths) -> Cost
 fn background_cost(lengths: &Lengths) -> Costs
     requires { AreShort lengths.now }
     ensures cost { (scene : SceneView) → result ≡ cost_of lengths.now
-        (passes_with scene (layout_with lengths.now.depth lengths.now.number) []) }
+        (passes_with scene (layout_with lengths.now.depth lengths.now.fraction lengths.now.number) []) }
     ensures few { IsAtMost 100 result }
 {
     Costs {
         operations: 2,
-        clocks: 1 + lengths.depth + lengths.number,
+        clocks: 1 + lengths.depth + lengths.fraction + lengths.number,
     }
 }
 
 /// The literals of a product, each of which is compared with each of the others.
 fn product_cost(scene: &Scene, product: &Product, lengths: &Lengths) -> Costs
     requires short { AreShort lengths.now }
+    requires fraction { scene.now.fraction_bits ≡ lengths.now.fraction }
     requires apart { is_void product.now ≡ false }
     requires known { HasSolidsBelow (length scene.now.solids) product.now }
     ensures cost { result ≡ cost_of lengths.now (product_passes lengths.now scene.now product.now) }
@@ -125,11 +128,12 @@ fn product_cost(scene: &Scene, product: &Product, lengths: &Lengths) -> Costs
 /// What the literals of these solids add to their product.
 fn shares(scene: &Scene, solids: &[u8], plain: bool, others: u64, lengths: &Lengths) -> Costs
     requires short { AreShort lengths.now }
+    requires fraction { scene.now.fraction_bits ≡ lengths.now.fraction }
     requires few { length solids.now ≤ 256 }
     requires known { All (λ solid. solid < length scene.now.solids) solids.now }
     requires others { others ≤ 511 }
     ensures costs { result ≡ sum_of
-        (λ solid. share lengths.now (far_of scene.now) (solid_of scene.now solid) plain others)
+        (λ solid. share lengths.now (depths_of scene.now) (solid_of scene.now solid) plain others)
         solids.now }
     ensures few { IsAtMost (2 ^ 36) result }
 {

@@ -1,11 +1,11 @@
-use Rattle.std.proofs.Common.{◌≡◌, ◌^◌, ◌≤◌, ◌∙◌, ap, arith, subst, sym}
+use Rattle.std.proofs.Common.{◌≡◌, ◌^◌, ◌≤◌, ◌∙◌, ap, subst, sym}
 use Rattle.px_control.proofs.GridLemmas.{exponent_is}
 use Rattle.px_control.proofs.StepLemmas.{columns_at, rows_at}
 use Rattle.px_control.specs.Program.{columns_of, rows_of}
 use Rattle.px_control.proofs.law.law_of_grids.Goals as goal
 
-pub returns : goal.returns
-returns c bits scene n device lawful at =
+pub returns-clause-covers : goal.returns-clause-covers
+returns-clause-covers c bits scene n device lawful at =
     let width = exponent_is scene.width lawful.width in
     let height = exponent_is scene.height lawful.height in
     let columns : columns_of scene ≡ device.state.tree.nx = sym (ap (λ d. d.state.tree.nx) at.reached ∙ columns_at bits scene n) in
@@ -15,3 +15,9 @@ returns c bits scene n device lawful at =
       columns = subst (λ e. scene.width ≤ 2 ^ e) columns width.enough;
       rows = subst (λ e. scene.height ≤ 2 ^ e) rows height.enough;
     }
+
+pub returns-clause-least : goal.returns-clause-least
+returns-clause-least c scene lawful = record {
+  columns = exponent_is scene.width lawful.width;
+  rows = exponent_is scene.height lawful.height;
+}

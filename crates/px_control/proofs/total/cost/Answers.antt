@@ -1,12 +1,10 @@
-use Rattle.std.proofs.Common.{◌∙◌, arith}
-use Rattle.px_normal.specs.Forms.{sum_of_products}
-use Rattle.px_control.proofs.BoundLemmas.{counted_passes, kept_few, kept_known}
+use Rattle.std.proofs.Common.{◌∙◌}
+use Rattle.px_control.proofs.BoundLemmas.{counted_passes, kept_known}
 use Rattle.px_control.proofs.total.cost.Goals as goal
 
 pub products_cost-costs-requires-clause-few : goal.products_cost-costs-requires-clause-few
 products_cost-costs-requires-clause-few c =
-    rw (c.as_slice.ensures.value, c.requires.products)
-    (omega (arith, kept_few c.args.scene.now (sum_of_products c.args.scene.now.show), c.requires.few))
+    rw (c.as_slice.ensures.value, c.requires.products) c.requires.few
 
 pub products_cost-costs-requires-clause-known : goal.products_cost-costs-requires-clause-known
 products_cost-costs-requires-clause-known c =

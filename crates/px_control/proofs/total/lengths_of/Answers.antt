@@ -15,9 +15,11 @@ returns-clause-lengths c =
       c.from-2.ensures,
       c.from-3.ensures,
       c.from-4.ensures,
+      c.from-5.ensures,
       columns,
       rows,
       c.depth_bits.ensures.value,
+      c.fraction_bits.ensures.value,
       c.number_bits.ensures,
       c.requires,
     ) refl
@@ -39,6 +41,7 @@ returns-clause-short c =
         (exponent_between scene.width lawful.width).1,
         (exponent_between scene.height lawful.height).1,
       );
-      depth = omega (arith, c.from-3.ensures, c.depth_bits.ensures.value, lawful.depth);
-      number = omega (arith, c.from-4.ensures, c.number_bits.ensures, number, number_few (faces_of scene.solids));
+      depth = omega (arith, c.from-3.ensures, c.depth_bits.ensures.value, c.from-4.ensures, c.fraction_bits.ensures.value, lawful.depth);
+      fraction = omega (arith, c.from-4.ensures, c.fraction_bits.ensures.value, lawful.fraction);
+      number = omega (arith, c.from-5.ensures, c.number_bits.ensures, number, number_few (faces_of scene.solids));
     }

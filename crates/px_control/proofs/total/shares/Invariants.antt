@@ -1,5 +1,5 @@
 use Rattle.std.proofs.Common.{◌≡◌, ℕ, List, ◌*◌, ◌^◌, take}
-use Rattle.px_scene.specs.Cells.{far_of}
+use Rattle.px_scene.specs.Cells.{depths_of}
 use Rattle.px_sched.specs.Passes.{solid_of}
 use Rattle.px_control.specs.declared.costs.Costs.{Costs}
 use Rattle.px_control.specs.Costs.{IsAtMost, share, sum_of}
@@ -12,5 +12,5 @@ pub record AreAdded (costs : Costs) (share_of : ℕ → Costs) (solids : List �
 
 abbrev pub invariant-loop-solid : goal.invariant-loop-solid
 invariant-loop-solid l =
-    AreAdded l.costs (λ solid. share l.lengths (far_of l.scene) (solid_of l.scene solid) l.plain l.others)
+    AreAdded l.costs (λ solid. share l.lengths (depths_of l.scene) (solid_of l.scene solid) l.plain l.others)
     l.solids l.solid-index

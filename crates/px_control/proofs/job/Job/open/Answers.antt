@@ -1,4 +1,4 @@
-use Rattle.std.proofs.Common.{◌∙◌, ap}
+use Rattle.std.proofs.Common.{◌∙◌, ap, arith}
 use Rattle.px_array.specs.Arrays.{opened}
 use Rattle.px_control.specs.Program.{columns_of, rows_of}
 use Rattle.px_control.proofs.StepLemmas.{at_opened}
@@ -9,6 +9,6 @@ open-requires g c = record { grid = rw c.grid-columns.ensures c.laws.ensures.goo
 
 pub returns-clause-at : goal.returns-clause-at
 returns-clause-at g c =
-    at_opened g.A.Array.BITS c.args.scene.now _ (rw c.BITS.ensures at c.in_ok-program.ensures.enough)
+    at_opened g.A.Array.BITS c.args.scene.now _ (omega (arith, c.in_ok-program.ensures.enough, c.memory_bits.ensures.within))
     (c.in-Ok.ensures.ok ∙ ap (λ p. opened g.A.Array.BITS p.0 p.1) c.grid-columns.ensures
     ∙ ap (λ s. opened g.A.Array.BITS (columns_of s) (rows_of s)) c.in_ok-program.ensures.ok)
