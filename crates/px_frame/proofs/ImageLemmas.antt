@@ -1,13 +1,13 @@
 -- Images of the same numbers, pixel by pixel.
 use Rattle.std.proofs.Common.{◌≡◌, ℕ, zero, suc, ◌+◌, ◌<◌, ◌≤◌, List, ◌++◌, refl, ap, arith}
 use Rattle.std.specs.List.{flat_map, range_with_len}
-use Rattle.px_array.specs.Arrays.{State}
+use Rattle.px_array.specs.Arrays.{State, pixel_of}
 use Rattle.px_scene.specs.Scenes.{SceneView}
 use Rattle.px_sched.specs.Layouts.{LayoutView}
+use Rattle.px_sched.specs.PassesLaw.{ShowsThePicture}
 use Rattle.px_frame.specs.declared.plane.Plane.{Plane}
 use Rattle.px_frame.specs.declared.plane.Plane.TheVariants as p
 use Rattle.px_frame.specs.Image.{header, image_of, row_bytes, three_bytes}
-use Rattle.px_frame.specs.ImagesLaw.{ShowsThePicture}
 use Rattle.px_frame.specs.Picture.{colour_at, depth_at, face_at, picture_image}
 use Rattle.px_frame.specs.Stored.{stored_colour, stored_depth, stored_face, stored_image}
 
@@ -29,7 +29,7 @@ same_image width height f g same =
     ap three_bytes (same x y (omega arith) (omega arith)))))
 
 pub images_show : (scene : SceneView) (layout : LayoutView) (state : State) (plane : Plane)
-    → ShowsThePicture scene layout state → stored_image scene layout state plane ≡ picture_image scene plane
+    → ShowsThePicture scene layout (λ x y. (pixel_of state x y).memory) → stored_image scene layout state plane ≡ picture_image scene plane
 images_show scene layout state p.Depth shows =
     same_image scene.width scene.height (stored_depth layout state) (depth_at scene)
     (λ x y left above. (shows x y left above).depth)

@@ -1,8 +1,7 @@
 //! Image files in the raw form of Netpbm's pixel maps.
 ghost use Rattle.std.specs.Prelude.{◌≡◌, ◌<◌, ◌≤◌, ◌^◌, OnErr, OnOk};
-ghost use Rattle.std.specs.Io.KnownBytes.{Appends};
 ghost use Rattle.px_io.specs.Counts.{HasCause};
-ghost use Rattle.px_io.specs.Told.{AppendsFront};
+ghost use Rattle.px_io.specs.Told.{TakesAll, TakesFront};
 ghost use Rattle.px_array.specs.Arrays.{IsOpen};
 ghost use Rattle.px_sched.specs.Layouts.{need_of};
 ghost use Rattle.px_frame.specs.Image.{header, row_bytes, three_bytes};
@@ -21,7 +20,7 @@ use px_sched::Layout;
 const ROW_BYTES: usize = 1536;
 
 /// Appends one image of what the array stores to the sink, or a front of it where a write fails
-/// (docs/PICTURE.md, "Images").
+/// (docs/PICTURE.md, "Images"). The sink is not finished.
 pub fn write_picture<A: Array, O: Sink>(
     array: &A,
     layout: &Layout,
@@ -34,9 +33,11 @@ pub fn write_picture<A: Array, O: Sink>(
     requires rows { HasRows scene.now (A.device array.now).state }
     requires room { need_of layout.now ≤ A.BITS }
     requires faces { StoresFaces scene.now layout.now (A.device array.now).state }
-    ensures ok { OnOk result (Appends (O.written out.old) (O.written out.new)
+    ensures ok { OnOk result (TakesAll (O.written out.old) (O.written out.new)
+        (O.finished out.old) (O.finished out.new)
         (stored_image scene.now layout.now (A.device array.now).state plane)) }
-    ensures err { OnErr result (AppendsFront (O.written out.old) (O.written out.new)
+    ensures err { OnErr result (TakesFront (O.written out.old) (O.written out.new)
+        (O.finished out.old) (O.finished out.new)
         (stored_image scene.now layout.now (A.device array.now).state plane)) }
     ensures cause { HasCause (O.faults out.old) (O.faults out.new) result }
 {

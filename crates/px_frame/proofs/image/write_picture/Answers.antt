@@ -12,13 +12,13 @@ on_err (Err x) p = p
 pub returns-in_err-write_whole-clause-err : goal.returns-in_err-write_whole-clause-err
 returns-in_err-write_whole-clause-err g c =
     let bytes : c.as_bytes.result.now ≡ header c.args.scene.now.width c.args.scene.now.height = cc
-    in on_err _ (front_before _ _ _ _ (rw bytes at c.in_err-write_whole.ensures.err))
+    in on_err _ (front_before _ _ _ _ _ _ (rw bytes at c.in_err-write_whole.ensures.err))
 
 pub returns-in_err-write_whole-2-clause-err : goal.returns-in_err-write_whole-2-clause-err
 returns-in_err-write_whole-2-clause-err g c =
     let row = rw (c.as_slice.ensures.value, c.row_bytes-row.ensures) at c.in_err-write_whole-2.ensures.err
     in let above : c.loop-y.y < c.args.scene.now.height = omega (arith, c.height-y-end.ensures.value)
-    in on_err _ (rows_broken _ _ _ _ _ _ _ above c.loop-y.invariant.front row)
+    in on_err _ (rows_broken _ _ _ _ _ _ _ _ _ _ above c.loop-y.invariant.front row)
 
 pub loop-y-preserved : goal.loop-y-preserved
 loop-y-preserved g c =
@@ -27,6 +27,6 @@ loop-y-preserved g c =
     in let row = row_bytes c.args.scene.now.width (stored_number c.args.scene.now c.args.layout.now state c.args.plane)
     in let next = rw (c.as_slice.ensures.value, c.row_bytes-row.ensures) at c.in_ok-write_whole-2.ensures.ok
     in record {
-      front = rows_grown _ _ _ above row c.loop-y.y c.loop-y.invariant.front next;
+      front = rows_grown _ _ _ _ _ _ above row c.loop-y.y c.loop-y.invariant.front next;
       calm = grind (arith, c.loop-y.invariant.calm, c.in_ok-write_whole-2.ensures.cause.calm);
     }

@@ -1,6 +1,6 @@
 use Rattle.std.proofs.Common.{◌≡◌, ◌++◌}
-use Rattle.std.specs.Io.KnownBytes.{Appends}
 use Rattle.std.specs.List.{flat_map, range_with_len}
+use Rattle.px_io.specs.Told.{TakesAll}
 use Rattle.px_frame.specs.Image.{header, row_bytes}
 use Rattle.px_frame.specs.Stored.{stored_number}
 use Rattle.px_frame.proofs.image.write_picture.Given as goal
@@ -10,7 +10,8 @@ invariant-loop-y g l =
     let state = (g.A.Array.device l.array).state
     in let row = row_bytes l.scene.width (stored_number l.scene l.layout state l.plane)
     in record {
-      front : Appends (g.O.Sink.written l.fn.out) (g.O.Sink.written l.out)
+      front : TakesAll (g.O.Sink.written l.fn.out) (g.O.Sink.written l.out)
+          (g.O.Sink.finished l.fn.out) (g.O.Sink.finished l.out)
           (header l.scene.width l.scene.height ++ flat_map row (range_with_len 0 l.y));
       calm : g.O.Sink.faults l.out ≡ g.O.Sink.faults l.fn.out;
     }

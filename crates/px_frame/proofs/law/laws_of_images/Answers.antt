@@ -6,4 +6,4 @@ pub returns-clause-images : goal.returns-clause-images
 returns-clause-images c = images_show
 
 pub returns-clause-faces : goal.returns-clause-faces
-returns-clause-faces c = faces_stored
+returns-clause-faces c = faces_stored c.laws_of_surfaces.ensures.faces
