@@ -1,35 +1,30 @@
 //! pxplanes: reads a scene from standard input, and draws it.
 #![tactic(auto)]
 
-mod command;
-mod cost;
-mod make;
-mod note;
-mod plan;
-mod render;
-mod run;
-mod status;
+ghost use Rattle.std.specs.Prelude.{◌≡◌, ◌∷◌, [], IfOk, map, string_bytes};
+ghost use Rattle.std.specs.Process.{exit_status};
+ghost use Rattle.px_draw.specs.Statuses.{code};
+
 #[cfg(test)]
 mod tests;
 
-use px_array::PixelArray;
+pub use px_draw::{Status, deliver, run};
 use px_io::{StdSink, StdSource};
 use px_num::Memory;
-pub use render::deliver;
-pub use run::run;
-pub use status::Status;
+use px_planes::PlaneArray;
+use std::alloc::Global;
 use std::env;
 use std::io::ErrorKind;
 use std::process::ExitCode;
 
 fn main(rt: HostRuntime) -> ExitCode {
     let Ok(words) = words_of(&rt) else {
-        return ExitCode::from(Status::Memory.code());
+        return exit_code(Status::Memory);
     };
     let mut input = StdSource::new(rt.stdin());
     let mut out = StdSink::new(rt.stdout());
     let mut notes = StdSink::new(rt.stderr());
-    let mut array = PixelArray::<72>::new(rt.alloc());
+    let mut array = PlaneArray::<72>::new(rt.alloc());
     let status = run(
         rt.alloc(),
         words.as_slice(),
@@ -38,6 +33,13 @@ fn main(rt: HostRuntime) -> ExitCode {
         &mut notes,
         &mut array,
     );
+    exit_code(status)
+}
+
+/// The code with which the process ends.
+fn exit_code(status: Status) -> ExitCode
+    ensures { exit_status result ≡ code status }
+{
     ExitCode::from(status.code())
 }
 
@@ -53,10 +55,15 @@ fn words_of(rt: &HostRuntime) -> Result<Vec<String>, Memory> {
             Ok(words)
         }
         Err(error) if error.kind() == ErrorKind::OutOfMemory => Err(Memory),
-        Err(_) => {
-            let mut words = Vec::new(alloc);
-            words.push(String::new(alloc))?;
-            Ok(words)
-        }
+        Err(_) => no_text(alloc),
     }
+}
+
+/// One empty word, which names no command.
+fn no_text(alloc: Global) -> Result<Vec<String>, Memory>
+    ensures { IfOk result (λ words. map string_bytes words.items ≡ [] ∷ []) }
+{
+    let mut words = Vec::new(alloc);
+    words.push(String::new(alloc))?;
+    Ok(words)
 }

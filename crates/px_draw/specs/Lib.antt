@@ -1,0 +1,10 @@
+pub use Rattle.px_face.specs.Surfaces
+pub mod Arrays
+pub mod Commands
+pub mod CostText
+pub mod Notes
+pub mod Outcomes
+pub mod Plans
+pub mod Runs
+pub mod Statuses
+pub mod Stops

@@ -1,0 +1,112 @@
+-- What a piece of the work says by its result. Only proofs and private functions stand on it.
+use Rattle.std.specs.Prelude.{ℕ, ◌≡◌, ◌≢◌, List, Bool, true, ⊤, Option, Some, Result, Ok, Err}
+use Rattle.std.specs.Io.KnownBytes.{Appends, Keeps}
+use Rattle.px_io.specs.Counts.{Rose}
+use Rattle.px_io.specs.Told.{ConsumesAtMost, TakesFront, Tells}
+use Rattle.px_array.specs.Arrays.{Device}
+use Rattle.px_scene.specs.declared.read.SceneFault.TheVariants as f
+use Rattle.px_scene.specs.Refusals.{refusal_of}
+use Rattle.px_draw.specs.declared.command.Command.{Command}
+use Rattle.px_draw.specs.declared.note.Stop.{Stop}
+use Rattle.px_draw.specs.declared.note.Stop.TheVariants as s
+use Rattle.px_draw.specs.declared.status.Status.{Status}
+use Rattle.px_draw.specs.declared.status.Status.TheVariants as status
+use Rattle.px_draw.specs.Arrays.{LeavesArray}
+use Rattle.px_draw.specs.Notes.{fault_line, memory_line, read_fault_line, usage_line, write_fault_line}
+use Rattle.px_draw.specs.Outcomes.{Outcome, usage, refused, done, commanded, output}
+use Rattle.px_draw.specs.Runs.{IsRestBehind}
+
+abbrev pub status_of : Stop → Status
+status_of s.Usage = status.Usage
+status_of (s.Refused (f.Malformed line cause)) = status.Malformed
+status_of (s.Refused (f.Limit line kind found)) = status.Limit
+status_of (s.Refused f.Memory) = status.Memory
+status_of s.ReadFault = status.ReadFault
+status_of s.WriteFault = status.WriteFault
+status_of s.Memory = status.Memory
+
+-- the status of a result
+abbrev pub status_in : Result (Unit {0}) Stop → Status
+status_in (Ok u) = status.Done
+status_in (Err stop) = status_of stop
+
+-- the line of a stop
+abbrev pub note_of : Stop → List ℕ
+note_of s.Usage = usage_line
+note_of (s.Refused fault) = fault_line fault
+note_of s.ReadFault = read_fault_line
+note_of s.WriteFault = write_fault_line
+note_of s.Memory = memory_line
+
+-- the answer is the outcome's, where it is not a fault's or the want of memory
+abbrev pub Meets : Result (Unit {0}) Stop → Outcome → Type 0
+Meets (Ok u) o = o ≡ done (output o)
+Meets (Err s.Usage) o = o ≡ usage
+Meets (Err (s.Refused f.Memory)) o = ⊤
+Meets (Err (s.Refused fault)) o = o ≡ refused fault
+Meets (Err s.ReadFault) o = ⊤
+Meets (Err s.WriteFault) o = o ≡ done (output o)
+Meets (Err s.Memory) o = ⊤
+
+-- what was written, and whether it is finished
+abbrev pub Writes : Result (Unit {0}) Stop → Outcome → (written_old written_new : Option (List ℕ)) (finished_old finished_new : Option Bool) → Type 0
+Writes (Ok u) o written_old written_new finished_old finished_new =
+    Appends written_old written_new (output o) × Tells finished_new true
+Writes (Err s.WriteFault) o written_old written_new finished_old finished_new =
+    TakesFront written_old written_new finished_old finished_new (output o)
+Writes (Err stop) o written_old written_new finished_old finished_new =
+    Keeps written_old written_new × (finished_new ≡ finished_old)
+
+-- which counts of faults rose, and which stayed
+pub record HasCauses (result : Result (Unit {0}) Stop) (input_old input_new out_old out_new : ℕ) : Type 0 where
+  pub read : result ≡ Err s.ReadFault → Rose input_old input_new
+  pub write : result ≡ Err s.WriteFault → Rose out_old out_new
+  pub input : (result ≡ Err s.ReadFault → ⊥) → input_new ≡ input_old
+  pub out : (result ≡ Err s.WriteFault → ⊥) → out_new ≡ out_old
+
+-- what a piece of the work that reads nothing does for an outcome
+pub record Serves (result : Result (Unit {0}) Stop) (o : Outcome)
+    (written_old written_new : Option (List ℕ)) (finished_old finished_new : Option Bool) (faults_old faults_new : ℕ) : Type 0 where
+  pub meets : Meets result o
+  pub writes : Writes result o written_old written_new finished_old finished_new
+  pub causes : (n : ℕ) → HasCauses result n n faults_old faults_new
+  pub worded : result ≢ Err s.Usage
+  pub reads : result ≢ Err s.ReadFault
+
+-- what the whole work does, where these bytes were read
+pub record Answers (result : Result (Unit {0}) Stop) (command : Option Command) (bytes : List ℕ) (bits : ℕ)
+    (written_old written_new : Option (List ℕ)) (finished_old finished_new : Option Bool) (before now : Device) : Type 0 where
+  pub meets : Meets result (commanded command bytes bits)
+  pub writes : Writes result (commanded command bytes bits) written_old written_new finished_old finished_new
+  pub array : LeavesArray command (status_in result) bits bytes before now
+
+-- the bytes that were taken: all of them, or the first past the limit of a text; after a failure at most as many
+abbrev pub Takes : Result (Unit {0}) Stop → Option (List ℕ) → Option (List ℕ) → Type 0
+Takes (Err s.Usage) old new = new ≡ old
+Takes (Err s.ReadFault) old new = ConsumesAtMost old new 1048577
+Takes (Err s.Memory) old new = ConsumesAtMost old new 1048577
+Takes (Err (s.Refused f.Memory)) old new = ConsumesAtMost old new 1048577
+Takes result old new = IsRestBehind old new
+
+-- why a text was not read
+abbrev pub IsReadStop : Stop → ℕ → ℕ → Type 0
+IsReadStop s.ReadFault old new = Rose old new
+IsReadStop s.Memory old new = new ≡ old
+IsReadStop stop old new = ⊥
+
+-- why a text is no scene
+abbrev pub IsTextStop : Stop → List ℕ → Type 0
+IsTextStop (s.Refused fault) text = refusal_of text ≡ Some fault
+IsTextStop s.Memory text = ⊤
+IsTextStop stop text = ⊥
+
+-- why a scene was not served: by what it is, or for want of memory
+abbrev pub IsSceneStop : Stop → Type 0
+IsSceneStop (s.Refused fault) = ⊤
+IsSceneStop s.Memory = ⊤
+IsSceneStop stop = ⊥
+
+-- a scene was not served, as these limits of outcomes say, or for want of memory
+pub record StopsAt (limits : Outcome → Outcome) (stop : Stop) : Type 0 where
+  pub scene : IsSceneStop stop
+  pub meets : (o : Outcome) → Meets (Err stop) (limits o)

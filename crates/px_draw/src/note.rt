@@ -1,0 +1,124 @@
+//! The line that tells why a run did not do its work.
+ghost use Rattle.std.specs.Prelude.{◌≡◌, ◌≤◌, length};
+ghost use Rattle.px_draw.specs.Notes.{cause_word, kind_word, malformed_line, limit_line};
+ghost use Rattle.px_draw.specs.Runs.{IsTold};
+ghost use Rattle.px_draw.specs.Stops.{note_of};
+
+use arrayvec::ArrayString;
+use itoa::Buffer;
+use px_io::{Sink, write_whole};
+use px_scene::{Cause, LimitKind, SceneFault};
+
+/// Why the work was not done.
+#[derive(Clone, Copy, Debug, PartialEq, Eq)]
+pub(crate) enum Stop {
+    Usage,
+    Refused(SceneFault),
+    ReadFault,
+    WriteFault,
+    Memory,
+}
+
+/// Writes a line and finishes, whatever comes of it.
+pub(crate) fn tell<E: Sink>(line: &[u8], notes: &mut E)
+    ensures { IsTold line.now (E.written notes.old) (E.written notes.new) (E.finished notes.old)
+        (E.finished notes.new) (E.faults notes.old) (E.faults notes.new) }
+{
+    if let Ok(()) = write_whole(notes, line) {
+        let _ = notes.finish();
+    }
+}
+
+/// The line of a stop.
+pub(crate) fn line_of(stop: Stop) -> ArrayString<128>
+    ensures { result.bytes ≡ note_of stop }
+{
+    match stop {
+        Stop::Usage => { plain("usage: pxplanes [render|colour|tidy|plan|cost|debug|sample N]\n") }
+        Stop::Refused(SceneFault::Malformed { line, cause }) => malformed_line(line, cause),
+        Stop::Refused(SceneFault::Limit { line, kind, found }) => limit_line(line, kind, found),
+        Stop::Refused(SceneFault::Memory) | Stop::Memory => plain("out of memory\n"),
+        Stop::ReadFault => plain("read fault\n"),
+        Stop::WriteFault => plain("write fault\n"),
+    }
+}
+
+fn plain(text: &str) -> ArrayString<128>
+    requires { length text.now ≤ 128 }
+    ensures { result.bytes ≡ text.now }
+{
+    let mut line = ArrayString::new();
+    line.push_str(text);
+    line
+}
+
+#[tactic(auto, unfolding(crate::specs::Notes::malformed_line))]
+fn malformed_line(line: u32, cause: Cause) -> ArrayString<128>
+    ensures { result.bytes ≡ malformed_line line cause }
+{
+    let mut digits = Buffer::new();
+    let mut text = ArrayString::new();
+    text.push_str("malformed line ");
+    text.push_str(digits.format(line));
+    text.push_str(": ");
+    text.push_str(cause_word(cause));
+    text.push_str("\n");
+    text
+}
+
+#[tactic(auto, unfolding(crate::specs::Notes::limit_line))]
+fn limit_line(line: u32, kind: LimitKind, found: i64) -> ArrayString<128>
+    ensures { result.bytes ≡ limit_line line kind found }
+{
+    let mut digits = Buffer::new();
+    let mut text = ArrayString::new();
+    text.push_str("limit line ");
+    text.push_str(digits.format(line));
+    text.push_str(": ");
+    text.push_str(kind_word(kind));
+    text.push_str(" ");
+    text.push_str(digits.format(found));
+    text.push_str("\n");
+    text
+}
+
+fn cause_word(cause: Cause) -> &'static str
+    ensures word { result.now ≡ cause_word cause }
+    ensures short { length result.now ≤ 14 }
+{
+    match cause {
+        Cause::NotHeader => "not-header",
+        Cause::Unexpected => "unexpected",
+        Cause::WordCount => "word-count",
+        Cause::NotNumber => "not-number",
+        Cause::BadName => "bad-name",
+        Cause::SecondName => "second-name",
+        Cause::BadExpression => "bad-expression",
+        Cause::UnknownName => "unknown-name",
+        Cause::AfterEnd => "after-end",
+        Cause::MissingEnd => "missing-end",
+    }
+}
+
+fn kind_word(kind: LimitKind) -> &'static str
+    ensures word { result.now ≡ kind_word kind }
+    ensures short { length result.now ≤ 12 }
+{
+    match kind {
+        LimitKind::Text => "text",
+        LimitKind::Picture => "picture",
+        LimitKind::Depth => "depth",
+        LimitKind::Colour => "colour",
+        LimitKind::Coefficient => "coefficient",
+        LimitKind::Solids => "solids",
+        LimitKind::Fronts => "fronts",
+        LimitKind::Backs => "backs",
+        LimitKind::Sides => "sides",
+        LimitKind::Faces => "faces",
+        LimitKind::Leaves => "leaves",
+        LimitKind::Nesting => "nesting",
+        LimitKind::Fraction => "fraction",
+        LimitKind::PixelMemory => "pixel-memory",
+        LimitKind::Products => "products",
+    }
+}

@@ -1,5 +1,0 @@
-use Rattle.px_program.proofs.AnswerLemmas.{rest_behind}
-use Rattle.px_program.proofs.run.read_text.Goals as goal
-
-pub returns-in-Ok-clause-rest : goal.returns-in-Ok-clause-rest
-returns-in-Ok-clause-rest g c = rest_behind _ _ _ c.in-Ok.ensures.taken c.in-Ok.ensures.front
