@@ -1,0 +1,6 @@
+pub mod Fitting
+pub mod Grids
+pub mod Jumps
+pub mod Marking
+pub mod Traces
+pub mod Tracing

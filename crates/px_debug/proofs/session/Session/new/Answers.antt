@@ -1,0 +1,33 @@
+use Rattle.std.proofs.Common.{◌≡◌, ◌*◌, ◌∙◌, ap, arith, refl, subst, sym}
+use Rattle.px_control.specs.Program.{IsAt}
+use Rattle.px_control.specs.Standing.{JobView}
+use Rattle.px_debug.specs.Marks.{HasSlots}
+use Rattle.px_debug.proofs.Fitting.{fits_session}
+use Rattle.px_debug.proofs.Marking.{slots_more}
+use Rattle.px_debug.proofs.session.Session.new.Goals as goal
+
+pub save-requires-clause-is_open : goal.save-requires-clause-is_open
+save-requires-clause-is_open g c = (c.law_of_grids.ensures.covers g.A.Array.BITS _ _ _ c.now-now.ensures.can_run.lawful c.requires.at).is_open
+
+pub returns-clause-fits : goal.returns-clause-fits
+returns-clause-fits g c =
+    let course = c.start-course.result in
+    let kept = c.start-course.ensures.kept in
+    let job = c.start-course.ensures.job in
+    let before = g.A.Array.device c.args.array.now in
+    let after = g.A.Array.device c.save.new.self in
+    let scene : course.job.scene ≡ c.args.job.scene = ap (λ (j : JobView). j.scene) job in
+    let clock : course.job.place.clock ≡ 0 = ap (λ (j : JobView). j.place.clock) job ∙ c.requires.start in
+    let here : IsAt g.A.Array.BITS course.job.scene (0 * course.quarter) before =
+    subst (λ n. IsAt g.A.Array.BITS course.job.scene n before) (let z : 0 ≡ 0 * course.quarter = omega arith in z)
+    (subst (λ s. IsAt g.A.Array.BITS s 0 before) (sym scene) c.requires.at) in
+    let one : HasSlots g.A.Array.BITS course.job.scene course.quarter 1 (g.A.Array.slots c.save.new.self) =
+    rw c.save.ensures.slots (slots_more g.A.Array.BITS course.job.scene course.quarter 0 before (g.A.Array.slots c.args.array.now)
+    (λ k low. absurd (omega (arith, low))) (omega (arith, c.save.ensures.four)) here) in
+    fits_session g.A.Array.BITS course _ after (g.A.Array.slots c.save.new.self) refl refl kept.quarter c.requires.few
+    record {
+      at = rw (c.save.ensures.device, clock, scene) c.requires.at;
+      marks = kept.marks;
+      marked = kept.marked;
+      kept = rw c.start-course.ensures.first one;
+    }

@@ -1,0 +1,7 @@
+pub use Rattle.px_control.specs.Program
+pub mod Answers
+pub mod Commands
+pub mod Courses
+pub mod Marks
+pub mod Moves
+pub mod Words

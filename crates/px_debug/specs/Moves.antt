@@ -1,0 +1,81 @@
+-- Where a session stands, and where each command leads.
+use Rattle.std.specs.Prelude.{◌≡◌, ℕ, zero, suc, ◌+◌, ◌-◌, ◌*◌, ◌/◌, ◌≤◌, min, max, List, [], ◌∷◌, Option, Some}
+use Rattle.px_array.specs.Arrays.{Device}
+use Rattle.px_array.specs.Slots.{slot_of}
+use Rattle.px_scene.specs.Scenes.{SceneView}
+use Rattle.px_control.specs.Program.{IsAt, array_after, ends_after, total}
+use Rattle.px_debug.specs.declared.command.Command.{Command}
+use Rattle.px_debug.specs.declared.command.Command.TheVariants as c
+use Rattle.px_debug.specs.declared.session.Going.{Going}
+use Rattle.px_debug.specs.declared.session.Going.TheVariants as g
+
+-- what a contract sees of a session: its scene, the broadcasts made, and the lines that were given
+pub record SessionView : Type 0 where
+  pub scene : SceneView
+  pub now : ℕ
+  pub lines : ℕ
+
+-- the clock after so many ends, of those that are to come; the last clock where there are fewer
+abbrev pub after_ends : (count : ℕ) → (ends : List ℕ) → (now last : ℕ) → ℕ
+after_ends zero ends now last = now
+after_ends (suc count) [] now last = last
+after_ends (suc count) (e ∷ ends) now last = after_ends count ends e last
+
+-- where a command leads
+abbrev pub moved : SceneView → (now : ℕ) → Command → ℕ
+moved scene now (c.Step n) = min (now + n) (total scene)
+moved scene now (c.Macro n) = after_ends n (ends_after scene now) now (total scene)
+moved scene now c.Run = total scene
+moved scene now (c.Until n) = max now (min n (total scene))
+moved scene now (c.Back n) = now - n
+moved scene now c.At = now
+moved scene now (c.Pixel x y) = now
+moved scene now (c.Field x y) = now
+moved scene now (c.Tree level index) = now
+moved scene now c.Trace = now
+moved scene now c.Quit = now
+moved scene now c.Nothing = now
+moved scene now c.Unknown = now
+
+-- only `quit` ends a session
+abbrev pub going : Command → Going
+going c.Quit = g.Quit
+going (c.Step n) = g.More
+going (c.Macro n) = g.More
+going c.Run = g.More
+going (c.Until n) = g.More
+going (c.Back n) = g.More
+going c.At = g.More
+going (c.Pixel x y) = g.More
+going (c.Field x y) = g.More
+going (c.Tree level index) = g.More
+going c.Trace = g.More
+going c.Nothing = g.More
+going c.Unknown = g.More
+
+-- a quarter of a program, and a clock at least
+abbrev pub quarter_of : SceneView → ℕ
+quarter_of scene = max 1 (total scene / 4)
+
+-- the most clocks that a command makes: on a way back a quarter and 32
+abbrev pub most_clocks : SceneView → (now : ℕ) → Command → ℕ
+most_clocks scene now (c.Back n) = quarter_of scene + 32
+most_clocks scene now (c.Step n) = moved scene now (c.Step n) - now
+most_clocks scene now (c.Macro n) = moved scene now (c.Macro n) - now
+most_clocks scene now c.Run = total scene - now
+most_clocks scene now (c.Until n) = moved scene now (c.Until n) - now
+most_clocks scene now c.At = 0
+most_clocks scene now (c.Pixel x y) = 0
+most_clocks scene now (c.Field x y) = 0
+most_clocks scene now (c.Tree level index) = 0
+most_clocks scene now c.Trace = 0
+most_clocks scene now c.Quit = 0
+most_clocks scene now c.Nothing = 0
+most_clocks scene now c.Unknown = 0
+
+-- an array is as the session's broadcasts leave it, and its slots keep what each passed quarter left
+pub record Fits (bits : ℕ) (s : SessionView) (device : Device) (slots : List (Option Device)) : Type 0 where
+  pub few : bits ≤ 256
+  pub at : IsAt bits s.scene s.now device
+  pub kept : (slot : ℕ) → slot ≤ 3 → slot * quarter_of s.scene ≤ s.now →
+      slot_of slots slot ≡ Some (array_after bits s.scene (slot * quarter_of s.scene))

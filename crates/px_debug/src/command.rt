@@ -1,0 +1,130 @@
+//! What a command line asks for.
+ghost use Rattle.std.specs.Prelude.{◌≡◌, map};
+ghost use Rattle.px_debug.specs.Moves.{going};
+ghost use Rattle.px_debug.specs.Commands.{command_in, command_of, of_one, of_three, of_two};
+
+use crate::session::Going;
+use crate::word::{few_words, number_of};
+
+/// A longer line is none of the commands.
+const MOST_BYTES: usize = 255;
+
+/// What a command line asks for (docs/DEBUGGER.md, "Lines").
+#[derive(Clone, Copy, Debug, PartialEq, Eq)]
+pub(crate) enum Command {
+    /// So many clocks forward.
+    Step(u64),
+    /// So many times to the end of the operation that runs.
+    Macro(u64),
+    /// All clocks that are left.
+    Run,
+    /// Forward to a clock.
+    Until(u64),
+    /// So many clocks back.
+    Back(u64),
+    /// Where the session stands.
+    At,
+    /// The memory and the registers of a pixel, by column and row.
+    Pixel(u64, u64),
+    /// The keys of a pixel, by column and row.
+    Field(u64, u64),
+    /// The latches of a node, by level and index.
+    Tree(u64, u64),
+    /// The last broadcasts.
+    Trace,
+    /// The end of the session.
+    Quit,
+    /// A line without words.
+    Nothing,
+    /// Any other line.
+    Unknown,
+}
+
+impl Command {
+    /// Whether a session goes on after it.
+    pub(crate) fn going(self) -> Going
+        ensures { result ≡ going self }
+    {
+        match self {
+            Command::Quit => Going::Quit,
+            _ => Going::More,
+        }
+    }
+}
+
+/// What a command line asks for.
+pub(crate) fn command_of(line: &[u8]) -> Command
+    ensures { result ≡ command_of line.now }
+{
+    if line.len() > MOST_BYTES {
+        return Command::Unknown;
+    }
+    match few_words(line) {
+        Some(words) => command_in(words.as_slice()),
+        None => Command::Unknown,
+    }
+}
+
+fn command_in(words: &[&[u8]]) -> Command
+    ensures { result ≡ command_in (map (λ w. w.now) words.now) }
+{
+    match words {
+        [] => Command::Nothing,
+        [word] => of_one(*word),
+        [word, first] => match number_of(*first) {
+            Some(n) => of_two(*word, n),
+            None => Command::Unknown,
+        },
+        [word, first, second] => match (number_of(*first), number_of(*second)) {
+            (Some(a), Some(b)) => of_three(*word, a, b),
+            _ => Command::Unknown,
+        },
+        _ => Command::Unknown,
+    }
+}
+
+fn of_one(word: &[u8]) -> Command
+    ensures { result ≡ of_one word.now }
+{
+    if word == b"run".as_slice() {
+        Command::Run
+    } else if word == b"at".as_slice() {
+        Command::At
+    } else if word == b"trace".as_slice() {
+        Command::Trace
+    } else if word == b"quit".as_slice() {
+        Command::Quit
+    } else {
+        Command::Unknown
+    }
+}
+
+fn of_two(word: &[u8], n: u64) -> Command
+    ensures { result ≡ of_two word.now n }
+{
+    if word == b"step".as_slice() {
+        Command::Step(n)
+    } else if word == b"macro".as_slice() {
+        Command::Macro(n)
+    } else if word == b"until".as_slice() {
+        Command::Until(n)
+    } else if word == b"back".as_slice() {
+        Command::Back(n)
+    } else {
+        Command::Unknown
+    }
+}
+
+fn of_three(word: &[u8], a: u64, b: u64) -> Command
+    ensures { result ≡ of_three word.now a b }
+{
+    if word == b"pixel".as_slice() {
+        Command::Pixel(a, b)
+    } else if word == b"field".as_slice() {
+        Command::Field(a, b)
+    } else if word == b"tree".as_slice() {
+        Command::Tree(a, b)
+    } else {
+        Command::Unknown
+    }
+}

@@ -1,0 +1,15 @@
+//! A debugger: it steps through the broadcasts of a scene, forwards and back, and shows the machine.
+#![tactic(auto)]
+
+mod command;
+mod course;
+mod machine_text;
+mod moves;
+mod session;
+#[cfg(test)]
+mod tests;
+mod text;
+mod trace_text;
+mod word;
+
+pub use session::{Going, Session};

@@ -1,0 +1,129 @@
+//! What each command moves.
+ghost use Rattle.std.specs.Prelude.{◌≡◌, ◌+◌, ◌-◌, ◌≤◌, max, min};
+ghost use Rattle.px_control.specs.Program.{total};
+ghost use Rattle.px_debug.specs.Courses.{IsOnCourse, IsSameCourse, IsTraced};
+ghost use Rattle.px_debug.specs.Moves.{after_ends, most_clocks, moved, quarter_of};
+ghost use Rattle.px_control.specs.Program.{ends_after};
+
+use crate::command::Command;
+use crate::course::Course;
+use px_array::Array;
+
+impl<'s> Course<'s> {
+    /// Goes where a command leads.
+    pub(crate) fn obey<A: Array>(&mut self, array: &mut A, command: Command)
+        requires course { IsOnCourse A.BITS self.old (A.device array.old) (A.slots array.old) }
+        requires quarter { self.old.quarter ≡ quarter_of self.old.job.scene }
+        requires trace { IsTraced self.old }
+        ensures course { IsOnCourse A.BITS self.new (A.device array.new) (A.slots array.new) }
+        ensures same { IsSameCourse self.old self.new }
+        ensures clock { self.new.job.place.clock
+            ≡ moved self.old.job.scene self.old.job.place.clock command }
+        ensures trace { IsTraced self.new }
+        ensures work { A.work array.new ≤ A.work array.old
+            + most_clocks self.old.job.scene self.old.job.place.clock command }
+    {
+        match command {
+            Command::Step(n) => {
+                let target = self.ahead(n);
+                self.go_to(array, target);
+            }
+            Command::Macro(n) => self.go_ends(array, n),
+            Command::Run => {
+                let target = self.job.total_clocks();
+                let _now = self.job.now();
+                self.go_to(array, target);
+            }
+            Command::Until(n) => {
+                let target = self.until(n);
+                self.go_to(array, target);
+            }
+            Command::Back(n) => self.go_back(array, n),
+            Command::At
+            | Command::Pixel(..)
+            | Command::Field(..)
+            | Command::Tree(..)
+            | Command::Trace
+            | Command::Quit
+            | Command::Nothing
+            | Command::Unknown => {}
+        }
+    }
+
+    /// The clock that is so many on, or the last one.
+    fn ahead(&self, clocks: u64) -> u64
+        ensures value { result ≡ min (self.now.job.place.clock + clocks) (total self.now.job.scene) }
+        ensures forth { self.now.job.place.clock ≤ result }
+        ensures within { result ≤ total self.now.job.scene }
+    {
+        let now = self.job.now();
+        now + clocks.min(self.job.total_clocks() - now)
+    }
+
+    /// A clock where it is still to come, at most the last one.
+    fn until(&self, clock: u64) -> u64
+        ensures value { result ≡ max self.now.job.place.clock (min clock (total self.now.job.scene)) }
+        ensures forth { self.now.job.place.clock ≤ result }
+        ensures within { result ≤ total self.now.job.scene }
+    {
+        self.job.now().max(clock.min(self.job.total_clocks()))
+    }
+
+    /// Goes on to a clock.
+    fn go_to<A: Array>(&mut self, array: &mut A, target: u64)
+        requires course { IsOnCourse A.BITS self.old (A.device array.old) (A.slots array.old) }
+        requires quarter { self.old.quarter ≡ quarter_of self.old.job.scene }
+        requires trace { IsTraced self.old }
+        requires forth { self.old.job.place.clock ≤ target }
+        requires within { target ≤ total self.old.job.scene }
+        ensures course { IsOnCourse A.BITS self.new (A.device array.new) (A.slots array.new) }
+        ensures same { IsSameCourse self.old self.new }
+        ensures clock { self.new.job.place.clock ≡ target }
+        ensures trace { IsTraced self.new }
+        ensures work { A.work array.new ≤ A.work array.old + (target - self.old.job.place.clock) }
+    {
+        let _total = self.job.total_clocks();
+        self.forward(array, target);
+    }
+
+    /// Goes so many times to the end of the operation that runs.
+    fn go_ends<A: Array>(&mut self, array: &mut A, count: u64)
+        requires course { IsOnCourse A.BITS self.old (A.device array.old) (A.slots array.old) }
+        requires quarter { self.old.quarter ≡ quarter_of self.old.job.scene }
+        requires trace { IsTraced self.old }
+        ensures course { IsOnCourse A.BITS self.new (A.device array.new) (A.slots array.new) }
+        ensures same { IsSameCourse self.old self.new }
+        ensures clock { self.new.job.place.clock ≡ after_ends count
+            (ends_after self.old.job.scene self.old.job.place.clock) self.old.job.place.clock
+            (total self.old.job.scene) }
+        ensures forth { self.old.job.place.clock ≤ self.new.job.place.clock }
+        ensures trace { IsTraced self.new }
+        ensures work { A.work array.new ≤ A.work array.old
+            + (self.new.job.place.clock - self.old.job.place.clock) }
+    {
+        for _ in 0..count {
+            if self.job.now() == self.job.total_clocks() {
+                return;
+            }
+            let end = self.job.next_end();
+            self.go_to(array, end);
+        }
+    }
+
+    /// Goes so many clocks back, at most to the first.
+    fn go_back<A: Array>(&mut self, array: &mut A, clocks: u64)
+        requires course { IsOnCourse A.BITS self.old (A.device array.old) (A.slots array.old) }
+        requires quarter { self.old.quarter ≡ quarter_of self.old.job.scene }
+        requires trace { IsTraced self.old }
+        ensures course { IsOnCourse A.BITS self.new (A.device array.new) (A.slots array.new) }
+        ensures same { IsSameCourse self.old self.new }
+        ensures clock { self.new.job.place.clock ≡ self.old.job.place.clock - clocks }
+        ensures trace { IsTraced self.new }
+        ensures work { A.work array.new ≤ A.work array.old
+            + (quarter_of self.old.job.scene + 32) }
+    {
+        let _total = self.job.total_clocks();
+        let target = self.job.now().saturating_sub(clocks);
+        self.back(array, target);
+    }
+}
