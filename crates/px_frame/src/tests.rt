@@ -64,8 +64,8 @@ fn write_one_key(
 
 /// Two by two pixels with the face 3 in their bits 0 and 1, and the depth `0x010203` from bit 2 on.
 fn array_of_one_key(alloc: Global) -> Result<PixelArray<54>, Memory>
-    ensures columns { IfOk result (λ a. a.state.tree.nx ≡ 1) }
-    ensures rows { IfOk result (λ a. a.state.tree.ny ≡ 1) }
+    ensures columns { IfOk result (λ a. a.device.state.tree.nx ≡ 1) }
+    ensures rows { IfOk result (λ a. a.device.state.tree.ny ≡ 1) }
 {
     let mut array = PixelArray::<54>::new(alloc);
     array.open(1, 1)?;
