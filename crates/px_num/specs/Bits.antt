@@ -1,5 +1,5 @@
--- What a contract sees of single bits: those of whole numbers, and the sums of bits.
-use Rattle.std.specs.Prelude.{ℕ, zero, suc, ◌-◌, ◌/◌, ◌%◌, ◌^◌, ◌==◌, ℤ, pos, negsuc, Bool, true, false, not, ◌&&◌, ◌||◌}
+-- What a contract sees of single bits: those of whole numbers and of memories, and the sums of bits.
+use Rattle.std.specs.Prelude.{ℕ, zero, suc, ◌-◌, ◌/◌, ◌%◌, ◌^◌, ◌==◌, ℤ, pos, negsuc, Bool, true, false, not, ◌&&◌, ◌||◌, List, slice_index_or}
 
 -- bit t of a number
 abbrev pub nat_bit : ℕ → ℕ → Bool
@@ -14,6 +14,10 @@ bit_of (negsuc n) t = not (nat_bit n t)
 abbrev pub modulo : ℤ → ℕ → ℕ
 modulo (pos n) width = n % 2 ^ width
 modulo (negsuc n) width = 2 ^ width - 1 - n % 2 ^ width
+
+-- the bit of a memory at a place below its length
+abbrev pub bit_at : List Bool → ℕ → Bool
+bit_at memory at = slice_index_or memory at false
 
 -- exactly one of two
 abbrev pub xor : Bool → Bool → Bool

@@ -1,6 +1,3 @@
-pub mod AdderLaws
-pub mod BitLaws
 pub mod Bits
-pub mod FormLaws
 pub mod Forms
 pub mod Lists

@@ -1,6 +1,6 @@
 use Rattle.std.proofs.Common.{◌≡◌, ◌∙◌, not, rules}
 use Rattle.px_num.specs.Bits.{bit_of}
-use Rattle.px_num.specs.BitLaws.{modulo_bit, sign_bit}
+use Rattle.px_num.proofs.BitLaws.{modulo_bit, sign_bit}
 use Rattle.px_num.proofs.bits.bit_of.Goals as goal
 
 pub returns-then-v-ge0 : goal.returns-then-v-ge0

@@ -1,7 +1,7 @@
 use Rattle.std.proofs.Common.{◌≡◌, ◌-ℤ◌, ◌∙◌, ap, refl, rules, subst, sym}
 use Rattle.px_num.specs.declared.linear.Linear.{Linear}
 use Rattle.px_num.specs.Forms.{IsInTreeRange, minus, value_at}
-use Rattle.px_num.specs.FormLaws.{IsInTreeRange-minus, value_at-minus}
+use Rattle.px_num.proofs.FormLaws.{IsInTreeRange-minus, value_at-minus}
 use Rattle.px_num.proofs.linear.Linear.minus.Goals as goal
 
 each : (p q r : Linear) → r.a ≡ p.a -ℤ q.a → r.b ≡ p.b -ℤ q.b → r.c ≡ p.c -ℤ q.c → r ≡ minus p q

@@ -1,6 +1,6 @@
 use Rattle.std.proofs.Common.{◌∙◌, ap, rules}
 use Rattle.px_num.specs.Forms.{value_at}
-use Rattle.px_num.specs.FormLaws.{value_at-plus}
+use Rattle.px_num.proofs.FormLaws.{value_at-plus}
 use Rattle.px_num.proofs.linear.Linear.plus.Goals as goal
 
 pub returns-clause-value : goal.returns-clause-value

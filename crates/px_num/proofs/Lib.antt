@@ -1,0 +1,4 @@
+pub mod AdderLaws
+pub mod BitLaws
+pub mod FormLaws
+pub mod ListLaws
