@@ -2,4 +2,3 @@ pub mod Counts
 pub mod Edge
 pub mod InMemory
 pub mod Told
-pub mod ToldLaws

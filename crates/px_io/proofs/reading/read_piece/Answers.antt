@@ -1,6 +1,6 @@
 use Rattle.std.proofs.Common.{arith}
 use Rattle.std.proofs.lemmas.Grind.{common_steps}
-use Rattle.px_io.specs.ToldLaws.{consumes_both}
+use Rattle.px_io.proofs.ToldLaws.{consumes_both}
 use Rattle.px_io.proofs.ReadingLemmas.{on_err_consumed}
 use Rattle.px_io.proofs.reading.read_piece.Goals as goal
 

@@ -1,5 +1,5 @@
 use Rattle.std.proofs.Common.{arith, length-drop, refl}
-use Rattle.px_io.specs.ToldLaws.{appends_more}
+use Rattle.px_io.proofs.ToldLaws.{appends_more}
 use Rattle.px_io.proofs.writing.write_whole.Goals as goal
 
 pub loop-at-preserved : goal.loop-at-preserved
