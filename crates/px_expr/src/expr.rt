@@ -1,5 +1,5 @@
 //! An expression, its nodes and its truth.
-ghost use Rattle.std.specs.Prelude.{◌≡◌, ◌<◌, ◌≤◌, ◌+◌, ◌∷◌, [], ℕ, All, length, reverse, take, slice_index_or};
+ghost use Rattle.std.specs.Prelude.{◌≡◌, ◌<◌, ◌≤◌, ◌+◌, ◌∷◌, [], ℕ, All, IfOk, length, reverse, take, slice_index_or};
 ghost use Rattle.arrayvec.specs.ArrayVec.{array_vec_len};
 ghost use Rattle.px_expr.specs.Tree.{HasLeavesBelow, IsLawful};
 ghost use Rattle.px_expr.specs.Cells.{is_member, is_true, truth_of};
@@ -9,6 +9,7 @@ ghost use Rattle.px_expr.specs.declared.node.Node.{Node as AnyNode};
 
 use crate::{Node, Op, Shape};
 use arrayvec::ArrayVec;
+use px_num::Memory;
 use std::marker::Model;
 
 /// An expression over solids, of at most 512 leaves and 64 levels of nesting.
@@ -53,6 +54,14 @@ impl Expr {
         ensures lawful { IsLawful self.now }
     {
         self.nodes.as_slice()
+    }
+
+    /// The same expression once more.
+    pub fn copy(&self) -> Result<Expr, Memory>
+        ensures { IfOk result (λ expr. expr ≡ self.now) }
+    {
+        let nodes = self.nodes.clone()?;
+        Ok(Expr { nodes })
     }
 
     /// Whether a cell is a member, by a truth value for each solid: whether the cell is inside it.
