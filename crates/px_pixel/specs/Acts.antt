@@ -1,8 +1,8 @@
 -- What each act does to a pixel.
 use Rattle.std.specs.Prelude.{ℕ, ◌<◌, ⊤, Bool, true, not, ◌&&◌, slice_set, if◌then◌else◌}
 use Rattle.std.specs.Bool.{beq}
-use Rattle.px_num.specs.Bits.{xor, majority}
-use Rattle.px_pixel.specs.Pixels.{PixelState, bit_at}
+use Rattle.px_num.specs.Bits.{bit_at, majority, xor}
+use Rattle.px_pixel.specs.Pixels.{PixelState}
 use Rattle.px_pixel.specs.declared.act.Act.{Act}
 use Rattle.px_pixel.specs.declared.act.Act.TheVariants.{Nop, EnableAll, EnableCarry, EnableTree, EnableBit, SetCarry, Fetch, StoreTree, StoreLatch, StoreConst, Toggle, CarryTree, CarryLatch, AddTree}
 

@@ -1,5 +1,5 @@
 -- What a contract sees of a pixel.
-use Rattle.std.specs.Prelude.{ℕ, Bool, false, List, replicate, slice_index_or}
+use Rattle.std.specs.Prelude.{ℕ, Bool, false, List, replicate}
 
 -- the memory bits of a pixel, and its three registers
 pub record PixelState : Type 0 where
@@ -7,10 +7,6 @@ pub record PixelState : Type 0 where
   pub enable : Bool
   pub carry : Bool
   pub latch : Bool
-
--- the bit of a memory at a place below its length
-abbrev pub bit_at : List Bool → ℕ → Bool
-bit_at memory at = slice_index_or memory at false
 
 -- a pixel of so many bits, all of it 0
 abbrev pub zero_pixel : ℕ → PixelState

@@ -1,6 +1,6 @@
 //! The memory bits of one pixel.
 ghost use Rattle.std.specs.Prelude.{◌≡◌, ◌<◌, ◌≤◌, false, length, replicate, slice_set};
-ghost use Rattle.px_pixel.specs.Pixels.{bit_at};
+ghost use Rattle.px_num.specs.Bits.{bit_at};
 
 use std::marker::Model;
 

@@ -1,8 +1,9 @@
 //! One pixel, and what an act does to it.
 ghost use Rattle.std.specs.Prelude.{◌≡◌, ◌<◌, ◌≤◌, not};
 ghost use Rattle.std.specs.Bool.{OnFalse};
+ghost use Rattle.px_num.specs.Bits.{bit_at};
 ghost use Rattle.px_pixel.specs.Acts.{HasPlace, after_act, enabled, stored};
-ghost use Rattle.px_pixel.specs.Pixels.{bit_at, zero_pixel};
+ghost use Rattle.px_pixel.specs.Pixels.{zero_pixel};
 
 use crate::act::Act;
 use crate::memory::PixelMemory;

@@ -5,7 +5,7 @@ use Rattle.std.proofs.lemmas.Int.{ints}
 use Rattle.std.proofs.lemmas.Bool.Decides.{nat_tests}
 use Rattle.px_num.specs.Bits.{bit_of}
 use Rattle.px_tree.specs.Feeds.{delayed_bit}
-use Rattle.px_num.specs.AdderLaws.{double_bit, double_lowest}
+use Rattle.px_num.proofs.AdderLaws.{double_bit, double_lowest}
 use Rattle.px_tree.proofs.PlaceLemmas.{double_pow}
 
 pub lt_true : (m n : ℕ) → m < n → nat_lt m n ≡ true

@@ -2,7 +2,8 @@
 use Rattle.std.proofs.Common.{◌≡◌, ℕ, ◌<◌, ◌≤◌, Bool, List, length, sym, inl, inr, ◌∙◌, arith}
 use Rattle.std.proofs.lemmas.Bool.{cases_lt}
 use Rattle.std.proofs.lemmas.Grind.{common_steps}
-use Rattle.px_num.specs.Lists.{is_tabulate, tabulate}
+use Rattle.px_num.proofs.ListLaws.{is_tabulate}
+use Rattle.px_num.specs.Lists.{tabulate}
 use Rattle.px_tree.specs.declared.node.Node.{Node}
 use Rattle.px_tree.specs.Nodes.{at_place, next_at, zero_node}
 

@@ -2,9 +2,9 @@
 use Rattle.std.proofs.Common.{◌≡◌, ℕ, zero, suc, ◌+◌, ◌*◌, ◌^◌, ◌<◌, ◌≤◌, refl, ap, ◌∙◌, arith}
 use Rattle.std.proofs.lemmas.Int.{ints}
 use Rattle.std.proofs.Math.Nat.{pow-le-pow_right}
-use Rattle.px_num.specs.BitLaws.{modulo_bit, sign_bit}
+use Rattle.px_num.proofs.BitLaws.{modulo_bit, sign_bit}
 use Rattle.px_num.specs.Bits.{bit_of}
-use Rattle.px_num.specs.FormLaws.{value_within}
+use Rattle.px_num.proofs.FormLaws.{value_within}
 use Rattle.px_num.specs.Forms.{value_at}
 use Rattle.px_tree.specs.declared.node.Node.{Node}
 use Rattle.px_tree.specs.Feeds.{fed_form}

@@ -5,16 +5,16 @@ use Rattle.std.proofs.lemmas.Bool.Decides.{nat_tests}
 use Rattle.std.proofs.lemmas.Int.{ints}
 use Rattle.std.proofs.lemmas.List.{get_or-replicate}
 use Rattle.std.proofs.Math.Nat.{pow-le-pow_right}
-use Rattle.px_num.specs.BitLaws.{pow_above}
+use Rattle.px_num.proofs.BitLaws.{pow_above}
 use Rattle.px_num.specs.Bits.{carry_from}
-use Rattle.px_num.specs.Lists.{get_or-tabulate}
+use Rattle.px_num.proofs.ListLaws.{get_or-tabulate}
 use Rattle.px_num.specs.declared.linear.Linear.{Linear}
 use Rattle.px_tree.specs.declared.node.Node.{Node}
 use Rattle.px_tree.specs.Feeds.{delayed_bit, fed_form, lines_at}
 use Rattle.px_tree.specs.Nodes.{next_at, next_node, node_at, zero_node}
 use Rattle.px_tree.specs.Sums.{HoldsSums, partial_sum, weight}
 use Rattle.px_tree.specs.TreeBit.{IsFedByTable, NodesHoldSums}
-use Rattle.px_num.specs.AdderLaws.{sum_bit}
+use Rattle.px_num.proofs.AdderLaws.{sum_bit}
 use Rattle.px_tree.proofs.DelayLemmas.{delayed_after, delayed_before, delayed_more, lt_false, lt_true}
 use Rattle.px_tree.proofs.PlaceLemmas.{place_below}
 use Rattle.px_tree.proofs.SumLemmas.{double}
