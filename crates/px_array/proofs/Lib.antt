@@ -1,1 +1,1 @@
-pub mod GridLemmas
+pub mod ClockLaws

@@ -1,5 +1,4 @@
 pub mod Arrays
-pub mod ClockLaws
 pub mod Clocks
 pub mod OpenArrays
 pub mod Slots

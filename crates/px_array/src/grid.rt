@@ -126,22 +126,19 @@ fn act_all<const N: usize>(pixels: &mut [Pixel<N>], tree: &NodeTree, act: Act)
 {
     let (nx, ny) = tree.size();
     for place in 0..pixels.len() {
-        let bit = leaf_at(tree, nx, ny, place);
+        let bit = leaf_at(tree, nx + ny, place);
         pixels[place].act(act, bit);
     }
 }
 
 /// The output of the leaf over the pixel at a place.
-fn leaf_at(tree: &NodeTree, nx: u32, ny: u32, place: usize) -> bool
-    requires columns { nx ≡ tree.now.nx }
-    requires rows { ny ≡ tree.now.ny }
-    requires grid { IsGrid nx ny }
-    requires place { place < 2 ^ (nx + ny) }
+fn leaf_at(tree: &NodeTree, levels: u32, place: usize) -> bool
+    requires levels { levels ≡ tree.now.nx + tree.now.ny }
+    requires grid { IsGrid tree.now.nx tree.now.ny }
+    requires place { place < 2 ^ levels }
     ensures { result ≡ leaf_output tree.now place }
 {
-    let x = place >> ny;
-    let y = place - (x << ny);
-    tree.leaf(x as u32, y as u32)
+    tree.node(levels, place as u32).0
 }
 
 /// Makes the tree do its operation.
