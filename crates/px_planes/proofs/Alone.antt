@@ -1,6 +1,6 @@
 -- Each pixel alone.
 use Rattle.std.proofs.Common.{◌≡◌, ◌+◌, [], ◌∷◌, refl, sym, ap, ◌∙◌, arith}
-use Rattle.px_array.specs.ClockLaws.{nx-after_tree_op, ny-after_tree_op, pixel_at-after_clock}
+use Rattle.px_array.proofs.ClockLaws.{nx-after_tree_op, ny-after_tree_op, pixel_at-after_clock}
 use Rattle.px_array.specs.Clocks.{after_clock, after_tree_op}
 use Rattle.px_planes.specs.ArraysLaw.{BothAreOneDevice, EachPixelIsAlone, alone_after}
 

@@ -4,7 +4,7 @@ use Rattle.std.proofs.lemmas.Bool.{cases_lt, le-ltb, lt-ltb, ne_eqb}
 use Rattle.px_num.specs.Bits.{nat_bit}
 use Rattle.px_tree.specs.declared.node.Node.{Node}
 use Rattle.px_tree.specs.Nodes.{next_node}
-use Rattle.px_planes.specs.Rows.{row_bit}
+use Rattle.px_rows.specs.Rows.{row_bit}
 use Rattle.px_planes.specs.Heap.{IsFedWord, IsHeap, line_at, line_bit, next_row, node_of, parent_bit}
 
 -- ---- by words

@@ -8,15 +8,15 @@ use Rattle.std.proofs.lemmas.Simd.{get_or-replicate, length-replicate}
 use Rattle.px_array.specs.Arrays.{no_pixel, registers_of}
 use Rattle.px_array.specs.Clocks.{acted}
 use Rattle.px_array.specs.declared.micro.Registers.{Registers}
-use Rattle.px_num.specs.Bits.{nat_bit}
-use Rattle.px_num.specs.Lists.{get_or-tabulate, is_tabulate, length-tabulate}
+use Rattle.px_num.specs.Bits.{bit_at, nat_bit}
+use Rattle.px_num.proofs.ListLaws.{get_or-tabulate, is_tabulate, length-tabulate}
 use Rattle.px_pixel.specs.Acts.{after_act}
-use Rattle.px_pixel.specs.Pixels.{PixelState, bit_at, zero_pixel}
+use Rattle.px_pixel.specs.Pixels.{PixelState, zero_pixel}
 use Rattle.px_pixel.specs.declared.act.Act.{Act}
 use Rattle.px_pixel.specs.declared.act.Act.TheVariants.{Nop, EnableAll, EnableCarry, EnableTree, EnableBit, SetCarry, Fetch, StoreTree, StoreLatch, StoreConst, Toggle, CarryTree, CarryLatch, AddTree}
 use Rattle.px_planes.specs.Pixels.{HasPixels, IsActed, IsZero, acted_at, pixel_in, pixels_in}
-use Rattle.px_planes.specs.Rows.{words_for}
-use Rattle.px_planes.specs.Rows.{row_bit}
+use Rattle.px_rows.specs.Rows.{words_for}
+use Rattle.px_rows.specs.Rows.{row_bit}
 use Rattle.px_planes.specs.declared.planes.Planes.{Planes}
 use Rattle.px_tree.specs.Nodes.{TreeState, leaf_output}
 use Rattle.px_planes.proofs.FedLevels.{power_of, power_some, power_up}

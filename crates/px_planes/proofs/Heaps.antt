@@ -3,7 +3,7 @@ use Rattle.std.proofs.Common.{◌≡◌, ℕ, ◌+◌, ◌-◌, ◌*◌, ◌/◌
 use Rattle.std.proofs.lemmas.Bool.{cases_lt, agree_below_at}
 use Rattle.px_num.specs.Bits.{nat_bit}
 use Rattle.px_tree.specs.Nodes.{next_node}
-use Rattle.px_planes.proofs.BitLaws.{bit-and, bit-or}
+use Rattle.px_rows.proofs.BitLaws.{bit-and, bit-or}
 use Rattle.px_planes.specs.Lanes.{IsDoubled, IsPart}
 use Rattle.px_planes.specs.Heap.{IsFedWord, IsSameBut, IsFedTwo, IsFed, IsFedFirst, parent_bit}
 

@@ -1,6 +1,4 @@
 pub mod Alone
-pub mod BitLaws
-pub mod BlockLaws
 pub mod FedLevels
 pub mod FedWords
 pub mod Grids
@@ -12,5 +10,3 @@ pub mod ShelfLaws
 pub mod Stored
 pub mod Trees
 pub mod Weave
-pub mod WordLaws
-pub mod Writes

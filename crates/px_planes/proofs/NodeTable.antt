@@ -5,7 +5,7 @@ use Rattle.std.proofs.lemmas.Simd.{length-zip2, get_or-zip2}
 use Rattle.std.specs.Simd.Lanes.{zip2}
 use Rattle.px_num.specs.Bits.{nat_bit, xor}
 use Rattle.px_tree.specs.Nodes.{next_node}
-use Rattle.px_planes.proofs.BitLaws.{bit-and, bit-or, bit-xor, odd_bits}
+use Rattle.px_rows.proofs.BitLaws.{bit-and, bit-or, bit-xor, odd_bits}
 use Rattle.px_planes.specs.Lanes.{IsOdd, IsNext, IsNextBy}
 
 abbrev pub odds : List ℕ

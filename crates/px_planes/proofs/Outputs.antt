@@ -5,7 +5,7 @@ use Rattle.std.proofs.lemmas.Nat.{pow-add}
 use Rattle.std.proofs.Math.Nat.{one-le-pow, pow-le-pow_right}
 use Rattle.px_num.specs.Bits.{nat_bit}
 use Rattle.px_tree.specs.Nodes.{node_at}
-use Rattle.px_planes.specs.Rows.{row_bit}
+use Rattle.px_rows.specs.Rows.{row_bit}
 use Rattle.px_planes.specs.Trees.{seen_tree, IsSmall}
 use Rattle.px_planes.proofs.Trees.{bit_seen, small_power}
 

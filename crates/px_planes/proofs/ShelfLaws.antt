@@ -4,11 +4,12 @@ use Rattle.std.proofs.lemmas.Bool.{cases_lt}
 use Rattle.std.proofs.lemmas.List.{get_or-append-add, get_or-map, get_or_append_left, length-append, length-map}
 use Rattle.std.proofs.Math.Nat.{mul-le-mul}
 use Rattle.px_num.specs.Bits.{nat_bit}
-use Rattle.px_num.specs.Lists.{get_or-tabulate, is_tabulate, length-tabulate, tabulate}
+use Rattle.px_num.proofs.ListLaws.{get_or-tabulate, is_tabulate, length-tabulate}
+use Rattle.px_num.specs.Lists.{tabulate}
 use Rattle.px_array.specs.Arrays.{Device, no_pixel}
 use Rattle.px_planes.specs.Pixels.{HasPixels, HasWords, pixel_in, pixels_in}
-use Rattle.px_planes.specs.Rows.{words_for}
-use Rattle.px_planes.specs.Rows.{row_bit}
+use Rattle.px_rows.specs.Rows.{words_for}
+use Rattle.px_rows.specs.Rows.{row_bit}
 use Rattle.px_planes.specs.Shelves.{AreShelved, IsFilled, IsShelved, pixel_on}
 use Rattle.px_planes.specs.declared.planes.Planes.{Planes}
 

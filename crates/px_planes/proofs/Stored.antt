@@ -9,7 +9,7 @@ use Rattle.px_pixel.specs.Acts.{stored}
 use Rattle.px_pixel.specs.declared.act.Act.{Act}
 use Rattle.px_pixel.specs.declared.act.Act.TheVariants.{AddTree}
 use Rattle.px_planes.specs.Pixels.{HasWords, IsActed, acted_at, pixel_in}
-use Rattle.px_planes.specs.Rows.{row_bit}
+use Rattle.px_rows.specs.Rows.{row_bit}
 use Rattle.px_planes.specs.declared.planes.Planes.{Planes}
 
 -- a row that is written is one bit of each pixel

@@ -7,14 +7,15 @@ use Rattle.std.proofs.Math.Nat.{one-le-pow, pow-le-pow_right}
 use Rattle.std.proofs.lemmas.Simd.{get_or-replicate, length-replicate}
 use Rattle.std.proofs.lemmas.List.{get_or_past}
 use Rattle.px_num.specs.Bits.{nat_bit}
-use Rattle.px_num.specs.Lists.{length-tabulate, get_or-tabulate, is_tabulate, tabulate}
+use Rattle.px_num.proofs.ListLaws.{length-tabulate, get_or-tabulate, is_tabulate}
+use Rattle.px_num.specs.Lists.{tabulate}
 use Rattle.px_tree.specs.declared.lines.Lines.{Lines}
 use Rattle.px_tree.specs.declared.node.Node.{Node}
 use Rattle.px_tree.specs.Nodes.{IsGrid, after_feed, cleared, next_at, next_node, zero_node}
 use Rattle.px_planes.specs.Heap.{AreStill, IsFedHeap, level_line, node_of}
-use Rattle.px_planes.specs.Rows.{row_bit}
+use Rattle.px_rows.specs.Rows.{row_bit}
 use Rattle.px_planes.specs.Trees.{IsSmall, IsTree, heights, seen_tree}
-use Rattle.px_planes.proofs.BitLaws.{bit_down, bit_of_low}
+use Rattle.px_rows.proofs.BitLaws.{bit_down, bit_of_low}
 use Rattle.px_planes.proofs.FedLevels.{power_up}
 
 pub level_law : (word m j : ℕ) → nat_bit (bit_and (word / 2 ^ m) (2 ^ m - 1)) j ≡ cond (nat_lt j m) (nat_bit word (m + j)) false

@@ -8,7 +8,7 @@ use Rattle.std.proofs.lemmas.Simd.{Each1-get_or, Each1-from_get_or, below_from_F
 use Rattle.std.proofs.Math.Nat.{pow-suc}
 use Rattle.std.specs.Simd.Lanes.{zip2, Each1, chunk, number_l, digits_l, pick_l}
 use Rattle.px_num.specs.Bits.{nat_bit}
-use Rattle.px_planes.proofs.BitLaws.{bit_down, bit_of_low}
+use Rattle.px_rows.proofs.BitLaws.{bit_down, bit_of_low}
 use Rattle.px_planes.specs.Lanes.{IsTwice, HasBytes, IsDoubled}
 
 -- ---- the table

@@ -4,7 +4,7 @@ use Rattle.px_num.specs.Bits.{nat_bit}
 use Rattle.px_tree.specs.declared.node.Node.{Node}
 use Rattle.px_tree.specs.declared.lines.Lines.{Lines}
 use Rattle.px_tree.specs.Nodes.{next_node}
-use Rattle.px_planes.specs.Rows.{row_bit}
+use Rattle.px_rows.specs.Rows.{row_bit}
 
 -- the two latches of the node at a place, from the row of outputs and the row of carries
 abbrev pub node_of : List ℕ → List ℕ → ℕ → Node

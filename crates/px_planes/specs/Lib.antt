@@ -1,9 +1,9 @@
+pub use Rattle.px_rows.specs.Rows
 pub mod ArraysLaw
 pub mod Heap
 pub mod Lanes
+pub mod Lent
 pub mod OpenPlanes
 pub mod Pixels
-pub mod Rows
 pub mod Shelves
 pub mod Trees
-pub mod Words

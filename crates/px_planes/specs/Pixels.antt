@@ -6,7 +6,7 @@ use Rattle.px_pixel.specs.Acts.{after_act}
 use Rattle.px_pixel.specs.Pixels.{PixelState, zero_pixel}
 use Rattle.px_pixel.specs.declared.act.Act.{Act}
 use Rattle.px_pixel.specs.declared.act.Act.TheVariants.{Nop, EnableAll, EnableCarry, EnableTree, EnableBit, SetCarry, Fetch, StoreTree, StoreLatch, StoreConst, Toggle, CarryTree, CarryLatch, AddTree}
-use Rattle.px_planes.specs.Rows.{row_bit, words_for}
+use Rattle.px_rows.specs.Rows.{row_bit, words_for}
 use Rattle.px_planes.specs.declared.planes.Planes.{Planes}
 
 -- the pixel at a place: one bit of each row

@@ -2,8 +2,6 @@
 #![tactic(auto)]
 
 mod acts;
-mod bits;
-mod blocks;
 mod doubling;
 mod feed;
 mod heads;
@@ -17,17 +15,13 @@ mod plane_grid;
 mod plane_tree;
 mod planes;
 mod rest;
-mod row;
-mod rows;
 mod shelf;
 mod slot;
 mod small;
-mod strokes;
 #[cfg(test)]
 mod tests;
-mod words;
 
 pub use law::law_of_arrays;
 pub use plane_array::PlaneArray;
 pub use plane_tree::PlaneTree;
-pub use rows::{add_row, choose_row, keep_row, majority_row};
+pub use px_rows::{add_row, choose_row, keep_row, majority_row};

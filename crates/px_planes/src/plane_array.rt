@@ -2,7 +2,8 @@
 ghost use Rattle.std.specs.Prelude.{◌≡◌, ◌<◌, ◌≤◌, ◌*◌, ◌^◌, ℕ, false, if◌then◌else◌, length};
 ghost use Rattle.std.specs.Prelude.{nat_lt};
 ghost use Rattle.px_array.specs.Arrays.{IsOpen, levels_of};
-ghost use Rattle.px_planes.specs.Rows.{EachBit, memory_bit, words_for};
+ghost use Rattle.px_rows.specs.Rows.{EachBit, words_for};
+ghost use Rattle.px_planes.specs.Lent.{memory_bit};
 ghost use Rattle.px_array.specs.Slots.{none_open};
 
 use crate::open_planes::OpenPlanes;

@@ -3,11 +3,12 @@ ghost use Rattle.std.specs.Prelude.{◌≡◌, ◌+◌, ◌-◌, ◌*◌, ◌^�
 ghost use Rattle.std.specs.Prelude.{IfOk, length, nat_lt, replicate};
 ghost use Rattle.px_array.specs.Arrays.{HasPixel, IsOpen, opened, pixel_at, pixel_of, registers_of};
 ghost use Rattle.px_array.specs.Clocks.{acted, after_tree_op, clocked};
-ghost use Rattle.px_num.specs.Bits.{nat_bit};
+ghost use Rattle.px_num.specs.Bits.{bit_at, nat_bit};
 ghost use Rattle.px_pixel.specs.Acts.{HasPlace};
-ghost use Rattle.px_pixel.specs.Pixels.{bit_at, zero_pixel};
+ghost use Rattle.px_pixel.specs.Pixels.{zero_pixel};
 ghost use Rattle.px_planes.specs.Pixels.{HasPixels, pixels_in};
-ghost use Rattle.px_planes.specs.Rows.{EachBit, memory_bit, words_for};
+ghost use Rattle.px_rows.specs.Rows.{EachBit, words_for};
+ghost use Rattle.px_planes.specs.Lent.{memory_bit};
 ghost use Rattle.px_tree.specs.Nodes.{IsGrid, leaf_bit, node_at};
 
 use crate::acts::act_planes;

@@ -2,14 +2,15 @@
 ghost use Rattle.std.specs.Prelude.{◌≡◌, ℕ, ◌<◌, ◌≤◌, ◌+◌, ◌*◌, ◌/◌, ◌^◌, length, IfOk, cond};
 ghost use Rattle.std.specs.Prelude.{nat_lt, false};
 ghost use Rattle.px_tree.specs.Nodes.{IsGrid, cleared, node_at};
-ghost use Rattle.px_planes.specs.Rows.{EachBit, output_bit};
+ghost use Rattle.px_rows.specs.Rows.{EachBit};
+ghost use Rattle.px_planes.specs.Lent.{output_bit};
 ghost use Rattle.px_planes.specs.Trees.{heights as heights_of};
 
-use crate::bits::{bit_of_row, part, zero_row};
 use crate::heads::Heads;
 use crate::heap::feed_heap;
 use crate::small::unpack;
 use px_num::{Memory, power};
+use px_rows::{bit_of_row, part, zero_row};
 use px_tree::{Lines, Tree, leaf_place, node_place};
 use std::alloc::Global;
 use std::marker::Model;

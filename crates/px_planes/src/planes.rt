@@ -2,8 +2,8 @@
 ghost use Rattle.std.specs.Prelude.{IfOk};
 ghost use Rattle.px_planes.specs.Pixels.{IsZero};
 
-use crate::row::Row;
 use px_num::Memory;
+use px_rows::Row;
 use std::alloc::Global;
 
 /// The rows. `full` has 1 in each word where a pixel stands.

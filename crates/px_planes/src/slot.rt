@@ -3,16 +3,16 @@ ghost use Rattle.std.specs.Prelude.{◌≡◌, ◌+◌, ◌*◌, ◌^◌, ◌<�
 ghost use Rattle.std.specs.Prelude.{length, slice_index, slice_index_or};
 ghost use Rattle.px_array.specs.Arrays.{Device};
 ghost use Rattle.px_planes.specs.Pixels.{HasPixels, HasWords, pixels_in};
-ghost use Rattle.px_planes.specs.Rows.{words_for};
+ghost use Rattle.px_rows.specs.Rows.{words_for};
 ghost use Rattle.px_planes.specs.Shelves.{AreShelved, IsShelved, SlotView};
 ghost use Rattle.px_tree.specs.Nodes.{IsGrid};
 
 use crate::plane_grid::PlaneGrid;
 use crate::plane_tree::PlaneTree;
 use crate::planes::Planes;
-use crate::row::Row;
 use crate::shelf::Shelf;
 use px_num::{Memory, power};
+use px_rows::Row;
 use std::alloc::Global;
 use std::marker::Model;
 
@@ -27,7 +27,7 @@ pub(crate) struct Slot<const N: usize> {
 
 impl<const N: usize> Model for Slot<N> {
     ghost use Rattle.std.specs.Prelude.{◌≡◌, ◌≤◌, ◌+◌, ◌*◌, ◌^◌, true, None, Some, if◌then◌else◌};
-    ghost use Rattle.px_planes.specs.Rows.{words_for};
+    ghost use Rattle.px_rows.specs.Rows.{words_for};
     ghost use Rattle.px_planes.specs.Shelves.{IsFilled, SlotView, device_on};
     ghost use Rattle.px_tree.specs.Nodes.{IsGrid};
 

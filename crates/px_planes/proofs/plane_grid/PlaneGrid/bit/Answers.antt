@@ -1,9 +1,9 @@
 use Rattle.std.proofs.Common.{◌≡◌, ◌∙◌, ◌+◌, ◌*◌, ◌^◌, ◌<◌, ℕ, List, [], get_or, length, ap, arith}
 use Rattle.std.proofs.lemmas.List.{get_or_default}
+use Rattle.px_num.specs.Bits.{bit_at}
 use Rattle.px_array.specs.Arrays.{no_pixel}
-use Rattle.px_pixel.specs.Pixels.{bit_at}
 use Rattle.px_planes.specs.Pixels.{pixels_in}
-use Rattle.px_planes.specs.Rows.{row_bit}
+use Rattle.px_rows.specs.Rows.{row_bit}
 use Rattle.px_planes.proofs.Grids.{bit_law}
 use Rattle.px_planes.proofs.plane_grid.PlaneGrid.bit.Goals as goal
 

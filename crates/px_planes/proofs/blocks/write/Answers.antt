@@ -1,5 +1,0 @@
-use Rattle.px_planes.proofs.BlockLaws.{written_law}
-use Rattle.px_planes.proofs.blocks.write.Goals as goal
-
-pub returns : goal.returns
-returns c = written_law c.args.at c.args.row.now c.args.words c.requires c.fits-words.0

@@ -1,5 +1,0 @@
-use Rattle.px_planes.proofs.WordLaws.{kept_law}
-use Rattle.px_planes.proofs.words.kept_word.Goals as goal
-
-pub returns : goal.returns
-returns c = kept_law c.args.mask c.args.other c.args.turn

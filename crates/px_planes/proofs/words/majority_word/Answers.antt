@@ -1,5 +1,0 @@
-use Rattle.px_planes.proofs.WordLaws.{majority_law}
-use Rattle.px_planes.proofs.words.majority_word.Goals as goal
-
-pub returns : goal.returns
-returns c = majority_law c.args.carry c.args.other c.args.value c.args.turn

@@ -1,0 +1,4 @@
+pub mod BitLaws
+pub mod BlockLaws
+pub mod WordLaws
+pub mod Writes

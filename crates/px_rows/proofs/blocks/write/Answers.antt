@@ -1,0 +1,5 @@
+use Rattle.px_rows.proofs.BlockLaws.{written_law}
+use Rattle.px_rows.proofs.blocks.write.Goals as goal
+
+pub returns : goal.returns
+returns c = written_law c.args.at c.args.row.now c.args.words c.requires c.fits-words.0

@@ -1,0 +1,5 @@
+use Rattle.px_rows.proofs.WordLaws.{chosen_law}
+use Rattle.px_rows.proofs.words.chosen_word.Goals as goal
+
+pub returns : goal.returns
+returns c = chosen_law c.args.target c.args.value c.args.mask

@@ -1,0 +1,130 @@
+//! What the calls on rows do to eight words at once, on the lanes of a vector.
+ghost use Rattle.std.specs.Prelude.{◌≡◌, ◌<◌, ◌≤◌, ◌+◌, ℕ, length, slice_index};
+ghost use Rattle.px_rows.specs.Words.{IsAdded, IsCarried, IsChosen, IsKept, IsMajority};
+ghost use Rattle.px_rows.specs.Words.{IsBlock, IsWritten};
+
+use std::simd::prelude::*;
+
+/// The words of a block.
+pub const LANES: usize = 8;
+
+/// Keeps the mask's words from `at` on.
+#[inline(always)]
+pub fn keep_block(mask: &mut [u64], other: &[u64], turn: u64, at: usize)
+    requires mask { at + 8 ≤ length mask.old }
+    requires other { at + 8 ≤ length other.now }
+    ensures { IsWritten (λ k word. IsKept word (slice_index mask.old k)
+        (slice_index other.now k) turn) at mask.old mask.new }
+{
+    let kept = kept_lanes(read(mask, at), read(other, at), turn);
+    write(mask, at, kept);
+}
+
+/// Chooses the target's words from `at` on.
+#[inline(always)]
+pub fn choose_block(target: &mut [u64], value: &[u64], mask: &[u64], at: usize)
+    requires target { at + 8 ≤ length target.old }
+    requires value { at + 8 ≤ length value.now }
+    requires mask { at + 8 ≤ length mask.now }
+    ensures { IsWritten (λ k word. IsChosen word (slice_index target.old k)
+        (slice_index value.now k) (slice_index mask.now k)) at target.old target.new }
+{
+    let chosen = chosen_lanes(read(target, at), read(value, at), read(mask, at));
+    write(target, at, chosen);
+}
+
+/// Outvotes the carry's words from `at` on.
+#[inline(always)]
+pub fn majority_block(carry: &mut [u64], value: &[u64], other: &[u64], turn: u64, at: usize)
+    requires carry { at + 8 ≤ length carry.old }
+    requires value { at + 8 ≤ length value.now }
+    requires other { at + 8 ≤ length other.now }
+    ensures { IsWritten (λ k word. IsMajority word (slice_index carry.old k)
+        (slice_index other.now k) (slice_index value.now k) turn) at carry.old carry.new }
+{
+    let majority = majority_lanes(read(carry, at), read(other, at), read(value, at), turn);
+    write(carry, at, majority);
+}
+
+/// Adds the target's words from `at` on.
+#[inline(always)]
+pub fn add_block(target: &mut [u64], carry: &mut [u64], value: &[u64], mask: &[u64], at: usize)
+    requires target { at + 8 ≤ length target.old }
+    requires carry { at + 8 ≤ length carry.old }
+    requires value { at + 8 ≤ length value.now }
+    requires mask { at + 8 ≤ length mask.now }
+    ensures added { IsWritten (λ k word. IsAdded word (slice_index target.old k)
+        (slice_index carry.old k) (slice_index value.now k)
+        (slice_index mask.now k)) at target.old target.new }
+    ensures carried { IsWritten (λ k word. IsCarried word (slice_index target.old k)
+        (slice_index carry.old k) (slice_index value.now k)) at carry.old carry.new }
+{
+    let old = read(target, at);
+    let held = read(carry, at);
+    let added = read(value, at);
+    write(target, at, added_lanes(old, held, added, read(mask, at)));
+    write(carry, at, carried_lanes(old, held, added));
+}
+
+#[inline(always)]
+fn kept_lanes(mask: u64x8, other: u64x8, turn: u64) -> u64x8
+    ensures { (i : ℕ) → i < 8 →
+        IsKept (slice_index result i) (slice_index mask i) (slice_index other i) turn }
+{
+    mask & (other ^ u64x8::splat(turn))
+}
+
+#[inline(always)]
+fn chosen_lanes(target: u64x8, value: u64x8, mask: u64x8) -> u64x8
+    ensures { (i : ℕ) → i < 8 →
+        IsChosen (slice_index result i) (slice_index target i) (slice_index value i)
+        (slice_index mask i) }
+{
+    target ^ ((target ^ value) & mask)
+}
+
+#[inline(always)]
+fn majority_lanes(carry: u64x8, other: u64x8, value: u64x8, turn: u64) -> u64x8
+    ensures { (i : ℕ) → i < 8 →
+        IsMajority (slice_index result i) (slice_index carry i) (slice_index other i)
+        (slice_index value i) turn }
+{
+    carry ^ ((carry ^ other) & (carry ^ (value ^ u64x8::splat(turn))))
+}
+
+#[inline(always)]
+fn added_lanes(target: u64x8, carry: u64x8, value: u64x8, mask: u64x8) -> u64x8
+    ensures { (i : ℕ) → i < 8 →
+        IsAdded (slice_index result i) (slice_index target i) (slice_index carry i)
+        (slice_index value i) (slice_index mask i) }
+{
+    target ^ ((value ^ carry) & mask)
+}
+
+#[inline(always)]
+fn carried_lanes(target: u64x8, carry: u64x8, value: u64x8) -> u64x8
+    ensures { (i : ℕ) → i < 8 →
+        IsCarried (slice_index result i) (slice_index target i) (slice_index carry i)
+        (slice_index value i) }
+{
+    carry ^ ((value ^ carry) & (carry ^ target))
+}
+
+/// The words from `at` on.
+#[inline(always)]
+fn read(row: &[u64], at: usize) -> u64x8
+    requires { at + 8 ≤ length row.now }
+    ensures { IsBlock at row.now result }
+{
+    u64x8::from_slice(&row[at..])
+}
+
+/// Makes the words from `at` on be these.
+#[inline(always)]
+fn write(row: &mut [u64], at: usize, words: u64x8)
+    requires { at + 8 ≤ length row.old }
+    ensures { IsWritten (λ k word. (i : ℕ) → k ≡ at + i → word
+        ≡ slice_index words i) at row.old row.new }
+{
+    words.copy_to_slice(&mut row[at..]);
+}

@@ -1,0 +1,134 @@
+//! One bit of every pixel.
+ghost use Rattle.std.specs.Prelude.{◌≡◌, ◌<◌, ◌*◌, ◌&&◌, ℕ, cond, not, true, length, replicate};
+ghost use Rattle.std.specs.Prelude.{IfOk};
+ghost use Rattle.std.specs.Bool.{beq};
+ghost use Rattle.px_num.specs.Bits.{majority, xor};
+ghost use Rattle.px_rows.specs.Rows.{EachBit, row_bit};
+
+use crate::bits::{bit_of_row, zero_row};
+use crate::rows::{add_row, choose_row, keep_row, majority_row};
+use crate::strokes::{flip_row, paint_row};
+use px_num::Memory;
+use std::alloc::Global;
+use std::marker::Model;
+
+/// A row of bits, which contracts see as its words.
+#[derive(Drop)]
+pub struct Row {
+    words: Vec<u64>,
+}
+
+impl Model for Row {
+    ghost use Rattle.std.specs.Prelude.{ℕ, List};
+
+    ghost Value = { List ℕ };
+
+    ghost view = { λ r. r.words.items };
+}
+
+impl Row {
+    /// So many words that are 0.
+    pub fn zero(alloc: Global, words: usize) -> Result<Row, Memory>
+        ensures { IfOk result (λ row. row ≡ replicate words 0) }
+    {
+        Ok(Row {
+            words: zero_row(alloc, words)?,
+        })
+    }
+
+    pub fn words(&self) -> &[u64]
+        ensures { result.now ≡ self.now }
+    {
+        &self.words
+    }
+
+    /// The bit of the pixel at a place.
+    pub fn bit(&self, place: usize) -> bool
+        requires { place < 64 * length self.now }
+        ensures { result ≡ row_bit self.now place }
+    {
+        bit_of_row(&self.words, place)
+    }
+
+    /// Each bit stays 1 where the other is the one that is wanted.
+    pub fn keep(&mut self, other: &[u64], want: bool)
+        requires { length self.old ≡ length other.now }
+        ensures bits { EachBit self.new (λ p. row_bit self.old p && beq
+            (row_bit other.now p) want) }
+        ensures words { length self.new ≡ length self.old }
+    {
+        keep_row(&mut self.words, other, want);
+    }
+
+    /// The value's bits where the mask's are 1.
+    pub fn choose(&mut self, value: &[u64], mask: &[u64])
+        requires value { length self.old ≡ length value.now }
+        requires mask { length self.old ≡ length mask.now }
+        ensures bits { EachBit self.new (λ p. cond (row_bit mask.now p) (row_bit value.now p)
+            (row_bit self.old p)) }
+        ensures words { length self.new ≡ length self.old }
+    {
+        choose_row(&mut self.words, value, mask);
+    }
+
+    /// Each bit becomes the majority of itself, the other's and the value's turned over.
+    pub fn outvote(&mut self, value: &[u64], other: &[u64])
+        requires value { length self.old ≡ length value.now }
+        requires other { length self.old ≡ length other.now }
+        ensures bits { EachBit self.new (λ p. majority (row_bit self.old p)
+            (row_bit other.now p) (xor (row_bit value.now p) true)) }
+        ensures words { length self.new ≡ length self.old }
+    {
+        majority_row(&mut self.words, value, other, true);
+    }
+
+    /// Adds the value where the mask's bits are 1; the carry takes part everywhere.
+    pub fn add(&mut self, carry: &mut Row, value: &[u64], mask: &[u64])
+        requires carry { length self.old ≡ length carry.old }
+        requires value { length self.old ≡ length value.now }
+        requires mask { length self.old ≡ length mask.now }
+        ensures bits { EachBit self.new (λ p. cond (row_bit mask.now p) (xor
+            (row_bit value.now p) (xor (row_bit self.old p) (row_bit carry.old p)))
+            (row_bit self.old p)) }
+        ensures carry { EachBit carry.new (λ p. majority (row_bit value.now p)
+            (row_bit self.old p) (row_bit carry.old p)) }
+        ensures words { length self.new ≡ length self.old }
+        ensures carry_words { length carry.new ≡ length carry.old }
+    {
+        add_row(&mut self.words, &mut carry.words, value, mask);
+    }
+
+    /// The bits where the mask's are 1 become `v`.
+    pub fn paint(&mut self, mask: &[u64], v: bool)
+        requires { length self.old ≡ length mask.now }
+        ensures bits { EachBit self.new (λ p. cond (row_bit mask.now p) v (row_bit self.old p)) }
+        ensures words { length self.new ≡ length self.old }
+    {
+        paint_row(&mut self.words, mask, v);
+    }
+
+    /// The bits where the mask's are 1 are turned over.
+    pub fn flip(&mut self, mask: &[u64])
+        requires { length self.old ≡ length mask.now }
+        ensures bits { EachBit self.new (λ p. cond (row_bit mask.now p) (not
+            (row_bit self.old p)) (row_bit self.old p)) }
+        ensures words { length self.new ≡ length self.old }
+    {
+        flip_row(&mut self.words, mask);
+    }
+
+    /// The bits become those of another row.
+    pub fn copy(&mut self, from: &[u64])
+        requires { length self.old ≡ length from.now }
+        ensures { self.new ≡ from.now }
+    {
+        self.words.copy_from_slice(from);
+    }
+
+    /// Every word becomes this one.
+    pub fn fill(&mut self, word: u64)
+        ensures { self.new ≡ replicate (length self.old) word }
+    {
+        self.words.fill(word);
+    }
+}
