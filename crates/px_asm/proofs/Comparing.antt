@@ -3,8 +3,8 @@ use Rattle.std.proofs.Common.{◌≡◌, ℕ, zero, suc, ◌+◌, ◌-◌, ◌*�
 use Rattle.std.specs.Bool.{beq}
 use Rattle.std.proofs.Math.Nat.{mod-eq_of_lt}
 use Rattle.std.proofs.lemmas.Bool.Decides.{nat_tests}
-use Rattle.px_num.specs.AdderLaws.{carry_is_overflow, flipped, flipped_bit, modulo-flipped, number}
-use Rattle.px_num.specs.BitLaws.{modulo_below}
+use Rattle.px_num.proofs.AdderLaws.{carry_is_overflow, flipped, flipped_bit, modulo-flipped, number}
+use Rattle.px_num.proofs.BitLaws.{modulo_below}
 use Rattle.px_num.specs.Bits.{carry_from, modulo}
 use Rattle.px_pixel.specs.Acts.{kept}
 use Rattle.px_pixel.specs.Pixels.{PixelState}

@@ -4,11 +4,11 @@ use Rattle.std.specs.Bool.{beq}
 use Rattle.std.specs.Int.{is_negative}
 use Rattle.std.proofs.lemmas.Bool.Decides.{nat_tests}
 use Rattle.std.proofs.lemmas.Int.{ints}
-use Rattle.px_num.specs.AdderLaws.{flipped_bit, sum_bit}
-use Rattle.px_num.specs.BitLaws.{modulo_bit}
-use Rattle.px_num.specs.Bits.{bit_of, carry_from, modulo, nat_bit}
+use Rattle.px_num.proofs.AdderLaws.{flipped_bit, sum_bit}
+use Rattle.px_num.proofs.BitLaws.{modulo_bit}
+use Rattle.px_num.specs.Bits.{bit_at, bit_of, carry_from, modulo, nat_bit}
 use Rattle.px_pixel.specs.Acts.{after_act}
-use Rattle.px_pixel.specs.Pixels.{PixelState, bit_at}
+use Rattle.px_pixel.specs.Pixels.{PixelState}
 use Rattle.px_pixel.specs.declared.act.Act.{Act}
 use Rattle.px_pixel.specs.declared.act.Act.TheVariants as act
 use Rattle.px_macro.specs.FieldLaws.{BitsOfNumber, NumberIsBelow}

@@ -9,7 +9,7 @@ use Rattle.px_array.specs.Clocks.{all_clocked, after_clocks, clocked}
 use Rattle.px_array.specs.declared.micro.Micro.{Micro}
 use Rattle.px_asm.specs.Micros.{cycles, micro_at, micros}
 use Rattle.px_macro.specs.declared.operation.Macro.{Macro}
-use Rattle.px_num.specs.Lists.{get_or-tabulate, length-tabulate}
+use Rattle.px_num.proofs.ListLaws.{get_or-tabulate, length-tabulate}
 
 between_step : (ms : List Micro) (i j : ℕ) (d : Micro) → i < j → j ≤ length ms → between i j ms ≡ get_or ms i d ∷ between (i + 1) j ms
 between_step ms i j d low within =

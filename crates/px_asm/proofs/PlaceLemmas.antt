@@ -1,7 +1,7 @@
 -- The places that micros name.
 use Rattle.std.proofs.Common.{◌≡◌, ℕ, ◌+◌, ◌-◌, ◌*◌, ◌/◌, ◌%◌, ◌<◌, ◌==◌, Bool, true, false, if◌then◌else◌, nat_lt, refl, arith, subst, sym}
 use Rattle.std.proofs.lemmas.Bool.Decides.{nat_tests}
-use Rattle.px_num.specs.Lists.{get_or-tabulate, length-tabulate}
+use Rattle.px_num.proofs.ListLaws.{get_or-tabulate, length-tabulate}
 use Rattle.px_pixel.specs.Acts.{HasPlace}
 use Rattle.px_pixel.specs.declared.act.Act.{Act}
 use Rattle.px_pixel.specs.declared.act.Act.TheVariants as act

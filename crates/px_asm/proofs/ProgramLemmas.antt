@@ -2,7 +2,7 @@
 use Rattle.std.proofs.Common.{suc, ◌∙◌, All, [], ◌∷◌, refl, ap, arith}
 use Rattle.px_macro.specs.Macros.{IsLawful, after_macros}
 use Rattle.px_array.specs.Arrays.{State, pixel_of}
-use Rattle.px_array.specs.ClockLaws.{after_clocks-append, grid_after_clocks}
+use Rattle.px_array.proofs.ClockLaws.{after_clocks-append, grid_after_clocks}
 use Rattle.px_array.specs.Clocks.{after_clocks}
 use Rattle.px_asm.specs.Micros.{all_micros, micros}
 use Rattle.px_asm.specs.Microprograms.{LeaveTheMeaning, LeaveTheMeanings, bits_of}

@@ -12,7 +12,7 @@ use Rattle.px_tree.specs.Feeds.{fed_form}
 use Rattle.px_tree.specs.Nodes.{IsGrid, TreeState, leaf_output}
 use Rattle.px_tree.specs.TreeBit.{LeafGivesValue}
 use Rattle.px_array.specs.Arrays.{HasGrid, State, pixel_at, pixel_of}
-use Rattle.px_array.specs.ClockLaws.{grid_after_clock, pixel_at-after_clock}
+use Rattle.px_array.proofs.ClockLaws.{grid_after_clock, pixel_at-after_clock}
 use Rattle.px_array.specs.Clocks.{after_clock, after_clocks}
 use Rattle.px_array.specs.declared.micro.Micro.{Micro}
 use Rattle.px_asm.specs.Micros.{tree_at}

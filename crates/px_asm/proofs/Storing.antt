@@ -1,9 +1,9 @@
 -- What is left of one pixel by acts that store a field, bit by bit.
 use Rattle.std.proofs.Common.{◌≡◌, ℕ, zero, suc, ◌+◌, ◌*◌, ◌/◌, ◌%◌, ◌<◌, ◌≤◌, ◌==◌, Bool, true, false, List, length, if◌then◌else◌, ◌⊎◌, inl, inr, refl, sym, ap, subst, ◌∙◌, arith}
 use Rattle.std.proofs.lemmas.Bool.Decides.{nat_tests}
-use Rattle.px_num.specs.Bits.{nat_bit}
+use Rattle.px_num.specs.Bits.{bit_at, nat_bit}
 use Rattle.px_pixel.specs.Acts.{after_act, stored}
-use Rattle.px_pixel.specs.Pixels.{PixelState, bit_at}
+use Rattle.px_pixel.specs.Pixels.{PixelState}
 use Rattle.px_pixel.specs.declared.act.Act.{Act}
 use Rattle.px_macro.specs.FieldLaws.{BitsOfNumber}
 use Rattle.px_macro.specs.Fields.{number_in, with_number}

@@ -3,9 +3,8 @@ use Rattle.std.proofs.Common.{◌≡◌, ◌≢◌, ℕ, suc, ◌+◌, ◌-◌, 
 use Rattle.std.proofs.lemmas.Bool.{cases_lt}
 use Rattle.std.proofs.lemmas.Bool.Decides.{nat_tests}
 use Rattle.std.proofs.lemmas.List.{get_or_default, same_lists}
-use Rattle.px_num.specs.Bits.{nat_bit}
-use Rattle.px_num.specs.Lists.{is_tabulate}
-use Rattle.px_pixel.specs.Pixels.{bit_at}
+use Rattle.px_num.specs.Bits.{bit_at, nat_bit}
+use Rattle.px_num.proofs.ListLaws.{is_tabulate}
 use Rattle.px_macro.specs.Fields.{is_in, with_number}
 use Rattle.px_macro.specs.declared.field.Field.{Field}
 

@@ -4,6 +4,7 @@
 mod between_fields;
 mod law;
 mod making;
+mod number;
 mod of_forms;
 mod still;
 mod table;
@@ -12,4 +13,5 @@ mod tests;
 
 pub use law::law_of_microprograms;
 pub use making::{make_micros, make_operation};
+pub use number::number_in;
 pub use table::{cycles, micro_at};

@@ -2,7 +2,7 @@
 ghost use Rattle.std.specs.Prelude.{◌≡◌};
 ghost use Rattle.px_array.specs.Arrays.{HasPixel};
 
-use crate::{cycles, micro_at};
+use crate::{cycles, micro_at, number_in};
 use px_array::{Array, PixelArray};
 use px_macro::{Field, Macro, lawful};
 use px_num::Linear;
@@ -141,6 +141,11 @@ fn try_pixel(rt: &impl Abort, array: &PixelArray<16>, m: &Macro, x: u32, y: u32,
 {
     let is_enabled = array.registers(x, y).enable;
     assert_eq!(rt; u32::from(is_enabled), want >> 16, "{m:?} at ({x}, {y})");
+    assert_eq!(rt;
+        number_in(array, WHOLE, x, y),
+        u64::from(want & 0xffff),
+        "{m:?} at ({x}, {y})"
+    );
     for at in 0..16 {
         let bit = array.bit(x, y, at);
         assert_eq!(rt;

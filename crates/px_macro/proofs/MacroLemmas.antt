@@ -1,6 +1,6 @@
 -- What holds of every operation.
 use Rattle.std.proofs.Common.{◌≡◌, ℕ, ◌≤◌, Bool, true, false, if◌then◌else◌, List, [], ◌∷◌, length, slice_set, refl, arith, length-set}
-use Rattle.px_num.specs.Lists.{length-tabulate}
+use Rattle.px_num.proofs.ListLaws.{length-tabulate}
 use Rattle.px_macro.specs.Fields.{with_number}
 use Rattle.px_macro.specs.Macros.{AreOfOneLength, IsField, IsLawfulInMore, MeaningsJoin, MemoryStaysLong, after_macro}
 use Rattle.px_macro.specs.declared.field.Field.{Field}

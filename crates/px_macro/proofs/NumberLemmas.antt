@@ -6,12 +6,12 @@ use Rattle.std.proofs.lemmas.Nat.{pow-add}
 use Rattle.std.proofs.lemmas.Nat.Bits.{bit_at_cat_high, bit_at_cat_low}
 use Rattle.std.proofs.Math.Nat.{mod-one, pow-suc}
 use Rattle.std.proofs.Math.Arith.{mod-mul}
-use Rattle.px_num.specs.AdderLaws.{number}
-use Rattle.px_num.specs.BitLaws.{pow_above}
-use Rattle.px_num.specs.Bits.{nat_bit}
-use Rattle.px_num.specs.Lists.{get_or-tabulate}
+use Rattle.px_num.proofs.AdderLaws.{number}
+use Rattle.px_num.proofs.BitLaws.{pow_above}
+use Rattle.px_num.specs.Bits.{bit_at, nat_bit}
+use Rattle.px_num.proofs.ListLaws.{get_or-tabulate}
 use Rattle.px_macro.specs.FieldLaws.{BitBesideIsKept, BitsOfNumber, NumberBesideIsKept, NumberIsBelow, NumberIsKept, NumberIsRead, NumberOfParts, PlacesAreWritten}
-use Rattle.px_macro.specs.Fields.{bit_at, is_in, number_of, with_number}
+use Rattle.px_macro.specs.Fields.{is_in, number_of, with_number}
 use Rattle.px_macro.specs.declared.field.Field.{Field}
 
 double_pow : (n : ℕ) → 2 ^ suc n ≡ 2 * 2 ^ n

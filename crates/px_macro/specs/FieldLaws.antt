@@ -1,7 +1,7 @@
 -- Laws of numbers in fields.
 use Rattle.std.specs.Prelude.{◌≡◌, ℕ, ◌+◌, ◌-◌, ◌*◌, ◌%◌, ◌^◌, ◌<◌, ◌≤◌, Bool, false, if◌then◌else◌, List, length, slice_set}
-use Rattle.px_num.specs.Bits.{nat_bit}
-use Rattle.px_macro.specs.Fields.{bit_at, is_in, number_in, with_number}
+use Rattle.px_num.specs.Bits.{bit_at, nat_bit}
+use Rattle.px_macro.specs.Fields.{is_in, number_in, with_number}
 use Rattle.px_macro.specs.Macros.{AreApart}
 use Rattle.px_macro.specs.declared.field.Field.{Field}
 

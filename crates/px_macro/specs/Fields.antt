@@ -1,12 +1,8 @@
 -- What a contract sees of the numbers in fields of a memory.
-use Rattle.std.specs.Prelude.{ℕ, zero, suc, ◌+◌, ◌-◌, ◌^◌, Bool, false, ◌&&◌, if◌then◌else◌, nat_le, nat_lt, List, length, slice_index_or}
-use Rattle.px_num.specs.Bits.{nat_bit}
+use Rattle.std.specs.Prelude.{ℕ, zero, suc, ◌+◌, ◌-◌, ◌^◌, Bool, ◌&&◌, if◌then◌else◌, nat_le, nat_lt, List, length}
+use Rattle.px_num.specs.Bits.{bit_at, nat_bit}
 use Rattle.px_num.specs.Lists.{tabulate}
 use Rattle.px_macro.specs.declared.field.Field.{Field}
-
--- the bit of a memory at a place
-abbrev pub bit_at : List Bool → ℕ → Bool
-bit_at memory place = slice_index_or memory place false
 
 -- the number of so many bits, the lowest first
 abbrev pub number_of : (bit : ℕ → Bool) → (count : ℕ) → ℕ

@@ -2,9 +2,9 @@
 use Rattle.std.specs.Prelude.{◌≡◌, ℕ, ◌+◌, ◌^◌, ◌<◌, ◌≤◌, ⊤, ◌⊎◌, pos, ◌+ℤ◌, Bool, true, not, ◌&&◌, if◌then◌else◌, nat_le, nat_lt, List, [], ◌∷◌, ◌++◌, length, slice_set}
 use Rattle.std.specs.Bool.{beq}
 use Rattle.std.specs.Int.{is_negative}
-use Rattle.px_num.specs.Bits.{modulo}
+use Rattle.px_num.specs.Bits.{bit_at, modulo}
 use Rattle.px_num.specs.Forms.{IsInTreeRange, value_at}
-use Rattle.px_macro.specs.Fields.{bit_at, number_in, with_number}
+use Rattle.px_macro.specs.Fields.{number_in, with_number}
 use Rattle.px_macro.specs.declared.field.Field.{Field}
 use Rattle.px_macro.specs.declared.operation.Macro.{Macro}
 use Rattle.px_macro.specs.declared.operation.Macro.TheVariants.{All, KeepSign, KeepBit, LoadLinear, KeepAtMost, AddLinear, LoadConst, SetBit, Toggle, Copy, KeepLess}

@@ -2,7 +2,7 @@ use Rattle.std.proofs.Common.{◌≡◌, ◌+◌, ◌∙◌, ap, arith}
 use Rattle.std.specs.List.{between}
 use Rattle.px_array.specs.Arrays.{Device}
 use Rattle.px_array.specs.Clocks.{all_clocked, clocked}
-use Rattle.px_array.specs.ClockLaws.{nx-after_tree_op}
+use Rattle.px_array.proofs.ClockLaws.{nx-after_tree_op}
 use Rattle.px_asm.specs.Making.{micros_on}
 use Rattle.px_asm.specs.Micros.{micro_at}
 use Rattle.px_asm.proofs.MakingLemmas.{one_made}
