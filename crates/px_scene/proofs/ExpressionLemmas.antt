@@ -1,13 +1,10 @@
 -- What is written is read, and what is read was written.
 use Rattle.std.proofs.Common.{◌≡◌, List, [], ◌∷◌, ◌++◌, Bool, true, false, ◌&&◌, Some, if◌then◌else◌, fold, refl, ap, sym, ◌∙◌, append_assoc, append-nil}
 use Rattle.std.proofs.lemmas.List.Sums.{fold-append}
-use Rattle.px_scene.specs.Word.{is_name}
+use Rattle.px_text.specs.Word.{is_name}
+use Rattle.px_text.proofs.PlainLemmas.{both}
 use Rattle.px_scene.specs.Tokens.{Token, name, opens, closes, sign, other}
 use Rattle.px_scene.specs.Expressions.{Named, leaf, join, written, has_names, Part, side, token, closed, put, parts_of, whole, expression_of, IsExpressionOf}
-
-pub both : (a b : Bool) → a && b ≡ true → (a ≡ true) × (b ≡ true)
-both true b e = (refl, e)
-both false b e = cc
 
 -- what is written becomes one side
 pub reads : (tree : Named) (before : List Part) → has_names tree ≡ true → fold put before (written tree) ≡ side tree ∷ before

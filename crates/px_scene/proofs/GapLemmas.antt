@@ -12,7 +12,7 @@ use Rattle.px_expr.specs.declared.node.Shape.TheVariants as h
 use Rattle.px_expr.specs.Tree.{Tree, leaf, join}
 use Rattle.px_expr.specs.Shapes.{shape_of, joined, put, CanPlace, IsLeafBelow}
 use Rattle.px_expr.specs.Postorder.{placed, trees_after}
-use Rattle.px_scene.specs.Text.{Words}
+use Rattle.px_text.specs.Text.{Words}
 use Rattle.px_scene.specs.Printed.{printed, named_by}
 use Rattle.px_scene.specs.Gaps.{spread, split_gap, first_gap, other_gaps, gaps_before, text_of}
 use Rattle.px_scene.specs.declared.print.Gap.{Gap}

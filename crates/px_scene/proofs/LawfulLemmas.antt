@@ -4,34 +4,31 @@ use Rattle.std.proofs.Common.{◌≡◌, ℕ, ℤ, pos, ◌+◌, ◌<◌, ◌≤
 use Rattle.std.proofs.lemmas.List.{length-map, map-append}
 use Rattle.std.proofs.lemmas.List.Sums.{sum_by-append}
 use Rattle.std.proofs.lemmas.Bool.Decides.{nat_tests}
-use Rattle.std.specs.Option.{option_or}
-use Rattle.px_scene.specs.declared.line.LimitKind.{LimitKind}
 use Rattle.px_scene.specs.declared.line.LimitKind.TheVariants as kind
 use Rattle.px_scene.specs.declared.line.Due.{Due}
 use Rattle.px_scene.specs.declared.line.Due.TheVariants as d
 use Rattle.px_scene.specs.declared.line.Keyword.{Keyword}
 use Rattle.px_scene.specs.declared.line.Keyword.TheVariants as k
-use Rattle.px_scene.specs.Versions.{depth_count, version_or_first}
+use Rattle.px_scene.specs.Versions.{version_or_first}
 use Rattle.px_scene.specs.declared.version.Version.{Version}
-use Rattle.px_scene.specs.declared.version.Version.TheVariants as v
 use Rattle.px_scene.specs.declared.line.Cause.{Cause}
 use Rattle.px_expr.specs.Tree.{HasLeavesBelow}
-use Rattle.px_scene.specs.Show.{show_cause, show_limit, show_fault, show_tree}
+use Rattle.px_scene.specs.Show.{show_cause, show_tree}
 use Rattle.px_scene.proofs.ShowLemmas.{shown_lawful, named_show}
 use Rattle.px_scene.specs.declared.line.LineFault.{LineFault}
 use Rattle.px_scene.specs.Faults.{judged}
 use Rattle.px_num.specs.declared.linear.Linear.{Linear}
 use Rattle.std.proofs.lemmas.Bool.{cases_eq}
-use Rattle.px_scene.specs.declared.solid.Colour.{Colour}
-use Rattle.px_scene.specs.declared.solid.Face.{Face}
-use Rattle.px_scene.specs.Text.{Words}
-use Rattle.px_scene.specs.Lines.{numeric, numbers_of, face_past, limit_of, figures, two_past, depth_past, fraction_past, past, most, due_after, solid_form, behind_name, face_limit}
+use Rattle.px_model.specs.declared.solid.Colour.{Colour}
+use Rattle.px_model.specs.declared.solid.Face.{Face}
+use Rattle.px_text.specs.Text.{Words}
+use Rattle.px_scene.specs.Lines.{numeric, numbers_of, limit_of, figures, two_past, depth_past, fraction_past, past, most, due_after}
 use Rattle.px_scene.specs.Figures.{size_of, face_of, side_of}
-use Rattle.px_scene.specs.Solids.{SolidView, faces_in, names_of}
-use Rattle.px_scene.specs.Scenes.{IsNumberedFrom, faces_of}
+use Rattle.px_model.specs.Solids.{SolidView, faces_in, names_of}
+use Rattle.px_model.specs.Scenes.{IsNumberedFrom, faces_of}
 use Rattle.px_scene.specs.Drafts.{DraftView, IsLawfulDraft, with_last, with_front, with_back, with_side, and_side, with_line, with_picture, with_depth, fresh_solid, first_word, is_begun, is_ended, tally_of, IsGoodForm, CanBeTaken}
 use Rattle.px_scene.proofs.NumberLemmas.{numbered_front, numbered_back, numbered_push}
-use Rattle.px_scene.proofs.TakenLemmas.{numbered_last, faces_of-with_last, names_with_last, names_push, IsNewName, SolidRoom, size_within, fraction_within, none_first, none_second, numbered_fresh, face_room, solid_room, at_most, begun_front, begun_back, begun_side, begun_end, new_name, ended_end, last_can_take}
+use Rattle.px_scene.proofs.TakenLemmas.{numbered_last, faces_of-with_last, names_with_last, names_push, IsNewName, SolidRoom, size_within, fraction_within, none_first, none_second, numbered_fresh, face_room, solid_room, begun_front, begun_back, begun_side, begun_end, new_name, ended_end, last_can_take}
 
 pub length-with_last : (change : SolidView → SolidView) (ss : List SolidView) → length (with_last change ss) ≡ length ss
 length-with_last change [] = refl
@@ -240,16 +237,6 @@ lawful_solid draft ws is new room =
       begun = λ b. omega (arith, grown);
     })
 
--- no limit is passed on the line of a side
-record SideRoom (zs : List ℤ) (sides : ℕ) : Type 0 where
-  within : face_past zs ≡ None
-  room : sides < 32
-
-side_room : (zs : List ℤ) (sides : ℕ) → option_or (face_past zs) (most kind.Sides 32 (sides + 1)) ≡ None → SideRoom zs sides
-side_room zs sides e =
-    let few : sides + 1 ≤ 32 = at_most kind.Sides 32 (sides + 1) (none_second (face_past zs) _ e)
-    in record { within = none_first _ _ e; room = omega arith }
-
 pub lawful_show : (draft : DraftView) (ws : Words) → IsLawfulDraft draft → show_cause draft.version (names_of draft.solids) ws ≡ None
     → IsLawfulDraft (record draft { due = d.End; show = show_tree draft.version (names_of draft.solids) ws })
 lawful_show draft ws is good = record {
@@ -273,10 +260,6 @@ lawful_show draft ws is good = record {
 pub of_form : (cause : Option Cause) (limit : Option LineFault) → judged cause limit ≡ None → cause ≡ None
 of_form None limit e = refl
 of_form (Some cause) limit e = cc
-
-pub lawful_shown : (draft after : DraftView) (ws : Words) → IsLawfulDraft draft → show_fault draft.version (names_of draft.solids) ws ≡ None
-    → after ≡ record draft { due = d.End; show = show_tree draft.version (names_of draft.solids) ws } → IsLawfulDraft after
-lawful_shown draft after ws is good e = rw e (lawful_show draft ws is (of_form _ (show_limit draft.version ws) good))
 
 -- the limits do not look at the version
 of_version : (draft : DraftView) (version : Version) → IsLawfulDraft draft → IsLawfulDraft (record draft { version = version })
@@ -324,42 +307,3 @@ pub can_be_taken : (draft : DraftView) → IsLawfulDraft draft → is_begun draf
 can_be_taken draft is begun =
     let next : 1 + faces_of draft.solids ≡ draft.numbered + 1 = let count = is.count in omega arith
     in rw (← next) (last_can_take 1 draft.solids is.numbers (is.begun begun))
-
-few_by : (ws : Words) (a b : ℕ) → a ≤ 6 → b ≤ 6 → numeric (length ws == a || length ws == b) ws ≡ None → length ws ≤ 6
-few_by ws a b la lb e = elim (either a b (length ws) (counted _ ws e)) [ inl same ↦ omega arith | inr same ↦ omega arith ]
-
-few_one : (ws : Words) (a : ℕ) → a ≤ 6 → numeric (length ws == a) ws ≡ None → length ws ≤ 6
-few_one ws a la e = let same = counted (length ws == a) ws e in grind (arith, nat_tests)
-
-few_solid : (names ws : Words) → solid_form names ws ≡ None → length (behind_name ws) ≤ 6
-few_solid names [] e = omega arith
-few_solid names (n ∷ []) e = omega arith
-few_solid names (n ∷ p ∷ []) e = omega arith
-few_solid names (n ∷ p ∷ q ∷ []) e = omega arith
-few_solid names (n ∷ p ∷ q ∷ r ∷ []) e = omega arith
-few_solid names (n ∷ p ∷ q ∷ r ∷ s ∷ ws) e = cc
-
-few_words : (version : Version) → depth_count version ≤ 6
-few_words v.One = omega arith
-few_words v.Two = omega arith
-few_words v.Three = omega arith
-
-pub few_figures : (version : Version) (due : Due) (names : Words) (k : Keyword) (ws : Words) → IsGoodForm version due names k ws → length (figures k ws) ≤ 6
-few_figures version due names k.Pxscene ws good = omega arith
-few_figures version due names k.Picture ws good = few_one ws 2 (omega arith) good.formed
-few_figures version due names k.Depth ws good = few_one ws (depth_count version) (few_words version) good.formed
-few_figures version due names k.Solid ws good = few_solid names ws good.formed
-few_figures version due names k.Front ws good = few_by ws 3 6 (omega arith) (omega arith) good.formed
-few_figures version due names k.Back ws good = few_by ws 3 6 (omega arith) (omega arith) good.formed
-few_figures version due names k.Side ws good = few_one ws 3 (omega arith) good.formed
-few_figures version due names k.Show ws good = omega arith
-few_figures version due names k.End ws good = omega arith
-few_figures version due names k.Other ws good = omega arith
-
-pub lawful_after : (draft after : DraftView) (due : Due) (key : Keyword) (ws : Words) (zs : List ℤ) → IsLawfulDraft draft → IsGoodForm draft.version draft.due (names_of draft.solids) key ws
-    → limit_of key (tally_of draft) zs ≡ None → zs ≡ numbers_of (figures key ws) → after ≡ with_line key draft ws zs → due ≡ due_after key
-    → IsLawfulDraft (record after { due = due })
-lawful_after draft after due key ws zs is good e written line next = rw (next, line, written) (lawful_line draft key ws is good (rw written at e))
-
-pub face_next : (limit : LimitKind) (faces numbered : ℕ) (zs : List ℤ) → face_limit limit faces numbered zs ≡ None → numbered < 4095
-face_next limit faces numbered zs e = (face_room limit faces numbered zs e).next

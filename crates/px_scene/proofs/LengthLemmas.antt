@@ -11,19 +11,20 @@ use Rattle.std.proofs.lemmas.Bool.Decides.{nat_tests}
 use Rattle.px_num.specs.declared.linear.Linear.{Linear}
 use Rattle.px_num.specs.Forms.{IsWithin}
 use Rattle.px_expr.specs.Tree.{Tree, leaf, join, leaf_count, HasLeavesBelow}
-use Rattle.px_scene.specs.declared.solid.Colour.{Colour}
-use Rattle.px_scene.specs.declared.solid.Face.{Face}
-use Rattle.px_scene.specs.Text.{Words}
-use Rattle.px_scene.specs.Word.{is_letter, is_name, is_name_byte}
-use Rattle.px_scene.specs.Solids.{SolidView, IsColour, IsLawfulSolid, IsPlane, faces_in, names_of}
-use Rattle.px_scene.specs.Scenes.{SceneView, IsLawfulScene, IsNumberedFrom, AreNumberedFrom, faces_of, has_number}
+use Rattle.px_model.specs.declared.solid.Colour.{Colour}
+use Rattle.px_model.specs.declared.solid.Face.{Face}
+use Rattle.px_text.specs.Text.{Words}
+use Rattle.px_text.specs.Word.{is_letter, is_name, is_name_byte}
+use Rattle.px_model.specs.Solids.{SolidView, IsColour, IsLawfulSolid, IsPlane, faces_in, names_of}
+use Rattle.px_model.specs.Scenes.{SceneView, IsLawfulScene, IsNumberedFrom, AreNumberedFrom, faces_of, has_number}
 use Rattle.px_scene.specs.Printed.{printed, named_by, sign_byte}
 use Rattle.px_scene.specs.Writable.{IsWritable}
 use Rattle.px_scene.specs.Versions.{version_word}
 use Rattle.px_scene.specs.declared.version.Version.{Version}
 use Rattle.px_scene.specs.declared.version.Version.TheVariants as v
-use Rattle.px_scene.specs.Canonical.{version_for, depth_words, spaced, written_line, plane_words, colour_words, face_line, side_line, lines_at, lines_of_number, face_lines, solid_lines, first_lines, show_line, canonical_text}
-use Rattle.px_scene.proofs.ExpressionLemmas.{both}
+use Rattle.px_scene.specs.Canonical.{version_for, depth_words, written_line, plane_words, colour_words, face_line, side_line, lines_at, lines_of_number, face_lines, solid_lines, first_lines, show_line, canonical_text}
+use Rattle.px_text.specs.Written.{spaced}
+use Rattle.px_text.proofs.PlainLemmas.{both}
 use Rattle.px_scene.proofs.CutLemmas.{HasOne, cut}
 use Rattle.px_scene.proofs.NumberLemmas.{faces_of-cons}
 

@@ -1,12 +1,9 @@
 -- A test of what each element is mapped to.
-use Rattle.std.proofs.Common.{◌≡◌, ℕ, List, [], ◌∷◌, Bool, ◌||◌, map, refl, ap, is_some, Bor}
-use Rattle.std.proofs.lemmas.List.Folds.{list_all-map}
-use Rattle.std.specs.List.{list_any, list_all}
+use Rattle.std.proofs.Common.{◌≡◌, ℕ, List, [], ◌∷◌, Bool, ◌||◌, map, refl, ap}
+use Rattle.std.specs.List.{list_any}
 use Rattle.std.specs.Str.{bytes_eq}
-use Rattle.px_scene.specs.Word.{number_of}
-use Rattle.px_scene.specs.Lines.{are_numbers, now_of}
 use Rattle.px_scene.specs.Faults.{is_among}
-use Rattle.px_scene.specs.Solids.{SolidView, names_of}
+use Rattle.px_model.specs.Solids.{SolidView, names_of}
 
 list_any-map : {X Y : Type 0} (p : Y → Bool) (f : X → Y) (xs : List X) → list_any p (map f xs) ≡ list_any (λ x. p (f x)) xs
 list_any-map p f [] = refl
@@ -14,6 +11,3 @@ list_any-map p f (x ∷ xs) = ap (λ b. p (f x) || b) (list_any-map p f xs)
 
 pub any_of_mapped : (solids : List SolidView) (name : List ℕ) → is_among (names_of solids) name ≡ list_any (λ s. bytes_eq s.name name) solids
 any_of_mapped solids name = list_any-map (λ n. bytes_eq n name) (λ s. s.name) solids
-
-pub all_of_mapped : (ws : List (Bor (List ℕ))) → are_numbers (now_of ws) ≡ list_all (λ w. is_some (number_of w.now)) ws
-all_of_mapped ws = list_all-map (λ w. is_some (number_of w)) (λ w. w.now) ws

@@ -5,10 +5,10 @@ use Rattle.std.proofs.Common.{◌≡◌, ℕ, ◌+◌, ◌<◌, ◌≤◌, ◌==
 use Rattle.std.proofs.lemmas.Bool.{cases_eq}
 use Rattle.std.proofs.lemmas.List.Sums.{sum_by-append}
 use Rattle.std.specs.List.{All}
-use Rattle.px_scene.specs.declared.solid.Face.{Face}
-use Rattle.px_scene.specs.Solids.{SolidView, faces_in}
-use Rattle.px_scene.specs.Scenes.{has_number, IsNumberedFrom, AreNumberedFrom, faces_of}
-use Rattle.px_scene.proofs.SolidLemmas.{All-push}
+use Rattle.px_model.specs.declared.solid.Face.{Face}
+use Rattle.px_model.specs.Solids.{SolidView, faces_in}
+use Rattle.px_model.specs.Scenes.{has_number, IsNumberedFrom, AreNumberedFrom, faces_of}
+use Rattle.std.proofs.lemmas.List.Elements.{All-push}
 
 has_number-push : (faces : List Face) (f : Face) (n : ℕ) → has_number (faces ++ f ∷ []) n ≡ (has_number faces n || f.number == n)
 has_number-push [] f n = grind arith

@@ -1,19 +1,18 @@
 -- A printed expression is read as it.
 use Rattle.std.proofs.Common.{◌≡◌, ◌≢◌, ℕ, ◌+◌, ◌<◌, ◌≤◌, ◌==◌, List, [], ◌∷◌, ◌++◌, length, get_or, filter, Some, None, Bool, true, false, not, nat_le, ◌&&◌, ◌||◌, if◌then◌else◌, refl, ap, sym, ◌∙◌, arith, append_assoc, append-nil}
 use Prim.Native.Nat.{zero, suc}
-use Rattle.std.specs.List.{AllPass, AllPairs, flat_map, slice_split, onto_first, before_first, take_while, list_all}
+use Rattle.std.specs.List.{AllPass, AllPairs, flat_map, slice_split, onto_first, before_first, list_all}
 use Rattle.std.specs.Option.{option_map}
 use Rattle.std.specs.Str.{bytes_eq}
 use Rattle.std.proofs.lemmas.Slice.Eq.{bytes_eq-Decides}
 use Rattle.std.proofs.lemmas.Bool.Decides.{nat_tests}
-use Rattle.std.proofs.lemmas.List.Sums.{take_while-cons}
 use Rattle.std.proofs.lemmas.List.Folds.{list_all-append}
 use Rattle.px_expr.specs.declared.node.Op.{Op}
 use Rattle.px_expr.specs.declared.node.Op.TheVariants as o
 use Rattle.px_expr.specs.Tree.{Tree, leaf_count, HasLeavesBelow, IsLawful}
 use Rattle.px_expr.specs.Tree as shown
-use Rattle.px_scene.specs.Text.{Words, is_blank, is_some_byte, words_of}
-use Rattle.px_scene.specs.Word.{is_name, is_letter, is_name_byte}
+use Rattle.px_text.specs.Text.{Words, is_blank, is_some_byte, words_of}
+use Rattle.px_text.specs.Word.{is_name, is_name_byte}
 use Rattle.px_scene.specs.Tokens.{Token, name, opens, closes, sign, mark, tokens_in, tokens_of}
 use Rattle.px_scene.specs.Expressions.{Named, leaf, join, written, has_names, has_signs, whole, expression_of, leaves, nesting}
 use Rattle.px_scene.specs.Faults.{is_among, judged}
@@ -23,8 +22,9 @@ use Rattle.px_scene.specs.declared.version.Version.{Version}
 use Rattle.px_scene.specs.declared.line.LimitKind.{LimitKind}
 use Rattle.px_scene.specs.declared.line.LimitKind.TheVariants as kind
 use Rattle.px_scene.specs.Printed.{AreDistinctNames, sign_byte, printed, named_by}
+use Rattle.px_text.proofs.PlainLemmas.{both, name_bytes, is_no_comment, before_none}
 use Rattle.px_scene.proofs.TokenLemmas.{apart}
-use Rattle.px_scene.proofs.ExpressionLemmas.{both, reads}
+use Rattle.px_scene.proofs.ExpressionLemmas.{reads}
 use Rattle.px_scene.proofs.StackLemmas.{place_unknown}
 use Rattle.px_scene.proofs.ShowLemmas.{same_leaves, same_nesting}
 
@@ -85,11 +85,6 @@ split_name (b ∷ n) bs first others all is =
     let each = both (is_name_byte b) (list_all is_name_byte n) all
     in rw ((plain_name b each.0).no_blank, split_name n bs first others each.1 is) refl
 
-pub name_bytes : (n : List ℕ) → is_name n ≡ true → list_all is_name_byte n ≡ true
-name_bytes [] e = cc
-name_bytes (b ∷ bs) e = (both (is_letter b) (list_all is_name_byte (b ∷ bs))
-    (both (is_letter b && list_all is_name_byte (b ∷ bs)) (nat_le (length (b ∷ bs)) 32) e).0).1
-
 across_name : (version : Version) (n bs : List ℕ) → is_name n ≡ true → Apart bs → tokens_across version (n ++ bs) ≡ name n ∷ tokens_across version bs
 across_name version [] bs e behind = cc
 across_name version (b ∷ n) bs e behind =
@@ -130,9 +125,6 @@ across_printed version (join op left right) bs names signs behind =
     (across_printed version left (32 ∷ sign_byte op ∷ 32 ∷ ((printed right ++ 41 ∷ []) ++ bs)) each.0 before.1 refl
     ∙ ap (λ ts. written left ++ ts) behind_left))
 
-abbrev pub is_no_comment : ℕ → Bool
-is_no_comment b = not (b == 35)
-
 name_uncommented : (n : List ℕ) → list_all is_name_byte n ≡ true → list_all is_no_comment n ≡ true
 name_uncommented [] all = refl
 name_uncommented (b ∷ n) all =
@@ -156,13 +148,6 @@ printed_uncommented (join op left right) names =
       list_all-append is_no_comment (printed right) (41 ∷ []),
       printed_uncommented right each.1,
     ) refl
-
--- what has no comment stays whole
-pub before_none : (bs : List ℕ) → list_all is_no_comment bs ≡ true → take_while is_no_comment bs ≡ bs
-before_none [] all = refl
-before_none (b ∷ bs) all =
-    let each = both (is_no_comment b) (list_all is_no_comment bs) all
-    in take_while-cons is_no_comment b bs ∙ rw (each.0, before_none bs each.1) refl
 
 -- empty pieces have no tokens
 words_only : (version : Version) (pieces : List (List ℕ))

@@ -3,12 +3,12 @@ use Rattle.std.proofs.Common.{◌≡◌, ℕ, ◌+◌, ◌<◌, ◌≤◌, List,
 use Rattle.std.proofs.lemmas.List.{take_more, drop_more, drop_all, take_all, get_or-map, length-map}
 use Rattle.std.proofs.lemmas.Simd.{map-map}
 use Rattle.px_scene.specs.declared.line.LineFault.{LineFault}
-use Rattle.px_scene.specs.Text.{Words, words_of, lines_of, worded}
-use Rattle.px_scene.specs.Solids.{SolidView}
+use Rattle.px_text.specs.Text.{Words, words_of, lines_of, worded}
+use Rattle.px_model.specs.Solids.{SolidView}
 use Rattle.px_scene.specs.Drafts.{DraftView, IsLawfulDraft, fault_in, taken, drawn}
 use Rattle.px_scene.specs.Reading.{first_bad, fault_behind, at_line, scene_of}
 use Rattle.px_expr.specs.Tree.{Tree, leaf}
-use Rattle.px_scene.specs.Scenes.{SceneView}
+use Rattle.px_model.specs.Scenes.{SceneView}
 use Rattle.px_scene.specs.Refusals.{refusal_of, IsFirstBad, is_nothing}
 use Rattle.px_scene.specs.declared.read.SceneFault.{SceneFault}
 use Rattle.px_scene.specs.declared.read.SceneFault.TheVariants as fault

@@ -10,10 +10,10 @@ use Rattle.px_scene.specs.declared.line.Due.{Due}
 use Rattle.px_scene.specs.declared.line.Due.TheVariants as d
 use Rattle.px_scene.specs.declared.line.Keyword.{Keyword}
 use Rattle.px_scene.specs.Lines.{keyword_of, due_after}
-use Rattle.px_scene.specs.declared.solid.Colour.{Colour}
-use Rattle.px_scene.specs.declared.solid.Face.{Face}
-use Rattle.px_scene.specs.Text.{Words}
-use Rattle.px_scene.specs.Solids.{SolidView}
+use Rattle.px_model.specs.declared.solid.Colour.{Colour}
+use Rattle.px_model.specs.declared.solid.Face.{Face}
+use Rattle.px_text.specs.Text.{Words}
+use Rattle.px_model.specs.Solids.{SolidView}
 use Rattle.px_scene.specs.Drafts.{first_word}
 use Rattle.px_scene.specs.Reading.{begins, is_solid, is_front, is_back, is_side, due_from, due_behind, count_of, count_since, names_in, words_behind, Place, places, said, face_at, side_at, Head, solid_of, line_from, line_of}
 

@@ -7,13 +7,13 @@ use Rattle.std.proofs.lemmas.Int.{ints}
 use Rattle.std.proofs.lemmas.Bool.Decides.{nat_tests}
 use Rattle.px_num.specs.declared.linear.Linear.{Linear}
 use Rattle.px_num.specs.Forms.{IsWithin}
-use Rattle.px_scene.specs.declared.solid.Colour.{Colour}
-use Rattle.px_scene.specs.declared.solid.Face.{Face}
+use Rattle.px_model.specs.declared.solid.Colour.{Colour}
+use Rattle.px_model.specs.declared.solid.Face.{Face}
 use Rattle.px_scene.specs.declared.line.Due.TheVariants as d
 use Rattle.px_scene.specs.declared.line.LimitKind.{LimitKind}
 use Rattle.px_scene.specs.declared.line.LimitKind.TheVariants as kind
-use Rattle.px_scene.specs.Text.{Words, words_of}
-use Rattle.px_scene.specs.Word.{number_of, is_name}
+use Rattle.px_text.specs.Text.{Words, words_of}
+use Rattle.px_text.specs.Word.{number_of, is_name}
 use Rattle.px_scene.specs.declared.line.Due.{Due}
 use Rattle.px_scene.specs.declared.line.Tally.{Tally}
 use Rattle.px_scene.specs.declared.line.LineFault.{LineFault}
@@ -26,10 +26,10 @@ use Rattle.px_scene.specs.Printed.{AreDistinctNames, printed, named_by}
 use Rattle.px_scene.proofs.PrintedLemmas.{printed_tree, printed_good}
 use Rattle.px_scene.specs.Faults.{judged, is_among}
 use Rattle.px_scene.specs.Lines.{numeric, solid_form, three_past, fault_of, are_numbers, numbers_of, past, most, size_past, plane_past, colour_past, face_past, face_limit}
-use Rattle.px_scene.specs.Solids.{SolidView, IsColour, IsPlane, names_of}
+use Rattle.px_model.specs.Solids.{SolidView, IsColour, IsPlane, names_of}
 use Rattle.px_scene.specs.Drafts.{DraftView, with_front, with_back, with_side, with_last, in_last, tally_of, fresh_solid, new_solid}
 use Rattle.px_scene.specs.Canonical.{depth_words, plane_words, colour_words}
-use Rattle.px_scene.proofs.FigureLemmas.{number_read, signed_read}
+use Rattle.px_text.proofs.DecimalLemmas.{number_read, signed_read}
 use Rattle.px_scene.proofs.TellsLemmas.{blank}
 use Rattle.px_scene.proofs.DraftLemmas.{with_last-append}
 use Rattle.px_scene.proofs.WalkLemmas.{Walk, walk_both}

@@ -9,12 +9,12 @@ use Rattle.std.proofs.lemmas.List.{length-map}
 use Rattle.std.proofs.lemmas.Slice.Eq.{bytes_eq-Decides}
 use Rattle.px_expr.specs.Tree.{Tree, leaf, join, HasLeavesBelow}
 use Rattle.px_scene.specs.declared.line.Due.TheVariants as d
-use Rattle.px_scene.specs.Text.{Words, words_of}
-use Rattle.px_scene.specs.Word.{is_name}
+use Rattle.px_text.specs.Text.{Words, words_of}
+use Rattle.px_text.specs.Word.{is_name}
 use Rattle.px_scene.specs.Faults.{is_among}
 use Rattle.px_scene.specs.Printed.{printed, named_by}
-use Rattle.px_scene.specs.Solids.{SolidView, IsLawfulSolid, faces_in, names_of}
-use Rattle.px_scene.specs.Scenes.{SceneView, IsNumberedFrom, AreNumberedFrom, faces_of}
+use Rattle.px_model.specs.Solids.{SolidView, IsLawfulSolid, faces_in, names_of}
+use Rattle.px_model.specs.Scenes.{SceneView, IsNumberedFrom, AreNumberedFrom, faces_of}
 use Rattle.px_scene.specs.Writable.{IsWritable}
 use Rattle.px_scene.specs.Drafts.{DraftView, fresh_solid}
 use Rattle.px_scene.specs.Versions.{version_word, has_differ, has_difference}

@@ -5,7 +5,7 @@ use Rattle.std.specs.Str.{bytes_eq}
 use Rattle.std.proofs.lemmas.Bool.Decides.{nat_tests}
 use Rattle.px_expr.specs.Tree.{Tree, leaf_count, HasLeavesBelow, IsLawful}
 use Rattle.px_expr.specs.Tree as shown
-use Rattle.px_scene.specs.Text.{Words}
+use Rattle.px_text.specs.Text.{Words}
 use Rattle.px_scene.specs.Faults.{is_among, judged}
 use Rattle.px_scene.specs.Tokens.{tokens_of}
 use Rattle.px_scene.specs.Expressions.{Named, leaf, join, leaves, nesting, expression_of}
@@ -16,7 +16,7 @@ use Rattle.px_scene.specs.declared.line.Cause.TheVariants as cause
 use Rattle.px_scene.specs.declared.line.LineFault.{LineFault}
 use Rattle.px_scene.specs.declared.line.LimitKind.{LimitKind}
 use Rattle.px_scene.specs.declared.line.LimitKind.TheVariants as kind
-use Rattle.px_scene.proofs.ExpressionLemmas.{both}
+use Rattle.px_text.proofs.PlainLemmas.{both}
 use Rattle.px_scene.proofs.TakenLemmas.{none_first, none_second}
 
 place_below : (names : Words) (name : List ℕ) → is_among names name ≡ true → place_of names name < length names

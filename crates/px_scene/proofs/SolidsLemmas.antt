@@ -3,10 +3,10 @@ use Rattle.std.proofs.Common.{◌≡◌, ◌≢◌, ℕ, ◌+◌, ◌<◌, ◌==
 use Rattle.std.proofs.lemmas.Bool.Decides.{nat_tests}
 use Rattle.std.specs.List.{cons_option, filter_map}
 use Rattle.px_num.specs.declared.linear.Linear.{Linear}
-use Rattle.px_scene.specs.declared.solid.Face.{Face}
-use Rattle.px_scene.specs.Text.{Words}
+use Rattle.px_model.specs.declared.solid.Face.{Face}
+use Rattle.px_text.specs.Text.{Words}
 use Rattle.px_scene.specs.Figures.{face_of, side_of}
-use Rattle.px_scene.specs.Solids.{SolidView}
+use Rattle.px_model.specs.Solids.{SolidView}
 use Rattle.px_scene.specs.Drafts.{first_word, with_last, with_front, with_back, with_side, and_front, and_back, and_side, fresh_solid}
 use Rattle.px_scene.specs.Reading.{begins, is_solid, is_front, is_back, is_side, is_numbered, count_of, figures_in, words_behind, Place, places, said, face_at, side_at, Head, head_at, head_colour, solid_of, solids_from, solids_of}
 use Rattle.px_scene.proofs.ReadingLemmas.{said-push, solid-push, grown, grown-none, face_other, side_other, face_silent, side_silent, none_said, count-cons}

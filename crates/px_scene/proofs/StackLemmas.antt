@@ -9,7 +9,7 @@ use Rattle.std.proofs.lemmas.List.Sums.{sum_by-append, count_by-le-length}
 use Rattle.std.proofs.lemmas.Bool.Decides.{nat_tests}
 use Rattle.std.proofs.Math.Seq.{drop-append_seam}
 use Rattle.px_expr.specs.declared.node.Op.{Op}
-use Rattle.px_scene.specs.Text.{Words}
+use Rattle.px_text.specs.Text.{Words}
 use Rattle.px_scene.specs.Faults.{is_among, judged}
 use Rattle.px_scene.specs.Tokens.{opens, sign, other}
 use Rattle.px_scene.specs.Expressions.{Named, leaf, join, leaves, nesting, Part, side, token, closed, whole}

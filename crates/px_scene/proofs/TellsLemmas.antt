@@ -7,21 +7,21 @@ use Rattle.px_scene.specs.declared.line.Due.TheVariants as d
 use Rattle.px_scene.specs.declared.line.Keyword.{Keyword}
 use Rattle.px_scene.specs.declared.line.Keyword.TheVariants as k
 use Rattle.px_scene.specs.declared.line.Tally.{Tally}
-use Rattle.px_scene.specs.Text.{Words}
+use Rattle.px_text.specs.Text.{Words}
 use Rattle.px_scene.specs.Lines.{keyword_of, due_after, numbers_of, figures, is_due, numeric, fault_of, cause_of, limit_on}
 use Rattle.px_scene.specs.Figures.{size_of, depth_of, fraction_of, face_of, side_of}
 use Rattle.px_num.specs.declared.linear.Linear.{Linear}
-use Rattle.px_scene.specs.declared.solid.Face.{Face}
+use Rattle.px_model.specs.declared.solid.Face.{Face}
 use Rattle.px_scene.proofs.LawfulLemmas.{counted, face_shape, HasFace, length-with_last, of_form}
 use Rattle.px_scene.proofs.TakenLemmas.{new_name, names_with_last, begun_front, begun_back, begun_side, good_form}
 use Rattle.std.proofs.lemmas.Bool.Decides.{nat_tests}
-use Rattle.px_scene.specs.declared.solid.Colour.{Colour}
+use Rattle.px_model.specs.declared.solid.Colour.{Colour}
 use Rattle.px_expr.specs.Tree.{Tree}
 use Rattle.px_scene.specs.Show.{show_tree}
 use Rattle.px_scene.specs.Versions.{version_or_first}
 use Rattle.px_scene.specs.declared.version.Version.{Version}
 use Rattle.px_scene.specs.declared.version.Version.TheVariants as v
-use Rattle.px_scene.specs.Solids.{SolidView, names_of}
+use Rattle.px_model.specs.Solids.{SolidView, names_of}
 use Rattle.px_scene.specs.Drafts.{DraftView, IsLawfulDraft, IsGoodForm, with_front, with_back, with_side, and_front, and_back, and_side, with_picture, with_depth, with_last, with_line, in_last, tally_of, fault_in, taken, is_ended, fresh_solid, first_word}
 use Rattle.px_scene.specs.Reading.{begins, is_pxscene, is_picture, is_depth, is_solid, is_front, is_back, is_side, is_shown, is_numbered, count_of, count_since, tally_behind, names_in, due_behind, version_in, figures_in, line_of, words_behind, width_of, height_of, shown_in, solids_of, head_colour, fault_behind}
 use Rattle.px_scene.specs.Tells.{Tells}

@@ -4,23 +4,25 @@ use Prim.Native.Nat.{suc}
 use Rattle.std.specs.List.{All, flat_map, range_with_len, list_all}
 use Rattle.std.proofs.lemmas.List.Folds.{list_all-append}
 use Rattle.px_num.specs.declared.linear.Linear.{Linear}
-use Rattle.px_scene.specs.declared.solid.Colour.{Colour}
-use Rattle.px_scene.specs.declared.solid.Face.{Face}
-use Rattle.px_scene.specs.Text.{Words, words_of, lines_of, worded}
-use Rattle.px_scene.specs.Word.{is_name}
-use Rattle.px_scene.specs.Solids.{SolidView, IsColour, IsLawfulSolid, IsPlane, names_of}
-use Rattle.px_scene.specs.Scenes.{SceneView, IsLawfulScene}
+use Rattle.px_model.specs.declared.solid.Colour.{Colour}
+use Rattle.px_model.specs.declared.solid.Face.{Face}
+use Rattle.px_text.specs.Text.{Words, words_of, lines_of, worded}
+use Rattle.px_text.specs.Word.{is_name}
+use Rattle.px_model.specs.Solids.{SolidView, IsColour, IsLawfulSolid, IsPlane, names_of}
+use Rattle.px_model.specs.Scenes.{SceneView, IsLawfulScene}
 use Rattle.px_scene.specs.Writable.{IsWritable, IsReadAs}
 use Rattle.px_scene.specs.Versions.{version_word}
 use Rattle.px_scene.specs.declared.version.Version.{Version}
 use Rattle.px_scene.specs.declared.version.Version.TheVariants as v
-use Rattle.px_scene.specs.Canonical.{version_for, depth_words, plane_words, colour_words, written_line, first_lines, solid_lines, show_line, canonical_text, is_plain, are_plain, is_no_feed, fed}
+use Rattle.px_scene.specs.Canonical.{version_for, depth_words, plane_words, colour_words, written_line, first_lines, solid_lines, show_line, canonical_text}
+use Rattle.px_text.specs.Written.{is_plain, are_plain, is_no_feed, fed}
 use Rattle.px_scene.proofs.RoundLemmas.{face_words, small}
 use Rattle.px_scene.proofs.FaceWalkLemmas.{words_at, words_of_number}
 use Rattle.px_scene.proofs.SceneWalkLemmas.{numbers_words, sides_words, solid_words, first_words, last_words, scene_words, final_draft, shown_text, scene_walk}
 use Rattle.px_scene.proofs.CanonicalLemmas.{is_written, bare, end_words, text_is, read_plain}
-use Rattle.px_scene.proofs.PlainLemmas.{decimal_plain, signed_plain, name_is_plain, bares_fed, printed_fed, show_words}
-use Rattle.px_scene.proofs.SpacedLemmas.{lines_read}
+use Rattle.px_text.proofs.PlainLemmas.{decimal_plain, signed_plain, name_is_plain}
+use Rattle.px_scene.proofs.FedLemmas.{bares_fed, printed_fed, show_words}
+use Rattle.px_text.proofs.SpacedLemmas.{lines_read}
 use Rattle.px_scene.proofs.PrintedLemmas.{names_lawful}
 use Rattle.px_scene.proofs.LengthLemmas.{canonical_short}
 use Rattle.px_scene.proofs.WalkLemmas.{Walk, read_by_walk}

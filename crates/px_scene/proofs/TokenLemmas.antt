@@ -3,7 +3,7 @@ use Rattle.std.proofs.Common.{◌≡◌, ℕ, ◌+◌, ◌==◌, ◌≤◌, List
 use Rattle.std.proofs.Math.Numerals.{one-add}
 use Rattle.std.specs.List.{prefix_len}
 use Rattle.px_expr.specs.declared.node.Op.TheVariants as o
-use Rattle.px_scene.specs.Word.{is_name_byte}
+use Rattle.px_text.specs.Word.{is_name_byte}
 use Rattle.px_scene.specs.Versions.{has_differ}
 use Rattle.px_scene.specs.declared.version.Version.{Version}
 use Rattle.px_scene.specs.Tokens.{Token, name, opens, closes, sign, other, mark, named, tokens_in}

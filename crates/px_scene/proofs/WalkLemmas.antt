@@ -4,10 +4,10 @@ use Rattle.px_scene.specs.declared.line.Cause.{Cause}
 use Rattle.px_scene.specs.declared.line.Keyword.{Keyword}
 use Rattle.px_scene.specs.declared.line.Keyword.TheVariants as k
 use Rattle.px_scene.specs.declared.line.LineFault.{LineFault}
-use Rattle.px_scene.specs.Text.{Words, worded}
+use Rattle.px_text.specs.Text.{Words, worded}
 use Rattle.px_scene.specs.Faults.{judged}
 use Rattle.px_scene.specs.Lines.{keyword_of, numbers_of, figures, cause_of, limit_on, limit_of}
-use Rattle.px_scene.specs.Solids.{names_of}
+use Rattle.px_model.specs.Solids.{names_of}
 use Rattle.px_scene.specs.Drafts.{DraftView, IsLawfulDraft, tally_of, fault_in, taken, drawn}
 use Rattle.px_scene.specs.Reading.{first_bad, at_line}
 use Rattle.px_scene.specs.Refusals.{is_nothing}

@@ -4,7 +4,7 @@ use Prim.Native.Nat.{zero, suc}
 use Rattle.std.specs.List.{All, flat_map, range_with_len}
 use Rattle.std.proofs.lemmas.Grind.{flat_map-append}
 use Rattle.std.proofs.lemmas.List.{take_more}
-use Rattle.px_scene.proofs.SolidLemmas.{All-push}
+use Rattle.std.proofs.lemmas.List.Elements.{All-push}
 
 one_more : (f : ℕ → List ℕ) (a n : ℕ)
     → flat_map f (range_with_len a (suc n)) ≡ flat_map f (range_with_len a n) ++ f (a + n)

@@ -1,42 +1,22 @@
 -- The canonical text of a scene: the one way in which it is written.
-use Rattle.std.specs.Prelude.{ℕ, ◌+◌, ◌==◌, if◌then◌else◌, List, [], ◌∷◌, ◌++◌, codes, decimal, filter, length, Bool, not, ◌||◌, ◌&&◌}
+use Rattle.std.specs.Prelude.{ℕ, ◌+◌, ◌==◌, if◌then◌else◌, List, [], ◌∷◌, ◌++◌, codes, decimal, filter, length}
 use Rattle.std.specs.Fmt.{signed_decimal}
-use Rattle.std.specs.List.{flat_map, range_with_len, list_all}
+use Rattle.std.specs.List.{flat_map, range_with_len}
 use Rattle.px_num.specs.declared.linear.Linear.{Linear}
-use Rattle.px_scene.specs.declared.solid.Colour.{Colour}
-use Rattle.px_scene.specs.declared.solid.Face.{Face}
-use Rattle.px_scene.specs.Text.{Words, is_blank, is_some_byte}
+use Rattle.px_model.specs.declared.solid.Colour.{Colour}
+use Rattle.px_model.specs.declared.solid.Face.{Face}
+use Rattle.px_text.specs.Text.{Words}
+use Rattle.px_text.specs.Written.{spaced}
 use Rattle.px_scene.specs.Printed.{printed, named_by}
-use Rattle.px_scene.specs.Solids.{SolidView, names_of}
-use Rattle.px_scene.specs.Scenes.{SceneView}
+use Rattle.px_model.specs.Solids.{SolidView, names_of}
+use Rattle.px_model.specs.Scenes.{SceneView}
 use Rattle.px_scene.specs.Versions.{version_word, has_difference}
 use Rattle.px_scene.specs.declared.version.Version.{Version}
 use Rattle.px_scene.specs.declared.version.Version.TheVariants as v
 
--- each word with one space before it
-abbrev pub spaced : Words → List ℕ
-spaced ws = flat_map (λ w. 32 ∷ w) ws
-
--- a byte of a word: no blank, and none that begins a comment or ends a line
-abbrev pub is_plain_byte : ℕ → Bool
-is_plain_byte b = not (is_blank b || b == 35 || b == 10)
-
-abbrev pub is_plain : List ℕ → Bool
-is_plain w = is_some_byte w && list_all is_plain_byte w
-
-abbrev pub are_plain : Words → Bool
-are_plain ws = list_all is_plain ws
-
 -- a line: its first word, the words after it, and the line feed
 unfoldable pub written_line : List ℕ → Words → List ℕ
 written_line w ws = w ++ spaced ws ++ 10 ∷ []
-
-abbrev pub is_no_feed : ℕ → Bool
-is_no_feed b = not (b == 10)
-
--- lines, each with its line feed
-abbrev pub fed : List (List ℕ) → List ℕ
-fed lines = flat_map (λ l. l ++ 10 ∷ []) lines
 
 -- the numbers of a colour and of a plane
 abbrev pub colour_words : Colour → Words

@@ -3,7 +3,7 @@
 use Rattle.std.specs.Prelude.{◌≡◌, ℕ, ◌+◌, max, List, [], ◌∷◌, ◌++◌, true, Bool, ◌&&◌, if◌then◌else◌, Option, Some, None, fold}
 use Rattle.px_expr.specs.declared.node.Op.{Op}
 use Rattle.px_scene.specs.Tokens.{Token, name, opens, closes, sign, other}
-use Rattle.px_scene.specs.Word.{is_name}
+use Rattle.px_text.specs.Word.{is_name}
 use Rattle.px_scene.specs.Versions.{is_sign}
 use Rattle.px_scene.specs.declared.version.Version.{Version}
 

@@ -2,7 +2,7 @@
 use Rattle.std.specs.Prelude.{ℕ, List, Bool, Option, Some, None}
 use Rattle.std.specs.List.{list_any}
 use Rattle.std.specs.Str.{bytes_eq}
-use Rattle.px_scene.specs.Text.{Words}
+use Rattle.px_text.specs.Text.{Words}
 use Rattle.px_scene.specs.declared.line.Cause.{Cause}
 use Rattle.px_scene.specs.declared.line.LineFault.{LineFault}
 use Rattle.px_scene.specs.declared.line.LineFault.TheVariants as f

@@ -2,8 +2,8 @@
 use Rattle.std.specs.Prelude.{ℕ, ℤ, pos, List, [], ◌∷◌, Option, Some, None}
 use lib.IntN.{negsuc}
 use Rattle.px_num.specs.declared.linear.Linear.{Linear}
-use Rattle.px_scene.specs.declared.solid.Colour.{Colour}
-use Rattle.px_scene.specs.declared.solid.Face.{Face}
+use Rattle.px_model.specs.declared.solid.Colour.{Colour}
+use Rattle.px_model.specs.declared.solid.Face.{Face}
 
 -- a number that is not negative
 abbrev pub size_of : ℤ → ℕ

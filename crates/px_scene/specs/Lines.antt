@@ -3,10 +3,9 @@ use Rattle.std.specs.Prelude.{ℕ, ℤ, pos, ◌+◌, ◌-◌, min, ◌-ℤ◌, 
 use Rattle.std.specs.Option.{option_or}
 use Rattle.std.specs.Str.{bytes_eq}
 use Rattle.std.specs.List.{list_all}
-use Rattle.std.specs.Borrow.{Bor}
 use lib.Signed.{le_z}
-use Rattle.px_scene.specs.Text.{Words}
-use Rattle.px_scene.specs.Word.{number_of, is_name}
+use Rattle.px_text.specs.Text.{Words}
+use Rattle.px_text.specs.Word.{number_of, is_name}
 use Rattle.px_scene.specs.Faults.{judged, is_among}
 use Rattle.px_scene.specs.Show.{show_cause, show_limit}
 use Rattle.px_scene.specs.Figures.{size_of}
@@ -64,10 +63,6 @@ is_due d.Plane k.Solid = true
 is_due d.Plane k.Show = true
 is_due d.End k.End = true
 is_due w v = false
-
--- the words behind references
-abbrev pub now_of : List (Bor (List ℕ)) → Words
-now_of ws = map (λ w. w.now) ws
 
 abbrev pub is_header : List ℕ → Words → Bool
 is_header w ws = bytes_eq w (codes "pxscene") && is_some (version_of ws)
@@ -194,14 +189,6 @@ limit_of k.Other t zs = None
 abbrev pub limit_on : Version → Keyword → Tally → Words → Option LineFault
 limit_on version k.Show t ws = show_limit version ws
 limit_on version keyword t ws = limit_of keyword t (numbers_of (figures keyword ws))
-
-abbrev pub is_show : Keyword → Bool
-is_show k.Show = true
-is_show keyword = false
-
-abbrev pub is_show_due : Due → Keyword → Bool
-is_show_due due k.Show = is_due due k.Show
-is_show_due due keyword = false
 
 -- why a line is bad, by the version, what is due, the names of the solids before and the counts before: its form first, and then its limits
 abbrev pub fault_of : Version → Due → Words → Tally → Words → Option LineFault

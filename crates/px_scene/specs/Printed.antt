@@ -5,8 +5,8 @@ use Rattle.px_expr.specs.declared.node.Op.{Op}
 use Rattle.px_expr.specs.declared.node.Op.TheVariants as o
 use Rattle.px_expr.specs.Tree.{Tree}
 use Rattle.px_expr.specs.Tree as tree
-use Rattle.px_scene.specs.Text.{Words}
-use Rattle.px_scene.specs.Word.{is_name}
+use Rattle.px_text.specs.Text.{Words}
+use Rattle.px_text.specs.Word.{is_name}
 use Rattle.px_scene.specs.Expressions.{Named, leaf, join}
 
 abbrev pub sign_byte : Op → ℕ

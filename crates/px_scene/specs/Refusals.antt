@@ -8,7 +8,7 @@ use Rattle.px_scene.specs.declared.line.Cause.TheVariants as c
 use Rattle.px_scene.specs.declared.line.LimitKind.TheVariants as kind
 use Rattle.px_scene.specs.declared.read.SceneFault.{SceneFault}
 use Rattle.px_scene.specs.declared.read.SceneFault.TheVariants as fault
-use Rattle.px_scene.specs.Text.{Words, lines_of, worded}
+use Rattle.px_text.specs.Text.{Words, lines_of, worded}
 use Rattle.px_scene.specs.Reading.{first_bad, due_behind}
 
 abbrev pub fault_at : ℕ → LineFault → SceneFault

@@ -4,7 +4,7 @@ use Rattle.std.specs.Option.{option_map, option_or}
 use Rattle.std.specs.Str.{bytes_eq}
 use Rattle.px_expr.specs.Tree.{Tree}
 use Rattle.px_expr.specs.Tree as tree
-use Rattle.px_scene.specs.Text.{Words}
+use Rattle.px_text.specs.Text.{Words}
 use Rattle.px_scene.specs.Faults.{judged, is_among}
 use Rattle.px_scene.specs.Tokens.{tokens_of}
 use Rattle.px_scene.specs.declared.version.Version.{Version}

@@ -3,7 +3,7 @@ use Rattle.std.specs.Prelude.{◌≡◌, ℕ, ◌+◌, ◌-◌, ◌^◌, min, ma
 use Rattle.px_expr.specs.declared.node.Op.{Op}
 use Rattle.px_expr.specs.Tree.{Tree, leaf, join}
 use Rattle.px_expr.specs.Shapes.{joined}
-use Rattle.px_scene.specs.Text.{Words}
+use Rattle.px_text.specs.Text.{Words}
 use Rattle.px_scene.specs.Tokens as t
 use Rattle.px_scene.specs.Expressions.{nesting, side, token}
 use Rattle.px_scene.specs.Expressions as e

@@ -1,7 +1,7 @@
 -- A draft that says what the lines of a text say.
 use Rattle.std.specs.Prelude.{◌≡◌, List, [], length, false, None}
-use Rattle.px_scene.specs.Text.{Words}
-use Rattle.px_scene.specs.Solids.{names_of}
+use Rattle.px_text.specs.Text.{Words}
+use Rattle.px_model.specs.Solids.{names_of}
 use Rattle.px_scene.specs.Drafts.{DraftView, IsLawfulDraft, in_last, is_ended}
 use Rattle.px_scene.specs.Figures.{depth_of, fraction_of}
 use Rattle.px_scene.specs.Reading.{is_picture, is_depth, is_solid, is_front, is_back, is_side, is_shown, is_numbered, count_of, count_since, names_in, due_behind, version_in, figures_in, line_of, width_of, height_of, shown_in, solids_of, first_bad}

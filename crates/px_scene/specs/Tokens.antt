@@ -3,8 +3,8 @@ use Rattle.std.specs.Prelude.{ℕ, ◌==◌, List, [], ◌∷◌, ◌&&◌, if�
 use Rattle.std.specs.List.{flat_map}
 use Rattle.px_expr.specs.declared.node.Op.{Op}
 use Rattle.px_expr.specs.declared.node.Op.TheVariants as o
-use Rattle.px_scene.specs.Text.{Words}
-use Rattle.px_scene.specs.Word.{is_name_byte}
+use Rattle.px_text.specs.Text.{Words}
+use Rattle.px_text.specs.Word.{is_name_byte}
 use Rattle.px_scene.specs.Versions.{has_differ}
 use Rattle.px_scene.specs.declared.version.Version.{Version}
 

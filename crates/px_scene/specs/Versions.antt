@@ -7,7 +7,7 @@ use Rattle.px_expr.specs.declared.node.Op.{Op}
 use Rattle.px_expr.specs.declared.node.Op.TheVariants as o
 use Rattle.px_expr.specs.Tree.{Tree}
 use Rattle.px_expr.specs.Tree as tree
-use Rattle.px_scene.specs.Text.{Words}
+use Rattle.px_text.specs.Text.{Words}
 use Rattle.px_scene.specs.declared.version.Version.{Version}
 use Rattle.px_scene.specs.declared.version.Version.TheVariants as v
 

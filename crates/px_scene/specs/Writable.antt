@@ -1,11 +1,11 @@
 -- What every scene keeps, of which the canonical text is read as it.
 use Rattle.std.specs.Prelude.{◌≡◌, ℕ, List, All, None}
 use Rattle.px_expr.specs.Tree.{IsLawful}
-use Rattle.px_scene.specs.Text.{worded}
+use Rattle.px_text.specs.Text.{worded}
 use Rattle.px_scene.specs.Reading.{scene_of}
 use Rattle.px_scene.specs.Refusals.{refusal_of}
-use Rattle.px_scene.specs.Solids.{IsLawfulSolid}
-use Rattle.px_scene.specs.Scenes.{SceneView, IsLawfulScene}
+use Rattle.px_model.specs.Solids.{IsLawfulSolid}
+use Rattle.px_model.specs.Scenes.{SceneView, IsLawfulScene}
 
 pub record IsWritable (scene : SceneView) : Type 0 where
   pub lawful : IsLawfulScene scene

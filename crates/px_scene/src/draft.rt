@@ -1,29 +1,32 @@
 //! What the lines of a scene text have said so far.
 ghost use Rattle.std.specs.Prelude.{◌≡◌, false, ◌<◌, ◌≤◌, ◌+◌, ◌++◌, ◌∷◌, [], length, pos, None, Some, IfSome, IfOk, IfErr, vec_len, slice_get, ◌-◌, OnOk, OnErr, IsErrOf, All, true, is_some};
-ghost use Rattle.px_scene.specs.Text.{words_of};
+ghost use Rattle.std.specs.Str.{bytes_eq};
+ghost use Rattle.std.specs.List.{list_any};
+ghost use Rattle.px_text.specs.Text.{words_of, now_of};
 ghost use Rattle.px_scene.specs.Refusals.{is_nothing};
-ghost use Rattle.px_scene.specs.Lines.{keyword_of, now_of, numbers_of, figures, limit_of, face_past, two_past, depth_past, three_past, cause_of, due_after, is_show};
+ghost use Rattle.px_scene.specs.Faults.{is_among};
+ghost use Rattle.px_scene.specs.Figures.{colour_of, size_of};
+ghost use Rattle.px_scene.specs.Lines.{is_due, limit_of, face_past, plane_past, colour_past, picture_past, depth_past};
+ghost use Rattle.px_scene.specs.Parsed.{keyword_in, name_in, words_in, numbers_in, face_numbers, depth_numbers, second_name, fault_left, fault_shown};
 ghost use Rattle.px_scene.specs.Show.{show_fault, show_tree};
-ghost use Rattle.px_scene.specs.Solids.{IsPlane, SolidView, faces_in, names_of};
-ghost use Rattle.px_scene.specs.Scenes.{AreNumberedFrom, faces_of};
-ghost use Rattle.px_scene.specs.Drafts.{with_picture, with_depth, new_solid, first_word, with_line, taken, IsGoodForm, with_last, in_last, with_front, with_back, with_side, CanTakeFace, CanBeTaken, IsLawfulDraft, tally_of, fault_in, drawn};
+ghost use Rattle.px_model.specs.Solids.{IsPlane, SolidView, faces_in, names_of};
+ghost use Rattle.px_model.specs.Scenes.{AreNumberedFrom, faces_of};
+ghost use Rattle.px_scene.specs.Drafts.{fresh_solid, first_word, with_line, with_depth, taken, with_last, in_last, with_front, with_back, with_side, CanTakeFace, CanBeTaken, IsLawfulDraft, tally_of, fault_in, drawn};
 ghost use Rattle.px_scene.specs.declared.line.Due.TheVariants as Due;
 ghost use Rattle.px_scene.specs.declared.version.Version.TheVariants as Version;
 ghost use Rattle.px_scene.specs.declared.line.LineFault.{LineFault};
 
-use crate::figure::{colour_of, depth_of, face_of, side_of};
-use crate::line::{
-    Due, Keyword, LineError, LineFault, Tally, cause_of, due_after, figures, is_show_due,
-    keyword_of, limit_of, numbers_of,
-};
-use crate::scene::Scene;
+use crate::figure::{colour_of, face_of};
+use crate::limit::limit_of;
+use crate::line::{Cause, Due, LineError, LineFault, Tally};
+use crate::parse::{Line, Paint, Plane};
 use crate::show::read_show;
-use crate::solid::{Colour, Face, Solid};
-use crate::text::words_of;
 use crate::version::Version;
 use arrayvec::ArrayVec;
 use px_expr::Expr;
-use px_num::Memory;
+use px_model::{Scene, Solid};
+use px_num::{Linear, Memory};
+use px_text::words_of;
 use std::alloc::Global;
 
 /// What the lines so far have said.
@@ -93,23 +96,6 @@ impl Draft {
         }
     }
 
-    fn take_picture(&mut self, numbers: &[i64])
-        requires { two_past numbers.now ≡ None }
-        ensures { view_of self.new ≡ with_picture (view_of self.old) numbers.now }
-    {
-        if let [width, height] = numbers {
-            self.width = *width as u32;
-            self.height = *height as u32;
-        }
-    }
-
-    fn take_depth(&mut self, numbers: &[i64])
-        requires { depth_past numbers.now ≡ None }
-        ensures { view_of self.new ≡ with_depth (view_of self.old) numbers.now }
-    {
-        (self.depth_bits, self.fraction_bits) = depth_of(numbers);
-    }
-
     /// Takes a line in; one without words says nothing.
     pub(crate) fn add_line(&mut self, alloc: Global, line: &[u8]) -> Result<(), LineError>
         requires { IsLawfulDraft (view_of self.old) }
@@ -169,96 +155,112 @@ impl Draft {
             arguments.now)) }
         ensures lawful { OnOk result (IsLawfulDraft (view_of self.new)) }
     {
-        let keyword = keyword_of(word);
-        if is_show_due(self.due, keyword) {
-            return self.add_show(alloc, arguments);
-        }
-        let solids = self.solids.as_slice();
-        if let Some(cause) = cause_of(self.version, self.due, keyword, solids, word, arguments) {
-            return Err(LineError::Bad(LineFault::Malformed(cause)));
-        }
-        let numbers = numbers_of(figures(keyword, arguments));
-        if let Some(fault) = limit_of(keyword, self.tally(), numbers.as_slice()) {
+        let line = Line::parse(self.version, self.due, word, arguments)?;
+        if let Some(fault) = self.fault(line) {
             return Err(LineError::Bad(fault));
         }
-        self.take(alloc, keyword, arguments, numbers.as_slice())?;
-        self.due = due_after(keyword);
+        self.take(alloc, line)?;
+        self.due = line.due_after();
         Ok(())
     }
 
-    fn add_show(&mut self, alloc: Global, arguments: &[&[u8]]) -> Result<(), LineError>
-        requires { IsLawfulDraft (view_of self.old) }
-        ensures bad { (f : LineFault) → IsErrOf result (LineError.Bad f) →
-            show_fault self.old.version (names_of self.old.solids.items) (now_of arguments.now)
-            ≡ Some f }
-        ensures good { OnOk result (show_fault self.old.version (names_of self.old.solids.items)
-            (now_of arguments.now) ≡ None) }
-        ensures taken { OnOk result (view_of self.new ≡ record (view_of self.old) {
-          due = Due.End;
-          show = show_tree self.old.version (names_of self.old.solids.items)
-              (now_of arguments.now);
-        }) }
-        ensures lawful { OnOk result (IsLawfulDraft (view_of self.new)) }
+    /// Why a line of good form is bad, but for its expression.
+    fn fault(&self, line: Line) -> Option<LineFault>
+        requires { IsLawfulDraft (view_of self.now) }
+        ensures { result ≡ fault_left (view_of self.now) line.entry }
     {
-        let show = read_show(alloc, self.version, self.solids.as_slice(), arguments)?;
-        self.show = Some(show);
-        self.due = Due::End;
-        Ok(())
+        match second_name(self.solids.as_slice(), line) {
+            Some(cause) => Some(LineFault::Malformed(cause)),
+            None => limit_of(line, self.tally()),
+        }
     }
 
-    fn take(
-        &mut self,
-        alloc: Global,
-        keyword: Keyword,
-        arguments: &[&[u8]],
-        numbers: &[i64],
-    ) -> Result<(), Memory>
+    /// Takes in what a line says; an expression is judged as it is read.
+    fn take(&mut self, alloc: Global, line: Line) -> Result<(), LineError>
         requires lawful { IsLawfulDraft (view_of self.old) }
-        requires form { IsGoodForm self.old.version self.old.due (names_of self.old.solids.items)
-            keyword (now_of arguments.now) }
-        requires other { is_show keyword ≡ false }
-        requires limit { limit_of keyword (tally_of (view_of self.old)) numbers.now ≡ None }
-        ensures { OnOk result (view_of self.new ≡ with_line keyword (view_of self.old) (now_of
-            arguments.now) numbers.now) }
+        requires due { is_due self.old.due (keyword_in line) ≡ true }
+        requires name { length (name_in line) ≤ 32 }
+        requires limit { limit_of (keyword_in line) (tally_of (view_of self.old)) (numbers_in line)
+            ≡ None }
+        ensures bad { (f : LineFault) → IsErrOf result (LineError.Bad f) →
+            fault_shown (view_of self.old) line.entry ≡ Some f }
+        ensures good { OnOk result (fault_shown (view_of self.old) line.entry ≡ None) }
+        ensures taken { OnOk result (view_of self.new ≡ with_line (keyword_in line.entry)
+            (view_of self.old) (words_in line.entry) (numbers_in line.entry)) }
     {
-        match keyword {
-            Keyword::Pxscene => self.version = Version::of(arguments).unwrap_or(Version::One),
-            Keyword::Picture => self.take_picture(numbers),
-            Keyword::Depth => self.take_depth(numbers),
-            Keyword::Solid => self.take_solid(alloc, first_word(arguments), numbers)?,
-            Keyword::Front => self.take_front(numbers)?,
-            Keyword::Back => self.take_back(numbers)?,
-            Keyword::Side => self.take_side(numbers)?,
-            Keyword::Show | Keyword::End | Keyword::Other => {}
+        match line {
+            Line::Header(version) => self.version = version,
+            Line::Picture { width, height } => self.take_picture(width, height),
+            Line::Depth { bits, fraction } => self.take_depth(bits, fraction),
+            Line::Solid { name, paint } => self.take_solid(alloc, name, paint)?,
+            Line::Front(face) => self.take_front(face)?,
+            Line::Back(face) => self.take_back(face)?,
+            Line::Side(form) => self.take_side(form)?,
+            Line::Show(words) => self.take_show(alloc, words)?,
+            Line::End => {}
         }
         Ok(())
     }
 
-    fn take_solid(&mut self, alloc: Global, name: &[u8], numbers: &[i64]) -> Result<(), Memory>
+    fn take_picture(&mut self, width: i64, height: i64)
+        requires { picture_past width height ≡ None }
+        ensures { view_of self.new ≡ record (view_of self.old) {
+          width = size_of width;
+          height = size_of height;
+        } }
+    {
+        self.width = width as u32;
+        self.height = height as u32;
+    }
+
+    fn take_depth(&mut self, bits: i64, fraction: Option<i64>)
+        requires { depth_past (depth_numbers bits fraction) ≡ None }
+        ensures { view_of self.new ≡ with_depth (view_of self.old) (depth_numbers bits fraction) }
+    {
+        self.depth_bits = bits as u32;
+        self.fraction_bits = match fraction {
+            Some(fraction) => fraction as u32,
+            None => 0,
+        };
+    }
+
+    fn take_show(&mut self, alloc: Global, words: &[&[u8]]) -> Result<(), LineError>
+        requires { IsLawfulDraft (view_of self.old) }
+        ensures bad { (f : LineFault) → IsErrOf result (LineError.Bad f) →
+            show_fault self.old.version (names_of self.old.solids.items) (now_of words.now)
+            ≡ Some f }
+        ensures good { OnOk result (show_fault self.old.version (names_of self.old.solids.items)
+            (now_of words.now) ≡ None) }
+        ensures taken { OnOk result (view_of self.new ≡ record (view_of self.old) {
+          show = show_tree self.old.version (names_of self.old.solids.items) (now_of words.now);
+        }) }
+    {
+        let show = read_show(alloc, self.version, self.solids.as_slice(), words)?;
+        self.show = Some(show);
+        Ok(())
+    }
+
+    fn take_solid(&mut self, alloc: Global, name: &[u8], paint: Paint) -> Result<(), Memory>
         requires name { length name.now ≤ 32 }
-        requires limit { three_past numbers.now ≡ None }
+        requires limit { colour_past paint.red paint.green paint.blue ≡ None }
         requires faces { self.old.numbered < 4095 }
         ensures ok { OnOk result (view_of self.new ≡ record (view_of self.old) {
-          numbered =
-              self.old.numbered + 1;
-          solids = self.old.solids.items ++ new_solid name.now
-              (self.old.numbered + 1) numbers.now;
+          numbered = self.old.numbered + 1;
+          solids = self.old.solids.items ++ fresh_solid name.now (self.old.numbered + 1)
+              (colour_of paint.red paint.green paint.blue) ∷ [];
         }) }
     {
         let number = self.numbered + 1;
-        if let [red, green, blue] = numbers {
-            let colour = colour_of(red, green, blue);
-            self.solids
-                .push(Solid::new(alloc, name_of(name), colour, number))?;
-        }
+        self.solids
+            .push(Solid::new(alloc, name_of(name), colour_of(paint), number))?;
         self.numbered = number;
         Ok(())
     }
 
     #[tactic(auto, using(crate::proofs::DraftLemmas::last_set))]
-    fn take_front(&mut self, numbers: &[i64]) -> Result<(), Memory>
+    fn take_front(&mut self, face: Plane) -> Result<(), Memory>
         requires begun { 0 < vec_len self.old.solids }
-        requires limit { face_past numbers.now ≡ None }
+        requires limit { face_past (face_numbers face) ≡ None }
         requires faces { self.old.numbered < 4095 }
         requires room { in_last (λ s. length s.fronts) self.old.solids.items < 32 }
         requires next { CanBeTaken self.old.numbered self.old.solids.items }
@@ -266,21 +268,21 @@ impl Draft {
           numbered =
               self.old.numbered + 1;
           solids = with_last (with_front (self.old.numbered + 1)
-              numbers.now) self.old.solids.items;
+              (face_numbers face)) self.old.solids.items;
         }) }
     {
         let number = self.numbered + 1;
         let last = self.solids.len() - 1;
         let solid = &mut self.solids[last];
-        push_front(solid, number, numbers)?;
+        push_front(solid, number, face)?;
         self.numbered = number;
         Ok(())
     }
 
     #[tactic(auto, using(crate::proofs::DraftLemmas::last_set))]
-    fn take_back(&mut self, numbers: &[i64]) -> Result<(), Memory>
+    fn take_back(&mut self, face: Plane) -> Result<(), Memory>
         requires begun { 0 < vec_len self.old.solids }
-        requires limit { face_past numbers.now ≡ None }
+        requires limit { face_past (face_numbers face) ≡ None }
         requires faces { self.old.numbered < 4095 }
         requires room { in_last (λ s. length s.backs) self.old.solids.items < 32 }
         requires next { CanBeTaken self.old.numbered self.old.solids.items }
@@ -288,41 +290,66 @@ impl Draft {
           numbered =
               self.old.numbered + 1;
           solids = with_last (with_back (self.old.numbered + 1)
-              numbers.now) self.old.solids.items;
+              (face_numbers face)) self.old.solids.items;
         }) }
     {
         let number = self.numbered + 1;
         let last = self.solids.len() - 1;
         let solid = &mut self.solids[last];
-        push_back(solid, number, numbers)?;
+        push_back(solid, number, face)?;
         self.numbered = number;
         Ok(())
     }
 
     #[tactic(auto, using(crate::proofs::DraftLemmas::last_set))]
-    fn take_side(&mut self, numbers: &[i64]) -> Result<(), Memory>
+    fn take_side(&mut self, form: Linear) -> Result<(), Memory>
         requires begun { 0 < vec_len self.old.solids }
-        requires limit { face_past numbers.now ≡ None }
+        requires limit { plane_past form.a form.b form.c ≡ None }
         requires room { in_last (λ s. length s.sides) self.old.solids.items < 32 }
         ensures ok { OnOk result (view_of self.new ≡ record (view_of self.old) {
           solids = with_last
-              (with_side numbers.now) self.old.solids.items;
+              (with_side (form.a ∷ form.b ∷ form.c ∷ [])) self.old.solids.items;
         }) }
     {
         let last = self.solids.len() - 1;
-        let solid = &mut self.solids[last];
-        push_side(solid, numbers)?;
+        self.solids[last].push_side(form)?;
         Ok(())
     }
 }
 
-fn first_word<'t>(words: &'t [&'t [u8]]) -> &'t [u8]
-    ensures { result.now ≡ first_word (now_of words.now) }
+/// A solid of the same name that stands already.
+fn second_name(solids: &[Solid], line: Line) -> Option<Cause>
+    ensures { result ≡ second_name (names_of solids.now) line.entry }
 {
-    match words {
-        [] => &[],
-        [word, ..] => word,
+    match line {
+        Line::Solid { name, paint: _ } => {
+            if is_among(solids, name) {
+                Some(Cause::SecondName)
+            } else {
+                None
+            }
+        }
+        _ => None,
     }
+}
+
+#[tactic(auto, using(crate::proofs::LineLemmas::any_of_mapped))]
+fn is_among(solids: &[Solid], name: &[u8]) -> bool
+    ensures { result ≡ is_among (names_of solids.now) name.now }
+{
+    is_any_named(solids, name)
+}
+
+fn is_any_named(solids: &[Solid], name: &[u8]) -> bool
+    ensures { result ≡ list_any (λ s. bytes_eq s.name name.now) solids.now }
+{
+    solids.iter().any(|solid| is_named(solid, name))
+}
+
+fn is_named(solid: &Solid, name: &[u8]) -> bool
+    ensures { result ≡ bytes_eq solid.now.name name.now }
+{
+    solid.name() == name
 }
 
 /// A name's bytes, of which there are at most 32.
@@ -338,42 +365,23 @@ fn name_of(word: &[u8]) -> ArrayVec<u8, 32>
 }
 
 /// Adds the front of a line to its solid.
-fn push_front(solid: &mut Solid, number: u32, numbers: &[i64]) -> Result<(), Memory>
-    requires limit { face_past numbers.now ≡ None }
+fn push_front(solid: &mut Solid, number: u32, face: Plane) -> Result<(), Memory>
+    requires limit { face_past (face_numbers face) ≡ None }
     requires room { length solid.old.fronts < 32 }
     requires next { CanTakeFace number solid.old }
-    ensures ok { OnOk result (solid.new ≡ with_front number numbers.now solid.old) }
+    ensures ok { OnOk result (solid.new ≡ with_front number (face_numbers face) solid.old) }
     ensures err { OnErr result (solid.new ≡ solid.old) }
 {
-    match face_of(solid.colour(), number, numbers) {
-        Some(front) => solid.push_front(front),
-        None => Ok(()),
-    }
+    solid.push_front(face_of(solid.colour(), number, face))
 }
 
 /// Adds the back of a line to its solid.
-fn push_back(solid: &mut Solid, number: u32, numbers: &[i64]) -> Result<(), Memory>
-    requires limit { face_past numbers.now ≡ None }
+fn push_back(solid: &mut Solid, number: u32, face: Plane) -> Result<(), Memory>
+    requires limit { face_past (face_numbers face) ≡ None }
     requires room { length solid.old.backs < 32 }
     requires next { CanTakeFace number solid.old }
-    ensures ok { OnOk result (solid.new ≡ with_back number numbers.now solid.old) }
+    ensures ok { OnOk result (solid.new ≡ with_back number (face_numbers face) solid.old) }
     ensures err { OnErr result (solid.new ≡ solid.old) }
 {
-    match face_of(solid.colour(), number, numbers) {
-        Some(back) => solid.push_back(back),
-        None => Ok(()),
-    }
-}
-
-/// Adds the side of a line to its solid.
-fn push_side(solid: &mut Solid, numbers: &[i64]) -> Result<(), Memory>
-    requires limit { face_past numbers.now ≡ None }
-    requires room { length solid.old.sides < 32 }
-    ensures ok { OnOk result (solid.new ≡ with_side numbers.now solid.old) }
-    ensures err { OnErr result (solid.new ≡ solid.old) }
-{
-    match side_of(numbers) {
-        Some(side) => solid.push_side(side),
-        None => Ok(()),
-    }
+    solid.push_back(face_of(solid.colour(), number, face))
 }

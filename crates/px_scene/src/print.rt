@@ -2,7 +2,7 @@
 ghost use Rattle.std.specs.Prelude.{◌≡◌, ◌<◌, ◌≤◌, ◌++◌, ◌∷◌, [], List, OnOk, IfOk, All, length, reverse};
 ghost use Rattle.px_expr.specs.Tree.{HasLeavesBelow, IsLawful};
 ghost use Rattle.px_expr.specs.Shapes.{IsLeafBelow};
-ghost use Rattle.px_scene.specs.Solids.{names_of};
+ghost use Rattle.px_model.specs.Solids.{names_of};
 ghost use Rattle.px_scene.specs.Printed.{printed, named_by, sign_byte};
 ghost use Rattle.px_scene.specs.Gaps.{
   sign_text,
@@ -14,8 +14,8 @@ ghost use Rattle.px_scene.specs.Gaps.{
   text_of,
 };
 
-use crate::solid::Solid;
 use px_expr::{Expr, Op, Shape};
+use px_model::Solid;
 use px_num::Memory;
 use std::alloc::Global;
 

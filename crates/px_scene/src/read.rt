@@ -1,14 +1,15 @@
 //! Reading a scene from its text.
 ghost use Rattle.std.specs.Prelude.{◌≡◌, ◌⊎◌, ◌+◌, ◌<◌, ◌≤◌, ◌^◌, [], ◌∷◌, map, length, OnOk, IfOk, IfErr, IsErrOf, None, Some, ℕ};
-ghost use Rattle.px_scene.specs.Text.{lines_of, words_of, worded};
+ghost use Rattle.px_text.specs.Text.{lines_of, words_of, worded};
 ghost use Rattle.px_scene.specs.Reading.{first_bad, scene_of, due_behind};
 ghost use Rattle.px_scene.specs.Refusals.{refusal_of, fault_at, is_nothing, IsFirstBad};
 
 use crate::draft::Draft;
 use crate::line::{Cause, LimitKind, LineError, LineFault};
-use crate::scene::Scene;
-use crate::text::{lines_of, words_of};
-use std::alloc::{AllocError, Global};
+use px_model::Scene;
+use px_num::Memory;
+use px_text::lines_of;
+use std::alloc::Global;
 use thiserror::Error;
 
 /// Why a text is no scene (docs/SCENES.md, "Refusals"). The first bad line decides.
@@ -34,13 +35,13 @@ pub enum SceneFault {
 ghost use Rattle.px_scene.specs.Tells.{IsDraftOf};
 ghost use Rattle.px_scene.specs.DraftViews.{view_of};
 
-impl From<AllocError> for SceneFault {
+impl From<Memory> for SceneFault {
     ghost use Rattle.std.specs.Prelude.{◌≡◌};
     ghost use Rattle.px_scene.specs.declared.read.SceneFault.TheVariants.{Memory};
 
     ghost from_gives = { λ _ e. e ≡ Memory };
 
-    fn from(_: AllocError) -> Self {
+    fn from(_: Memory) -> Self {
         SceneFault::Memory
     }
 }

@@ -1,10 +1,10 @@
 //! The expression of a `show` line.
 ghost use Rattle.std.specs.Prelude.{◌≡◌, ◌≤◌, None, Some, true, List, OnOk, IfOk, IfErr, IsErrOf, length};
 ghost use Rattle.px_scene.specs.declared.line.LineFault.{LineFault};
-ghost use Rattle.px_scene.specs.Solids.{names_of};
-ghost use Rattle.px_scene.specs.Lines.{now_of};
+ghost use Rattle.px_model.specs.Solids.{names_of};
+ghost use Rattle.px_text.specs.Text.{now_of};
 ghost use Rattle.px_expr.specs.Tree.{Tree, leaf_count, nesting, HasLeavesBelow, IsLawful};
-ghost use Rattle.px_scene.specs.Text.{Words, words_of};
+ghost use Rattle.px_text.specs.Text.{Words, words_of};
 ghost use Rattle.px_scene.specs.Tokens.{Token, tokens_of};
 ghost use Rattle.px_scene.specs.Printed.{AreDistinctNames, printed, named_by};
 ghost use Rattle.px_scene.specs.Expressions.{Named, has_names, has_signs, written, expression_of, IsExpressionOf};
@@ -13,11 +13,11 @@ ghost use Rattle.px_scene.specs.Show.{show_fault, show_tree};
 ghost use Rattle.px_scene.specs.declared.version.Version.{Version as AnyVersion};
 
 use crate::line::{LineError, LineFault};
-use crate::solid::Solid;
 use crate::stack::{Stack, Step};
 use crate::token::tokens_of;
 use crate::version::Version;
 use px_expr::{Expr, ExprBuilder, ExprFault};
+use px_model::Solid;
 use std::alloc::Global;
 
 /// The expression that the words after `show` write (docs/SCENES.md, "Expressions").
@@ -89,11 +89,11 @@ pub fn printed_law()
 mod tests {
     use super::read_show;
     use crate::line::{Cause, LimitKind, LineError, LineFault};
-    use crate::solid::{Colour, Solid};
-    use crate::text::words_of;
     use crate::version::Version;
     use arrayvec::ArrayVec;
     use px_expr::{Expr, Node};
+    use px_model::{Colour, Solid};
+    use px_text::words_of;
     use std::alloc::Global;
 
     fn solid(alloc: Global, byte: u8) -> Solid {

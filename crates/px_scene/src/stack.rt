@@ -1,19 +1,19 @@
 //! The reading of an expression, token by token, with a stack of its own.
 ghost use Rattle.std.specs.Prelude.{◌≡◌, ◌≤◌, ◌<◌, ◌^◌, ◌++◌, List, [], ◌∷◌, length, map, reverse, count_by, IfOk, OnOk, OnSome};
 ghost use Rattle.std.specs.List.{list_any};
-ghost use Rattle.px_scene.specs.Solids.{names_of};
+ghost use Rattle.px_model.specs.Solids.{names_of};
 ghost use Rattle.px_scene.specs.Tokens.{name};
 ghost use Rattle.px_scene.specs.Expressions.{Part as AnyPart, put, parts_of, closed, whole};
 ghost use Rattle.px_scene.specs.Show.{place_of, cause_in, limit_in, count_past, counts_past};
-ghost use Rattle.px_scene.specs.Text.{Words};
+ghost use Rattle.px_text.specs.Text.{Words};
 ghost use Rattle.px_scene.specs.Faults.{judged};
 ghost use Rattle.px_scene.specs.Stacks.{token_of, closing, bracketed, nesting_of, nesting_in, is_leaf, is_unknown, IsStackOf};
 
 use crate::line::{Cause, LimitKind, LineFault};
-use crate::solid::Solid;
 use crate::token::Token;
-use crate::word::is_name;
 use px_expr::Op;
+use px_model::Solid;
+use px_text::is_name;
 use std::alloc::{AllocError, Global};
 
 /// What stands on the stack: a side, which is a whole expression, or a token that is in none yet.

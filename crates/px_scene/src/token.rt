@@ -1,14 +1,14 @@
 //! The tokens of an expression's words (docs/SCENES.md, "Expressions").
 ghost use Rattle.std.specs.Prelude.{◌≡◌, ◌<◌, ◌++◌, ◌∷◌, [], length, map, IfOk, OnOk, IfSome, IfNone};
 ghost use Rattle.std.specs.List.{take_while};
-ghost use Rattle.px_scene.specs.Word.{is_name_byte};
-ghost use Rattle.px_scene.specs.Lines.{now_of};
+ghost use Rattle.px_text.specs.Word.{is_name_byte};
+ghost use Rattle.px_text.specs.Text.{now_of};
 ghost use Rattle.px_scene.specs.Tokens.{mark, tokens_in, tokens_of};
 ghost use Rattle.px_scene.specs.Stacks.{token_of};
 
 use crate::version::Version;
-use crate::word::is_name_byte;
 use px_expr::Op;
+use px_text::is_name_byte;
 use std::alloc::{AllocError, Global};
 
 /// A longest run of bytes of names, a bracket, a sign of the version, or another byte.

@@ -1,7 +1,7 @@
 //! The version of a scene text, which its header names (docs/SCENES.md, "Versions").
 ghost use Rattle.std.specs.Prelude.{◌≡◌};
-ghost use Rattle.px_scene.specs.Lines.{now_of};
-ghost use Rattle.px_scene.specs.Versions.{depth_count, has_differ, version_named, version_of, version_word};
+ghost use Rattle.px_text.specs.Text.{now_of};
+ghost use Rattle.px_scene.specs.Versions.{has_differ, version_named, version_of, version_word};
 
 /// What a scene text may say. Each version has all that the one before has.
 #[derive(Clone, Copy, Debug, PartialEq, Eq)]
@@ -43,16 +43,6 @@ impl Version {
         match self {
             Version::One => false,
             Version::Two | Version::Three => true,
-        }
-    }
-
-    /// How many numbers a `depth` line has.
-    pub(crate) fn depth_count(self) -> usize
-        ensures { result ≡ depth_count self }
-    {
-        match self {
-            Version::One | Version::Two => 1,
-            Version::Three => 2,
         }
     }
 }

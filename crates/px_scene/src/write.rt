@@ -1,43 +1,20 @@
 //! Writing a scene's canonical text (docs/SCENES.md, "Canonical text").
-ghost use Rattle.std.specs.Prelude.{◌≡◌, ◌<◌, ◌≤◌, ◌^◌, None, length, ◌++◌, ◌∷◌, [], ℕ, ℤ, List, Some, true, codes, decimal, OnOk, IfOk};
-ghost use lib.Signed.{mag};
+ghost use Rattle.std.specs.Prelude.{◌≡◌, None, ◌++◌, ◌∷◌, [], codes, decimal, OnOk, IfOk};
 ghost use Rattle.px_expr.specs.Tree.{IsLawful};
-ghost use Rattle.px_scene.specs.Solids.{IsLawfulSolid};
-ghost use Rattle.px_scene.specs.Scenes.{SceneView};
+ghost use Rattle.px_model.specs.Solids.{IsLawfulSolid};
+ghost use Rattle.px_model.specs.Scenes.{SceneView};
 ghost use Rattle.px_scene.specs.Versions.{version_word, has_difference, is_difference};
 ghost use Rattle.px_scene.specs.Writable.{IsWritable, IsReadAs};
-ghost use Rattle.px_scene.specs.Text.{Words, words_of, lines_of};
-ghost use Rattle.px_scene.specs.Word.{number_of};
 ghost use Rattle.std.specs.Fmt.{signed_decimal};
-ghost use Rattle.std.specs.List.{list_all, list_any, flat_map};
-ghost use Rattle.px_scene.specs.Canonical.{
-  spaced,
-  written_line,
-  colour_words,
-  plane_words,
-  face_line,
-  side_line,
-  lines_at,
-  lines_of_number,
-  face_lines,
-  solid_lines,
-  first_lines,
-  version_for,
-  depth_words,
-  show_line,
-  canonical_text,
-  is_plain,
-  are_plain,
-  is_no_feed,
-  fed,
-};
+ghost use Rattle.std.specs.List.{list_any, flat_map};
+ghost use Rattle.px_scene.specs.Canonical.{written_line, colour_words, plane_words, face_line, side_line, lines_at, lines_of_number, face_lines, solid_lines, first_lines, version_for, depth_words, show_line, canonical_text};
+ghost use Rattle.px_text.specs.Written.{spaced};
 
 use crate::print::put_expression;
-use crate::scene::Scene;
-use crate::solid::{Colour, Face, Solid};
 use crate::version::Version;
 use itoa::Buffer;
 use px_expr::{Expr, Node};
+use px_model::{Colour, Face, Scene, Solid};
 use px_num::{Linear, Memory};
 use std::alloc::Global;
 
@@ -104,7 +81,7 @@ fn put_first_lines(text: &mut Vec<u8>, scene: &Scene) -> Result<(), Memory>
 }
 
 #[tactic(auto, unfolding(crate::specs::Canonical::written_line))]
-fn put_header(text: &mut Vec<u8>, version: Version) -> Result<(), Memory>
+pub(crate) fn put_header(text: &mut Vec<u8>, version: Version) -> Result<(), Memory>
     ensures { OnOk result (text.new.items ≡ text.old.items
         ++ written_line (codes "pxscene") (version_word version ∷ [])) }
 {
@@ -114,7 +91,7 @@ fn put_header(text: &mut Vec<u8>, version: Version) -> Result<(), Memory>
 }
 
 #[tactic(auto, unfolding(crate::specs::Canonical::written_line))]
-fn put_picture(text: &mut Vec<u8>, width: u32, height: u32) -> Result<(), Memory>
+pub(crate) fn put_picture(text: &mut Vec<u8>, width: u32, height: u32) -> Result<(), Memory>
     ensures { OnOk result (text.new.items ≡ text.old.items
         ++ written_line (codes "picture") (decimal width ∷ decimal height ∷ [])) }
 {
@@ -125,7 +102,12 @@ fn put_picture(text: &mut Vec<u8>, width: u32, height: u32) -> Result<(), Memory
 }
 
 #[tactic(auto, unfolding(crate::specs::Canonical::written_line))]
-fn put_depth(text: &mut Vec<u8>, version: Version, bits: u32, fraction: u32) -> Result<(), Memory>
+pub(crate) fn put_depth(
+    text: &mut Vec<u8>,
+    version: Version,
+    bits: u32,
+    fraction: u32,
+) -> Result<(), Memory>
     ensures { OnOk result (text.new.items ≡ text.old.items
         ++ written_line (codes "depth") (depth_words version bits fraction)) }
 {
@@ -162,7 +144,7 @@ fn put_solid(text: &mut Vec<u8>, solid: &Solid) -> Result<(), Memory>
 }
 
 #[tactic(auto, unfolding(crate::specs::Canonical::written_line))]
-fn put_head(text: &mut Vec<u8>, name: &[u8], colour: Colour) -> Result<(), Memory>
+pub(crate) fn put_head(text: &mut Vec<u8>, name: &[u8], colour: Colour) -> Result<(), Memory>
     ensures { OnOk result (text.new.items ≡ text.old.items
         ++ written_line (codes "solid") (name.now ∷ colour_words colour)) }
 {
@@ -229,7 +211,7 @@ fn put_sides(text: &mut Vec<u8>, sides: &[Linear]) -> Result<(), Memory>
 }
 
 #[tactic(auto, unfolding(crate::specs::Canonical::written_line))]
-fn put_side(text: &mut Vec<u8>, side: &Linear) -> Result<(), Memory>
+pub(crate) fn put_side(text: &mut Vec<u8>, side: &Linear) -> Result<(), Memory>
     ensures { OnOk result (text.new.items ≡ text.old.items ++ side_line side.now) }
 {
     put(text, b"side")?;
@@ -249,14 +231,14 @@ fn put_show(alloc: Global, text: &mut Vec<u8>, scene: &Scene) -> Result<(), Memo
 
 /// A line of one word.
 #[tactic(auto, unfolding(crate::specs::Canonical::written_line))]
-fn put_line(text: &mut Vec<u8>, word: &[u8]) -> Result<(), Memory>
+pub(crate) fn put_line(text: &mut Vec<u8>, word: &[u8]) -> Result<(), Memory>
     ensures { OnOk result (text.new.items ≡ text.old.items ++ written_line word.now []) }
 {
     put(text, word)?;
     put(text, b"\n")
 }
 
-fn put_plane(text: &mut Vec<u8>, plane: &Linear) -> Result<(), Memory>
+pub(crate) fn put_plane(text: &mut Vec<u8>, plane: &Linear) -> Result<(), Memory>
     ensures { OnOk result (text.new.items ≡ text.old.items ++ spaced (plane_words plane.now)) }
 {
     put_coefficient(text, plane.a)?;
@@ -264,7 +246,7 @@ fn put_plane(text: &mut Vec<u8>, plane: &Linear) -> Result<(), Memory>
     put_coefficient(text, plane.c)
 }
 
-fn put_colour(text: &mut Vec<u8>, colour: Colour) -> Result<(), Memory>
+pub(crate) fn put_colour(text: &mut Vec<u8>, colour: Colour) -> Result<(), Memory>
     ensures { OnOk result (text.new.items ≡ text.old.items ++ spaced (colour_words colour)) }
 {
     put_size(text, u32::from(colour.red))?;
@@ -288,21 +270,12 @@ fn put_size(text: &mut Vec<u8>, n: u32) -> Result<(), Memory>
     put(text, digits.format(n).as_bytes())
 }
 
-fn put(text: &mut Vec<u8>, bytes: &[u8]) -> Result<(), Memory>
+pub(crate) fn put(text: &mut Vec<u8>, bytes: &[u8]) -> Result<(), Memory>
     ensures { OnOk result (text.new.items ≡ text.old.items ++ bytes.now) }
 {
     text.extend_from_slice(bytes)?;
     Ok(())
 }
-
-/// What is written of a number, of words and of lines is read as them.
-pub fn written_law()
-    ensures numbers { (z : ℤ) → mag z < 10 ^ 18 → number_of (signed_decimal z) ≡ Some z }
-    ensures words { (w : List ℕ) (ws : Words) → is_plain w ≡ true → are_plain ws ≡ true →
-        words_of (w ++ spaced ws) ≡ w ∷ ws }
-    ensures lines { (lines : List (List ℕ)) → list_all (λ l. list_all is_no_feed l) lines ≡ true →
-        lines_of (fed lines) ≡ lines }
-{}
 
 /// The canonical text of a scene is within the limit of texts, and is read as the scene.
 pub fn canonical_law()

@@ -1,7 +1,7 @@
 use Rattle.std.proofs.Common.{◌+◌, ◌∙◌, Err, ap, arith, inr}
 use Rattle.std.proofs.lemmas.List.{length-map}
 use Rattle.px_scene.specs.Refusals.{fault_at}
-use Rattle.px_scene.specs.Text.{words_of}
+use Rattle.px_text.specs.Text.{words_of}
 use Rattle.px_scene.proofs.ReadLemmas.{read_next, read_bad, read_all, words_here, within}
 use Rattle.px_scene.proofs.read.draft_of.Goals as goal
 

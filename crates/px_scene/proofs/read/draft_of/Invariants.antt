@@ -1,5 +1,5 @@
 use Rattle.std.proofs.Common.{map}
-use Rattle.px_scene.specs.Text.{words_of}
+use Rattle.px_text.specs.Text.{words_of}
 use Rattle.px_scene.specs.DraftViews.{view_of}
 use Rattle.px_scene.proofs.ReadLemmas.{IsReadTo}
 use Rattle.px_scene.proofs.read.draft_of.Given as goal

@@ -2,7 +2,7 @@ use Rattle.std.proofs.Common.{◌≡◌, ◌∙◌, sym, ap, arith, inl, inr, le
 use Rattle.px_scene.proofs.ReadLemmas.{worded_is, refused_bad, refused_end, accepted, drawn_is}
 use Rattle.std.proofs.lemmas.List.{length-map}
 use Rattle.px_scene.specs.Reading.{scene_of}
-use Rattle.px_scene.specs.Text.{words_of, worded}
+use Rattle.px_text.specs.Text.{words_of, worded}
 use Rattle.px_scene.specs.DraftViews.{view_of}
 use Rattle.px_scene.proofs.read.read_scene.Goals as goal
 

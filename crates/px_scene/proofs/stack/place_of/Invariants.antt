@@ -1,5 +1,5 @@
 use Rattle.std.proofs.Common.{◌≡◌, ◌+◌, drop}
-use Rattle.px_scene.specs.Solids.{names_of}
+use Rattle.px_model.specs.Solids.{names_of}
 use Rattle.px_scene.specs.Show.{place_of}
 use Rattle.px_scene.proofs.stack.place_of.Given as goal
 

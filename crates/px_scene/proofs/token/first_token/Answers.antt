@@ -1,6 +1,6 @@
 use Rattle.std.proofs.Common.{sym, ◌∙◌}
 use Rattle.std.proofs.lemmas.List.Folds.{length-prefix_len}
-use Rattle.px_scene.specs.Word.{is_name_byte}
+use Rattle.px_text.specs.Word.{is_name_byte}
 use Rattle.px_scene.proofs.TokenLemmas.{first_name}
 use Rattle.px_scene.proofs.token.first_token.Goals as goal
 

@@ -1,6 +1,0 @@
-use Rattle.std.proofs.Common.{◌≡◌, take}
-use Rattle.px_scene.specs.Lines.{numbers_of, now_of}
-use Rattle.px_scene.proofs.line.numbers_of.Given as goal
-
-abbrev pub invariant-loop-word : goal.invariant-loop-word
-invariant-loop-word l = l.numbers.items ≡ take l.word-index (numbers_of (now_of l.words))

@@ -1,6 +1,0 @@
-use Rattle.std.proofs.Common.{◌≡◌, drop}
-use Rattle.px_scene.specs.Scenes.{colour_in_scene}
-use Rattle.px_scene.proofs.scene.Scene.colour_of.Given as goal
-
-abbrev pub invariant-loop-solid : goal.invariant-loop-solid
-invariant-loop-solid l = colour_in_scene l.solid-items l.number ≡ colour_in_scene (drop l.solid-index l.solid-items) l.number

@@ -1,8 +1,0 @@
-use Rattle.std.proofs.Common.{◌≡◌, All, take}
-use Rattle.px_scene.specs.Scenes.{faces_of}
-use Rattle.px_scene.specs.Solids.{IsLawfulSolid}
-use Rattle.px_scene.proofs.scene.faces_among.Given as goal
-
-abbrev pub invariant-loop-solid : goal.invariant-loop-solid
-invariant-loop-solid l =
-    (l.faces ≡ faces_of (take l.solid-index l.solids)) × All IsLawfulSolid (take l.solid-index l.solids)

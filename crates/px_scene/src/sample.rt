@@ -1,0 +1,230 @@
+//! The sample: a scene of so many blocks with one cut through all of them, the program's own measure of work.
+ghost use Rattle.std.specs.Prelude.{◌≡◌, ◌+◌, ◌/◌, ◌<◌, ◌≤◌, ◌++◌, ◌∷◌, [], ℕ, codes, IfOk, OnOk};
+ghost use Rattle.px_scene.specs.Canonical.{written_line};
+ghost use Rattle.px_scene.specs.Sample.{
+  block_faces,
+  block_line,
+  block_lines,
+  block_name,
+  block_sides,
+  cut_lines,
+  form,
+  form_line,
+  left_and_right,
+  sample_start,
+  sample_text,
+  top_and_bottom,
+  union_of,
+};
+
+use crate::version::Version;
+use crate::write::{
+    put, put_colour, put_depth, put_head, put_header, put_line, put_picture, put_plane, put_side,
+};
+use itoa::Buffer;
+use px_model::Colour;
+use px_num::{Linear, Memory};
+use std::alloc::Global;
+
+/// How many blocks stand in a row.
+const COLUMNS: u32 = 16;
+
+/// The text of a scene of `n` blocks, 1 to 200, with one cut through all of them
+/// (docs/SCENES.md, "The sample").
+pub fn sample_text(alloc: Global, n: u32) -> Result<Vec<u8>, Memory>
+    requires some { 1 ≤ n }
+    requires few { n ≤ 200 }
+    ensures { IfOk result (λ text. text.items ≡ sample_text n) }
+{
+    let mut text = Vec::new(alloc);
+    put_start(&mut text, n)?;
+    for i in 0..n {
+        put_block(&mut text, i)?;
+    }
+    put_cut(&mut text)?;
+    put_shown(&mut text, n)?;
+    put_line(&mut text, b"end")?;
+    Ok(text)
+}
+
+/// The union of blocks as it is written: one alone by its name, more in two halves, of which the
+/// second may be the greater.
+pub fn laws_of_samples()
+    ensures one { (first : ℕ) → union_of first (first + 1) ≡ block_name first }
+    ensures halves { (first end : ℕ) → first + 1 < end → union_of first end
+        ≡ codes "(" ++ union_of first ((first + end) / 2) ++ codes " + "
+        ++ union_of ((first + end) / 2) end ++ codes ")" }
+{}
+
+fn put_start(text: &mut Vec<u8>, n: u32) -> Result<(), Memory>
+    requires { n ≤ 200 }
+    ensures { OnOk result (text.new.items ≡ text.old.items ++ sample_start n) }
+{
+    put_header(text, Version::One)?;
+    put_picture(text, 4 * COLUMNS, 4 * n.div_ceil(COLUMNS))?;
+    put_depth(text, Version::One, 16, 0)
+}
+
+fn put_block(text: &mut Vec<u8>, i: u32) -> Result<(), Memory>
+    requires { i < 200 }
+    ensures { OnOk result (text.new.items ≡ text.old.items ++ block_lines i) }
+{
+    put_block_line(text, i)?;
+    put_block_sides(text, i)?;
+    put_block_faces(text, i)
+}
+
+/// The sides of a block of three columns and three rows.
+fn put_block_sides(text: &mut Vec<u8>, i: u32) -> Result<(), Memory>
+    requires { i < 200 }
+    ensures { OnOk result (text.new.items ≡ text.old.items ++ block_sides i) }
+{
+    put_left_and_right(text, i)?;
+    put_top_and_bottom(text, i)
+}
+
+fn put_left_and_right(text: &mut Vec<u8>, i: u32) -> Result<(), Memory>
+    requires { i < 200 }
+    ensures { OnOk result (text.new.items ≡ text.old.items ++ left_and_right i) }
+{
+    let left = 4 * i64::from(i % COLUMNS);
+    put_side(text, &form(1, 0, -left))?;
+    put_side(text, &form(-1, 0, left + 2))
+}
+
+fn put_top_and_bottom(text: &mut Vec<u8>, i: u32) -> Result<(), Memory>
+    requires { i < 200 }
+    ensures { OnOk result (text.new.items ≡ text.old.items ++ top_and_bottom i) }
+{
+    let top = 4 * i64::from(i / COLUMNS);
+    put_side(text, &form(0, 1, -top))?;
+    put_side(text, &form(0, -1, top + 2))
+}
+
+fn put_block_faces(text: &mut Vec<u8>, i: u32) -> Result<(), Memory>
+    requires { i < 200 }
+    ensures { OnOk result (text.new.items ≡ text.old.items ++ block_faces i) }
+{
+    put_form(text, b"front", &form(1, 2, 100 + i64::from(i)))?;
+    put_form(text, b"back", &form(0, 0, 1000))
+}
+
+/// The cut, which goes through all blocks: the pixels right of its slope, in front of depth 300.
+fn put_cut(text: &mut Vec<u8>) -> Result<(), Memory>
+    ensures { OnOk result (text.new.items ≡ text.old.items ++ cut_lines) }
+{
+    let yellow = Colour {
+        red: 255,
+        green: 255,
+        blue: 0,
+    };
+    put_head(text, b"cut", yellow)?;
+    put_side(text, &form(1, -1, 0))?;
+    put_form(text, b"back", &form(0, 0, 300))
+}
+
+#[tactic(auto, unfolding(crate::specs::Canonical::written_line))]
+fn put_shown(text: &mut Vec<u8>, n: u32) -> Result<(), Memory>
+    requires some { 1 ≤ n }
+    requires few { n ≤ 200 }
+    ensures { OnOk result (text.new.items ≡ text.old.items
+        ++ written_line (codes "show") ((codes "(" ++ union_of 0 n ++ codes " - cut)") ∷ [])) }
+{
+    put(text, b"show (")?;
+    put_union(text, 0, n)?;
+    put(text, b" - cut)\n")
+}
+
+/// The union of the blocks from `first` to before `end`, in as few levels as can be.
+fn put_union(text: &mut Vec<u8>, first: u32, end: u32) -> Result<(), Memory>
+    requires some { first < end }
+    requires few { end ≤ 200 }
+    ensures { OnOk result (text.new.items ≡ text.old.items ++ union_of first end) }
+{
+    if end == first + 1 {
+        return put_name(text, first);
+    }
+    let middle = (first + end) / 2;
+    laws_of_samples();
+    put(text, b"(")?;
+    put_union(text, first, middle)?;
+    put(text, b" + ")?;
+    put_union(text, middle, end)?;
+    put(text, b")")
+}
+
+#[tactic(auto, unfolding(crate::specs::Canonical::written_line))]
+fn put_block_line(text: &mut Vec<u8>, i: u32) -> Result<(), Memory>
+    requires { i < 200 }
+    ensures { OnOk result (text.new.items ≡ text.old.items ++ block_line i) }
+{
+    let colour = Colour {
+        red: i as u8,
+        green: 100,
+        blue: 200,
+    };
+    put(text, b"solid ")?;
+    put_name(text, i)?;
+    put_colour(text, colour)?;
+    put(text, b"\n")
+}
+
+/// A front or a back in the colour of its solid.
+#[tactic(auto, unfolding(crate::specs::Canonical::written_line))]
+fn put_form(text: &mut Vec<u8>, keyword: &[u8], plane: &Linear) -> Result<(), Memory>
+    ensures { OnOk result (text.new.items ≡ text.old.items ++ form_line keyword.now plane.now) }
+{
+    put(text, keyword)?;
+    put_plane(text, plane)?;
+    put(text, b"\n")
+}
+
+fn form(a: i64, b: i64, c: i64) -> Linear
+    ensures { result ≡ form a b c }
+{
+    Linear { a, b, c }
+}
+
+fn put_name(text: &mut Vec<u8>, i: u32) -> Result<(), Memory>
+    ensures { OnOk result (text.new.items ≡ text.old.items ++ block_name i) }
+{
+    let mut digits = Buffer::new();
+    put(text, b"b")?;
+    put(text, digits.format(i).as_bytes())
+}
+
+#[cfg(test)]
+mod tests {
+    use super::sample_text;
+    use crate::read::read_scene;
+    use std::test::Fail;
+
+    /// The sample of one block, and the expression of that of seven.
+    const ONE: &[u8] = b"pxscene 1\npicture 64 4\ndepth 16\n\
+        solid b0 0 100 200\nside 1 0 0\nside -1 0 2\nside 0 1 0\nside 0 -1 2\n\
+        front 1 2 100\nback 0 0 1000\n\
+        solid cut 255 255 0\nside 1 -1 0\nback 0 0 300\n\
+        show (b0 - cut)\nend\n";
+
+    const SEVEN: &[u8] = b"show (((b0 + (b1 + b2)) + ((b3 + b4) + (b5 + b6))) - cut)\nend\n";
+
+    #[test]
+    fn samples_of_one_and_of_seven(rt: HostRuntime) -> Result<(), Fail> {
+        let one = sample_text(rt.alloc(), 1)?;
+        assert_eq!(rt; one.as_slice(), ONE);
+        let seven = sample_text(rt.alloc(), 7)?;
+        assert!(rt; seven.as_slice().ends_with(SEVEN));
+        Ok(())
+    }
+
+    #[test]
+    fn samples_are_scenes(rt: HostRuntime) -> Result<(), Fail> {
+        for n in [1, 16, 17, 200] {
+            let text = sample_text(rt.alloc(), n)?;
+            let scene = read_scene(rt.alloc(), text.as_slice())?;
+            assert_eq!(rt; scene.solids().len(), n as usize + 1);
+            assert_eq!(rt; scene.width(), 64);
+        }
+        Ok(())
+    }
+}

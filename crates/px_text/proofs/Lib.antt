@@ -1,0 +1,4 @@
+pub mod DecimalLemmas
+pub mod PlainLemmas
+pub mod SpacedLemmas
+pub mod TextLemmas

@@ -1,0 +1,10 @@
+//! Texts of lines and words: how they are cut, which words are numbers and names, and how they are written.
+#![tactic(auto)]
+
+mod text;
+mod word;
+mod written;
+
+pub use text::{lines_of, words_of};
+pub use word::{is_name, is_name_byte, number_of};
+pub use written::written_law;
