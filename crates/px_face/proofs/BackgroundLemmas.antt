@@ -10,10 +10,10 @@ use Rattle.px_expr.specs.Cells.{Cell, cell, combined, own_faces}
 use Rattle.px_expr.specs.Tree.{Tree, join, leaf}
 use Rattle.px_expr.specs.declared.node.Op.{Op}
 use Rattle.px_expr.specs.declared.node.Op.TheVariants as o
-use Rattle.px_scene.specs.declared.solid.Face.{Face}
-use Rattle.px_scene.specs.Solids.{IsLawfulSolid, SolidView, faces_in}
-use Rattle.px_scene.specs.Scenes.{AreNumberedFrom, IsLawfulScene, SceneView, faces_of}
-use Rattle.px_scene.specs.Cells.{Depths, cell_of, depths_of, end_of, enters_at, faces_at, far_of, first, first_cell, first_or, is_inside_before, is_member_at, leaf_cell, least, leaves_at, scene_cell, sight_at, solid_cell}
+use Rattle.px_model.specs.declared.solid.Face.{Face}
+use Rattle.px_model.specs.Solids.{IsLawfulSolid, SolidView, faces_in}
+use Rattle.px_model.specs.Scenes.{AreNumberedFrom, IsLawfulScene, SceneView, faces_of}
+use Rattle.px_model.specs.Cells.{Depths, cell_of, depths_of, end_of, enters_at, faces_at, far_of, first, first_cell, first_or, is_inside_before, is_member_at, leaf_cell, least, leaves_at, scene_cell, sight_at, solid_cell}
 use Rattle.px_face.specs.Surfaces.{IsFirst, IsFirstOf, FirstCellsAreFirst, PicturesShowBackground, PicturesShowFaces, ScenesHaveSurfaces, scene_before}
 
 first_tells : (test : ℕ → Bool) (limit : ℕ) → IsFirstOf test limit (first test limit)

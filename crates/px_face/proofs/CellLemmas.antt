@@ -3,9 +3,9 @@ use Rattle.std.proofs.Common.{◌≡◌, ◌<◌, ◌≤◌, ℕ, Bool, true, fa
 use Rattle.std.proofs.lemmas.Int.{ints}
 use Rattle.std.proofs.lemmas.Bool.{cases_lt}
 use Rattle.std.proofs.lemmas.Bool.Decides.{nat_tests}
-use Rattle.px_scene.specs.Solids.{SolidView}
-use Rattle.px_scene.specs.Cells.{Depths, cell_of, end_of, enters_at, is_inside, leaves_at, value_of}
-use Rattle.px_scene.specs.CellLaws.{cell_is_first, cell_is_least, cells_end, cells_grow}
+use Rattle.px_model.specs.Solids.{SolidView}
+use Rattle.px_model.specs.Cells.{Depths, cell_of, end_of, enters_at, is_inside, leaves_at, value_of}
+use Rattle.px_model.specs.CellLaws.{cell_is_first, cell_is_least, cells_end, cells_grow}
 use Rattle.px_face.specs.Covering.{HasCells, is_met}
 use Rattle.px_face.proofs.DepthLemmas.{cells_are, depths_are}
 

@@ -8,11 +8,11 @@ use Rattle.std.proofs.lemmas.List.{drop-map, get_or-append_right, get_or-map, ge
 use Rattle.std.proofs.lemmas.List.Folds.{list_all-append, list_all-map}
 use lib.Signed.{le_z, lt_z}
 use Rattle.px_num.specs.declared.linear.Linear.{Linear}
-use Rattle.px_num.specs.FormLaws.{value_at-less_one, value_at-minus}
+use Rattle.px_num.proofs.FormLaws.{value_at-less_one, value_at-minus}
 use Rattle.px_num.specs.Forms.{minus, value_at}
-use Rattle.px_scene.specs.declared.solid.Face.{Face}
-use Rattle.px_scene.specs.Solids.{AreFaces, IsLawfulSolid, SolidView}
-use Rattle.px_scene.specs.Cells.{enters_at, leaves_at}
+use Rattle.px_model.specs.declared.solid.Face.{Face}
+use Rattle.px_model.specs.Solids.{AreFaces, IsLawfulSolid, SolidView}
+use Rattle.px_model.specs.Cells.{enters_at, leaves_at}
 use Rattle.px_face.specs.Covering.{IsCoveredOnce, covering_back, covering_front, greatest_place, is_met}
 use Rattle.px_face.specs.Edges.{above, hold_at, at_least, back_edges, covers, front_edges}
 use Rattle.px_face.specs.Faces.{back_planes, face_count, front_planes, is_front, level, number_of, numbers_of, plane_of}

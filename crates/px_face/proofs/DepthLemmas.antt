@@ -8,8 +8,8 @@ use Rattle.std.proofs.Math.IntN.{zero-*ℤ}
 use lib.Signed.{le_z, lt_z}
 use Rattle.px_num.specs.declared.linear.Linear.{Linear}
 use Rattle.px_num.specs.Forms.{value_at}
-use Rattle.px_scene.specs.Solids.{SolidView}
-use Rattle.px_scene.specs.Cells.{enters_at, is_inside_at, leaves_at}
+use Rattle.px_model.specs.Solids.{SolidView}
+use Rattle.px_model.specs.Cells.{enters_at, is_inside_at, leaves_at}
 use Rattle.px_face.specs.Covering.{is_met}
 use Rattle.px_face.specs.Edges.{hold_at}
 use Rattle.px_face.specs.Faces.{back_planes, front_planes, level, planes_of}

@@ -5,7 +5,7 @@ use Rattle.std.proofs.lemmas.List.{length-map, length-drop, length-take-le, get_
 use Rattle.std.proofs.lemmas.List.Elements.{All-get_or}
 use Rattle.px_num.specs.declared.linear.Linear.{Linear}
 use Rattle.px_num.specs.Forms.{IsInTreeRange}
-use Rattle.px_scene.specs.Solids.{IsLawfulSolid, SolidView}
+use Rattle.px_model.specs.Solids.{IsLawfulSolid, SolidView}
 use Rattle.px_face.specs.Edges.{above, at_least, back_edges, back_orders, edge_count, edges, front_edges, front_orders, leads, trails}
 use Rattle.px_face.specs.Faces.{back_planes, face_count, front_planes, level}
 use Rattle.px_face.proofs.RangeLemmas.{back_range, backs_size, front_range, fronts_size, lt_false, lt_true}

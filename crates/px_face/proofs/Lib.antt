@@ -3,6 +3,7 @@ pub mod CellLemmas
 pub mod CoveringLemmas
 pub mod DepthLemmas
 pub mod EdgeLemmas
+pub mod ParityLaws
 pub mod ParityLemmas
 pub mod PlaceLemmas
 pub mod RangeLemmas

@@ -7,13 +7,13 @@ use Rattle.std.proofs.lemmas.Bool.Decides.{nat_tests}
 use Rattle.std.proofs.lemmas.List.Sums.{sum_by-append}
 use lib.Signed.{le_z, lt_z}
 use Rattle.px_num.specs.Forms.{value_at}
-use Rattle.px_scene.specs.Solids.{SolidView}
-use Rattle.px_scene.specs.Cells.{Depths, end_of, enters_at, is_inside_at, leaves_at, value_of}
-use Rattle.px_scene.specs.CellLaws.{cell_is_first}
+use Rattle.px_model.specs.Solids.{SolidView}
+use Rattle.px_model.specs.Cells.{Depths, end_of, enters_at, is_inside_at, leaves_at, value_of}
+use Rattle.px_model.specs.CellLaws.{cell_is_first}
 use Rattle.px_face.specs.Covering.{IsCoveredOnce, IsInsideByParity, covering_back, covering_front, is_met, is_odd, is_passed, is_passed_at}
 use Rattle.px_face.specs.Edges.{covers, hold_at}
 use Rattle.px_face.specs.Faces.{face_count, plane_of}
-use Rattle.px_face.specs.ParityLaws.{count_by-cons}
+use Rattle.px_face.proofs.ParityLaws.{count_by-cons}
 use Rattle.px_face.proofs.CoveringLemmas.{below_lt, same_place}
 use Rattle.px_face.proofs.PlaceLemmas.{and_false, and_right, and_true}
 use Rattle.px_face.proofs.RangeLemmas.{lt_false, lt_true}

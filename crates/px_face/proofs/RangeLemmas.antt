@@ -6,7 +6,7 @@ use Rattle.std.proofs.lemmas.List.{length-map}
 use Rattle.std.proofs.lemmas.List.Elements.{All-cons, All-append, All-map, All-take, All-drop, All-weaker, All-get_or, All-push}
 use Rattle.px_num.specs.declared.linear.Linear.{Linear}
 use Rattle.px_num.specs.Forms.{IsInHalfRange, IsInTreeRange, IsWithin}
-use Rattle.px_scene.specs.Solids.{IsLawfulSolid, IsPlane, SolidView}
+use Rattle.px_model.specs.Solids.{IsLawfulSolid, IsPlane, SolidView}
 use Rattle.px_face.specs.Edges.{above, at_least, back_edges, front_edges, leads, trails}
 use Rattle.px_face.specs.Faces.{back_planes, face_count, front_planes, level, plane_of, planes_of}
 

@@ -5,8 +5,8 @@ use Rattle.std.specs.Prelude.{◌≡◌, ℕ, suc, ◌+◌, ◌%◌, ◌<◌, �
 use Rattle.std.specs.List.{list_all, range_with_len}
 use lib.Signed.{le_z, lt_z}
 use Rattle.px_num.specs.Forms.{value_at}
-use Rattle.px_scene.specs.Solids.{IsLawfulSolid, SolidView}
-use Rattle.px_scene.specs.Cells.{Depths, cell_of, end_of, enters_at, is_inside, is_inside_at, leaves_at}
+use Rattle.px_model.specs.Solids.{IsLawfulSolid, SolidView}
+use Rattle.px_model.specs.Cells.{Depths, cell_of, end_of, enters_at, is_inside, is_inside_at, leaves_at}
 use Rattle.px_face.specs.Edges.{hold_at, covers}
 use Rattle.px_face.specs.Faces.{back_planes, face_count, front_planes, is_front, number_of, plane_of}
 

@@ -1,7 +1,7 @@
 -- How many edges a face has, and how large its edges and its plane are.
 use Rattle.std.specs.Prelude.{◌≡◌, ℕ, ◌^◌, ◌<◌, All, length}
 use Rattle.px_num.specs.Forms.{IsInTreeRange}
-use Rattle.px_scene.specs.Solids.{IsLawfulSolid, IsPlane, SolidView}
+use Rattle.px_model.specs.Solids.{IsLawfulSolid, IsPlane, SolidView}
 use Rattle.px_face.specs.Edges.{edge_count, edges}
 use Rattle.px_face.specs.Faces.{face_count, plane_of}
 

@@ -4,7 +4,7 @@ use Rattle.std.specs.List.{list_all}
 use lib.Signed.{le_z}
 use Rattle.px_num.specs.declared.linear.Linear.{Linear}
 use Rattle.px_num.specs.Forms.{less_one, minus, value_at}
-use Rattle.px_scene.specs.Solids.{SolidView}
+use Rattle.px_model.specs.Solids.{SolidView}
 use Rattle.px_face.specs.Faces.{back_planes, front_planes, is_front, level}
 
 -- the form that is at least 0 where the first plane is at least the second

@@ -1,8 +1,8 @@
 -- The faces of a solid by their index: the near face, its fronts, its backs, and last the far limit.
 use Rattle.std.specs.Prelude.{ℕ, pos, ◌+◌, Bool, List, [], ◌∷◌, ◌++◌, length, map, get_or, nat_lt}
 use Rattle.px_num.specs.declared.linear.Linear.{Linear}
-use Rattle.px_scene.specs.declared.solid.Face.{Face}
-use Rattle.px_scene.specs.Solids.{SolidView}
+use Rattle.px_model.specs.declared.solid.Face.{Face}
+use Rattle.px_model.specs.Solids.{SolidView}
 
 -- the plane that has one value at every pixel
 abbrev pub level : ℕ → Linear

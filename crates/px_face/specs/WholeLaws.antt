@@ -1,7 +1,7 @@
 -- Without a fraction a cell is its value: it is inside where that is, and the faces at it are those whose value it is.
 use Rattle.std.specs.Prelude.{◌≡◌, ℕ, pos, ◌==◌, true, [], ◌∷◌, ◌++◌, if◌then◌else◌}
-use Rattle.px_scene.specs.Solids.{SolidView}
-use Rattle.px_scene.specs.Cells.{backs_at, depths, faces_at, fronts_at, is_inside, is_inside_at, is_inside_before}
+use Rattle.px_model.specs.Solids.{SolidView}
+use Rattle.px_model.specs.Cells.{backs_at, depths, faces_at, fronts_at, is_inside, is_inside_at, is_inside_before}
 
 abbrev pub WholeInside : Type 0
 WholeInside = (s : SolidView) (far x y z : ℕ) → is_inside s (depths far 0) x y z ≡ is_inside_at s far x y z

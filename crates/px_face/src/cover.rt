@@ -1,7 +1,7 @@
 //! Which faces of a solid cover a pixel.
 ghost use Rattle.std.specs.Prelude.{◌≡◌, ◌<◌, ◌≤◌, All};
 ghost use Rattle.px_num.specs.Forms.{IsInTreeRange};
-ghost use Rattle.px_scene.specs.Cells.{Depths, end_of};
+ghost use Rattle.px_model.specs.Cells.{Depths, end_of};
 ghost use Rattle.px_face.specs.Covering.{CellsLaw, CoveringLaw, HasCells, IsCoveredOnce, IsInsideByParity, ParityLaw, ValueParityLaw};
 ghost use Rattle.px_face.specs.WholeLaws.{WholeBacks, WholeFronts, WholeInside};
 ghost use Rattle.px_face.specs.Edges.{covers, hold_at};
@@ -9,8 +9,8 @@ ghost use Rattle.px_face.specs.Faces.{face_count};
 
 use crate::edge::edges;
 use arrayvec::ArrayVec;
+use px_model::Solid;
 use px_num::Linear;
-use px_scene::Solid;
 
 /// Whether a face covers a pixel: whether each of its edges is at least 0 there.
 ///

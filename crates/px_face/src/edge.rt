@@ -1,15 +1,15 @@
 //! The edges of a face, which are at least 0 where the face bounds its solid.
 ghost use Rattle.std.specs.Prelude.{◌≡◌, ◌+◌, ◌<◌, ◌≤◌, All, get_or, length};
 ghost use Rattle.px_num.specs.Forms.{IsInTreeRange};
-ghost use Rattle.px_scene.specs.Solids.{IsPlane};
+ghost use Rattle.px_model.specs.Solids.{IsPlane};
 ghost use Rattle.px_face.specs.EdgeLaws.{EdgesAreCounted, EdgesAreInRange, PlanesAreInRange};
 ghost use Rattle.px_face.specs.Edges.{above, at_least, back_orders, edge_count, edges, front_orders};
 ghost use Rattle.px_face.specs.Faces.{face_count, level};
 
 use crate::face::{back_plane, front_plane};
 use arrayvec::ArrayVec;
+use px_model::Solid;
 use px_num::Linear;
-use px_scene::Solid;
 
 /// How many edges each face of a solid has: the solid's sides, and each of the other faces.
 pub fn edge_count(solid: &Solid) -> usize

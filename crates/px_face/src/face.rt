@@ -1,7 +1,7 @@
 //! The faces of a solid by their index.
 ghost use Rattle.std.specs.Prelude.{◌≡◌, ◌<◌, ◌≤◌, ◌++◌, ◌∷◌, [], All, length, get_or};
 ghost use Rattle.px_num.specs.Forms.{IsInHalfRange, IsInTreeRange};
-ghost use Rattle.px_scene.specs.Solids.{IsPlane};
+ghost use Rattle.px_model.specs.Solids.{IsPlane};
 ghost use Rattle.px_face.specs.Faces.{
   back_planes,
   face_count,
@@ -13,8 +13,8 @@ ghost use Rattle.px_face.specs.Faces.{
   plane_of,
 };
 
+use px_model::{Face, Solid};
 use px_num::Linear;
-use px_scene::{Face, Solid};
 
 /// How many faces there are, at most 66: the near face, the fronts, the backs and the far limit.
 ///

@@ -5,8 +5,6 @@ mod cover;
 mod edge;
 mod face;
 mod surface;
-#[cfg(test)]
-mod tests;
 
 pub use cover::{covered, laws_of_covering, laws_without_fraction};
 pub use edge::{edge_at, edge_count, edges, laws_of_edges};

@@ -2,10 +2,10 @@
 use Rattle.std.proofs.Common.{ℕ, suc, zero, ◌≡◌, ◌+◌, ◌-◌, ◌==◌, ◌||◌, ◌&&◌, nat_le, nat_lt, Bool, true, false, refl, ap, sym, arith, Option, Some, None, slice_get}
 use Rattle.std.proofs.Math.Path.{fun_ext}
 use Rattle.std.specs.Option.{option_map_or}
-use Rattle.px_scene.specs.Cells.{Depths, depths_of, far_of, leaf_cell, no_cell, solid_cell}
-use Rattle.px_scene.specs.CellLaws.{before_end}
-use Rattle.px_scene.specs.Scenes.{SceneView}
-use Rattle.px_scene.specs.Solids.{SolidView}
+use Rattle.px_model.specs.Cells.{Depths, depths_of, far_of, leaf_cell, no_cell, solid_cell}
+use Rattle.px_model.specs.CellLaws.{before_end}
+use Rattle.px_model.specs.Scenes.{SceneView}
+use Rattle.px_model.specs.Solids.{SolidView}
 use Rattle.px_normal.specs.declared.cell_box.CellBox.{CellBox}
 use Rattle.px_prune.specs.Boxes.{is_part}
 use Rattle.px_prune.specs.Bounding.{IsBoxOf, IsBoundingBox, in_rows, cells_of, cell_box, pixel_hull, row_hull, rows_hull, bounding_box}

@@ -3,8 +3,8 @@ use Rattle.std.proofs.Common.{ℕ, ℤ, pos, negsuc, ◌≡◌, ◌<◌, ◌≤�
 use Rattle.std.specs.Int.{int_max, int_min}
 use Rattle.std.specs.List.{list_all}
 use Rattle.std.proofs.lemmas.Int.{ints}
-use Rattle.px_scene.specs.Cells.{Depths, cell_of, depths}
-use Rattle.px_scene.specs.CellLaws.{cell_is_first, cell_is_least, cells_end, cells_grow}
+use Rattle.px_model.specs.Cells.{Depths, cell_of, depths}
+use Rattle.px_model.specs.CellLaws.{cell_is_first, cell_is_least, cells_end, cells_grow}
 use Rattle.std.proofs.Math.Nat.{mul-le-mul}
 use Rattle.std.proofs.Math.Pow.{pow_mono}
 use lib.Signed.{lt_z, le_z}

@@ -7,9 +7,9 @@ use Rattle.std.proofs.Math.Seq.{get_or-append_seam}
 use Rattle.std.proofs.lemmas.Bool.{cases_eq, cases_lt}
 use Rattle.std.proofs.lemmas.Option.{slice_get_past, slice_get_read}
 use Rattle.px_expr.specs.Cells.{has_face}
-use Rattle.px_scene.specs.Cells.{Depths, cell_of, depths, depths_of, end_of, faces_at, far_of, is_inside, leaf_cell, leaves_at, no_cell, solid_cell}
-use Rattle.px_scene.specs.Scenes.{SceneView}
-use Rattle.px_scene.specs.Solids.{SolidView}
+use Rattle.px_model.specs.Cells.{Depths, cell_of, depths, depths_of, end_of, faces_at, far_of, is_inside, leaf_cell, leaves_at, no_cell, solid_cell}
+use Rattle.px_model.specs.Scenes.{SceneView}
+use Rattle.px_model.specs.Solids.{SolidView}
 use Rattle.px_normal.specs.declared.cell_box.CellBox.{CellBox}
 use Rattle.px_normal.specs.Boxes.{is_in}
 use Rattle.px_normal.specs.declared.product.Product.{Product}

@@ -3,7 +3,7 @@ use Rattle.std.proofs.Common.{◌≤◌, ◌^◌, ℕ, ℤ, arith, lit≤}
 use Rattle.std.proofs.lemmas.Int.{ints}
 use Rattle.px_num.specs.declared.linear.Linear.{Linear}
 use Rattle.px_num.specs.Forms.{IsInTreeRange, IsWithin}
-use Rattle.px_scene.specs.Solids.{IsPlane}
+use Rattle.px_model.specs.Solids.{IsPlane}
 
 wider : (m n : ℕ) (v : ℤ) → m ≤ n → IsWithin m v → IsWithin n v
 wider m n v le (low, high) = (omega (arith, ints), omega (arith, ints))

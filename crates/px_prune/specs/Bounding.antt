@@ -1,8 +1,8 @@
 -- The bounding box of a solid: the least box that holds all its cells at the pixels of the picture.
 use Rattle.std.specs.Prelude.{ℕ, ◌≡◌, ◌↔◌, Bool, true, false, ◌&&◌, nat_lt, Option, Some, None, if◌then◌else◌}
 use Prim.Native.Nat.{zero, suc}
-use Rattle.px_scene.specs.Scenes.{SceneView}
-use Rattle.px_scene.specs.Cells.{leaf_cell, depths_of, far_of}
+use Rattle.px_model.specs.Scenes.{SceneView}
+use Rattle.px_model.specs.Cells.{leaf_cell, depths_of, far_of}
 use Rattle.px_normal.specs.declared.cell_box.CellBox.{CellBox}
 use Rattle.px_normal.specs.Boxes.{lies_in, is_in}
 use Rattle.px_prune.specs.Boxes.{is_part, hull}

@@ -4,7 +4,7 @@ use Rattle.std.specs.List.{filter_map}
 use Rattle.px_normal.specs.declared.set.SolidSet.{SolidSet}
 use Rattle.px_normal.specs.declared.product.Product.{Product}
 use Rattle.px_normal.specs.Sets.{empty, one, joined, solids}
-use Rattle.px_scene.specs.Scenes.{SceneView}
+use Rattle.px_model.specs.Scenes.{SceneView}
 use Rattle.px_normal.specs.declared.cell_box.CellBox.{CellBox}
 use Rattle.px_normal.specs.Boxes.{common_part, has_cell}
 use Rattle.px_normal.specs.Live.{is_void, box_of_all, live_products}

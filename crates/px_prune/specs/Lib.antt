@@ -1,6 +1,6 @@
-pub use Rattle.px_scene.specs.Cells
-pub use Rattle.px_scene.specs.CellLaws
-pub use Rattle.px_scene.specs.Scenes
+pub use Rattle.px_model.specs.Cells
+pub use Rattle.px_model.specs.CellLaws
+pub use Rattle.px_model.specs.Scenes
 pub mod Boxes
 pub mod Bounding
 pub mod Blocks

@@ -4,8 +4,8 @@ use Rattle.std.specs.Prelude.{ℕ, ◌<◌, All, List}
 use Rattle.px_normal.specs.declared.product.Product.{Product}
 use Rattle.px_normal.specs.Forms.{HasPlain}
 use Rattle.px_normal.specs.LiveLaw.{ShowTheSame}
-use Rattle.px_scene.specs.Scenes.{SceneView}
-use Rattle.px_scene.specs.Cells.{leaf_cell, depths_of, far_of}
+use Rattle.px_model.specs.Scenes.{SceneView}
+use Rattle.px_model.specs.Cells.{leaf_cell, depths_of, far_of}
 use Rattle.px_prune.specs.Kept.{kept_of}
 
 abbrev pub PruningLaw : SceneView → List Product → List Product → Type 0

@@ -19,7 +19,7 @@ pub(crate) struct Block {
 impl Block {
     ghost use Rattle.std.specs.Prelude.{◌≡◌, ◌<◌, ◌-◌, ◌^◌, ◌≤ℤ◌, ◌&&◌, ◌||◌, nat_lt, ℕ, true, false};
     ghost use Rattle.px_num.specs.Forms.{IsWithin, value_at};
-    ghost use Rattle.px_scene.specs.Solids.{IsPlane};
+    ghost use Rattle.px_model.specs.Solids.{IsPlane};
     ghost use Rattle.px_prune.specs.Blocks.{
       extent,
       greatest_in,

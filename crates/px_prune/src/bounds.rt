@@ -24,9 +24,9 @@ ghost use Rattle.std.specs.Prelude.{
 ghost use Rattle.std.specs.Int.{int_max, int_min};
 ghost use Rattle.std.specs.List.{list_all};
 ghost use Rattle.std.specs.Int.Signed.{le_z, lt_z};
-ghost use Rattle.px_scene.specs.Solids.{IsPlane};
-ghost use Rattle.px_scene.specs.Scenes.{IsLawfulScene};
-ghost use Rattle.px_scene.specs.Cells.{cell_of, depths, is_inside};
+ghost use Rattle.px_model.specs.Solids.{IsPlane};
+ghost use Rattle.px_model.specs.Scenes.{IsLawfulScene};
+ghost use Rattle.px_model.specs.Cells.{cell_of, depths, is_inside};
 ghost use Rattle.px_prune.specs.Blocks.{IsReachOf, greatest_in, least_in, with_block};
 ghost use Rattle.px_normal.specs.Live.{boxes_in};
 ghost use Rattle.px_prune.specs.Bounding.{bounding_box, IsBoundingBox, IsBoxOf};
@@ -34,8 +34,8 @@ ghost use Rattle.px_prune.specs.Bounding.{bounding_box, IsBoundingBox, IsBoxOf};
 use crate::CellBox;
 use crate::block::Block;
 use crate::cell_box::{hull, is_covered};
+use px_model::{Face, Scene, Solid};
 use px_num::{Linear, power};
-use px_scene::{Face, Scene, Solid};
 use std::alloc::{AllocError, Global};
 
 /// The least box that holds all cells of a solid at the pixels of the picture, or none where the

@@ -5,8 +5,6 @@ mod block;
 mod bounds;
 mod cell_box;
 mod plan;
-#[cfg(test)]
-mod tests;
 
 pub use bounds::{box_of, boxes_of};
 pub use plan::{Plan, laws_of_pruning, plan_of, prune};

@@ -7,13 +7,13 @@ ghost use Rattle.px_normal.specs.Live.{boxes_in, is_live, is_void};
 ghost use Rattle.px_prune.specs.Bounding.{bounding_box};
 ghost use Rattle.px_prune.specs.PruningLaw.{PlainIsKept, PruningLaw};
 ghost use Rattle.px_normal.specs.declared.product.Product.{Product};
-ghost use Rattle.px_scene.specs.Scenes.{SceneView, IsLawfulScene};
+ghost use Rattle.px_model.specs.Scenes.{SceneView, IsLawfulScene};
 
 use crate::CellBox;
 use crate::bounds::boxes_of;
+use px_model::Scene;
 use px_normal::{NormalFault, Product, Products, SolidSet, laws_of_sets, normalise};
 use px_num::Memory;
-use px_scene::Scene;
 use std::alloc::{AllocError, Global};
 
 /// The products of a scene that can show anything.

@@ -1,4 +1,4 @@
-use Rattle.px_scene.specs.Cells.{end_of}
+use Rattle.px_model.specs.Cells.{end_of}
 use Rattle.px_face.proofs.CellLemmas.{has_cells}
 use Rattle.px_face.proofs.CoveringLemmas.{covered_once}
 use Rattle.px_face.proofs.ParityLemmas.{odd_inside, odd_inside_at}

@@ -1,5 +1,5 @@
 use Rattle.std.proofs.Common.{arith, ◌<◌, ◌^◌}
-use Rattle.px_scene.specs.Cells.{depths_of, leaf_cell}
+use Rattle.px_model.specs.Cells.{depths_of, leaf_cell}
 use Rattle.px_prune.specs.Bounding.{bounding_box}
 use Rattle.px_prune.proofs.BoundingLemmas.{bounding_is}
 use Rattle.px_prune.proofs.PictureLemmas.{boxes_have_cells, small_far}
