@@ -19,9 +19,9 @@ use Rattle.px_prune.specs.Bounding.{bounding_box}
 use Rattle.px_normal.specs.Live.{is_void}
 use Rattle.px_prune.specs.Kept.{kept_of, pruned}
 use Rattle.px_normal.specs.Sets.{has, solids}
-use Rattle.px_scene.specs.Cells.{Depths, depths_of, end_of}
-use Rattle.px_scene.specs.Scenes.{IsLawfulScene, SceneView, faces_of}
-use Rattle.px_scene.specs.Solids.{IsLawfulSolid, SolidView, faces_in}
+use Rattle.px_model.specs.Cells.{Depths, depths_of, end_of}
+use Rattle.px_model.specs.Scenes.{IsLawfulScene, SceneView, faces_of}
+use Rattle.px_model.specs.Solids.{IsLawfulSolid, SolidView, faces_in}
 use Rattle.px_sched.specs.declared.literal.Literal.{Literal}
 use Rattle.px_sched.specs.Layouts.{layout_with}
 use Rattle.px_sched.specs.Passes.{candidate, candidate_faces, confirm, drop_behind, literal_passes, literals, merge, no_solid, others, passes, passes_with, solid_of, turn}

@@ -9,16 +9,16 @@ use Rattle.std.proofs.lemmas.List.Sums.{count_by-le-length, sum_by-append, sum_b
 use Rattle.std.proofs.lemmas.Nat.{mul-le}
 use Rattle.px_num.specs.declared.linear.Linear.{Linear}
 use Rattle.px_num.specs.Forms as forms
-use Rattle.px_num.specs.Lists.{length-tabulate}
+use Rattle.px_num.proofs.ListLaws.{length-tabulate}
 use Rattle.px_asm.specs.Micros.{all_micros, cycles, micro_at, micros}
 use Rattle.px_face.specs.Edges.{above, back_edges, edges, front_edges, leads, over, trails, under}
 use Rattle.px_face.specs.Faces.{back_planes, face_count, front_planes, is_front, level, number_of, plane_of, planes_of}
 use Rattle.px_macro.specs.declared.operation.Macro.{Macro}
 use Rattle.px_macro.specs.declared.operation.Macro.TheVariants as m
-use Rattle.px_scene.specs.Cells.{Depths, end_of}
-use Rattle.px_scene.specs.declared.solid.Face.{Face}
-use Rattle.px_scene.specs.Scenes.{SceneView}
-use Rattle.px_scene.specs.Solids.{SolidView}
+use Rattle.px_model.specs.Cells.{Depths, end_of}
+use Rattle.px_model.specs.declared.solid.Face.{Face}
+use Rattle.px_model.specs.Scenes.{SceneView}
+use Rattle.px_model.specs.Solids.{SolidView}
 use Rattle.px_sched.specs.Layouts.{LayoutView, bit_length, deep_part, fraction_part, layout_with, number_part}
 use Rattle.px_sched.specs.Passes.{candidate, candidate_faces, classify, confirm, drop_behind, keep_covered, merge, passes_with, turn}
 use Rattle.px_control.specs.declared.costs.Costs.{Costs}

@@ -1,7 +1,7 @@
 -- The exponents of a grid: the least power of 2 for a size.
 use Rattle.std.proofs.Common.{◌≡◌, ℕ, suc, zero, ◌+◌, ◌^◌, ◌≤◌, ◌≢◌, Bool, true, false, if◌then◌else◌, nat_le, refl, arith}
 use Rattle.std.proofs.lemmas.Bool.Decides.{nat_tests}
-use Rattle.px_scene.specs.Scenes.{IsGridExponent}
+use Rattle.px_model.specs.Scenes.{IsGridExponent}
 use Rattle.px_control.specs.Program.{exponent_from, exponent_of}
 
 -- no exponent below `from` is enough, and the last one is

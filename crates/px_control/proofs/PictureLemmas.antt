@@ -10,8 +10,8 @@ use Rattle.px_asm.specs.Micros.{all_micros}
 use Rattle.px_asm.specs.Microprograms.{LeaveTheMeanings, bits_of}
 use Rattle.px_macro.specs.Macros.{IsLawful, IsLawfulInMore, after_macros}
 use Rattle.px_pixel.specs.Pixels.{zero_pixel}
-use Rattle.px_scene.specs.Scenes.{IsLawfulScene, SceneView}
-use Rattle.px_scene.specs.Solids.{IsLawfulSolid}
+use Rattle.px_model.specs.Scenes.{IsLawfulScene, SceneView}
+use Rattle.px_model.specs.Solids.{IsLawfulSolid}
 use Rattle.px_tree.specs.Nodes.{IsGrid}
 use Rattle.px_sched.specs.Layouts.{layout_of, need_of}
 use Rattle.px_sched.specs.Passes.{passes}

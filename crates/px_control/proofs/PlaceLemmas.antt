@@ -8,7 +8,7 @@ use Rattle.px_array.specs.Arrays.{Device, IsOpen}
 use Rattle.px_asm.specs.Micros.{micro_at}
 use Rattle.px_macro.specs.Macros.{IsLawful}
 use Rattle.px_macro.specs.declared.operation.Macro.{Macro}
-use Rattle.px_scene.specs.Scenes.{SceneView}
+use Rattle.px_model.specs.Scenes.{SceneView}
 use Rattle.px_tree.specs.Nodes.{IsGrid}
 use Rattle.px_sched.specs.declared.cursor.Cursor.{Cursor}
 use Rattle.px_sched.specs.Cursors.{Stands}

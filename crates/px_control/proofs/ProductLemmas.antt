@@ -12,8 +12,8 @@ use Rattle.px_normal.specs.declared.product.Product.{Product}
 use Rattle.px_normal.specs.declared.set.SolidSet.{SolidSet}
 use Rattle.px_normal.specs.Sets.{IsBelow, below, has, solids}
 use Rattle.px_normal.specs.Live.{is_void}
-use Rattle.px_scene.specs.Cells.{depths_of, end_of}
-use Rattle.px_scene.specs.Scenes.{SceneView}
+use Rattle.px_model.specs.Cells.{depths_of, end_of}
+use Rattle.px_model.specs.Scenes.{SceneView}
 use Rattle.px_sched.specs.declared.literal.Literal.{Literal}
 use Rattle.px_sched.specs.Layouts.{layout_with}
 use Rattle.px_sched.specs.Passes.{candidate, candidate_faces, classify, literal_passes, literals, merge, others, passes_with, solid_of}

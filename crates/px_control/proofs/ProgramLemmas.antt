@@ -4,7 +4,7 @@ use Rattle.px_macro.specs.Macros.{IsLawful}
 use Rattle.px_macro.specs.declared.operation.Macro.{Macro}
 use Rattle.px_macro.specs.declared.operation.Macro.TheVariants.{All, KeepSign, KeepBit, LoadLinear, KeepAtMost, AddLinear, LoadConst, SetBit, Toggle, Copy, KeepLess}
 use Rattle.px_asm.specs.Micros.{cycles}
-use Rattle.px_scene.specs.Scenes.{SceneView}
+use Rattle.px_model.specs.Scenes.{SceneView}
 use Rattle.px_sched.specs.Layouts.{layout_of, need_of}
 use Rattle.px_sched.specs.PassesFacts.{LayoutsAreLawful, PassesAreLawful}
 use Rattle.px_control.specs.ClockLaw.{ClockBound, EachTakesAClock}

@@ -5,14 +5,14 @@ use Rattle.std.proofs.Math.Seq.{take-add}
 use Rattle.std.proofs.lemmas.List.{drop-take, same_lists}
 use Rattle.std.proofs.lemmas.List.Edits.{get_or-between, length-between}
 use Rattle.std.proofs.lemmas.Slice.{between_is}
-use Rattle.px_num.specs.Lists.{get_or-tabulate, length-tabulate}
+use Rattle.px_num.proofs.ListLaws.{get_or-tabulate, length-tabulate}
 use Rattle.px_array.specs.Arrays.{Device, HasGrid, zero_state}
-use Rattle.px_array.specs.ClockLaws.{after_clocks-append, grid_after_clocks, grid_of_zero_state}
+use Rattle.px_array.proofs.ClockLaws.{after_clocks-append, grid_after_clocks, grid_of_zero_state}
 use Rattle.px_array.specs.Clocks.{after_clocks, all_clocked}
 use Rattle.px_asm.specs.Making.{cycles_on, micros_on}
 use Rattle.px_asm.specs.Micros.{all_micros, cycles, micro_at, micros}
 use Rattle.px_macro.specs.declared.operation.Macro.{Macro}
-use Rattle.px_scene.specs.Scenes.{SceneView}
+use Rattle.px_model.specs.Scenes.{SceneView}
 use Rattle.px_sched.specs.Passes.{passes}
 use Rattle.px_tree.specs.Nodes.{IsGrid}
 use Rattle.px_control.specs.Program.{IsAt, array_after, columns_of, cycles_in, program, rows_of, start_of, total}

@@ -7,7 +7,7 @@ use Rattle.std.proofs.lemmas.List.{take_more}
 use Rattle.std.proofs.lemmas.Option.{slice_get_within, get_or_from_slice_get}
 use Rattle.std.proofs.lemmas.List.Concat.{flat_map-cons, flat_map-append, get_or-flat_map}
 use Rattle.std.proofs.lemmas.List.Folds.{length-flat_map-take}
-use Rattle.px_num.specs.Lists.{get_or-tabulate, length-tabulate}
+use Rattle.px_num.proofs.ListLaws.{get_or-tabulate, length-tabulate}
 use Rattle.px_array.specs.declared.micro.Micro.{Micro}
 use Rattle.px_array.specs.declared.micro.TreeOp.{TreeOp}
 use Rattle.px_array.specs.declared.micro.TreeOp.TheVariants.{Hold, Clear, Feed}
@@ -16,7 +16,7 @@ use Rattle.px_array.specs.Clocks.{after_clock, after_clocks, after_tree_op}
 use Rattle.px_asm.specs.Micros.{all_micros, cycles, micro_at, micros}
 use Rattle.px_macro.specs.Macros.{IsLawful}
 use Rattle.px_macro.specs.declared.operation.Macro.{Macro}
-use Rattle.px_scene.specs.Scenes.{SceneView}
+use Rattle.px_model.specs.Scenes.{SceneView}
 use Rattle.px_sched.specs.Layouts.{layout_of, need_of}
 use Rattle.px_control.specs.Program.{IsAt, array_after, columns_of, program, rows_of}
 

@@ -5,9 +5,9 @@ use Rattle.px_asm.specs.Micros.{all_micros}
 use Rattle.px_macro.specs.declared.operation.Macro.{Macro}
 use Rattle.px_macro.specs.declared.operation.Macro.TheVariants as m
 use Rattle.px_normal.specs.declared.product.Product.{Product}
-use Rattle.px_scene.specs.Cells.{Depths, end_of}
-use Rattle.px_scene.specs.Scenes.{SceneView, faces_of}
-use Rattle.px_scene.specs.Solids.{SolidView}
+use Rattle.px_model.specs.Cells.{Depths, end_of}
+use Rattle.px_model.specs.Scenes.{SceneView, faces_of}
+use Rattle.px_model.specs.Solids.{SolidView}
 use Rattle.px_sched.specs.Layouts.{bit_length, fraction_part, layout_with}
 use Rattle.px_sched.specs.Passes.{candidate, candidate_faces, classify, confirm, literal_passes, literals, merge, where_fraction}
 use Rattle.px_control.specs.declared.costs.Costs.{Costs}

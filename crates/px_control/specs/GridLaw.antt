@@ -1,7 +1,7 @@
 -- The grid of an array on which a scene's broadcasts are made: it has a pixel for each one of the picture.
 use Rattle.std.specs.Prelude.{ℕ, ◌^◌, ◌≤◌}
 use Rattle.px_array.specs.Arrays.{Device, HasGrid, IsOpen}
-use Rattle.px_scene.specs.Scenes.{IsGridExponent, IsLawfulScene, SceneView}
+use Rattle.px_model.specs.Scenes.{IsGridExponent, IsLawfulScene, SceneView}
 use Rattle.px_tree.specs.Nodes.{IsGrid}
 use Rattle.px_control.specs.Program.{IsAt, columns_of, rows_of}
 

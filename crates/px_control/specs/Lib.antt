@@ -5,7 +5,7 @@ pub use Rattle.px_asm.specs.Micros
 pub use Rattle.px_sched.specs.Layouts
 pub use Rattle.px_sched.specs.Passes
 pub use Rattle.px_sched.specs.PassesLaw
-pub use Rattle.px_scene.specs.Scenes
+pub use Rattle.px_model.specs.Scenes
 pub mod ClockLaw
 pub mod Costs
 pub mod GridLaw

@@ -2,7 +2,7 @@
 use Rattle.std.specs.Prelude.{◌^◌, ◌<◌, ◌≤◌, All, length}
 use Rattle.px_macro.specs.Macros.{IsLawful}
 use Rattle.px_macro.specs.declared.operation.Macro.{Macro}
-use Rattle.px_scene.specs.Scenes.{SceneView}
+use Rattle.px_model.specs.Scenes.{SceneView}
 use Rattle.px_tree.specs.Nodes.{IsGrid}
 use Rattle.px_sched.specs.Layouts.{layout_of, need_of}
 use Rattle.px_sched.specs.Passes.{passes}

@@ -4,7 +4,7 @@ use Rattle.px_macro.specs.declared.operation.Macro.{Macro}
 use Rattle.px_normal.specs.declared.product.Product.{Product}
 use Rattle.px_normal.specs.Forms.{sum_of_products}
 use Rattle.px_prune.specs.Kept.{kept_of}
-use Rattle.px_scene.specs.Scenes.{SceneView}
+use Rattle.px_model.specs.Scenes.{SceneView}
 use Rattle.px_sched.specs.Cursors.{Stands}
 use Rattle.px_sched.specs.Layouts.{LayoutView, layout_of}
 use Rattle.px_sched.specs.Passes.{passes}

@@ -23,7 +23,7 @@ use crate::law::{law_of_needs, law_of_pictures};
 use crate::place::Place;
 use crate::program::Program;
 use px_array::{Array, Micro};
-use px_scene::Scene;
+use px_model::Scene;
 use px_sched::Layout;
 use std::alloc::Global;
 use std::marker::Model;

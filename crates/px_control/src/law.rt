@@ -10,7 +10,7 @@ ghost use Rattle.px_control.specs.ProgramLaws.{IsGoodProgram};
 use crate::total::law_of_clocks;
 use px_asm::law_of_microprograms;
 use px_macro::laws_of_operations;
-use px_scene::{Scene, laws_of_scenes};
+use px_model::{Scene, laws_of_scenes};
 use px_sched::laws_of_passes;
 
 /// The keys that an array stores after the whole program of a scene are the picture.

@@ -8,8 +8,6 @@ mod law;
 mod literal;
 mod place;
 mod program;
-#[cfg(test)]
-mod tests;
 mod total;
 
 pub use fault::JobFault;

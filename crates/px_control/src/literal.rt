@@ -2,7 +2,7 @@
 ghost use Rattle.std.specs.Prelude.{◌≡◌, ◌^◌, ◌<◌, ◌≤◌, ℕ, Bool, length};
 ghost use Rattle.px_face.specs.Faces.{face_count};
 ghost use Rattle.px_num.specs.declared.linear.Linear.{Linear};
-ghost use Rattle.px_scene.specs.Cells.{Depths};
+ghost use Rattle.px_model.specs.Cells.{Depths};
 ghost use Rattle.px_sched.specs.Layouts.{layout_with};
 ghost use Rattle.px_sched.specs.Passes.{
   candidate,
@@ -24,7 +24,7 @@ ghost use Rattle.px_control.specs.Costs.{
 
 use crate::costs::{Costs, Lengths};
 use px_face::face_count;
-use px_scene::Solid;
+use px_model::Solid;
 
 /// What a literal adds to its product: its own passes, and those against it of each of the others.
 pub(crate) fn share(solid: &Solid, plain: bool, others: u64, lengths: &Lengths) -> Costs

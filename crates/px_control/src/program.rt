@@ -6,7 +6,7 @@ ghost use Rattle.px_array.specs.Slots.{worked};
 ghost use Rattle.px_macro.specs.Macros.{IsLawful, IsLawfulInMore};
 ghost use Rattle.px_prune.specs.Kept.{crowd_of};
 ghost use Rattle.px_pixel.specs.Acts.{HasPlace};
-ghost use Rattle.px_scene.specs.Scenes.{SceneView};
+ghost use Rattle.px_model.specs.Scenes.{SceneView};
 ghost use Rattle.px_sched.specs.Layouts.{layout_of, need_of};
 ghost use Rattle.px_sched.specs.Passes.{passes};
 ghost use Rattle.px_control.specs.Program.{CanRun, IsAt, columns_of, cycles_in, ends_after, program, rows_of, total};
@@ -21,10 +21,10 @@ use crate::total::cost;
 use px_array::{Array, Micro, TreeOp};
 use px_asm::{cycles, make_micros, micro_at};
 use px_macro::Macro;
+use px_model::{Scene, laws_of_scenes};
 use px_normal::NormalFault;
 use px_pixel::Act;
 use px_prune::{Plan, plan_of};
-use px_scene::{Scene, laws_of_scenes};
 use px_sched::{Cursor, Layout, NeedBits};
 use std::alloc::Global;
 use std::marker::Model;
@@ -40,7 +40,7 @@ pub(crate) struct Program<'s> {
 }
 
 impl<'s> Model for Program<'s> {
-    ghost use Rattle.px_scene.specs.Scenes.{SceneView};
+    ghost use Rattle.px_model.specs.Scenes.{SceneView};
     ghost use Rattle.px_control.specs.Standing.{IsProgram};
     ghost use Rattle.px_expr.specs.TreeCode.{tree_code};
     ghost use Rattle.std.specs.Coded.{codes};

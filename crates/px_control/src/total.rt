@@ -3,8 +3,8 @@ ghost use Rattle.std.specs.Prelude.{◌≡◌, ◌^◌, ◌<◌, ◌≤◌, fals
 ghost use Rattle.px_normal.specs.Forms.{HasSolidsBelow};
 ghost use Rattle.px_normal.specs.Live.{is_void};
 ghost use Rattle.px_prune.specs.Kept.{kept_of, plan_of};
-ghost use Rattle.px_scene.specs.Cells.{depths_of};
-ghost use Rattle.px_scene.specs.Scenes.{IsLawfulScene, SceneView};
+ghost use Rattle.px_model.specs.Cells.{depths_of};
+ghost use Rattle.px_model.specs.Scenes.{IsLawfulScene, SceneView};
 ghost use Rattle.px_sched.specs.Layouts.{layout_of, layout_with};
 ghost use Rattle.px_sched.specs.Passes.{passes, passes_with, solid_of};
 ghost use Rattle.px_control.specs.ClockLaw.{ClockBound, EachTakesAClock};
@@ -21,9 +21,9 @@ ghost use Rattle.px_control.specs.Program.{total};
 
 use crate::costs::{Costs, Lengths};
 use crate::literal::share;
+use px_model::Scene;
 use px_normal::{Product, laws_of_normal_forms};
 use px_prune::{Plan, laws_of_pruning};
-use px_scene::Scene;
 use px_sched::Layout;
 
 /// How many operations the passes of a scene have, and how many clocks they take

@@ -7,17 +7,17 @@ use Rattle.std.proofs.lemmas.Bool.Decides.{nat_tests}
 use Rattle.std.proofs.lemmas.List.Sums.{fold-append}
 use Rattle.px_num.specs.Bits.{modulo}
 use Rattle.px_num.specs.Forms.{plus}
-use Rattle.px_num.specs.FormLaws.{value_at-plus}
-use Rattle.px_scene.specs.Solids.{SolidView}
-use Rattle.px_scene.specs.Scenes.{SceneView}
-use Rattle.px_scene.specs.Cells.{Depths, cell_of, depths_of, end_of, enters_at, is_inside, is_inside_before, leaves_at, value_of}
+use Rattle.px_num.proofs.FormLaws.{value_at-plus}
+use Rattle.px_model.specs.Solids.{SolidView}
+use Rattle.px_model.specs.Scenes.{SceneView}
+use Rattle.px_model.specs.Cells.{Depths, cell_of, depths_of, end_of, enters_at, is_inside, is_inside_before, leaves_at, value_of}
 use Rattle.px_face.specs.Covering.{CoveringLaw, ValueParityLaw, covering_back, covering_front, is_met}
 use Rattle.px_face.specs.Edges.{covers}
 use Rattle.px_face.specs.Faces.{number_of, plane_of}
 use Rattle.px_normal.specs.declared.product.Product.{Product}
 use Rattle.px_sched.specs.declared.literal.Literal.{Literal}
 use Rattle.px_sched.specs.Passes.{candidate_faces, literals, others, solid_of}
-use Rattle.px_sched.specs.Numbers.{Keys, Numbers, Place, after, all, candidate_on_numbers, classify_on_numbers, key, literal_on_numbers, load_best, merge_on_numbers, passes_on_numbers, residue, set_alive, cleared, confirm_on_numbers, where_fraction}
+use Rattle.px_sched.specs.Numbers.{Keys, Numbers, KeyedPixel, after, all, candidate_on_numbers, classify_on_numbers, key, literal_on_numbers, load_best, merge_on_numbers, passes_on_numbers, residue, set_alive, cleared, confirm_on_numbers, where_fraction}
 use Rattle.px_sched.proofs.RunLemmas.{HasRoom, after-append, and_both, and_left, and_true, at, candidate_keys, classified, classify_keys, end_small, enters_depth, keys_in_range, leaves_depth, loaded, part_along, rounded, suits}
 use Rattle.px_sched.proofs.FoldLemmas.{and_false, elsewhere, fold_none, fold_single, where_test}
 use Rattle.px_sched.proofs.ConfirmLemmas.{IsConfirmed, barred_test, confirmed, plain_test, test}
@@ -46,14 +46,14 @@ has_cell s plain d x y c = if plain then is_inside s d x y c else is_inside_befo
 abbrev pub is_found : SolidView → (plain : Bool) → Depths → (x y : ℕ) → Bool
 is_found s plain d x y = is_covered s plain (end_of d) x y && has_cell s plain d x y (cell_found s plain d x y)
 
-abbrev pub suited_at : SceneView → Place → (v : ℕ) → Literal → Bool
+abbrev pub suited_at : SceneView → KeyedPixel → (v : ℕ) → Literal → Bool
 suited_at scene l v r = suits (solid_of scene r.solid) r.plain (end_of (depths_of scene)) l.x l.y v
 
-abbrev pub suited : SceneView → Place → (z : ℕ) → Literal → Bool
+abbrev pub suited : SceneView → KeyedPixel → (z : ℕ) → Literal → Bool
 suited scene l z r = suited_at scene l (value_of (depths_of scene) z) r
 
 -- the key of a literal's candidate, where it stays alive
-abbrev pub keys_found : SceneView → Place → Product → Literal → List ℕ
+abbrev pub keys_found : SceneView → KeyedPixel → Product → Literal → List ℕ
 keys_found scene l product q =
     let s = solid_of scene q.solid
     in let d = depths_of scene
@@ -61,7 +61,7 @@ keys_found scene l product q =
     in if is_found s q.plain d l.x l.y && list_all (suited scene l z) (others q product)
     then key l (value_of d z) (number_found s q.plain d l.x l.y) ∷ [] else []
 
-abbrev pub all_found : SceneView → Place → List Product → List ℕ
+abbrev pub all_found : SceneView → KeyedPixel → List Product → List ℕ
 all_found scene l products = flat_map (λ product. flat_map (keys_found scene l product) (literals product)) products
 
 pub lt_true : (i n : ℕ) → i < n → nat_lt i n ≡ true
@@ -86,20 +86,20 @@ pick true a b = refl
 pick false a b = refl
 
 -- where a live candidate is less, its key is the best
-abbrev merged : Place → Keys → ℕ
+abbrev merged : KeyedPixel → Keys → ℕ
 merged l k = if k.alive && nat_lt (key l k.deep k.number) k.best then key l k.deep k.number else k.best
 
 alive_is : (a : Bool) → beq a true ≡ a
 alive_is true = refl
 alive_is false = refl
 
-merge_best : (l : Place) (p : Numbers) → (after l merge_on_numbers p).keys.best ≡ merged l p.keys
+merge_best : (l : KeyedPixel) (p : Numbers) → (after l merge_on_numbers p).keys.best ≡ merged l p.keys
 merge_best l p =
     let less = nat_lt (key l p.keys.deep p.keys.number) p.keys.best in
     pick ((true && beq p.keys.alive true) && less) (record p.keys { best = key l p.keys.deep p.keys.number }) p.keys
     ∙ ap (λ a. if (true && a) && less then key l p.keys.deep p.keys.number else p.keys.best) (alive_is p.keys.alive)
 
-merged_is : (l : Place) (k : Keys) (a : Bool) (b d n : ℕ) → k.alive ≡ a → k.best ≡ b → k.deep ≡ d → k.number ≡ n
+merged_is : (l : KeyedPixel) (k : Keys) (a : Bool) (b d n : ℕ) → k.alive ≡ a → k.best ≡ b → k.deep ≡ d → k.number ≡ n
     → merged l k ≡ (if a && nat_lt (key l d n) b then key l d n else b)
 merged_is l k a b d n p q r t = rw (p, q, r, t) refl
 
@@ -110,7 +110,7 @@ least_of false b c = refl
 never : (a b : Bool) → a ≡ false → (a && b) ≡ true → ⊥
 never a b p q = cc
 
-module _ (covering : CoveringLaw) (parity : ValueParityLaw) (scene : SceneView) (l : Place) (room : HasRoom l (depths_of scene)) where
+module _ (covering : CoveringLaw) (parity : ValueParityLaw) (scene : SceneView) (l : KeyedPixel) (room : HasRoom l (depths_of scene)) where
   abbrev d : Depths
   d = depths_of scene
 

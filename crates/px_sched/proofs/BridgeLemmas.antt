@@ -4,16 +4,16 @@ use Rattle.std.specs.Bool.{⊤}
 use Rattle.std.proofs.lemmas.Bool.Decides.{nat_tests}
 use Rattle.std.proofs.lemmas.List.Elements.{All-head, All-tail}
 use Rattle.std.proofs.lemmas.Nat.{div-mul-add, mod_below, mod_low}
-use Rattle.px_num.specs.BitLaws.{pow_above}
-use Rattle.px_num.specs.Bits.{modulo}
+use Rattle.px_num.proofs.BitLaws.{pow_above}
+use Rattle.px_num.specs.Bits.{bit_at, modulo}
 use Rattle.px_macro.specs.FieldLaws.{BitBesideIsKept, NumberBesideIsKept, NumberIsBelow, NumberIsKept, NumberIsRead, NumberOfParts}
-use Rattle.px_macro.specs.Fields.{bit_at, is_in, number_in, with_number}
+use Rattle.px_macro.specs.Fields.{is_in, number_in, with_number}
 use Rattle.px_macro.specs.Macros.{MemoryStaysLong, PixelBits, after_macro, after_macros}
 use Rattle.px_macro.specs.declared.field.Field.{Field}
 use Rattle.px_macro.specs.declared.operation.Macro.{Macro}
 use Rattle.px_macro.specs.declared.operation.Macro.TheVariants as m
 use Rattle.px_sched.specs.Layouts.{deep_part, depth_part, fraction_part, layout_with, number_part}
-use Rattle.px_sched.specs.Numbers.{Keys, Numbers, Pass, Place, after, key, meaning, all, keep_sign, keep_at_most, keep_alive, keep_par, keep_less, load_deep, clear_fraction, load_number, load_best, set_alive, set_par, toggle_par, copy}
+use Rattle.px_sched.specs.Numbers.{Keys, Numbers, Pass, KeyedPixel, after, key, meaning, all, keep_sign, keep_at_most, keep_alive, keep_par, keep_less, load_deep, clear_fraction, load_number, load_best, set_alive, set_par, toggle_par, copy}
 
 -- the laws of fields that the bridge stands on
 pub record FieldLaws : Type 0 where
@@ -195,11 +195,11 @@ par_written laws w f i v memory long =
 
 -- the steps, by whether the pixel is enabled
 pub step_on_numbers : FieldLaws → (w f i x y : ℕ) (pass : Pass) → HasRoom w f i pass → (p : PixelBits) → need w f i ≤ length p.memory →
-    let place : Place = record { depth_bits = w; fraction_bits = f; number_bits = i; x = x; y = y } in
+    let place : KeyedPixel = record { depth_bits = w; fraction_bits = f; number_bits = i; x = x; y = y } in
     numbers_in w f i (after_macro (macro_of w f i pass) x y p) ≡ meaning place pass (numbers_in w f i p)
 step_on_numbers laws w f i x y pass room p long = by_enable pass room p.enable p.memory long
   where
-    place : Place
+    place : KeyedPixel
     place = record { depth_bits = w; fraction_bits = f; number_bits = i; x = x; y = y }
 
     -- the number of key T by those of its parts
@@ -245,11 +245,11 @@ step_on_numbers laws w f i x y pass room p long = by_enable pass room p.enable p
 
 -- passes one after another
 pub all_on_numbers : FieldLaws → (w f i x y : ℕ) (passes : List Pass) → All (HasRoom w f i) passes → (p : PixelBits) → need w f i ≤ length p.memory →
-    let place : Place = record { depth_bits = w; fraction_bits = f; number_bits = i; x = x; y = y } in
+    let place : KeyedPixel = record { depth_bits = w; fraction_bits = f; number_bits = i; x = x; y = y } in
     numbers_in w f i (after_macros (map (macro_of w f i) passes) x y p) ≡ after place passes (numbers_in w f i p)
 all_on_numbers laws w f i x y [] room p long = refl
 all_on_numbers laws w f i x y (pass ∷ passes) room p long =
-    let place : Place = record { depth_bits = w; fraction_bits = f; number_bits = i; x = x; y = y }
+    let place : KeyedPixel = record { depth_bits = w; fraction_bits = f; number_bits = i; x = x; y = y }
     in let next = after_macro (macro_of w f i pass) x y p
     in all_on_numbers laws w f i x y passes (All-tail (HasRoom w f i) pass passes room) next (omega (arith, laws.size (macro_of w f i pass) x y p))
     ∙ ap (after place passes) (step_on_numbers laws w f i x y pass (All-head (HasRoom w f i) pass passes room) p long)
@@ -267,6 +267,7 @@ high_part p b d some same = grind (arith, same)
 pub b_parts : FieldLaws → (w f i depth face : ℕ) (memory : List Bool) → face < 2 ^ i →
     number_in (b_field w f i) memory ≡ face + 2 ^ i * (depth * 2 ^ f) →
     (number_in (depth_part (layout_with w f i) (b_field w f i)) memory ≡ depth) × (number_in (number_part (layout_with w f i) (b_field w f i)) memory ≡ face)
+    × (number_in (fraction_part (layout_with w f i) (b_field w f i)) memory ≡ 0)
 b_parts laws w f i depth face memory small same =
     let e : w + f + i ≡ i + (w + f) = omega arith
     in let number = number_in (number_part (layout_with w f i) (b_field w f i)) memory
@@ -281,4 +282,4 @@ b_parts laws w f i depth face memory small same =
     in let cut : fraction + 2 ^ f * high ≡ 0 + 2 ^ f * depth =
     sym (ap (λ n. number_in (record { at = 0 + i; len = n }) memory) swap ∙ laws.parts (0 + i) f w memory) ∙ whole ∙ grind arith
     in let none = low_part f fraction high 0 depth (laws.below (fraction_part (layout_with w f i) (b_field w f i)) memory) (pow_above f) cut
-    in (high_part (2 ^ f) high depth (pow_above f) (omega (arith, cut, none)), low)
+    in (high_part (2 ^ f) high depth (pow_above f) (omega (arith, cut, none)), low, none)

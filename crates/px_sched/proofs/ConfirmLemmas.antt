@@ -9,14 +9,14 @@ use Rattle.std.proofs.lemmas.Bool.{cases_Bool}
 use Rattle.std.proofs.lemmas.Nat.{pow_pos}
 use Rattle.px_num.specs.Bits.{modulo}
 use Rattle.px_num.specs.Forms.{plus, value_at}
-use Rattle.px_num.specs.FormLaws.{value_at-plus}
-use Rattle.px_scene.specs.Solids.{SolidView}
-use Rattle.px_scene.specs.Cells.{Depths, cell_of, end_of, enters_at, is_inside, is_inside_before, leaves_at, value_of}
-use Rattle.px_scene.specs.CellLaws.{cell_is_first, cell_is_least}
+use Rattle.px_num.proofs.FormLaws.{value_at-plus}
+use Rattle.px_model.specs.Solids.{SolidView}
+use Rattle.px_model.specs.Cells.{Depths, cell_of, end_of, enters_at, is_inside, is_inside_before, leaves_at, value_of}
+use Rattle.px_model.specs.CellLaws.{cell_is_first, cell_is_least}
 use Rattle.px_face.specs.Covering.{CoveringLaw, covering_back, covering_front, is_met}
 use Rattle.px_face.specs.Edges.{covers, edges}
 use Rattle.px_face.specs.Faces.{plane_of}
-use Rattle.px_sched.specs.Numbers.{Keys, Numbers, Pass, Place, after, all, confirm_on_numbers, drop_on_numbers, keep_at_most, keep_covered_on_numbers, keep_par, residue, set_alive, turn_on_numbers, where_fraction}
+use Rattle.px_sched.specs.Numbers.{Keys, Numbers, Pass, KeyedPixel, after, all, confirm_on_numbers, drop_on_numbers, keep_at_most, keep_covered_on_numbers, keep_par, residue, set_alive, turn_on_numbers, where_fraction}
 use Rattle.px_sched.proofs.RunLemmas.{HasRoom, after-append, and_both, and_true, at, at_most_is, beq_true, end_room, end_small, ended, enters_depth, flip_step, flips, keys_in_range, keys_of, leaves_depth, more_at_most, same_place, signed, turn_keys}
 use Rattle.px_sched.proofs.FoldLemmas.{fold_single, where_test}
 
@@ -32,7 +32,7 @@ abbrev dropped : Keys → Keys
 dropped k = record k { alive = false }
 
 -- what a back drops
-drop_keys : (l : Place) (end : ℕ) (s : SolidView) (i : ℕ) (e : Bool) (k : Keys)
+drop_keys : (l : KeyedPixel) (end : ℕ) (s : SolidView) (i : ℕ) (e : Bool) (k : Keys)
     → (after l (drop_on_numbers end s i) (at e k)).keys
     ≡ (if k.alive && (covers s end i l.x l.y && nat_le (residue l (plane_of s end i)) k.deep) then dropped k else k)
 drop_keys l end s i e k =
@@ -103,7 +103,7 @@ first_unit n u some = grind (arith, ints)
 one_more : (v : ℤ) (z u : ℕ) → (le_z v (pos (z * u)) && true) ≡ le_z (v +ℤ pos u) (pos (suc z * u))
 one_more v z u = let e : suc z * u ≡ z * u + u = grind arith in grind (arith, ints)
 
-module _ (covering : CoveringLaw) (l : Place) (d : Depths) (room : HasRoom l d) (s : SolidView) where
+module _ (covering : CoveringLaw) (l : KeyedPixel) (d : Depths) (room : HasRoom l d) (s : SolidView) where
   abbrev end : ℕ
   end = end_of d
 

@@ -13,7 +13,7 @@ use Rattle.px_normal.specs.Forms.{HasPlain, HasSolidsBelow, sum_of_products}
 use Rattle.px_normal.specs.Sets.{below, has, solids}
 use Rattle.px_prune.specs.Kept.{kept_of}
 use Rattle.px_prune.specs.PruningLaw.{PlainIsKept}
-use Rattle.px_scene.specs.Scenes.{IsLawfulScene, SceneView}
+use Rattle.px_model.specs.Scenes.{IsLawfulScene, SceneView}
 use Rattle.px_sched.specs.declared.literal.Literal.{Literal}
 use Rattle.px_sched.specs.Groups.{IsDrawn}
 use Rattle.px_sched.specs.Passes.{literals_of}

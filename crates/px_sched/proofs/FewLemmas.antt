@@ -17,9 +17,9 @@ use Rattle.px_macro.specs.declared.operation.Macro.TheVariants as m
 use Rattle.px_normal.specs.declared.product.Product.{Product}
 use Rattle.px_normal.specs.declared.set.SolidSet.{SolidSet}
 use Rattle.px_normal.specs.Sets.{below, has, solids}
-use Rattle.px_scene.specs.Cells.{Depths, depths_of, end_of}
-use Rattle.px_scene.specs.Scenes.{SceneView}
-use Rattle.px_scene.specs.Solids.{IsLawfulSolid, SolidView}
+use Rattle.px_model.specs.Cells.{Depths, depths_of, end_of}
+use Rattle.px_model.specs.Scenes.{SceneView}
+use Rattle.px_model.specs.Solids.{IsLawfulSolid, SolidView}
 use Rattle.px_sched.specs.declared.literal.Literal.{Literal}
 use Rattle.px_sched.specs.Layouts.{LayoutView, deep_part, fraction_part, number_part}
 use Rattle.px_sched.specs.Passes.{candidate, candidate_faces, classify, confirm, drop_behind, where_fraction, keep_covered, literal_passes, literals, literals_of, merge, no_solid, others, passes_with, solid_of, turn}

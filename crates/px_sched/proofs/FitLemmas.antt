@@ -19,11 +19,11 @@ use Rattle.px_macro.specs.Macros.{IsField, IsLawful}
 use Rattle.px_macro.specs.declared.operation.Macro.{Macro}
 use Rattle.px_macro.specs.declared.operation.Macro.TheVariants as m
 use Rattle.px_normal.specs.declared.product.Product.{Product}
-use Rattle.px_scene.specs.Cells.{Depths, depths_of, end_of}
-use Rattle.px_scene.specs.CellLaws.{end_is_small}
-use Rattle.px_scene.specs.Scenes.{AreNumberedFrom, IsLawfulScene, IsNumberedFrom, SceneView, faces_of}
-use Rattle.px_scene.specs.Solids.{IsLawfulSolid, IsPlane, SolidView, faces_in}
-use Rattle.px_scene.specs.declared.solid.Face.{Face}
+use Rattle.px_model.specs.Cells.{Depths, depths_of, end_of}
+use Rattle.px_model.specs.CellLaws.{end_is_small}
+use Rattle.px_model.specs.Scenes.{AreNumberedFrom, IsLawfulScene, IsNumberedFrom, SceneView, faces_of}
+use Rattle.px_model.specs.Solids.{IsLawfulSolid, IsPlane, SolidView, faces_in}
+use Rattle.px_model.specs.declared.solid.Face.{Face}
 use Rattle.px_sched.specs.declared.literal.Literal.{Literal}
 use Rattle.px_sched.specs.Layouts.{LayoutView, bit_length, deep_part, fraction_part, layout_of, layout_with, need_of, number_part}
 use Rattle.px_sched.specs.Passes.{candidate, candidate_faces, classify, confirm, drop_behind, where_fraction, keep_covered, literal_passes, literals, merge, no_solid, others, passes_with, solid_of, turn}

@@ -3,14 +3,14 @@ use Rattle.std.proofs.Common.{◌≡◌, ◌<◌, ◌≤◌, ◌+◌, ◌*◌, �
 use Rattle.std.specs.List.{All, fold, flat_map, list_all}
 use Rattle.std.proofs.lemmas.Bool.{cases_Bool}
 use Rattle.std.proofs.lemmas.Bool.Decides.{nat_tests}
-use Rattle.px_scene.specs.Scenes.{AreNumberedFrom, IsNumberedFrom, SceneView, faces_of}
-use Rattle.px_scene.specs.Solids.{IsLawfulSolid, SolidView, faces_in}
-use Rattle.px_scene.specs.Cells.{Depths, cell_of, depths_of, end_of, enters_at, far_of, is_inside, is_inside_before, leaf_cell, leaves_at, value_of}
+use Rattle.px_model.specs.Scenes.{AreNumberedFrom, IsNumberedFrom, SceneView, faces_of}
+use Rattle.px_model.specs.Solids.{IsLawfulSolid, SolidView, faces_in}
+use Rattle.px_model.specs.Cells.{Depths, cell_of, depths_of, end_of, enters_at, far_of, is_inside, is_inside_before, leaf_cell, leaves_at, value_of}
 use Rattle.px_face.specs.Covering.{CellsLaw, CoveringLaw, covering_back, is_met}
 use Rattle.px_normal.specs.declared.product.Product.{Product}
 use Rattle.px_normal.specs.NormalLaw.{holds, shows, some_shows}
 use Rattle.px_sched.specs.declared.literal.Literal.{Literal}
-use Rattle.px_sched.specs.Numbers.{Place, key}
+use Rattle.px_sched.specs.Numbers.{KeyedPixel, key}
 use Rattle.px_sched.specs.Passes.{literals, no_solid, others, solid_of}
 use Rattle.px_sched.proofs.RunLemmas.{and_left, and_right, suits}
 use Rattle.px_sched.proofs.BlockLemmas.{all_found, cell_found, is_covered, is_found, keys_found, lt_false, lt_holds, lt_true, number_found, suited}
@@ -106,7 +106,7 @@ same : (i k : ℕ) → eqb i k ≡ true → i ≡ k
 same i k h = grind (arith, nat_tests)
 
 module _ (covering : CoveringLaw) (cells : CellsLaw) (scene : SceneView) (lawful : All IsLawfulSolid scene.solids) (numbered : AreNumberedFrom 1 scene.solids)
-    (l : Place) (products : List Product)
+    (l : KeyedPixel) (products : List Product)
     (fit : (p : Product) → In p products → IsFit (length scene.solids) p) where
   abbrev d : Depths
   d = depths_of scene

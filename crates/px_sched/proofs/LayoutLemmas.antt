@@ -6,8 +6,8 @@ use Rattle.std.proofs.lemmas.Bool.Decides.{nat_tests}
 use Rattle.std.proofs.lemmas.List.Sums.{count_by-le-length, length-filter, sum_by-cons}
 use Rattle.std.proofs.lemmas.List.Elements.{filter-append}
 use Rattle.px_expr.specs.Tree.{HasLeavesBelow, Tree, join, leaf}
-use Rattle.px_scene.specs.Scenes.{IsLawfulScene, SceneView, faces_of}
-use Rattle.px_scene.specs.Solids.{SolidView, faces_in}
+use Rattle.px_model.specs.Scenes.{IsLawfulScene, SceneView, faces_of}
+use Rattle.px_model.specs.Solids.{SolidView, faces_in}
 use Rattle.px_sched.specs.Layouts.{IsLayout, bit_length, layout_of}
 
 -- an expression over no solid has no leaf, and each has one

@@ -9,10 +9,10 @@ use Rattle.std.proofs.lemmas.List.{get_or_append_left, get_or-append_right, get_
 use Rattle.std.proofs.Math.IntN.{zero-*ℤ}
 use Rattle.px_num.specs.declared.linear.Linear.{Linear}
 use Rattle.px_num.specs.Forms.{value_at}
-use Rattle.px_scene.specs.declared.solid.Face.{Face}
-use Rattle.px_scene.specs.Scenes.{IsNumberedFrom}
-use Rattle.px_scene.specs.Solids.{IsLawfulSolid, SolidView, faces_in}
-use Rattle.px_scene.specs.Cells.{Depths, backs_at, cell_of, end_of, enters_at, faces_at, fronts_at, greatest_fronts, is_inside_before, leaves_at}
+use Rattle.px_model.specs.declared.solid.Face.{Face}
+use Rattle.px_model.specs.Scenes.{IsNumberedFrom}
+use Rattle.px_model.specs.Solids.{IsLawfulSolid, SolidView, faces_in}
+use Rattle.px_model.specs.Cells.{Depths, backs_at, cell_of, end_of, enters_at, faces_at, fronts_at, greatest_fronts, is_inside_before, leaves_at}
 use Rattle.px_face.specs.Covering.{CoveringLaw, covering_back, covering_front}
 use Rattle.px_face.specs.Faces.{back_planes, front_planes, is_front, level, number_of, numbers_of, plane_of, planes_of}
 use Rattle.px_sched.proofs.RunLemmas.{and_left, and_right}

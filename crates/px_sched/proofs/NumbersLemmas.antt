@@ -6,9 +6,9 @@ use Rattle.std.proofs.lemmas.Bool.{cases_lt, cases_order}
 use Rattle.std.proofs.lemmas.Nat.{pow_pos}
 use Rattle.px_expr.specs.Cells.{Cell, cell, has_face}
 use Rattle.px_expr.specs.Tree.{HasLeavesBelow, Tree, join, leaf}
-use Rattle.px_scene.specs.Scenes.{IsLawfulScene, SceneView}
-use Rattle.px_scene.specs.Solids.{IsLawfulSolid}
-use Rattle.px_scene.specs.Cells.{Depths, depths_of, far_of, value_of, first_cell, is_member_at, leaf_cell, least, picture, scene_cell, sight_at}
+use Rattle.px_model.specs.Scenes.{IsLawfulScene, SceneView}
+use Rattle.px_model.specs.Solids.{IsLawfulSolid}
+use Rattle.px_model.specs.Cells.{Depths, depths_of, far_of, value_of, first_cell, is_member_at, leaf_cell, least, picture, scene_cell, sight_at}
 use Rattle.px_face.specs.Covering.{CellsLaw, CoveringLaw, ValueParityLaw}
 use Rattle.px_face.specs.Surfaces.{FirstCellsAreFirst, IsFirst, IsFirstOf, ScenesHaveSurfaces, scene_before}
 use Rattle.px_normal.specs.declared.product.Product.{Product}
@@ -17,8 +17,8 @@ use Rattle.px_normal.specs.NormalLaw.{IsNormalForm, some_shows}
 use Rattle.px_normal.specs.Live.{is_void}
 use Rattle.px_prune.specs.Kept.{kept_of}
 use Rattle.px_prune.specs.PruningLaw.{PruningLaw}
-use Rattle.px_sched.specs.Numbers.{Place, after, key}
-use Rattle.px_sched.specs.NumbersLaw.{IsKeyOf, IsPlaceIn, NumbersShowThePicture}
+use Rattle.px_sched.specs.Numbers.{KeyedPixel, after, key}
+use Rattle.px_sched.specs.NumbersLaw.{IsKeyOf, IsPixelOf, NumbersShowThePicture}
 use Rattle.px_sched.proofs.RunLemmas.{HasRoom, and_left, and_right}
 use Rattle.px_sched.proofs.BlockLemmas.{all_found, passes_best}
 use Rattle.px_sched.proofs.MemberLemmas.{In, all_in, face_in, in_face}
@@ -44,7 +44,7 @@ least_below (m ∷ k ∷ ns) n (inl e) = omega (arith, e)
 least_below (m ∷ k ∷ ns) n (inr h) = omega (arith, least_below (k ∷ ns) n h)
 
 -- keys are in the order of depth and then of number
-key_before : (l : Place) (d : Depths) (y z m n : ℕ) → y < z → m < 2 ^ l.number_bits → key l (value_of d y) m < key l (value_of d z) n
+key_before : (l : KeyedPixel) (d : Depths) (y z m n : ℕ) → y < z → m < 2 ^ l.number_bits → key l (value_of d y) m < key l (value_of d z) n
 key_before l d y z m n h small =
     let f = 2 ^ d.fraction_bits in
     let some : 0 < f = pow_pos d.fraction_bits in
@@ -79,7 +79,7 @@ pub record Laws : Type 0 where
   pub kept_known : (count : ℕ) (scene : SceneView) (products : List Product) → All (HasSolidsBelow count) products
       → All (HasSolidsBelow count) (kept_of scene products)
 
-module _ (laws : Laws) (scene : SceneView) (lawful : IsLawfulScene scene) (l : Place) (place : IsPlaceIn scene l) where
+module _ (laws : Laws) (scene : SceneView) (lawful : IsLawfulScene scene) (l : KeyedPixel) (place : IsPixelOf scene l) where
   abbrev d : Depths
   d = depths_of scene
 

@@ -6,9 +6,9 @@ use Rattle.std.proofs.lemmas.Bool.{cases_Bool}
 use Rattle.std.proofs.lemmas.List.Sums.{sum_by-cons}
 use Rattle.std.proofs.lemmas.Option.{slice_get-get_or}
 use Rattle.px_expr.specs.Cells.{Cell, has_face}
-use Rattle.px_scene.specs.Scenes.{AreNumberedFrom, IsNumberedFrom, SceneView, faces_of}
-use Rattle.px_scene.specs.Solids.{SolidView, faces_in}
-use Rattle.px_scene.specs.Cells.{Depths, backs_at, depths_of, fronts_at, leaf_cell, no_cell, solid_cell}
+use Rattle.px_model.specs.Scenes.{AreNumberedFrom, IsNumberedFrom, SceneView, faces_of}
+use Rattle.px_model.specs.Solids.{SolidView, faces_in}
+use Rattle.px_model.specs.Cells.{Depths, backs_at, depths_of, fronts_at, leaf_cell, no_cell, solid_cell}
 use Rattle.px_normal.specs.declared.set.SolidSet.{SolidSet}
 use Rattle.px_normal.specs.declared.product.Product.{Product}
 use Rattle.px_normal.specs.Sets.{below, has, solids}
@@ -16,7 +16,7 @@ use Rattle.px_normal.specs.Forms.{HasSolidsBelow}
 use Rattle.px_normal.specs.NormalLaw.{holds, shows}
 use Rattle.px_normal.specs.Live.{is_void}
 use Rattle.px_sched.specs.declared.literal.Literal.{Literal}
-use Rattle.px_sched.specs.Numbers.{Place}
+use Rattle.px_sched.specs.Numbers.{KeyedPixel}
 use Rattle.px_sched.specs.Passes.{literals, literals_of, no_solid, solid_of}
 use Rattle.px_sched.proofs.RunLemmas.{and_left, and_right}
 use Rattle.px_sched.proofs.BlockLemmas.{suited}
@@ -87,7 +87,7 @@ leaf_is scene d x y z q h = ap (λ found. option_map_or (solid_cell d x y z) fou
 abbrev pub shown_of : SolidView → (plain : Bool) → Depths → (x y z : ℕ) → List ℕ
 shown_of s plain d x y z = if plain then fronts_at s d x y z else backs_at s d x y z
 
-module _ (scene : SceneView) (l : Place) (p : Product) (whole : IsFit (length scene.solids) p) (z : ℕ) where
+module _ (scene : SceneView) (l : KeyedPixel) (p : Product) (whole : IsFit (length scene.solids) p) (z : ℕ) where
   abbrev d : Depths
   d = depths_of scene
 

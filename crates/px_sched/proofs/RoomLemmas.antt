@@ -6,12 +6,12 @@ use Rattle.std.proofs.lemmas.List.Sums.{sum_by-append}
 use Rattle.std.proofs.lemmas.Nat.{pow-add}
 use Rattle.std.proofs.lemmas.Bool.{cases_Bool}
 use Rattle.px_num.specs.Forms.{plus}
-use Rattle.px_num.specs.BitLaws.{pow_above}
+use Rattle.px_num.proofs.BitLaws.{pow_above}
 use Rattle.px_num.specs.declared.linear.Linear.{Linear}
-use Rattle.px_scene.specs.Scenes.{SceneView, AreNumberedFrom, IsNumberedFrom, faces_of}
-use Rattle.px_scene.specs.Solids.{SolidView, faces_in}
-use Rattle.px_scene.specs.Cells.{Depths, depths_of, end_of}
-use Rattle.px_scene.specs.declared.solid.Face.{Face}
+use Rattle.px_model.specs.Scenes.{SceneView, AreNumberedFrom, IsNumberedFrom, faces_of}
+use Rattle.px_model.specs.Solids.{SolidView, faces_in}
+use Rattle.px_model.specs.Cells.{Depths, depths_of, end_of}
+use Rattle.px_model.specs.declared.solid.Face.{Face}
 use Rattle.px_face.specs.Edges.{edges}
 use Rattle.px_face.specs.Faces.{face_count, number_of, numbers_of, plane_of}
 use Rattle.px_normal.specs.declared.product.Product.{Product}

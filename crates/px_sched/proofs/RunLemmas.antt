@@ -12,18 +12,18 @@ use lib.Signed.{le_z}
 use Rattle.px_num.specs.Bits.{modulo}
 use Rattle.px_num.specs.Forms.{plus, value_at}
 use Rattle.px_num.specs.declared.linear.Linear.{Linear}
-use Rattle.px_scene.specs.Solids.{SolidView}
-use Rattle.px_scene.specs.Cells.{Depths, cell_of, end_of, enters_at, is_inside_at, leaves_at, value_of}
+use Rattle.px_model.specs.Solids.{SolidView}
+use Rattle.px_model.specs.Cells.{Depths, cell_of, end_of, enters_at, is_inside_at, leaves_at, value_of}
 use Rattle.px_face.specs.Covering.{CoveringLaw, ValueParityLaw, covering_back, covering_front, is_met, is_odd, is_passed_at}
 use Rattle.px_face.specs.Edges.{covers, edges, hold_at}
 use Rattle.px_face.specs.Faces.{face_count, is_front, number_of, plane_of}
-use Rattle.px_face.specs.ParityLaws.{turned_is_odd, turned_where}
-use Rattle.px_sched.specs.Numbers.{Keys, Numbers, Pass, Place, after, all, candidate_on_numbers, classify_on_numbers, keep_at_most, keep_covered_on_numbers, keep_par, keep_sign, load_deep, clear_fraction, cleared, load_number, meaning, residue, set_alive, toggle_par, turn_on_numbers, where_fraction}
+use Rattle.px_face.proofs.ParityLaws.{turned_is_odd, turned_where}
+use Rattle.px_sched.specs.Numbers.{Keys, Numbers, Pass, KeyedPixel, after, all, candidate_on_numbers, classify_on_numbers, keep_at_most, keep_covered_on_numbers, keep_par, keep_sign, load_deep, clear_fraction, cleared, load_number, meaning, residue, set_alive, toggle_par, turn_on_numbers, where_fraction}
 
 abbrev pub at : Bool → Keys → Numbers
 at e k = record { enable = e; keys = k }
 
-pub after-append : (l : Place) (ms ns : List Pass) (p : Numbers) → after l (ms ++ ns) p ≡ after l ns (after l ms p)
+pub after-append : (l : KeyedPixel) (ms ns : List Pass) (p : Numbers) → after l (ms ++ ns) p ≡ after l ns (after l ms p)
 after-append l [] ns p = refl
 after-append l (m ∷ ms) ns p = after-append l ms ns (meaning l m p)
 
@@ -57,7 +57,7 @@ pub beq_true : (a : Bool) → beq a true ≡ a
 beq_true true = refl
 beq_true false = refl
 
-pub signed : (l : Place) (es : List Linear) (e : Bool) (k : Keys)
+pub signed : (l : KeyedPixel) (es : List Linear) (e : Bool) (k : Keys)
     → after l (map keep_sign es) (at e k) ≡ at (e && hold_at es l.x l.y) k
 signed l [] e k = ap (λ b. at b k) (sym (and_true e))
 signed l (f ∷ fs) e k =
@@ -67,7 +67,7 @@ signed l (f ∷ fs) e k =
     ∙ ap (λ b. e && (b && hold_at fs l.x l.y)) (not_negative v))
 
 -- a part of the keys after one list for each element
-pub part_along : {X Y : Type 0} (l : Place) (part : Keys → Y) (f : X → List Pass) (g : Y → X → Y)
+pub part_along : {X Y : Type 0} (l : KeyedPixel) (part : Keys → Y) (f : X → List Pass) (g : Y → X → Y)
     → ((x : X) (e : Bool) (k : Keys) → part (after l (f x) (at e k)).keys ≡ g (part k) x)
     → (xs : List X) (p : Numbers) → part (after l (flat_map f xs) p).keys ≡ fold g (part p.keys) xs
 part_along l part f g same [] p = refl
@@ -77,7 +77,7 @@ part_along l part f g same (x ∷ xs) p =
     ∙ ap (λ k. fold g k xs) (same x p.enable p.keys)
 
 -- the keys after one list for each place of a range
-pub keys_in_range : (l : Place) (f : ℕ → List Pass) (g : Keys → ℕ → Keys) (a n : ℕ)
+pub keys_in_range : (l : KeyedPixel) (f : ℕ → List Pass) (g : Keys → ℕ → Keys) (a n : ℕ)
     → ((i : ℕ) → a ≤ i → i < a + n → (e : Bool) (k : Keys) → (after l (f i) (at e k)).keys ≡ g k i)
     → (p : Numbers) → (after l (flat_map f (range_with_len a n)) p).keys ≡ fold g p.keys (range_with_len a n)
 keys_in_range l f g a zero same p = refl
@@ -110,11 +110,11 @@ pub at_most_is : (v : ℤ) (end bits z : ℕ) → end < 2 ^ bits → IsDepth v e
 at_most_is v end bits z big d = rw (modulo_is v end bits big d, d.is) (le_same d.depth z)
 
 -- the bits of a place are enough for the values of the depths
-pub record HasRoom (l : Place) (d : Depths) : Type 0 where
+pub record HasRoom (l : KeyedPixel) (d : Depths) : Type 0 where
   pub big : d.far < 2 ^ l.depth_bits
   pub same : l.fraction_bits ≡ d.fraction_bits
 
-pub end_room : (l : Place) (d : Depths) → HasRoom l d → end_of d + 2 ^ d.fraction_bits ≤ 2 ^ (l.depth_bits + l.fraction_bits)
+pub end_room : (l : KeyedPixel) (d : Depths) → HasRoom l d → end_of d + 2 ^ d.fraction_bits ≤ 2 ^ (l.depth_bits + l.fraction_bits)
 end_room l d room =
     let most : d.far + 1 ≤ 2 ^ l.depth_bits = omega (arith, room.big) in
     let u = 2 ^ d.fraction_bits in
@@ -123,14 +123,14 @@ end_room l d room =
     let parts : 2 ^ (l.depth_bits + l.fraction_bits) ≡ 2 ^ l.depth_bits * u = rw room.same (pow-add 2 l.depth_bits d.fraction_bits) in
     omega (arith, one, le, parts)
 
-pub end_small : (l : Place) (d : Depths) → HasRoom l d → end_of d < 2 ^ (l.depth_bits + l.fraction_bits)
+pub end_small : (l : KeyedPixel) (d : Depths) → HasRoom l d → end_of d < 2 ^ (l.depth_bits + l.fraction_bits)
 end_small l d room = omega (arith, end_room l d room, pow_pos d.fraction_bits)
 
-cleared_none : (l : Place) (n : ℕ) → l.fraction_bits ≡ 0 → cleared l n ≡ n
+cleared_none : (l : KeyedPixel) (n : ℕ) → l.fraction_bits ≡ 0 → cleared l n ≡ n
 cleared_none l n e = rw e (omega arith)
 
 -- a value that is rounded up is that of its cell
-pub rounded : (l : Place) (d : Depths) → HasRoom l d → (v : ℤ) → IsDepth v (end_of d)
+pub rounded : (l : KeyedPixel) (d : Depths) → HasRoom l d → (v : ℤ) → IsDepth v (end_of d)
     → cleared l (modulo (v +ℤ pos (2 ^ d.fraction_bits - 1)) (l.depth_bits + l.fraction_bits)) ≡ value_of d (cell_of d v)
 rounded l d room v is =
     let u = 2 ^ d.fraction_bits in
@@ -146,14 +146,14 @@ pub more_at_most : (v : ℤ) (n bits z : ℕ) (d : IsDepth v n) (more : ℕ) →
 more_at_most v n bits z d more small =
     rw d.is (ap (λ k. nat_le k z) (mod_small (d.depth + more) (2 ^ bits) small) ∙ le_same (d.depth + more) z)
 
-abbrev pub loaded : Place → Depths → SolidView → Keys → (face : ℕ) → Keys
+abbrev pub loaded : KeyedPixel → Depths → SolidView → Keys → (face : ℕ) → Keys
 loaded l d s k i = record k {
   deep = cleared l (residue l (plus (plane_of s (end_of d) i) (2 ^ d.fraction_bits - 1)));
   number = number_of s i;
   alive = true;
 }
 
-load_where : (l : Place) (d : Depths) → HasRoom l d → (s : SolidView) (i : ℕ) (c : Bool) (k : Keys)
+load_where : (l : KeyedPixel) (d : Depths) → HasRoom l d → (s : SolidView) (i : ℕ) (c : Bool) (k : Keys)
     → (after l (load_deep (plus (plane_of s (end_of d) i) (2 ^ d.fraction_bits - 1)) ∷ where_fraction d.fraction_bits (clear_fraction ∷ []) ++ load_number (number_of s i) ∷ set_alive true ∷ []) (at c k)).keys
     ≡ (if c then loaded l d s k i else k)
 load_where l d room s i c k = elim (cases_Bool (d.fraction_bits == 0)) [
@@ -175,7 +175,7 @@ load_where l d room s i c k = elim (cases_Bool (d.fraction_bits == 0)) [
     without zero_is true = ap (λ n. record k { deep = n; number = number_of s i; alive = true }) (sym (cleared_none l (residue l form) (room.same ∙ zero_is)))
     without zero_is false = refl
 
-pub candidate_keys : (l : Place) (d : Depths) → HasRoom l d → (s : SolidView) (i : ℕ) (e : Bool) (k : Keys)
+pub candidate_keys : (l : KeyedPixel) (d : Depths) → HasRoom l d → (s : SolidView) (i : ℕ) (e : Bool) (k : Keys)
     → (after l (candidate_on_numbers d s i) (at e k)).keys ≡ (if covers s (end_of d) i l.x l.y then loaded l d s k i else k)
 candidate_keys l d room s i e k =
     let last = load_deep (plus (plane_of s (end_of d) i) (2 ^ d.fraction_bits - 1)) ∷ where_fraction d.fraction_bits (clear_fraction ∷ []) ++ load_number (number_of s i) ∷ set_alive true ∷ [] in
@@ -216,7 +216,7 @@ suits s plain end x y z = if plain then is_inside_at s end x y z else not (is_in
 abbrev pub keys_of : ℕ → ℕ → ℕ → Bool → Bool → Keys
 keys_of b d n a p = record { best = b; deep = d; number = n; alive = a; par = p }
 
-abbrev pub classified : Place → (end : ℕ) → SolidView → (plain : Bool) → Keys → Keys
+abbrev pub classified : KeyedPixel → (end : ℕ) → SolidView → (plain : Bool) → Keys → Keys
 classified l end s plain k =
     keys_of k.best k.deep k.number (k.alive && suits s plain end l.x l.y k.deep) (k.alive && is_inside_at s end l.x l.y k.deep)
 
@@ -275,7 +275,7 @@ module _ (covering : CoveringLaw) (end : ℕ) (s : SolidView) (x y : ℕ) where
   ]
 
 -- what a face turns where a form is not above the candidate
-pub turn_keys : (l : Place) (end : ℕ) (s : SolidView) (i : ℕ) (form : Linear) (e : Bool) (k : Keys)
+pub turn_keys : (l : KeyedPixel) (end : ℕ) (s : SolidView) (i : ℕ) (form : Linear) (e : Bool) (k : Keys)
     → (after l (turn_on_numbers end s i form) (at e k)).keys
     ≡ (if k.alive && (covers s end i l.x l.y && nat_le (residue l form) k.deep) then flipped k else k)
 turn_keys l end s i form e k =
@@ -287,7 +287,7 @@ turn_keys l end s i form e k =
     (ap (λ a. ((true && a) && c) && nat_le (residue l form) k.deep) (beq_true k.alive)
     ∙ and_both k.alive c (nat_le (residue l form) k.deep))
 
-module _ (covering : CoveringLaw) (parity : ValueParityLaw) (end : ℕ) (l : Place) (big : end < 2 ^ (l.depth_bits + l.fraction_bits)) (s : SolidView) where
+module _ (covering : CoveringLaw) (parity : ValueParityLaw) (end : ℕ) (l : KeyedPixel) (big : end < 2 ^ (l.depth_bits + l.fraction_bits)) (s : SolidView) where
   pass_keys : (i : ℕ) → i < face_count s → (e : Bool) (k : Keys)
       → (after l (turn_on_numbers end s i (plane_of s end i)) (at e k)).keys ≡ (if k.alive && is_passed_at s end l.x l.y k.deep i then flipped k else k)
   pass_keys i there e k =

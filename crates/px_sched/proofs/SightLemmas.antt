@@ -7,14 +7,14 @@ use Rattle.std.proofs.lemmas.Bool.Decides.{nat_tests}
 use Rattle.std.proofs.lemmas.List.Sums.{sum_by-append}
 use Rattle.std.proofs.Math.Nat.{pow-suc}
 use Rattle.px_macro.specs.Macros.{PixelBits, after_macros}
-use Rattle.px_scene.specs.Scenes.{IsLawfulScene, SceneView, faces_of}
-use Rattle.px_scene.specs.Solids.{IsLawfulSolid}
-use Rattle.px_scene.specs.Cells.{picture}
-use Rattle.px_scene.specs.CellLaws.{end_is_small}
+use Rattle.px_model.specs.Scenes.{IsLawfulScene, SceneView, faces_of}
+use Rattle.px_model.specs.Solids.{IsLawfulSolid}
+use Rattle.px_model.specs.Cells.{picture}
+use Rattle.px_model.specs.CellLaws.{end_is_small}
 use Rattle.px_normal.specs.Forms.{sum_of_products}
 use Rattle.px_prune.specs.Kept.{kept_of}
 use Rattle.px_sched.specs.Layouts.{bit_length, layout_with}
-use Rattle.px_sched.specs.Numbers.{Place, passes_on_numbers}
+use Rattle.px_sched.specs.Numbers.{KeyedPixel, passes_on_numbers}
 use Rattle.px_sched.specs.NumbersLaw.{NumbersShowThePicture}
 use Rattle.px_sched.specs.Passes.{passes_with}
 use Rattle.px_sched.specs.PassesLaw.{HasSight, PassesLaw}
@@ -77,13 +77,13 @@ sight_with fields law scene lawful solids i x y faces left up p long =
     let w = scene.depth_bits
     in let f = scene.fraction_bits
     in let products = kept_of scene (sum_of_products scene.show)
-    in let place : Place = record { depth_bits = w; fraction_bits = f; number_bits = i; x = x; y = y }
+    in let place : KeyedPixel = record { depth_bits = w; fraction_bits = f; number_bits = i; x = x; y = y }
     in let shown = law scene lawful solids place (record { depth_bits = refl; fraction_bits = refl; number_bits = faces; left = left; up = up }) (numbers_in w f i p)
     in let room = passes_have_room w i scene products lawful.numbers faces (end_is_small w f)
     in let same = all_on_numbers fields w f i x y (passes_on_numbers scene i products) room p long
     in rw (passes_shape w i scene products)
     (let parts = b_parts fields w f i (picture scene x y).depth (picture scene x y).face _ shown.face (ap (λ n. n.keys.best) same ∙ shown.key)
-    in record { depth = parts.0; face = parts.1 })
+    in record { depth = parts.0; whole = parts.2; face = parts.1 })
 
 pub passes_law : FieldLaws → NumbersShowThePicture → PassesLaw
 passes_law fields law scene lawful solids x y left up p long =

@@ -7,13 +7,13 @@ use Prim.Native.Nat.{zero, suc}
 use Rattle.px_macro.specs.declared.operation.Macro.{Macro}
 use Rattle.px_macro.specs.declared.operation.Macro.TheVariants as m
 use Rattle.px_normal.specs.declared.product.Product.{Product}
-use Rattle.px_scene.specs.Scenes.{SceneView}
+use Rattle.px_model.specs.Scenes.{SceneView}
 use Rattle.px_sched.specs.declared.cursor.Cursor.{Cursor}
 use Rattle.px_sched.specs.declared.group.Stage.{Stage}
 use Rattle.px_sched.specs.declared.group.Stage.TheVariants.{At, End, Start}
 use Rattle.px_sched.specs.declared.step.Step.{Step}
 use Rattle.px_sched.specs.declared.step.Step.TheVariants.{Begin, Candidate, Clear, Close, Confirm, Drop, Front, Merge, Open, Turn}
-use Rattle.px_sched.specs.Cursors.{IsPlaceIn, StandsIn}
+use Rattle.px_sched.specs.Cursors.{IsWithinStage, StandsIn}
 use Rattle.px_sched.specs.Groups.{IsStage, behind_stage, from_stage, stage_operations}
 use Rattle.px_sched.specs.Layouts.{LayoutView}
 use Rattle.px_sched.specs.Passes.{passes_with}
@@ -42,7 +42,7 @@ past_all (l ∷ ls) zero h = absurd (omega arith)
 past_all (l ∷ ls) (suc i) h = past_all ls i (omega arith)
 
 module _ (scene : SceneView) (l : LayoutView) (products : List Product) where
-  pub inside_of : (st : Stage) (at : ℕ) → st ≢ End → IsPlaceIn scene l st at → at < length (stage_operations scene l st)
+  pub inside_of : (st : Stage) (at : ℕ) → st ≢ End → IsWithinStage scene l st at → at < length (stage_operations scene l st)
   inside_of Start at more place = place
   inside_of (At g) at more place = place
   inside_of End at more place = absurd (more refl)
@@ -63,7 +63,7 @@ module _ (scene : SceneView) (l : LayoutView) (products : List Product) where
     left_more : drop (c.given + 1) whole ≡ drop (c.at + 1) ops ++ behind_stage scene l products c.stage
     left_more = further whole c.given ops (behind_stage scene l products c.stage) c.at m.All inside stands.left
 
-    pub along : (d : Cursor) → d.given ≡ c.given + 1 → d.at ≡ c.at + 1 → d.stage ≡ c.stage → c.at + 1 < length ops → IsPlaceIn scene l c.stage (c.at + 1) → StandsIn scene l products d
+    pub along : (d : Cursor) → d.given ≡ c.given + 1 → d.at ≡ c.at + 1 → d.stage ≡ c.stage → c.at + 1 < length ops → IsWithinStage scene l c.stage (c.at + 1) → StandsIn scene l products d
     along d given at stage more place = record {
       stage = subst (IsStage scene products) (sym stage) stands.stage;
       place = rw (stage, at) place;
@@ -73,7 +73,7 @@ module _ (scene : SceneView) (l : LayoutView) (products : List Product) where
     }
 
     pub onward : (d : Cursor) (next : Stage) → d.given ≡ c.given + 1 → d.at ≡ 0 → d.stage ≡ next → length ops ≤ c.at + 1 → behind_stage scene l products c.stage ≡ from_stage scene l products next
-        → IsStage scene products next → IsPlaceIn scene l next 0 → StandsIn scene l products d
+        → IsStage scene products next → IsWithinStage scene l next 0 → StandsIn scene l products d
     onward d next given at stage past left is place = record {
       stage = subst (IsStage scene products) (sym stage) is;
       place = rw (stage, at) place;
@@ -107,12 +107,12 @@ module _ (scene : SceneView) (l : LayoutView) (products : List Product) where
   pub given_few : (c : Cursor) → StandsIn scene l products c → c.stage ≢ End → c.given + 1 < 2 ^ 64
   given_few c stands more = omega (arith, below c stands (inside_of c.stage c.at more stands.place), stands.few)
 
-  place_more : (st : Stage) (i : ℕ) → i < length (stage_operations scene l st) → IsPlaceIn scene l st i
+  place_more : (st : Stage) (i : ℕ) → i < length (stage_operations scene l st) → IsWithinStage scene l st i
   place_more Start i low = low
   place_more (At g) i low = low
   place_more End i low = tt
 
-  place_zero : (st : Stage) → IsPlaceIn scene l st 0
+  place_zero : (st : Stage) → IsWithinStage scene l st 0
   place_zero Start = omega arith
   place_zero (At g) = step_some g.step where
     step_some : (step : Step) → 0 < length (step_operations scene l step)

@@ -4,8 +4,8 @@ use Rattle.std.specs.List.{flat_map}
 use Rattle.px_macro.specs.declared.operation.Macro.{Macro}
 use Rattle.px_macro.specs.declared.operation.Macro.TheVariants as m
 use Rattle.px_normal.specs.declared.product.Product.{Product}
-use Rattle.px_scene.specs.Scenes.{SceneView}
-use Rattle.px_scene.specs.Cells.{depths_of, end_of}
+use Rattle.px_model.specs.Scenes.{SceneView}
+use Rattle.px_model.specs.Cells.{depths_of, end_of}
 use Rattle.px_sched.specs.declared.group.Group.{Group}
 use Rattle.px_sched.specs.declared.group.Stage.{Stage}
 use Rattle.px_sched.specs.declared.group.Stage.TheVariants.{At, End, Start}

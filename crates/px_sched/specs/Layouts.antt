@@ -2,7 +2,7 @@
 use Rattle.std.specs.Prelude.{◌≡◌, ℕ, ◌+◌, ◌*◌, ◌^◌, ◌≤◌, nat_le, count_by}
 use Rattle.std.specs.List.{range_with_len}
 use Rattle.px_macro.specs.declared.field.Field.{Field}
-use Rattle.px_scene.specs.Scenes.{SceneView, faces_of}
+use Rattle.px_model.specs.Scenes.{SceneView, faces_of}
 
 -- where the keys, the bit "alive" and the bit "par" stand
 pub record LayoutView : Type 0 where

@@ -1,9 +1,9 @@
 pub use Rattle.px_macro.specs.Fields
 pub use Rattle.px_macro.specs.Macros
-pub use Rattle.px_scene.specs.Cells
-pub use Rattle.px_scene.specs.CellLaws
-pub use Rattle.px_scene.specs.Scenes
-pub use Rattle.px_scene.specs.Solids
+pub use Rattle.px_model.specs.Cells
+pub use Rattle.px_model.specs.CellLaws
+pub use Rattle.px_model.specs.Scenes
+pub use Rattle.px_model.specs.Solids
 pub mod Cursors
 pub mod Groups
 pub mod Layouts

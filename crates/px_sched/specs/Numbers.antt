@@ -6,9 +6,9 @@ use Rattle.std.specs.List.{flat_map, range_with_len}
 use Rattle.px_num.specs.Bits.{modulo}
 use Rattle.px_num.specs.Forms.{plus, value_at}
 use Rattle.px_num.specs.declared.linear.Linear.{Linear}
-use Rattle.px_scene.specs.Scenes.{SceneView}
-use Rattle.px_scene.specs.Solids.{SolidView}
-use Rattle.px_scene.specs.Cells.{Depths, depths_of, end_of}
+use Rattle.px_model.specs.Scenes.{SceneView}
+use Rattle.px_model.specs.Solids.{SolidView}
+use Rattle.px_model.specs.Cells.{Depths, depths_of, end_of}
 use Rattle.px_face.specs.Faces.{face_count, number_of, plane_of}
 use Rattle.px_face.specs.Edges.{edges}
 use Rattle.px_normal.specs.declared.product.Product.{Product}
@@ -43,8 +43,8 @@ pub record Numbers : Type 0 where
   pub enable : Bool
   pub keys : Keys
 
--- how many bits a depth, its fraction and a face number have, and the pixel
-pub record Place : Type 0 where
+-- a pixel, and how many bits a depth, its fraction and a face number have in its keys
+pub record KeyedPixel : Type 0 where
   pub depth_bits : ℕ
   pub fraction_bits : ℕ
   pub number_bits : ℕ
@@ -52,15 +52,15 @@ pub record Place : Type 0 where
   pub y : ℕ
 
 -- a depth with its fraction, over a face number
-abbrev pub key : Place → (deep number : ℕ) → ℕ
+abbrev pub key : KeyedPixel → (deep number : ℕ) → ℕ
 key l deep number = number + 2 ^ l.number_bits * deep
 
 -- the depth with its fraction that a form gives at the pixel
-abbrev pub residue : Place → Linear → ℕ
+abbrev pub residue : KeyedPixel → Linear → ℕ
 residue l form = modulo (value_at form l.x l.y) (l.depth_bits + l.fraction_bits)
 
 -- without its fraction
-abbrev pub cleared : Place → (deep : ℕ) → ℕ
+abbrev pub cleared : KeyedPixel → (deep : ℕ) → ℕ
 cleared l deep = deep / 2 ^ l.fraction_bits * 2 ^ l.fraction_bits
 
 -- where a test fails, the pixel is enabled no longer
@@ -71,7 +71,7 @@ keep test p = record { enable = p.enable && test; keys = p.keys }
 abbrev pub store : Keys → Numbers → Numbers
 store k p = record { enable = p.enable; keys = if p.enable then k else p.keys }
 
-abbrev pub meaning : Place → Pass → Numbers → Numbers
+abbrev pub meaning : KeyedPixel → Pass → Numbers → Numbers
 meaning l all p = record { enable = true; keys = p.keys }
 meaning l (keep_sign form) p = keep (not (is_negative (value_at form l.x l.y))) p
 meaning l (keep_at_most form) p = keep (nat_le (residue l form) p.keys.deep) p
@@ -88,7 +88,7 @@ meaning l toggle_par p = store (record p.keys { par = not p.keys.par }) p
 meaning l copy p = store (record p.keys { best = key l p.keys.deep p.keys.number }) p
 
 -- what passes leave, one after another
-abbrev pub after : Place → List Pass → Numbers → Numbers
+abbrev pub after : KeyedPixel → List Pass → Numbers → Numbers
 after l [] p = p
 after l (m ∷ ms) p = after l ms (meaning l m p)
 

@@ -5,9 +5,9 @@ use Rattle.px_macro.specs.declared.operation.Macro.{Macro}
 use Rattle.px_macro.specs.declared.operation.Macro.TheVariants as m
 use Rattle.px_num.specs.Forms.{plus}
 use Rattle.px_num.specs.declared.linear.Linear.{Linear}
-use Rattle.px_scene.specs.Scenes.{SceneView, black}
-use Rattle.px_scene.specs.Solids.{SolidView}
-use Rattle.px_scene.specs.Cells.{Depths, depths_of, end_of}
+use Rattle.px_model.specs.Scenes.{SceneView, black}
+use Rattle.px_model.specs.Solids.{SolidView}
+use Rattle.px_model.specs.Cells.{Depths, depths_of, end_of}
 use Rattle.px_face.specs.Faces.{face_count, number_of, plane_of}
 use Rattle.px_face.specs.Edges.{edges}
 use Rattle.px_normal.specs.declared.product.Product.{Product}

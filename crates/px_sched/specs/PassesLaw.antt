@@ -3,15 +3,16 @@
 use Rattle.std.specs.Prelude.{◌≡◌, ℕ, ◌<◌, ◌≤◌, All, Bool, List, length}
 use Rattle.px_macro.specs.Fields.{number_in}
 use Rattle.px_macro.specs.Macros.{PixelBits, after_macros}
-use Rattle.px_scene.specs.Scenes.{SceneView, IsLawfulScene}
-use Rattle.px_scene.specs.Solids.{IsLawfulSolid}
-use Rattle.px_scene.specs.Cells.{Sight, picture}
-use Rattle.px_sched.specs.Layouts.{LayoutView, depth_part, layout_of, need_of, number_part}
+use Rattle.px_model.specs.Scenes.{SceneView, IsLawfulScene}
+use Rattle.px_model.specs.Solids.{IsLawfulSolid}
+use Rattle.px_model.specs.Cells.{Sight, picture}
+use Rattle.px_sched.specs.Layouts.{LayoutView, depth_part, fraction_part, layout_of, need_of, number_part}
 use Rattle.px_sched.specs.Passes.{passes}
 
--- a pixel's memory has a depth and a face number in key B
+-- a pixel's memory has a depth, with no fraction, and a face number in key B
 pub record HasSight (l : LayoutView) (memory : List Bool) (sight : Sight) : Type 0 where
   pub depth : number_in (depth_part l l.key_b) memory ≡ sight.depth
+  pub whole : number_in (fraction_part l l.key_b) memory ≡ 0
   pub face : number_in (number_part l l.key_b) memory ≡ sight.face
 
 -- each pixel of the picture has in its memory what it shows

@@ -12,7 +12,7 @@ ghost use Rattle.std.specs.Prelude.{
   slice_get,
 };
 ghost use Rattle.px_prune.specs.Kept.{plan_of};
-ghost use Rattle.px_scene.specs.Scenes.{SceneView};
+ghost use Rattle.px_model.specs.Scenes.{SceneView};
 ghost use Rattle.px_sched.specs.Cursors.{Stands, StandsIn};
 ghost use Rattle.px_sched.specs.Groups.{IsDrawn, IsStage, stage_operations};
 ghost use Rattle.px_sched.specs.Layouts.{LayoutView, layout_of};
@@ -21,9 +21,9 @@ ghost use Rattle.px_sched.specs.Passes.{passes, passes_with};
 use crate::group::Stage;
 use crate::layout::Layout;
 use px_macro::Macro;
+use px_model::{Scene, laws_of_scenes};
 use px_normal::{Product, laws_of_normal_forms};
 use px_prune::{Plan, laws_of_pruning};
-use px_scene::{Scene, laws_of_scenes};
 
 /// A place in the passes of a scene (docs/PASSES.md). It takes no memory, and finds the next
 /// operation without those before it.

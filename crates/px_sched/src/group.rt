@@ -2,7 +2,7 @@
 ghost use Rattle.std.specs.Bool.{OnFalse, OnTrue};
 ghost use Rattle.std.specs.Prelude.{◌≡◌, ◌≢◌, ◌+◌, ◌*◌, ◌^◌, ◌<◌, ◌≤◌, All, IfSome, get_or, length};
 ghost use Rattle.px_macro.specs.declared.operation.Macro.TheVariants as m;
-ghost use Rattle.px_scene.specs.Cells.{depths_of, end_of};
+ghost use Rattle.px_model.specs.Cells.{depths_of, end_of};
 ghost use Rattle.px_sched.specs.Groups.{
   IsDrawn,
   IsGroup,
@@ -26,9 +26,9 @@ use crate::literal::{Literal, literals, others};
 use crate::step::Step;
 use arrayvec::ArrayVec;
 use px_macro::Macro;
+use px_model::Scene;
 use px_normal::Product;
 use px_num::power;
-use px_scene::Scene;
 
 /// A step of the passes of one literal of a product, by their indices.
 #[derive(Clone, Copy, Debug, PartialEq, Eq)]

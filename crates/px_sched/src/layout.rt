@@ -13,8 +13,8 @@ ghost use Rattle.px_sched.specs.Layouts.{
 };
 
 use px_macro::Field;
+use px_model::Scene;
 use px_num::power;
-use px_scene::Scene;
 use std::marker::Model;
 use thiserror::Error;
 

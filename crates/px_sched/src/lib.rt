@@ -8,8 +8,6 @@ mod literal;
 mod numbers;
 mod passes;
 mod step;
-#[cfg(test)]
-mod tests;
 
 pub use cursor::Cursor;
 pub use layout::{Layout, NeedBits};

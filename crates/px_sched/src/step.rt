@@ -3,8 +3,8 @@ ghost use Rattle.std.specs.Prelude.{◌≡◌, ◌+◌, ◌<◌, ◌≤◌, ◌+
 ghost use Rattle.px_face.specs.Edges.{edge_count};
 ghost use Rattle.px_face.specs.Faces.{face_count};
 ghost use Rattle.px_macro.specs.declared.operation.Macro.TheVariants as m;
-ghost use Rattle.px_scene.specs.Cells.{depths_of, end_of};
-ghost use Rattle.px_scene.specs.Scenes.{SceneView};
+ghost use Rattle.px_model.specs.Cells.{depths_of, end_of};
+ghost use Rattle.px_model.specs.Scenes.{SceneView};
 ghost use Rattle.px_sched.specs.declared.literal.Literal.{Literal};
 ghost use Rattle.px_sched.specs.Layouts.{LayoutView};
 ghost use Rattle.px_sched.specs.Passes.{candidate, drop_behind, keep_covered, solid_of, turn};
@@ -34,8 +34,8 @@ use crate::layout::Layout;
 use crate::literal::Literal;
 use px_face::{edge_at, edge_count, face_count, laws_of_edges, number_of, plane_of};
 use px_macro::Macro;
+use px_model::{Scene, Solid};
 use px_num::{Linear, power};
-use px_scene::{Scene, Solid};
 
 /// A step of the passes of a literal (docs/PASSES.md, "Steps").
 ///

@@ -1,5 +1,5 @@
 use Rattle.std.proofs.Common.{◌∙◌}
-use Rattle.px_scene.specs.Cells.{end_of}
+use Rattle.px_model.specs.Cells.{end_of}
 use Rattle.px_control.proofs.CostLemmas.{candidate_costs}
 use Rattle.px_control.proofs.literal.candidate_cost.Goals as goal
 

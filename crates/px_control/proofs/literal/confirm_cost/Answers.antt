@@ -1,5 +1,5 @@
 use Rattle.std.proofs.Common.{◌∙◌, length, ap, arith}
-use Rattle.px_scene.specs.Cells.{end_of}
+use Rattle.px_model.specs.Cells.{end_of}
 use Rattle.px_control.proofs.CostLemmas.{barred_costs, not_none, plain_costs}
 use Rattle.px_control.proofs.literal.confirm_cost.Goals as goal
 

@@ -1,5 +1,5 @@
 use Rattle.std.proofs.Common.{refl, arith, ap}
-use Rattle.px_scene.specs.Scenes.{faces_of}
+use Rattle.px_model.specs.Scenes.{faces_of}
 use Rattle.px_control.proofs.CostLemmas.{number_few}
 use Rattle.px_control.proofs.GridLemmas.{exponent_between, grid_exponent_is}
 use Rattle.px_control.proofs.total.lengths_of.Goals as goal

@@ -1,5 +1,5 @@
 use Rattle.std.proofs.Common.{◌≡◌, ℕ, List, ◌*◌, ◌^◌, take}
-use Rattle.px_scene.specs.Cells.{depths_of}
+use Rattle.px_model.specs.Cells.{depths_of}
 use Rattle.px_sched.specs.Passes.{solid_of}
 use Rattle.px_control.specs.declared.costs.Costs.{Costs}
 use Rattle.px_control.specs.Costs.{IsAtMost, share, sum_of}

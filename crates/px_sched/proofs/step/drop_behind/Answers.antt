@@ -1,5 +1,5 @@
 use Rattle.std.proofs.Common.{ap}
-use Rattle.px_scene.specs.Cells.{depths_of, end_of}
+use Rattle.px_model.specs.Cells.{depths_of, end_of}
 use Rattle.px_sched.specs.Layouts.{LayoutView}
 use Rattle.px_sched.proofs.StepLemmas.{drop_operation}
 use Rattle.px_sched.proofs.step.drop_behind.Goals as goal

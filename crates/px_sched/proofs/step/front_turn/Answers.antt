@@ -1,5 +1,5 @@
 use Rattle.std.proofs.Common.{ap, ◌∙◌, ◌^◌}
-use Rattle.px_scene.specs.Cells.{depths_of, end_of}
+use Rattle.px_model.specs.Cells.{depths_of, end_of}
 use Rattle.px_num.specs.Forms.{plus}
 use Rattle.px_face.specs.Faces.{plane_of}
 use Rattle.px_sched.proofs.StepLemmas.{turn_operation}
