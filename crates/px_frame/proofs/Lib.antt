@@ -1,3 +1,3 @@
 pub mod FaceLemmas
 pub mod ImageLemmas
-pub mod RowLemmas
+pub mod RowLaws

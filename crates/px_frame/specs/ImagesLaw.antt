@@ -1,7 +1,7 @@
 -- The images of an array that stores the picture of a scene are the images of that picture.
 use Rattle.std.specs.Prelude.{◌≡◌}
 use Rattle.px_array.specs.Arrays.{State, pixel_of}
-use Rattle.px_scene.specs.Scenes.{IsLawfulScene, SceneView}
+use Rattle.px_model.specs.Scenes.{IsLawfulScene, SceneView}
 use Rattle.px_sched.specs.Layouts.{LayoutView}
 use Rattle.px_sched.specs.PassesLaw.{ShowsThePicture}
 use Rattle.px_frame.specs.declared.plane.Plane.{Plane}

@@ -1,5 +1,5 @@
 pub use Rattle.px_array.specs.Arrays
-pub use Rattle.px_scene.specs.Scenes
+pub use Rattle.px_model.specs.Scenes
 pub use Rattle.px_sched.specs.Layouts
 pub use Rattle.px_sched.specs.PassesLaw
 pub mod Image

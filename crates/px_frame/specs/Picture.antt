@@ -1,8 +1,8 @@
 -- The picture of a scene as three images: the depth of each pixel, the number of its face, and that face's colour.
 use Rattle.std.specs.Prelude.{ℕ, ◌+◌, ◌*◌, List}
-use Rattle.px_scene.specs.declared.solid.Colour.{Colour}
-use Rattle.px_scene.specs.Scenes.{SceneView, colour_in_scene}
-use Rattle.px_scene.specs.Cells.{picture}
+use Rattle.px_model.specs.declared.solid.Colour.{Colour}
+use Rattle.px_model.specs.Scenes.{SceneView, colour_in_scene}
+use Rattle.px_model.specs.Cells.{picture}
 use Rattle.px_frame.specs.declared.plane.Plane.{Plane}
 use Rattle.px_frame.specs.declared.plane.Plane.TheVariants as p
 use Rattle.px_frame.specs.Image.{image_of}

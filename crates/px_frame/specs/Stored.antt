@@ -2,7 +2,7 @@
 use Rattle.std.specs.Prelude.{ℕ, ◌^◌, ◌<◌, ◌≤◌, List}
 use Rattle.px_array.specs.Arrays.{State, pixel_of}
 use Rattle.px_macro.specs.Fields.{number_in}
-use Rattle.px_scene.specs.Scenes.{SceneView, colour_in_scene, faces_of}
+use Rattle.px_model.specs.Scenes.{SceneView, colour_in_scene, faces_of}
 use Rattle.px_sched.specs.Layouts.{LayoutView, depth_part, number_part}
 use Rattle.px_frame.specs.declared.plane.Plane.{Plane}
 use Rattle.px_frame.specs.declared.plane.Plane.TheVariants as p

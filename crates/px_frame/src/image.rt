@@ -13,7 +13,7 @@ use arrayvec::{ArrayString, ArrayVec};
 use itoa::Buffer;
 use px_array::Array;
 use px_io::{Failed, Sink, write_whole};
-use px_scene::Scene;
+use px_model::Scene;
 use px_sched::Layout;
 
 /// Three bytes a pixel, for the 512 pixels of the widest picture.
@@ -50,8 +50,9 @@ pub fn write_picture<A: Array, O: Sink>(
     Ok(())
 }
 
+/// The three lines before the pixels of an image.
 #[tactic(auto, unfolding(crate::specs::Image::header))]
-fn header(width: u32, height: u32) -> ArrayString<128>
+pub fn header(width: u32, height: u32) -> ArrayString<128>
     ensures { result.bytes ≡ header width height }
 {
     let mut digits = Buffer::new();
@@ -89,8 +90,9 @@ fn row_bytes<A: Array>(
     bytes
 }
 
+/// A number as one pixel of an image, its highest byte first.
 #[tactic(auto, unfolding(crate::specs::Image::three_bytes))]
-fn three_bytes(number: u32) -> [u8; 3]
+pub fn three_bytes(number: u32) -> [u8; 3]
     requires { number < 2 ^ 24 }
     ensures { result ≡ three_bytes number }
 {

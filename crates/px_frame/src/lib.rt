@@ -2,11 +2,11 @@
 #![tactic(auto)]
 
 mod image;
+mod keys;
 mod law;
 mod plane;
-#[cfg(test)]
-mod tests;
 
-pub use image::write_picture;
+pub use image::{header, three_bytes, write_picture};
+pub use keys::stored;
 pub use law::laws_of_images;
 pub use plane::Plane;

@@ -1,6 +1,6 @@
 use Rattle.std.proofs.Common.{arith}
 use Rattle.px_frame.specs.Stored.{stored_number}
-use Rattle.px_frame.proofs.RowLemmas.{row_grown}
+use Rattle.px_frame.proofs.RowLaws.{row_grown}
 use Rattle.px_frame.proofs.image.row_bytes.Goals as goal
 
 pub loop-x-preserved : goal.loop-x-preserved

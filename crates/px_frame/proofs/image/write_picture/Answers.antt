@@ -1,8 +1,8 @@
 use Rattle.std.proofs.Common.{◌≡◌, ◌<◌, arith, Result, Ok, Err, OnErr}
-use Rattle.px_io.specs.ToldLaws.{front_before}
+use Rattle.px_io.proofs.ToldLaws.{front_before}
 use Rattle.px_frame.specs.Image.{header, row_bytes}
 use Rattle.px_frame.specs.Stored.{stored_number}
-use Rattle.px_frame.proofs.RowLemmas.{rows_broken, rows_grown}
+use Rattle.px_frame.proofs.RowLaws.{rows_broken, rows_grown}
 use Rattle.px_frame.proofs.image.write_picture.Goals as goal
 
 on_err : {T E P : Type 0} (r : Result T E) → P → OnErr r P

@@ -1,12 +1,12 @@
--- Rows by their pixels, and images by their rows, as they are written one after another.
-use Rattle.std.proofs.Common.{◌≡◌, ℕ, zero, suc, ◌+◌, ◌-◌, ◌<◌, refl, ap, sym, ◌∙◌, arith}
+-- Rows by their pixels, and images by their rows, as they are written one after another; images of the same numbers.
+use Rattle.std.proofs.Common.{◌≡◌, ℕ, zero, suc, ◌+◌, ◌-◌, ◌<◌, ◌≤◌, refl, ap, sym, ◌∙◌, arith}
 use Rattle.std.proofs.Common.{Bool, List, [], ◌∷◌, ◌++◌, Option, append_assoc}
 use Rattle.std.proofs.lemmas.List.{append-nil}
 use Rattle.std.proofs.lemmas.Grind.{flat_map-append}
 use Rattle.std.specs.List.{flat_map, range_with_len}
 use Rattle.px_io.specs.Told.{TakesAll, TakesFront}
-use Rattle.px_io.specs.ToldLaws.{front_after, front_before, takes_both}
-use Rattle.px_frame.specs.Image.{row_bytes, three_bytes}
+use Rattle.px_io.proofs.ToldLaws.{front_after, front_before, takes_both}
+use Rattle.px_frame.specs.Image.{header, image_of, row_bytes, three_bytes}
 
 range_cut : (a n m : ℕ) → range_with_len a (n + m) ≡ range_with_len a n ++ range_with_len (a + n) m
 range_cut a zero m =
@@ -63,3 +63,20 @@ rows_broken a b c f g h front row y height above written next =
     ∙ ap (λ bytes. front ++ bytes) (made_all row (y + 1) rest ∙ ap (made row) all) in
     rw whole at (front_before a c f h (front ++ made row (y + 1)) (flat_map row (range_with_len (y + 1) rest))
     (rw more at (front_after a b c f g h (front ++ made row y) (row y) written next)))
+
+-- what is made of some numbers in a row, where each of them makes the same
+same_parts : (f g : ℕ → List ℕ) (from count : ℕ) → ((k : ℕ) → from ≤ k → k < from + count → f k ≡ g k)
+    → flat_map f (range_with_len from count) ≡ flat_map g (range_with_len from count)
+same_parts f g from zero same = refl
+same_parts f g from (suc count) same =
+    let others = same_parts f g (from + 1) count (λ k low high. same k (omega arith) (omega arith)) in
+    rw (same from (omega arith) (omega arith), others) refl
+
+-- an image is that of the numbers in the picture
+pub same_image : (width height : ℕ) (f g : (x y : ℕ) → ℕ) → ((x y : ℕ) → x < width → y < height → f x y ≡ g x y)
+    → image_of width height f ≡ image_of width height g
+same_image width height f g same =
+    ap (λ bytes. header width height ++ bytes)
+    (same_parts (row_bytes width f) (row_bytes width g) 0 height (λ y low above.
+    same_parts (λ x. three_bytes (f x y)) (λ x. three_bytes (g x y)) 0 width (λ x low left.
+    ap three_bytes (same x y (omega arith) (omega arith)))))
