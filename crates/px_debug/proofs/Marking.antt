@@ -6,7 +6,7 @@ use Rattle.std.proofs.Math.Nat.{mul-div_cancel, div-mul-le_self}
 use Rattle.std.proofs.lemmas.Bool.Decides.{eqb_tells}
 use Rattle.px_array.specs.Arrays.{Device}
 use Rattle.px_array.specs.Slots.{after_save, slot_of}
-use Rattle.px_scene.specs.Scenes.{SceneView}
+use Rattle.px_model.specs.Scenes.{SceneView}
 use Rattle.px_control.specs.declared.place.Place.{Place}
 use Rattle.px_control.specs.Program.{IsAt, array_after}
 use Rattle.px_control.specs.Standing.{StandsFor}

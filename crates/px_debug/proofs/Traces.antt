@@ -6,7 +6,7 @@ use Rattle.std.proofs.lemmas.List.{take_more, length-take, take-append-drop, get
 use Rattle.std.proofs.lemmas.Option.{slice_get_within, get_or_from_slice_get}
 use Rattle.circular_buffer.specs.Buffer.{keep_last}
 use Rattle.px_array.specs.declared.micro.Micro.{Micro}
-use Rattle.px_scene.specs.Scenes.{SceneView}
+use Rattle.px_model.specs.Scenes.{SceneView}
 use Rattle.px_debug.specs.Marks.{last_before}
 
 pub keep_keep : {X : Type 0} (k : ℕ) (xs ys : List X) → keep_last k (keep_last k xs ++ ys) ≡ keep_last k (xs ++ ys)

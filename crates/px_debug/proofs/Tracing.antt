@@ -4,7 +4,7 @@ use Rattle.std.specs.List.{slice_get}
 use Rattle.std.proofs.lemmas.List.{append-nil, length-take, take_more}
 use Rattle.std.proofs.lemmas.Option.{get_or_from_slice_get, slice_get_within}
 use Rattle.circular_buffer.specs.Buffer.{Buffer, buffer}
-use Rattle.px_scene.specs.Scenes.{SceneView}
+use Rattle.px_model.specs.Scenes.{SceneView}
 use Rattle.px_control.specs.Program.{program, total}
 use Rattle.px_array.specs.declared.micro.Micro.{Micro}
 use Rattle.px_debug.specs.Answers.{trace_line, trace_lines, trace_text}

@@ -1,15 +1,16 @@
 -- The answers of a session: each is a function of the state after so many broadcasts, of the program and of the line.
 use Rattle.std.specs.Prelude.{ℕ, ◌+◌, ◌-◌, ◌^◌, Bool, ◌&&◌, List, [], ◌∷◌, ◌++◌, codes, decimal, if◌then◌else◌, map, nat_le, nat_lt, take}
 use Rattle.circular_buffer.specs.Buffer.{keep_last}
+use Rattle.px_num.specs.Bits.{bit_at}
 use Rattle.px_array.specs.Arrays.{State, levels_of, pixel_of}
 use Rattle.px_array.specs.declared.micro.Micro.{Micro}
 use Rattle.px_array.specs.declared.micro.TreeOp.{TreeOp}
 use Rattle.px_array.specs.declared.micro.TreeOp.TheVariants as t
-use Rattle.px_macro.specs.Fields.{bit_at, number_in}
+use Rattle.px_macro.specs.Fields.{number_in}
 use Rattle.px_macro.specs.declared.field.Field.{Field}
 use Rattle.px_pixel.specs.declared.act.Act.{Act}
 use Rattle.px_pixel.specs.declared.act.Act.TheVariants as a
-use Rattle.px_scene.specs.Scenes.{SceneView}
+use Rattle.px_model.specs.Scenes.{SceneView}
 use Rattle.px_sched.specs.Layouts.{LayoutView, depth_part, layout_of, number_part}
 use Rattle.px_tree.specs.Nodes.{leaf_bit, node_at}
 use Rattle.px_control.specs.Program.{array_after, micro_at_clock, operation_at, program, total}

@@ -4,7 +4,7 @@ use Rattle.circular_buffer.specs.Buffer.{keep_last}
 use Rattle.px_array.specs.Arrays.{Device}
 use Rattle.px_array.specs.Slots.{slot_of}
 use Rattle.px_array.specs.declared.micro.Micro.{Micro}
-use Rattle.px_scene.specs.Scenes.{SceneView}
+use Rattle.px_model.specs.Scenes.{SceneView}
 use Rattle.px_control.specs.Program.{array_after, program}
 use Rattle.px_control.specs.Standing.{StandsFor}
 use Rattle.px_control.specs.declared.place.Place.{Place}

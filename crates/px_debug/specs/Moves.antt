@@ -2,7 +2,7 @@
 use Rattle.std.specs.Prelude.{◌≡◌, ℕ, zero, suc, ◌+◌, ◌-◌, ◌*◌, ◌/◌, ◌≤◌, min, max, List, [], ◌∷◌, Option, Some}
 use Rattle.px_array.specs.Arrays.{Device}
 use Rattle.px_array.specs.Slots.{slot_of}
-use Rattle.px_scene.specs.Scenes.{SceneView}
+use Rattle.px_model.specs.Scenes.{SceneView}
 use Rattle.px_control.specs.Program.{IsAt, array_after, ends_after, total}
 use Rattle.px_debug.specs.declared.command.Command.{Command}
 use Rattle.px_debug.specs.declared.command.Command.TheVariants as c

@@ -6,8 +6,6 @@ mod course;
 mod machine_text;
 mod moves;
 mod session;
-#[cfg(test)]
-mod tests;
 mod text;
 mod trace_text;
 mod word;

@@ -11,6 +11,7 @@ use crate::text::{Text, digit, unknown_line};
 use arrayvec::ArrayString;
 use itoa::Buffer;
 use px_array::Array;
+use px_asm::number_in;
 use px_macro::Field;
 use px_num::power;
 use px_sched::Layout;
@@ -181,30 +182,6 @@ fn key_text<A: Array>(array: &A, depth: Field, number: Field, x: u32, y: u32) ->
     text.push_str(" ");
     text.push_str(digits.format(number_in(array, number, x, y)));
     text
-}
-
-/// The number in a field of the memory of a pixel.
-fn number_in<A: Array>(array: &A, field: Field, x: u32, y: u32) -> u32
-    requires pixel { HasPixel (A.device array.now) x y }
-    requires room { field.at + field.len ≤ A.BITS }
-    requires low { field.at ≤ 100 }
-    requires few { field.len ≤ 24 }
-    ensures number { result ≡ number_in field (pixel_of (A.device array.now).state x y).memory }
-    ensures small { result < 2 ^ 24 }
-{
-    let mut number = 0;
-    for t in 0..field.len {
-        number += bit_value(array.bit(x, y, field.at + t), t);
-    }
-    number
-}
-
-/// What bit `t` of a number counts.
-fn bit_value(bit: bool, t: u32) -> u32
-    requires { t < 24 }
-    ensures { result ≡ (if bit then 2 ^ t else 0) }
-{
-    if bit { 1 << t } else { 0 }
 }
 
 /// The two latches of a node.
