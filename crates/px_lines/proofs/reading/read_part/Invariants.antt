@@ -1,0 +1,16 @@
+use Rattle.std.proofs.Common.{◌-◌, ◌≡◌, ◌≤◌, length, take, vec_len}
+use Rattle.std.specs.Io.KnownBytes.{Consumes}
+use Rattle.px_lines.specs.Searches.{HasSeen}
+use Rattle.px_lines.proofs.reading.read_part.Given as goal
+
+abbrev pub invariant-loop-piece : goal.invariant-loop-piece
+invariant-loop-piece g l = record {
+  within : vec_len l.text ≤ l.limit;
+  taken : Consumes (g.S.Source.rest l.fn.input) (g.S.Source.rest l.input) l.text.items;
+  calm : g.S.Source.faults l.input ≡ g.S.Source.faults l.fn.input;
+  seen : HasSeen l.search (take (l.limit - 1) l.text.items);
+  all : l.search.at ≡ length (take (l.limit - 1) l.text.items);
+}
+
+abbrev pub decreases-loop-piece : goal.decreases-loop-piece
+decreases-loop-piece g l = l.limit - vec_len l.text

@@ -1,0 +1,5 @@
+pub mod Lines
+pub mod PartLaws
+pub mod Parts
+pub mod Readings
+pub mod Searches

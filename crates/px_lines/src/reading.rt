@@ -1,0 +1,84 @@
+//! Reading an input until its scene part is whole.
+ghost use Rattle.std.specs.Prelude.{◌≡◌, ◌+◌, ◌-◌, ◌<◌, ◌≤◌, ℕ, List, Option, None, length, take, OnOk, OnErr, IfOk, IsErrOf, vec_len};
+ghost use Rattle.std.specs.Io.KnownBytes.{Consumes, IsAtEnd};
+ghost use Rattle.px_io.specs.Counts.{Rose};
+ghost use Rattle.px_io.specs.Told.{ConsumesAtMost};
+ghost use Rattle.px_lines.specs.Parts.{part_end};
+ghost use Rattle.px_lines.specs.Readings.{TookNoPart};
+
+use crate::search::Search;
+use px_io::{ReadError, Source};
+use std::alloc::Global;
+
+/// What was read of an input, and where its scene part ends in it.
+#[derive(Drop)]
+pub struct Opening {
+    /// The bytes that were read.
+    pub text: Vec<u8>,
+    /// How many of them are the scene part, where it is whole.
+    pub part: Option<usize>,
+}
+
+/// Reads an input until its scene part is whole, or to its end, in reads of at most 4096 bytes.
+///
+/// No more than `limit` bytes are taken, and the part is looked for in all but the last of these.
+/// Once it is whole nothing more is read.
+pub fn read_part<S: Source>(
+    alloc: Global,
+    input: &mut S,
+    limit: usize,
+) -> Result<Opening, ReadError>
+    requires some { 0 < limit }
+    ensures taken { IfOk result (λ o. Consumes (S.rest input.old) (S.rest input.new) o.text.items) }
+    ensures bound { IfOk result (λ o. vec_len o.text ≤ limit) }
+    ensures part { IfOk result (λ o. o.part ≡ part_end (take (limit - 1) o.text.items)) }
+    ensures end { IfOk result (λ o. o.part ≡ None → vec_len o.text < limit →
+        IsAtEnd (S.rest input.new)) }
+    ensures failed { IsErrOf result ReadError.Failed →
+        TookNoPart (S.rest input.old) (S.rest input.new) limit }
+    ensures err { OnErr result (ConsumesAtMost (S.rest input.old) (S.rest input.new) limit) }
+    ensures rose { IsErrOf result ReadError.Failed →
+        Rose (S.faults input.old) (S.faults input.new) }
+    ensures calm { OnOk result (S.faults input.new ≡ S.faults input.old) }
+    ensures memory { IsErrOf result ReadError.Memory → S.faults input.new ≡ S.faults input.old }
+{
+    let mut text = Vec::new(alloc);
+    let mut piece = [0; 4096];
+    let mut search = Search::start();
+    while text.len() < limit {
+        let room = piece.len().min(limit - text.len());
+        let count = read_piece(input, &mut piece[..room], &mut text)?;
+        let part = search.find(&text[..text.len().min(limit - 1)]);
+        if count == 0 || part.is_some() {
+            return Ok(Opening { text, part });
+        }
+    }
+    Ok(Opening { text, part: None })
+}
+
+/// Makes one read of at most the length of the piece, and adds what it gave to the bytes.
+fn read_piece<S: Source>(
+    input: &mut S,
+    piece: &mut [u8],
+    bytes: &mut Vec<u8>,
+) -> Result<usize, ReadError>
+    requires { 0 < length piece.old }
+    ensures taken { (start : Option (List ℕ)) → Consumes start (S.rest input.old) bytes.old.items →
+        OnOk result (Consumes start (S.rest input.new) bytes.new.items) }
+    ensures bytes { OnOk result (take (vec_len bytes.old) bytes.new.items ≡ bytes.old.items) }
+    ensures failed { (start : Option (List ℕ)) → Consumes start (S.rest input.old) bytes.old.items →
+        IsErrOf result ReadError.Failed → Consumes start (S.rest input.new) bytes.old.items }
+    ensures err { (start : Option (List ℕ)) → Consumes start (S.rest input.old) bytes.old.items →
+        OnErr result (ConsumesAtMost start (S.rest input.new) (vec_len bytes.old + length piece.old)) }
+    ensures count { IfOk result (λ n.
+        (n ≤ length piece.old) × (vec_len bytes.new ≡ vec_len bytes.old + n)) }
+    ensures end { IfOk result (λ n. n ≡ 0 → IsAtEnd (S.rest input.new)) }
+    ensures rose { IsErrOf result ReadError.Failed →
+        Rose (S.faults input.old) (S.faults input.new) }
+    ensures calm { OnOk result (S.faults input.new ≡ S.faults input.old) }
+    ensures memory { IsErrOf result ReadError.Memory → S.faults input.new ≡ S.faults input.old }
+{
+    let count = input.read(piece)?;
+    bytes.extend_from_slice(&piece[..count])?;
+    Ok(count)
+}

@@ -1,0 +1,260 @@
+-- Bytes in pieces, and lines one after another.
+use Rattle.std.proofs.Common.{◌≡◌, ℕ, zero, suc, ◌+◌, ◌<◌, ◌≤◌, Bool, true, false, ◌||◌, ◌==◌, List, [], ◌∷◌, ◌++◌, length, take, drop, get_or, Option, Some, None, Result, Ok, Err, IfOk, OnErr, OnOk, refl, sym, ap, ◌∙◌, append_assoc, append-nil, add_assoc, length-append, arith, if◌then◌else◌}
+use Rattle.std.proofs.Math.Seq.{take-append-add}
+use Rattle.std.proofs.lemmas.List.{take_more, take-append-drop, take-append-le as take_within}
+use Rattle.std.specs.Io.KnownBytes.{Appends}
+use Rattle.px_io.specs.Told.{Reopens, TakesAll, TakesFirst, TakesFront}
+use Rattle.px_io.proofs.ToldLaws.{appends_both, takes_both}
+use Rattle.px_debug.specs.Answers.{answer}
+use Rattle.px_debug.specs.Commands.{command_of}
+use Rattle.px_debug.specs.Moves.{SessionView, going, moved}
+use Rattle.px_debug.specs.declared.session.Going.{Going}
+use Rattle.px_debug.specs.declared.session.Going.TheVariants as g
+use Rattle.px_session.specs.Buffers.{kept, short_ended, short_left}
+use Rattle.px_session.specs.Servings.{Answered}
+use Rattle.px_session.specs.Turns.{Broke}
+use Rattle.px_session.specs.Sessions.{after, after_line, answer_line, answers, has_quit, is_last, is_quit, until_quit}
+
+pub ended-append : (held bs cs : List ℕ) → short_ended held (bs ++ cs) ≡ short_ended held bs ++ short_ended (short_left held bs) cs
+ended-append held [] cs = refl
+ended-append held (b ∷ bs) cs =
+    elim (b == 10) as (λ t. (if t then held ∷ short_ended [] (bs ++ cs) else short_ended (kept held b) (bs ++ cs))
+    ≡ (if t then held ∷ short_ended [] bs else short_ended (kept held b) bs) ++ short_ended (if t then short_left [] bs else short_left (kept held b) bs) cs)
+    [ true ↦ ap (λ ls. held ∷ ls) (ended-append [] bs cs) | false ↦ ended-append (kept held b) bs cs ]
+
+pub left-append : (held bs cs : List ℕ) → short_left held (bs ++ cs) ≡ short_left (short_left held bs) cs
+left-append held [] cs = refl
+left-append held (b ∷ bs) cs =
+    elim (b == 10) as (λ t. (if t then short_left [] (bs ++ cs) else short_left (kept held b) (bs ++ cs))
+    ≡ short_left (if t then short_left [] bs else short_left (kept held b) bs) cs)
+    [ true ↦ left-append [] bs cs | false ↦ left-append (kept held b) bs cs ]
+
+or_left : (a b : Bool) → a || b ≡ false → a ≡ false
+or_left false b e = refl
+or_left true b e = e
+
+or_right : (a b : Bool) → a || b ≡ false → b ≡ false
+or_right false b e = e
+or_right true b e = cc
+
+pub quit-append : (ls ms : List (List ℕ)) → has_quit (ls ++ ms) ≡ has_quit ls || has_quit ms
+quit-append [] ms = refl
+quit-append (l ∷ ls) ms =
+    elim (is_quit l) as (λ t. t || has_quit (ls ++ ms) ≡ (t || has_quit ls) || has_quit ms) [ true ↦ refl | false ↦ quit-append ls ms ]
+
+until-append : (ls ms : List (List ℕ)) → until_quit (ls ++ ms) ≡ until_quit ls ++ (if has_quit ls then [] else until_quit ms)
+until-append [] ms = refl
+until-append (l ∷ ls) ms =
+    elim (is_quit l) as (λ t. l ∷ (if t then [] else until_quit (ls ++ ms)) ≡ (l ∷ (if t then [] else until_quit ls)) ++ (if t || has_quit ls then [] else until_quit ms))
+    [ true ↦ refl | false ↦ ap (λ ks. l ∷ ks) (until-append ls ms) ]
+
+-- lines none of which is a quit
+pub until_quiet : (ls : List (List ℕ)) → has_quit ls ≡ false → until_quit ls ≡ ls
+until_quiet [] quiet = refl
+until_quiet (l ∷ ls) quiet =
+    rw (or_left (is_quit l) (has_quit ls) quiet, until_quiet ls (or_right (is_quit l) (has_quit ls) quiet)) refl
+
+pub until_then : (ls ms : List (List ℕ)) → has_quit ls ≡ false → until_quit (ls ++ ms) ≡ ls ++ until_quit ms
+until_then ls ms quiet = until-append ls ms ∙ rw (quiet, until_quiet ls quiet) refl
+
+-- the lines behind a quit count for nothing
+pub until_more : (ls ms : List (List ℕ)) → has_quit ls ≡ true → until_quit (ls ++ ms) ≡ until_quit ls
+until_more ls ms quits = until-append ls ms ∙ rw quits (append-nil (until_quit ls))
+
+pub quits_more : (ls ms : List (List ℕ)) → has_quit ls ≡ true → has_quit (ls ++ ms) ≡ true
+quits_more ls ms quits = quit-append ls ms ∙ rw quits refl
+
+pub quits_then : (ls ms : List (List ℕ)) (t : Bool) → has_quit ls ≡ false → has_quit ms ≡ t → has_quit (ls ++ ms) ≡ t
+quits_then ls ms t quiet is = quit-append ls ms ∙ rw quiet is
+
+until_one : (l : List ℕ) → until_quit (l ∷ []) ≡ l ∷ []
+until_one l = elim (is_quit l) as (λ t. l ∷ (if t then [] else []) ≡ l ∷ []) [ true ↦ refl | false ↦ refl ]
+
+pub quit_one : (l : List ℕ) → has_quit (l ∷ []) ≡ is_quit l
+quit_one l = elim (is_quit l) as (λ t. t || false ≡ t) [ true ↦ refl | false ↦ refl ]
+
+pub after-append : (s : SessionView) (ls ms : List (List ℕ)) → after s (ls ++ ms) ≡ after (after s ls) ms
+after-append s [] ms = refl
+after-append s (l ∷ ls) ms = after-append (after_line s l) ls ms
+
+pub answers-append : (bits : ℕ) (s : SessionView) (ls ms : List (List ℕ)) → answers bits s (ls ++ ms) ≡ answers bits s ls ++ answers bits (after s ls) ms
+answers-append bits s [] ms = refl
+answers-append bits s (l ∷ ls) ms =
+    ap (λ x. answer_line bits s l ++ x) (answers-append bits (after_line s l) ls ms) ∙ sym (append_assoc (answer_line bits s l) _ _)
+
+-- a sink that took m bytes and then n
+reopens_both : (f g h : Option Bool) (m n : ℕ) → Reopens f g m → Reopens g h n → Reopens f h (m + n)
+reopens_both f g h m zero first second = record {
+  taken = λ some. rw (second.idle refl) (first.taken (omega arith));
+  idle = λ none. rw (second.idle refl) (first.idle (omega arith));
+}
+reopens_both f g h m (suc n) first second = record {
+  taken = λ some. second.taken (omega arith);
+  idle = λ none. absurd (omega arith);
+}
+
+-- all of xs, and then the first n of ys
+first_after : (a b c : Option (List ℕ)) (f g h : Option Bool) (xs ys : List ℕ) (n : ℕ)
+    → TakesAll a b f g xs → TakesFirst n b c g h ys → TakesFirst (length xs + n) a c f h (xs ++ ys)
+first_after a b c f g h xs ys n first second = record {
+  within = omega (arith, second.within, length-append xs ys);
+  front = rw take-append-add (appends_both a b c xs (take n ys) first.all second.front);
+  end = reopens_both f g h (length xs) n first.end second.end;
+}
+
+keeps : (w : Option (List ℕ)) → Appends w w []
+keeps None = tt
+keeps (Some xs) = sym (append-nil xs)
+
+pub answered_none : (bits : ℕ) (s : SessionView) (a : Option (List ℕ)) (p : Option Bool) → Answered bits s s a a p p []
+answered_none bits s a p = record {
+  state = refl;
+  wrote = record { all = keeps a; end = record { taken = λ some. absurd (omega arith); idle = λ none. refl } };
+}
+
+-- first these lines, and then those
+pub answered_both : (bits : ℕ) (s t u : SessionView) (a b c : Option (List ℕ)) (p q r : Option Bool) (ls ms : List (List ℕ))
+    → Answered bits s t a b p q ls → Answered bits t u b c q r ms → Answered bits s u a c p r (ls ++ ms)
+answered_both bits s t u a b c p q r ls ms first second = record {
+  state = second.state ∙ ap (λ x. after x ms) first.state ∙ sym (after-append s ls ms);
+  wrote = rw (answers-append bits s ls ms, ← first.state) (takes_both a b c p q r (answers bits s ls) (answers bits t ms) first.wrote second.wrote);
+}
+
+pub answered_until : (bits : ℕ) (s t u : SessionView) (a b c : Option (List ℕ)) (p q r : Option Bool) (ls ms : List (List ℕ))
+    → Answered bits s t a b p q ls → has_quit ls ≡ false → Answered bits t u b c q r (until_quit ms)
+    → Answered bits s u a c p r (until_quit (ls ++ ms))
+answered_until bits s t u a b c p q r ls ms first quiet second =
+    rw (until_then ls ms quiet) (answered_both bits s t u a b c p q r ls (until_quit ms) first second)
+
+pub broke_both : (bits : ℕ) (s t u : SessionView) (a b c : Option (List ℕ)) (p q r : Option Bool) (ls ms : List (List ℕ))
+    → Answered bits s t a b p q ls → Broke bits t u b c q r ms → Broke bits s u a c p r (ls ++ ms)
+broke_both bits s t u a b c p q r ls ms first second =
+    let k = second.whole in
+    let t0 : take (length ls + k) (ls ++ ms) ≡ ls ++ take k ms = take-append-add ls ms k in
+    let t1 : take (length ls + k + 1) (ls ++ ms) ≡ ls ++ take (k + 1) ms = rw add_assoc (take-append-add ls ms (k + 1)) in
+    let e0 = answers-append bits s ls (take k ms) in
+    let e1 = answers-append bits s ls (take (k + 1) ms) in
+    record {
+      whole = length ls + k;
+      within = omega (arith, length-append ls ms, second.within);
+      state = rw t1 (second.state ∙ ap (λ x. after x (take (k + 1) ms)) first.state ∙ sym (after-append s ls (take (k + 1) ms)));
+      count = length (answers bits s ls) + second.count;
+      before = rw (t0, e0, ← first.state) (omega (arith, length-append (answers bits s ls) (answers bits t (take k ms)), second.before));
+      wrote = rw (t1, e1, ← first.state)
+          (first_after a b c p q r (answers bits s ls) (answers bits t (take (k + 1) ms)) second.count first.wrote second.wrote);
+    }
+
+pub broke_more : (bits : ℕ) (s t : SessionView) (a b : Option (List ℕ)) (p q : Option Bool) (ls ms : List (List ℕ))
+    → Broke bits s t a b p q ls → Broke bits s t a b p q (ls ++ ms)
+broke_more bits s t a b p q ls ms broke =
+    let k = broke.whole in
+    let t0 : take k (ls ++ ms) ≡ take k ls = take_within k ls ms (omega (arith, broke.within)) in
+    let t1 : take (k + 1) (ls ++ ms) ≡ take (k + 1) ls = take_within (k + 1) ls ms (omega (arith, broke.within)) in
+    record {
+      whole = k;
+      within = omega (arith, length-append ls ms, broke.within);
+      state = rw t1 broke.state;
+      count = broke.count;
+      before = rw t0 broke.before;
+      wrote = rw t1 broke.wrote;
+    }
+
+pub broke_until : (bits : ℕ) (s t u : SessionView) (a b c : Option (List ℕ)) (p q r : Option Bool) (ls ms : List (List ℕ))
+    → Answered bits s t a b p q ls → has_quit ls ≡ false → Broke bits t u b c q r (until_quit ms)
+    → Broke bits s u a c p r (until_quit (ls ++ ms))
+broke_until bits s t u a b c p q r ls ms first quiet second =
+    rw (until_then ls ms quiet) (broke_both bits s t u a b c p q r ls (until_quit ms) first second)
+
+pub broke_until_more : (bits : ℕ) (s t : SessionView) (a b : Option (List ℕ)) (p q : Option Bool) (ls ms : List (List ℕ))
+    → Broke bits s t a b p q (until_quit ls) → Broke bits s t a b p q (until_quit (ls ++ ms))
+broke_until_more bits s t a b p q ls ms broke =
+    rw (until-append ls ms) (broke_more bits s t a b p q (until_quit ls) (if has_quit ls then [] else until_quit ms) broke)
+
+-- one line, answered or not
+pub answered_line : (bits : ℕ) (s t : SessionView) (a b : Option (List ℕ)) (p q : Option Bool) (l : List ℕ)
+    → t ≡ after_line s l → TakesAll a b p q (answer_line bits s l) → Answered bits s t a b p q (until_quit (l ∷ []))
+answered_line bits s t a b p q l is wrote =
+    rw (until_one l) (record { state = is; wrote = rw (append-nil (answer_line bits s l)) wrote })
+
+pub broke_line : (bits : ℕ) (s t : SessionView) (a b : Option (List ℕ)) (p q : Option Bool) (l : List ℕ)
+    → t ≡ after_line s l → TakesFront a b p q (answer_line bits s l) → Broke bits s t a b p q (until_quit (l ∷ []))
+broke_line bits s t a b p q l is (n, wrote) = rw (until_one l) (record {
+  whole = 0;
+  within = omega arith;
+  state = is;
+  count = n;
+  before = omega arith;
+  wrote = rw (append-nil (answer_line bits s l)) wrote;
+})
+
+pub on_err : {T E : Type 0} (r : Result T E) (P : Type 0) → P → OnErr r P
+on_err (Ok x) P p = tt
+on_err (Err e) P p = p
+
+pub ended_more : (h bs m : List ℕ) (i : ℕ) → i < length bs → m ≡ short_left h (take i bs)
+    → short_ended h (take (i + 1) bs) ≡ short_ended h (take i bs) ++ short_ended m (get_or bs i 0 ∷ [])
+ended_more h bs m i l e = rw (take_more bs i 0 l, ended-append, e) refl
+
+pub left_more : (h bs m : List ℕ) (i : ℕ) → i < length bs → m ≡ short_left h (take i bs)
+    → short_left h (take (i + 1) bs) ≡ short_left m (get_or bs i 0 ∷ [])
+left_more h bs m i l e = rw (take_more bs i 0 l, left-append, e) refl
+
+pub ended_rest : (h bs : List ℕ) (i : ℕ) → short_ended h bs ≡ short_ended h (take i bs) ++ short_ended (short_left h (take i bs)) (drop i bs)
+ended_rest h bs i = rw (← ended-append h (take i bs) (drop i bs), take-append-drop i bs) refl
+
+-- what is said of a line by the session that was given it
+pub state_is : (s t : SessionView) (l : List ℕ) → t ≡ record { scene = s.scene; now = moved s.scene s.now (command_of l); lines = s.lines + 1 } → t ≡ after_line s l
+unfolding after_line
+state_is s t l is = is
+
+pub answer_is : (bits : ℕ) (s t : SessionView) (l : List ℕ) → t ≡ record { scene = s.scene; now = moved s.scene s.now (command_of l); lines = s.lines + 1 }
+    → answer bits t.scene t.now t.lines (command_of l) ≡ answer_line bits s l
+unfolding answer_line
+answer_is bits s t l is = rw is refl
+
+quit_of : (l : List ℕ) → is_quit l ≡ is_last (going (command_of l))
+unfolding is_quit
+quit_of l = refl
+
+pub quit_is : (on : Going) (l : List ℕ) → on ≡ going (command_of l) → is_last on ≡ has_quit (l ∷ [])
+quit_is on l is = rw is (sym (quit_one l ∙ quit_of l))
+
+-- a line given, whose answer was written or not
+pub given_answered : (bits : ℕ) (s t : SessionView) (a b : Option (List ℕ)) (p q : Option Bool) (l : List ℕ)
+    → t ≡ record { scene = s.scene; now = moved s.scene s.now (command_of l); lines = s.lines + 1 }
+    → TakesAll a b p q (answer bits t.scene t.now t.lines (command_of l)) → Answered bits s t a b p q (until_quit (l ∷ []))
+given_answered bits s t a b p q l is wrote =
+    answered_line bits s t a b p q l (state_is s t l is) (rw (answer_is bits s t l is) at wrote)
+
+pub given_broke : (bits : ℕ) (s t : SessionView) (a b : Option (List ℕ)) (p q : Option Bool) (l : List ℕ)
+    → t ≡ record { scene = s.scene; now = moved s.scene s.now (command_of l); lines = s.lines + 1 }
+    → TakesFront a b p q (answer bits t.scene t.now t.lines (command_of l)) → Broke bits s t a b p q (until_quit (l ∷ []))
+given_broke bits s t a b p q l is wrote =
+    broke_line bits s t a b p q l (state_is s t l is) (rw (answer_is bits s t l is) at wrote)
+
+-- what follows from what holds of an answer
+pub on_ok_by : {T E : Type 0} {P Q : Type 0} (r : Result T E) → OnOk r P → (P → Q) → OnOk r Q
+on_ok_by (Ok x) p f = f p
+on_ok_by (Err e) p f = tt
+
+pub on_err_by : {T E : Type 0} {P Q : Type 0} (r : Result T E) → OnErr r P → (P → Q) → OnErr r Q
+on_err_by (Ok x) p f = tt
+on_err_by (Err e) p f = f p
+
+pub going_is : {E : Type 0} (r : Result Going E) (l : List ℕ) → IfOk r (λ on. on ≡ going (command_of l)) → IfOk r (λ on. is_last on ≡ has_quit (l ∷ []))
+going_is (Ok on) l is = quit_is on l is
+going_is (Err e) l is = tt
+
+-- a line that ends the session is a quit, and one that does not is none
+pub last_quit : (on : Going) (ls : List (List ℕ)) → on ≡ g.Quit → is_last on ≡ has_quit ls → has_quit ls ≡ true
+last_quit on ls is last = sym last ∙ rw is refl
+
+pub last_more : (on : Going) (ls : List (List ℕ)) → on ≡ g.More → is_last on ≡ has_quit ls → has_quit ls ≡ false
+last_more on ls is last = sym last ∙ rw is refl
+
+-- no line after no line
+pub answers_grow : (bits : ℕ) (s : SessionView) (ls : List (List ℕ)) (n : ℕ) → length (answers bits s (take n ls)) ≤ length (answers bits s ls)
+answers_grow bits s ls n =
+    let parts : answers bits s ls ≡ answers bits s (take n ls) ++ answers bits (after s (take n ls)) (drop n ls) =
+    ap (λ ks. answers bits s ks) (sym (take-append-drop n ls)) ∙ answers-append bits s (take n ls) (drop n ls) in
+    omega (arith, ap length parts, length-append (answers bits s (take n ls)) (answers bits (after s (take n ls)) (drop n ls)))

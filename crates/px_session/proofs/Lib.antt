@@ -1,0 +1,5 @@
+pub mod Feeding
+pub mod ServeLemmas
+pub mod SessionLemmas
+pub mod Shortening
+pub mod Turning

@@ -1,0 +1,238 @@
+-- From lines in a buffer to lines, and from the last answer to the end of the output.
+use Rattle.std.proofs.Common.{◌≡◌, ℕ, ◌+◌, ◌-◌, Bool, true, false, List, [], ◌∷◌, ◌++◌, length, take, map, Option, refl, sym, ap, ◌∙◌, ◌⊎◌, inl, inr, ◌≢◌, append_assoc, append-nil, arith}
+use Rattle.std.specs.Io.KnownBytes.{Keeps}
+use Rattle.std.proofs.lemmas.List.{take_all}
+use Rattle.std.proofs.lemmas.List.{map-append}
+use Rattle.px_io.specs.Told.{Tells}
+use Rattle.px_io.proofs.ToldLaws.{appends_kept, consumes_none}
+use Rattle.px_io.specs.Counts.{Rose}
+use Rattle.px_debug.specs.Moves.{SessionView}
+use Rattle.px_lines.specs.Lines.{all_lines, ended, last_of, left, whole_lines}
+use Rattle.px_session.specs.Buffers.{short_ended, short_left}
+use Rattle.px_session.specs.Servings.{Answered, Broken, Finished, Serves, seen}
+use Rattle.px_session.specs.Sessions.{answers, has_quit, until_quit}
+use Rattle.px_session.specs.Turns.{Broke, Ended, HasAnswered, HasStopped, Stopped, lines_at_end, seen_lines}
+use Rattle.px_session.specs.declared.serving.Ending.{Ending}
+use Rattle.px_session.specs.declared.serving.Ending.TheVariants as e
+use Rattle.px_session.proofs.Feeding.{answered_both, answered_until, answers_grow, broke_until, broke_until_more, ended-append, left-append, quits_then, until_more, until_quiet}
+use Rattle.px_session.proofs.Turning.{seen_none}
+use Rattle.px_session.proofs.Shortening.{answered_short, broke_short, ended_short, last_short, left_short, quits_short, short, until_short}
+
+-- the whole lines of a text, and all of them, as a buffer has them
+pub whole_short : (text : List ℕ) → short_ended [] text ≡ map short (whole_lines text)
+whole_short text = ended_short [] text
+
+pub all_short : (text : List ℕ) → short_ended [] text ++ last_of (short_left [] text) ≡ map short (all_lines text)
+all_short text = rw (ended_short [] text, left_short [] text, last_short (left [] text)) (sym (map-append short (ended [] text) (last_of (left [] text))))
+
+-- what was read before, and here
+record Texts (read : List ℕ) (more : ℕ) (bytes : List ℕ) : Type 0 where
+  pub whole : short_ended [] (read ++ seen more bytes) ≡ short_ended [] read ++ seen_lines more (short_left [] read) bytes
+  pub all : short_ended [] (read ++ seen more bytes) ++ last_of (short_left [] (read ++ seen more bytes))
+      ≡ short_ended [] read ++ lines_at_end more (short_left [] read) bytes
+
+texts_of : (read : List ℕ) (more : ℕ) (bytes : List ℕ) → Texts read more bytes
+texts_of read more bytes =
+    let whole = ended-append [] read (seen more bytes) in
+    record {
+      whole = whole;
+      all = rw (whole, left-append [] read (seen more bytes)) (append_assoc (short_ended [] read) _ _);
+    }
+
+pub stopped_both : (ending : Ending) (bits : ℕ) (read held : List ℕ) (more : ℕ) (s t u : SessionView) (x y a b c : Option (List ℕ)) (p q r : Option Bool)
+    → Answered bits s t a b p q (until_quit (short_ended [] read)) → has_quit (short_ended [] read) ≡ false → held ≡ short_left [] read
+    → Ended ending more bits held t u x y b c q r → Stopped ending bits read more s u x y a c p r
+stopped_both ending bits read held more s t u x y a b c p q r first quiet is last = record {
+  bytes = last.bytes;
+  few = last.few;
+  taken = last.taken;
+  stopped = by_ending ending (rw is at last.answered);
+}
+  where
+    text : List ℕ
+    text = read ++ seen more last.bytes
+
+    before : Answered bits s t a b p q (short_ended [] read)
+    before = rw (until_quiet (short_ended [] read) quiet) at first
+
+    texts : Texts read more last.bytes
+    texts = texts_of read more last.bytes
+
+    whole : short_ended [] read ++ seen_lines more (short_left [] read) last.bytes ≡ map short (whole_lines text)
+    whole = sym texts.whole ∙ whole_short text
+
+    all : short_ended [] read ++ lines_at_end more (short_left [] read) last.bytes ≡ map short (all_lines text)
+    all = sym texts.all ∙ all_short text
+
+    quits : (e : Bool) → has_quit (seen_lines more (short_left [] read) last.bytes) ≡ e → has_quit (whole_lines text) ≡ e
+    quits e is = sym (quits_short (whole_lines text)) ∙ ap has_quit (sym whole) ∙ quits_then (short_ended [] read) _ e quiet is
+
+    by_ending : (ending : Ending) → HasAnswered ending more bits (short_left [] read) last.bytes t u y b c q r
+        → HasStopped ending bits s u a c p r text last.bytes more y
+    by_ending e.Quit served = (
+      answered_short bits s u a c p r (until_quit (whole_lines text))
+          (rw (← until_short (whole_lines text), ← whole) (answered_until bits s t u a b c p q r (short_ended [] read) _ before quiet served.0)),
+      quits true served.1,
+    )
+    by_ending e.End served = (
+      answered_short bits s u a c p r (until_quit (all_lines text))
+          (rw (← until_short (all_lines text), ← all) (answered_until bits s t u a b c p q r (short_ended [] read) _ before quiet served.0)),
+      quits false served.1,
+      served.2,
+      served.3,
+    )
+    by_ending e.Long served = (
+      answered_short bits s u a c p r (whole_lines text)
+          (rw (← whole) (answered_both bits s t u a b c p q r (short_ended [] read) _ before served.0)),
+      quits false served.1,
+      served.2,
+    )
+    by_ending e.ReadFault served = (
+      answered_short bits s u a c p r (whole_lines text)
+          (rw (← whole) (answered_both bits s t u a b c p q r (short_ended [] read) _ before served.0)),
+      quits false served.1,
+    )
+    by_ending e.WriteFault served =
+        broke_short bits s u a c p r (until_quit (all_lines text))
+        (rw (← until_short (all_lines text), ← all) (broke_until bits s t u a b c p q r (short_ended [] read) _ before quiet served))
+
+nothing_seen : (read : List ℕ) (more : ℕ) → read ++ seen more [] ≡ read
+nothing_seen read more = rw (seen_none more) (append-nil read)
+
+-- a quit among the lines that were read before
+pub stopped_quit : (bits : ℕ) (read : List ℕ) (more : ℕ) (s t : SessionView) (x a b : Option (List ℕ)) (p q : Option Bool)
+    → Answered bits s t a b p q (until_quit (short_ended [] read)) → has_quit (short_ended [] read) ≡ true
+    → Stopped e.Quit bits read more s t x x a b p q
+stopped_quit bits read more s t x a b p q answered quits = record {
+  bytes = [];
+  few = omega arith;
+  taken = consumes_none x;
+  stopped = rw (nothing_seen read more) (
+    answered_short bits s t a b p q (until_quit (whole_lines read)) (rw (← until_short (whole_lines read), ← whole_short read) answered),
+    sym (quits_short (whole_lines read)) ∙ ap has_quit (sym (whole_short read)) ∙ quits,
+  );
+}
+
+-- a write that failed in an answer to them
+pub stopped_broke : (bits : ℕ) (read : List ℕ) (more : ℕ) (s t : SessionView) (x a b : Option (List ℕ)) (p q : Option Bool)
+    → Broke bits s t a b p q (until_quit (short_ended [] read)) → Stopped e.WriteFault bits read more s t x x a b p q
+stopped_broke bits read more s t x a b p q broke = record {
+  bytes = [];
+  few = omega arith;
+  taken = consumes_none x;
+  stopped = rw (nothing_seen read more) (broke_short bits s t a b p q (until_quit (all_lines read))
+      (rw (← until_short (all_lines read), ← all_short read) (broke_until_more bits s t a b p q (short_ended [] read) (last_of (short_left [] read)) broke)));
+}
+
+finished : (bits : ℕ) (s t : SessionView) (a b c : Option (List ℕ)) (p q r : Option Bool) (ls : List (List ℕ))
+    → Answered bits s t a b p q ls → Keeps b c → Tells r true → Finished bits s t a c r ls
+finished bits s t a b c p q r ls answered kept end = record {
+  state = answered.state;
+  wrote = appends_kept a b c (answers bits s ls) answered.wrote.all kept;
+  end = end;
+}
+
+-- a write that failed in finishing
+broken_end : (bits : ℕ) (s t : SessionView) (a b c : Option (List ℕ)) (p q r : Option Bool) (ls : List (List ℕ))
+    → Answered bits s t a b p q ls → Keeps b c → r ≡ q → Broken bits s t a c p r ls
+broken_end bits s t a b c p q r ls answered kept same =
+    let text = answers bits s ls in
+    let all : take (length ls) ls ≡ ls = take_all (length ls) ls (omega arith) in
+    record {
+      count = length ls;
+      within = omega arith;
+      some = no_lines ls;
+      state = rw all answered.state;
+      gained = length text;
+      before = answers_grow bits s ls (length ls - 1);
+      wrote = rw all (record {
+        within = omega arith;
+        front = rw (take_all (length text) text (omega arith)) (appends_kept a b c text answered.wrote.all kept);
+        end = rw same answered.wrote.end;
+      });
+    }
+  where
+    no_lines : (ls : List (List ℕ)) → length ls ≡ 0 → ls ≡ []
+    no_lines [] none = refl
+    no_lines (l ∷ ls) none = absurd (omega arith)
+
+broken_in : (bits : ℕ) (s t : SessionView) (a b : Option (List ℕ)) (p q : Option Bool) (ls : List (List ℕ))
+    → Broke bits s t a b p q ls → Broken bits s t a b p q ls
+broken_in bits s t a b p q ls broke =
+    let whole : broke.whole + 1 - 1 ≡ broke.whole = omega arith in
+    record {
+      count = broke.whole + 1;
+      within = omega (arith, broke.within);
+      some = λ none. absurd (omega arith);
+      state = broke.state;
+      gained = broke.count;
+      before = rw whole broke.before;
+      wrote = broke.wrote;
+    }
+
+-- what finishing says of the output and of its result
+abbrev pub Finishes : (ending result : Ending) (q r : Option Bool) (m n : ℕ) → Type 0
+Finishes ending result q r m n = (Tells r true × (result ≡ ending) × (n ≡ m)) ⊎ ((r ≡ q) × (result ≡ e.WriteFault) × Rose m n)
+
+pub served_quit : (result : Ending) (bits : ℕ) (read : List ℕ) (more : ℕ) (s t : SessionView) (x y a b c : Option (List ℕ)) (p q r : Option Bool) (m n : ℕ)
+    → Stopped e.Quit bits read more s t x y a b p q → Keeps b c → Finishes e.Quit result q r m n
+    → Serves result bits read more s t x y a c p r
+served_quit result bits read more s t x y a b c p q r m n stopped kept (inl (end, is, calm)) = rw is (record {
+  bytes = stopped.bytes;
+  few = stopped.few;
+  taken = stopped.taken;
+  served = (finished bits s t a b c p q r _ stopped.stopped.0 kept end, stopped.stopped.1);
+})
+served_quit result bits read more s t x y a b c p q r m n stopped kept (inr (same, is, rose)) = rw is (record {
+  bytes = stopped.bytes;
+  few = stopped.few;
+  taken = stopped.taken;
+  served =
+      let text = read ++ seen more stopped.bytes in
+      rw (until_more (whole_lines text) (last_of (left [] text)) stopped.stopped.1) (broken_end bits s t a b c p q r _ stopped.stopped.0 kept same);
+})
+
+pub served_end : (result : Ending) (bits : ℕ) (read : List ℕ) (more : ℕ) (s t : SessionView) (x y a b c : Option (List ℕ)) (p q r : Option Bool) (m n : ℕ)
+    → Stopped e.End bits read more s t x y a b p q → Keeps b c → Finishes e.End result q r m n
+    → Serves result bits read more s t x y a c p r
+served_end result bits read more s t x y a b c p q r m n stopped kept (inl (end, is, calm)) = rw is (record {
+  bytes = stopped.bytes;
+  few = stopped.few;
+  taken = stopped.taken;
+  served = (finished bits s t a b c p q r _ stopped.stopped.0 kept end, stopped.stopped.1, stopped.stopped.2, stopped.stopped.3);
+})
+served_end result bits read more s t x y a b c p q r m n stopped kept (inr (same, is, rose)) = rw is (record {
+  bytes = stopped.bytes;
+  few = stopped.few;
+  taken = stopped.taken;
+  served = broken_end bits s t a b c p q r _ stopped.stopped.0 kept same;
+})
+
+-- without finishing
+pub served_as : (ending : Ending) (bits : ℕ) (read : List ℕ) (more : ℕ) (s t : SessionView) (x y a b : Option (List ℕ)) (p q : Option Bool)
+    → ending ≢ e.Quit → ending ≢ e.End → Stopped ending bits read more s t x y a b p q → Serves ending bits read more s t x y a b p q
+served_as e.Quit bits read more s t x y a b p q not_quit not_end stopped = absurd (not_quit refl)
+served_as e.End bits read more s t x y a b p q not_quit not_end stopped = absurd (not_end refl)
+served_as e.Long bits read more s t x y a b p q not_quit not_end stopped =
+    record { bytes = stopped.bytes; few = stopped.few; taken = stopped.taken; served = stopped.stopped }
+served_as e.ReadFault bits read more s t x y a b p q not_quit not_end stopped =
+    record { bytes = stopped.bytes; few = stopped.few; taken = stopped.taken; served = stopped.stopped }
+served_as e.WriteFault bits read more s t x y a b p q not_quit not_end stopped =
+    record { bytes = stopped.bytes; few = stopped.few; taken = stopped.taken; served = broken_in bits s t a b p q _ stopped.stopped }
+
+-- the same, where the buffer was empty before
+pub begun_both : (ending : Ending) (bits : ℕ) (start read held : List ℕ) (more : ℕ) (s t u : SessionView) (x y a b c : Option (List ℕ)) (p q r : Option Bool)
+    → start ≡ [] → Answered bits s t a b p q (until_quit (short_ended start read)) → has_quit (short_ended start read) ≡ false
+    → held ≡ short_left start read → Ended ending more bits held t u x y b c q r → Stopped ending bits read more s u x y a c p r
+begun_both ending bits start read held more s t u x y a b c p q r none first quiet is last =
+    stopped_both ending bits read held more s t u x y a b c p q r (rw none at first) (rw none at quiet) (rw none at is) last
+
+pub begun_quit : (bits : ℕ) (start read : List ℕ) (more : ℕ) (s t : SessionView) (x a b : Option (List ℕ)) (p q : Option Bool)
+    → start ≡ [] → Answered bits s t a b p q (until_quit (short_ended start read)) → has_quit (short_ended start read) ≡ true
+    → Stopped e.Quit bits read more s t x x a b p q
+begun_quit bits start read more s t x a b p q none answered quits =
+    stopped_quit bits read more s t x a b p q (rw none at answered) (rw none at quits)
+
+pub begun_broke : (bits : ℕ) (start read : List ℕ) (more : ℕ) (s t : SessionView) (x a b : Option (List ℕ)) (p q : Option Bool)
+    → start ≡ [] → Broke bits s t a b p q (until_quit (short_ended start read)) → Stopped e.WriteFault bits read more s t x x a b p q
+begun_broke bits start read more s t x a b p q none broke = stopped_broke bits read more s t x a b p q (rw none at broke)

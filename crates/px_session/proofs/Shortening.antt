@@ -1,0 +1,108 @@
+-- A line's first 256 bytes say what the line says.
+use Rattle.std.proofs.Common.{◌≡◌, ℕ, ◌+◌, ◌<◌, ◌≤◌, Bool, true, false, ◌==◌, List, [], ◌∷◌, ◌++◌, Option, length, take, map, refl, sym, ap, ◌∙◌, inl, inr, length-append, length-take, arith, if◌then◌else◌, nat_lt}
+use Rattle.std.proofs.lemmas.Bool.{cases_lt}
+use Rattle.std.proofs.lemmas.Bool.Decides.{nat_tests}
+use Rattle.std.proofs.lemmas.List.{length-map, take_all, take-append-le, take-map}
+use Rattle.px_debug.specs.Commands.{command_of}
+use Rattle.px_debug.specs.Moves.{SessionView}
+use Rattle.px_lines.specs.Lines.{ended, last_of, left}
+use Rattle.px_session.specs.Buffers.{kept, short_ended, short_left}
+use Rattle.px_session.specs.Servings.{Answered}
+use Rattle.px_session.specs.Turns.{Broke}
+use Rattle.px_session.specs.Sessions.{after, after_line, answer_line, answers, has_quit, is_quit, until_quit}
+
+abbrev pub short : List ℕ → List ℕ
+short line = take 256 line
+
+lt_true : (a b : ℕ) → a < b → nat_lt a b ≡ true
+lt_true a b less = grind (arith, nat_tests)
+
+lt_false : (a b : ℕ) → b ≤ a → nat_lt a b ≡ false
+lt_false a b more = grind (arith, nat_tests)
+
+kept_short : (h : List ℕ) (b : ℕ) → kept (short h) b ≡ short (h ++ b ∷ [])
+kept_short h b = elim (cases_lt (length h) 256) [
+  | inl less ↦ rw (take_all 256 h (omega arith), lt_true (length h) 256 less) (sym (take_all 256 (h ++ b ∷ []) (omega (arith, length-append h (b ∷ [])))))
+  | inr more ↦ (
+      let full : length (take 256 h) ≡ 256 = omega (arith, length-take 256 h) in
+      rw (take-append-le 256 h (b ∷ []) more, full) refl)
+]
+
+pub ended_short : (h bs : List ℕ) → short_ended (short h) bs ≡ map short (ended h bs)
+ended_short h [] = refl
+ended_short h (b ∷ bs) =
+    elim (b == 10) as (λ t. (if t then short h ∷ short_ended [] bs else short_ended (kept (short h) b) bs) ≡ map short (if t then h ∷ ended [] bs else ended (h ++ b ∷ []) bs))
+    [ true ↦ ap (λ ls. short h ∷ ls) (ended_short [] bs) | false ↦ rw (kept_short h b) (ended_short (h ++ b ∷ []) bs) ]
+
+pub left_short : (h bs : List ℕ) → short_left (short h) bs ≡ short (left h bs)
+left_short h [] = refl
+left_short h (b ∷ bs) =
+    elim (b == 10) as (λ t. (if t then short_left [] bs else short_left (kept (short h) b) bs) ≡ short (if t then left [] bs else left (h ++ b ∷ []) bs))
+    [ true ↦ left_short [] bs | false ↦ rw (kept_short h b) (left_short (h ++ b ∷ []) bs) ]
+
+pub last_short : (l : List ℕ) → last_of (short l) ≡ map short (last_of l)
+last_short [] = refl
+last_short (b ∷ bs) = refl
+
+command_short : (l : List ℕ) → command_of (short l) ≡ command_of l
+command_short l = elim (cases_lt (length l) 257) [
+  | inl less ↦ ap (λ line. command_of line) (take_all 256 l (omega arith))
+  | inr more ↦ rw (lt_true 255 (length (take 256 l)) (omega (arith, length-take 256 l)), lt_true 255 (length l) (omega arith)) refl
+]
+
+quit_short : (l : List ℕ) → is_quit (short l) ≡ is_quit l
+unfolding is_quit
+quit_short l = rw (command_short l) refl
+
+line_short : (s : SessionView) (l : List ℕ) → after_line s (short l) ≡ after_line s l
+unfolding after_line
+line_short s l = rw (command_short l) refl
+
+answer_short : (bits : ℕ) (s : SessionView) (l : List ℕ) → answer_line bits s (short l) ≡ answer_line bits s l
+unfolding answer_line
+answer_short bits s l = rw (command_short l) refl
+
+after_short : (s : SessionView) (ls : List (List ℕ)) → after s (map short ls) ≡ after s ls
+after_short s [] = refl
+after_short s (l ∷ ls) = ap (λ x. after x (map short ls)) (line_short s l) ∙ after_short (after_line s l) ls
+
+answers_short : (bits : ℕ) (s : SessionView) (ls : List (List ℕ)) → answers bits s (map short ls) ≡ answers bits s ls
+answers_short bits s [] = refl
+answers_short bits s (l ∷ ls) =
+    ap (λ x. answer_line bits s (short l) ++ answers bits x (map short ls)) (line_short s l)
+    ∙ ap (λ x. x ++ answers bits (after_line s l) (map short ls)) (answer_short bits s l)
+    ∙ ap (λ x. answer_line bits s l ++ x) (answers_short bits (after_line s l) ls)
+
+pub quits_short : (ls : List (List ℕ)) → has_quit (map short ls) ≡ has_quit ls
+quits_short [] = refl
+quits_short (l ∷ ls) = rw (quit_short l, quits_short ls) refl
+
+pub until_short : (ls : List (List ℕ)) → until_quit (map short ls) ≡ map short (until_quit ls)
+until_short [] = refl
+until_short (l ∷ ls) =
+    rw (quit_short l) (elim (is_quit l) as (λ t. short l ∷ (if t then [] else until_quit (map short ls)) ≡ map short (l ∷ (if t then [] else until_quit ls)))
+    [ true ↦ refl | false ↦ ap (λ ks. short l ∷ ks) (until_short ls) ])
+
+pub answered_short : (bits : ℕ) (s t : SessionView) (a b : Option (List ℕ)) (p q : Option Bool) (ls : List (List ℕ))
+    → Answered bits s t a b p q (map short ls) → Answered bits s t a b p q ls
+answered_short bits s t a b p q ls answered = record {
+  state = answered.state ∙ after_short s ls;
+  wrote = rw (← answers_short bits s ls) answered.wrote;
+}
+
+pub broke_short : (bits : ℕ) (s t : SessionView) (a b : Option (List ℕ)) (p q : Option Bool) (ls : List (List ℕ))
+    → Broke bits s t a b p q (map short ls) → Broke bits s t a b p q ls
+broke_short bits s t a b p q ls broke =
+    let k = broke.whole in
+    let first : answers bits s (take k (map short ls)) ≡ answers bits s (take k ls) =
+    ap (λ ks. answers bits s ks) (take-map short k ls) ∙ answers_short bits s (take k ls) in
+    let more : answers bits s (take (k + 1) (map short ls)) ≡ answers bits s (take (k + 1) ls) =
+    ap (λ ks. answers bits s ks) (take-map short (k + 1) ls) ∙ answers_short bits s (take (k + 1) ls) in
+    record {
+      whole = k;
+      within = omega (arith, broke.within, length-map ls short);
+      state = broke.state ∙ ap (λ ks. after s ks) (take-map short (k + 1) ls) ∙ after_short s (take (k + 1) ls);
+      count = broke.count;
+      before = rw first at broke.before;
+      wrote = rw more at broke.wrote;
+    }

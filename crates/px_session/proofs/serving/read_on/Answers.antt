@@ -1,0 +1,34 @@
+use Rattle.std.proofs.Common.{◌≡◌, ◌-◌, ◌<◌, refl, ◌∙◌, arith}
+use Rattle.px_session.proofs.Turning.{ended_both, went_both, went_none}
+use Rattle.px_session.proofs.serving.read_on.Goals as goal
+
+pub loop-more-preserved : goal.loop-more-preserved
+loop-more-preserved g c =
+    let i = c.loop-more.invariant in
+    let less : c.args.limit - c.loop-more.more < c.args.limit = omega arith in
+    record {
+      fits = c.turn.ensures.fits;
+      within = omega arith;
+      went = went_both _ _ _ _ _ _ _ _ _ _ _ _ _ _ _ _ _ _ _ _ _ less (omega (arith, c.in-Ok.ensures.count)) (omega arith) i.went c.in-Ok.ensures.on;
+      few = omega (arith, c.in-Ok.ensures.count);
+      calm_in = c.in-Ok.ensures.calm.0 ∙ i.calm_in;
+      calm_out = c.in-Ok.ensures.calm.1 ∙ i.calm_out;
+    }
+
+pub returns-in-Err-clause-ended : goal.returns-in-Err-clause-ended
+returns-in-Err-clause-ended g c =
+    let i = c.loop-more.invariant in
+    let less : c.args.limit - c.loop-more.more < c.args.limit = omega arith in
+    ended_both _ _ _ _ _ _ _ _ _ _ _ _ _ _ _ _ _ _ _ less (omega arith) i.went c.in-Err.ensures.off
+
+pub loop-more-init : goal.loop-more-init
+loop-more-init g c =
+    let none : c.args.limit - c.args.limit ≡ 0 = omega arith in
+    record {
+      fits = c.requires.fits;
+      within = omega arith;
+      went = rw none (went_none _ _ _ _ _ _ _);
+      few = c.requires.counted;
+      calm_in = refl;
+      calm_out = refl;
+    }

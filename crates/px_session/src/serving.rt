@@ -1,0 +1,172 @@
+//! Reading, and answering what was read before more is asked for.
+ghost use Rattle.std.specs.Prelude.{◌≡◌, ◌⊎◌, ◌<◌, ◌≤◌, ◌+◌, ◌-◌, ◌^◌, IfOk, IfErr, OnOk, length, true};
+ghost use Rattle.std.specs.Io.KnownBytes.{Keeps};
+ghost use Rattle.px_io.specs.Counts.{Rose};
+ghost use Rattle.px_io.specs.Told.{Tells};
+ghost use Rattle.px_debug.specs.Moves.{Fits};
+ghost use Rattle.px_session.specs.Servings.{HasCauses, Serves};
+ghost use Rattle.px_session.specs.Turns.{Ended, Stopped, Went};
+
+use crate::feed::{Line, feed, finish_line};
+use arrayvec::ArrayVec;
+use px_array::Array;
+use px_debug::{Going, Session};
+use px_io::{Sink, Source};
+
+/// Why no more lines are answered.
+#[derive(Clone, Copy, Debug, PartialEq, Eq)]
+pub enum Ending {
+    /// A line was `quit`.
+    Quit,
+    /// The input is at its end, and its last line was answered.
+    End,
+    /// As many bytes were read as may be, and the lines before the last of them were answered.
+    Long,
+    /// A read failed; each line before it was answered.
+    ReadFault,
+    /// A write failed in an answer.
+    WriteFault,
+}
+
+/// Has each line answered as soon as it is whole, before more is read, up to a `quit` or the end of
+/// the input, and then finishes the output (docs/DEBUGGER.md, "Sessions").
+///
+/// The bytes of `read` were read before. At most `more` bytes are read, in reads of at most 4096, and
+/// no line ends with the last of them. A last piece without a line feed is a line; a line is handed on
+/// by its first 256 bytes. After a `quit` nothing is read. Takes no memory.
+pub fn serve<S: Source, O: Sink, A: Array>(
+    session: &mut Session<'_>,
+    array: &mut A,
+    read: &[u8],
+    input: &mut S,
+    more: usize,
+    out: &mut O,
+) -> Ending
+    requires fits { Fits A.BITS session.old (A.device array.old) (A.slots array.old) }
+    requires counted { session.old.lines + length read.now + more < 2 ^ 64 - 1 }
+    ensures fits { Fits A.BITS session.new (A.device array.new) (A.slots array.new) }
+    ensures serves { Serves result A.BITS read.now more session.old session.new
+        (S.rest input.old) (S.rest input.new) (O.written out.old) (O.written out.new)
+        (O.finished out.old) (O.finished out.new) }
+    ensures causes { HasCauses result (S.faults input.old) (S.faults input.new)
+        (O.faults out.old) (O.faults out.new) }
+{
+    match answer_all(session, array, read, input, more, out) {
+        Ending::Quit => finish(out, Ending::Quit),
+        Ending::End => finish(out, Ending::End),
+        ending => ending,
+    }
+}
+
+/// Finishes the output at the end of a session.
+fn finish<O: Sink>(out: &mut O, ending: Ending) -> Ending
+    ensures bytes { Keeps (O.written out.old) (O.written out.new) }
+    ensures ends { (Tells (O.finished out.new) true × (result ≡ ending) × (O.faults out.new ≡ O.faults out.old))
+        ⊎ ((O.finished out.new ≡ O.finished out.old) × (result ≡ Ending.WriteFault)
+        × Rose (O.faults out.old) (O.faults out.new)) }
+{
+    match out.finish() {
+        Ok(()) => ending,
+        Err(_) => Ending::WriteFault,
+    }
+}
+
+/// Has the lines answered that the bytes end, and reads on.
+fn answer_all<S: Source, O: Sink, A: Array>(
+    session: &mut Session<'_>,
+    array: &mut A,
+    read: &[u8],
+    input: &mut S,
+    more: usize,
+    out: &mut O,
+) -> Ending
+    requires fits { Fits A.BITS session.old (A.device array.old) (A.slots array.old) }
+    requires counted { session.old.lines + length read.now + more < 2 ^ 64 - 1 }
+    ensures fits { Fits A.BITS session.new (A.device array.new) (A.slots array.new) }
+    ensures stopped { Stopped result A.BITS read.now more session.old session.new
+        (S.rest input.old) (S.rest input.new) (O.written out.old) (O.written out.new)
+        (O.finished out.old) (O.finished out.new) }
+    ensures causes { HasCauses result (S.faults input.old) (S.faults input.new)
+        (O.faults out.old) (O.faults out.new) }
+{
+    let mut held = ArrayVec::new();
+    match feed(session, &mut held, array, read, out) {
+        Ok(Going::More) => read_on(session, &mut held, array, input, more, out),
+        Ok(Going::Quit) => Ending::Quit,
+        Err(_) => Ending::WriteFault,
+    }
+}
+
+/// Reads on, where some of a line is held.
+fn read_on<S: Source, O: Sink, A: Array>(
+    session: &mut Session<'_>,
+    held: &mut Line,
+    array: &mut A,
+    input: &mut S,
+    limit: usize,
+    out: &mut O,
+) -> Ending
+    requires fits { Fits A.BITS session.old (A.device array.old) (A.slots array.old) }
+    requires counted { session.old.lines + limit < 2 ^ 64 - 1 }
+    ensures fits { Fits A.BITS session.new (A.device array.new) (A.slots array.new) }
+    ensures ended { Ended result limit A.BITS held.old.items session.old session.new
+        (S.rest input.old) (S.rest input.new) (O.written out.old) (O.written out.new)
+        (O.finished out.old) (O.finished out.new) }
+    ensures causes { HasCauses result (S.faults input.old) (S.faults input.new)
+        (O.faults out.old) (O.faults out.new) }
+{
+    let mut piece = [0; 4096];
+    let mut more = limit;
+    while more > 0 {
+        match turn(session, held, array, input, &mut piece, more, out) {
+            Ok(count) => more -= count,
+            Err(ending) => return ending,
+        }
+    }
+    Ending::Long
+}
+
+/// One read, and the answers to the lines that it ends.
+fn turn<S: Source, O: Sink, A: Array>(
+    session: &mut Session<'_>,
+    held: &mut Line,
+    array: &mut A,
+    input: &mut S,
+    piece: &mut [u8],
+    limit: usize,
+    out: &mut O,
+) -> Result<usize, Ending>
+    requires fits { Fits A.BITS session.old (A.device array.old) (A.slots array.old) }
+    requires some { 0 < limit }
+    requires room { 0 < length piece.old }
+    requires counted { session.old.lines + limit < 2 ^ 64 - 1 }
+    ensures fits { Fits A.BITS session.new (A.device array.new) (A.slots array.new) }
+    ensures on { IfOk result (λ count. Went limit count A.BITS held.old.items held.new.items
+        session.old session.new (S.rest input.old) (S.rest input.new)
+        (O.written out.old) (O.written out.new) (O.finished out.old) (O.finished out.new)) }
+    ensures count { IfOk result (λ count. (0 < count) × (count ≤ limit)
+        × (session.new.lines + (limit - count) < 2 ^ 64 - 1)) }
+    ensures calm { OnOk result ((S.faults input.new ≡ S.faults input.old)
+        × (O.faults out.new ≡ O.faults out.old)) }
+    ensures off { IfErr result (λ ending. Ended ending limit A.BITS held.old.items
+        session.old session.new (S.rest input.old) (S.rest input.new)
+        (O.written out.old) (O.written out.new) (O.finished out.old) (O.finished out.new)) }
+    ensures causes { IfErr result (λ ending. HasCauses ending
+        (S.faults input.old) (S.faults input.new) (O.faults out.old) (O.faults out.new)) }
+{
+    let room = piece.len().min(limit);
+    let Ok(count) = input.read(&mut piece[..room]) else {
+        return Err(Ending::ReadFault);
+    };
+    if count == 0 {
+        return match finish_line(session, held, array, out) {
+            Ok(()) => Err(Ending::End),
+            Err(_) => Err(Ending::WriteFault),
+        };
+    }
+    match feed(session, held, array, &piece[..count.min(limit - 1)], out) {
+        Ok(Going::More) => Ok(count),
+        Ok(Going::Quit) => Err(Ending::Quit),
+        Err(_) => Err(Ending::WriteFault),
+    }
+}
