@@ -1,0 +1,11 @@
+pub use Rattle.px_array.specs.Arrays
+pub use Rattle.px_model.specs.Scenes
+pub use Rattle.px_sched.specs.Layouts
+pub use Rattle.px_sched.specs.PassesLaw
+pub mod FineFaults
+pub mod FineSolids
+pub mod Finer
+pub mod FinerLaw
+pub mod Refined
+pub mod RefinedLaw
+pub mod Sums

@@ -1,0 +1,160 @@
+//! The image of means.
+ghost use Rattle.std.specs.Prelude.{◌≡◌, ◌+◌, ◌*◌, ◌^◌, ◌<◌, ◌≤◌, OnErr, OnOk};
+ghost use Rattle.px_io.specs.Counts.{HasCause};
+ghost use Rattle.px_io.specs.Told.{TakesAll, TakesFront};
+ghost use Rattle.px_array.specs.Arrays.{IsOpen};
+ghost use Rattle.px_sched.specs.Layouts.{need_of};
+ghost use Rattle.px_frame.specs.Image.{row_bytes, three_bytes};
+ghost use Rattle.px_frame.specs.Picture.{colour_number};
+ghost use Rattle.px_frame.specs.Stored.{HasColumns, HasRows, StoresFaces};
+ghost use Rattle.px_refine.specs.Refined.{mean_colour, mean_number, stored_face_colour, stored_means};
+ghost use Rattle.px_refine.specs.Sums.{IsAtMost, IsStored, block_sums, row_sums};
+
+use crate::past::parts;
+use crate::sums::Sums;
+use arrayvec::ArrayVec;
+use px_array::Array;
+use px_asm::number_in;
+use px_frame::header;
+use px_io::{Failed, Sink, write_whole};
+use px_model::{Colour, Scene};
+use px_sched::Layout;
+
+/// Three bytes a pixel, for the 512 pixels of the widest picture.
+const ROW_BYTES: usize = 1536;
+
+/// Appends one image to the sink, or a front of it where a write fails: each sample is the mean
+/// of that sample over `2^s` by `2^s` pixels that the array stores, rounded down
+/// (docs/PICTURE.md, "Refinement"). The sink is not finished.
+///
+/// `s` is 1 or 2, and the width and the height of the finer scene are multiples of `2^s`.
+pub fn write_refined<A: Array, O: Sink>(
+    array: &A,
+    layout: &Layout,
+    fine: &Scene,
+    s: u32,
+    out: &mut O,
+) -> Result<(), Failed>
+    requires few { s ≤ 2 }
+    requires open { IsOpen (A.device array.now) }
+    requires columns { HasColumns fine.now (A.device array.now).state }
+    requires rows { HasRows fine.now (A.device array.now).state }
+    requires room { need_of layout.now ≤ A.BITS }
+    requires faces { StoresFaces fine.now layout.now (A.device array.now).state }
+    ensures ok { OnOk result (TakesAll (O.written out.old) (O.written out.new)
+        (O.finished out.old) (O.finished out.new)
+        (stored_means s fine.now layout.now (A.device array.now).state)) }
+    ensures err { OnErr result (TakesFront (O.written out.old) (O.written out.new)
+        (O.finished out.old) (O.finished out.new)
+        (stored_means s fine.now layout.now (A.device array.now).state)) }
+    ensures cause { HasCause (O.faults out.old) (O.faults out.new) result }
+{
+    let width = fine.width() / parts(s);
+    let height = fine.height() / parts(s);
+    let header = header(width, height);
+    write_whole(out, header.as_str().as_bytes())?;
+    for y in 0..height {
+        let row = mean_row(array, layout, fine, s, width, y);
+        write_whole(out, row.as_slice())?;
+    }
+    Ok(())
+}
+
+/// The pixels of row `y`, from the left.
+fn mean_row<A: Array>(
+    array: &A,
+    layout: &Layout,
+    fine: &Scene,
+    s: u32,
+    width: u32,
+    y: u32,
+) -> ArrayVec<u8, ROW_BYTES>
+    requires few { s ≤ 2 }
+    requires across { 2 ^ s * width ≤ fine.now.width }
+    requires down { 2 ^ s * (y + 1) ≤ fine.now.height }
+    requires stored { IsStored A.BITS fine.now layout.now (A.device array.now) }
+    ensures { result.items ≡ row_bytes width
+        (mean_number s (stored_face_colour fine.now layout.now (A.device array.now).state)) y }
+{
+    let mut bytes = ArrayVec::new();
+    for x in 0..width {
+        let mean = mean_at(array, layout, fine, s, x, y);
+        bytes
+            .try_extend_from_slice(&[mean.red, mean.green, mean.blue])
+            .unwrap();
+    }
+    bytes
+}
+
+/// The mean colour of the pixels that the pixel (x, y) is cut into.
+fn mean_at<A: Array>(array: &A, layout: &Layout, fine: &Scene, s: u32, x: u32, y: u32) -> Colour
+    requires few { s ≤ 2 }
+    requires across { 2 ^ s * (x + 1) ≤ fine.now.width }
+    requires down { 2 ^ s * (y + 1) ≤ fine.now.height }
+    requires stored { IsStored A.BITS fine.now layout.now (A.device array.now) }
+    ensures { result ≡ mean_colour s
+        (stored_face_colour fine.now layout.now (A.device array.now).state) x y }
+{
+    let across = parts(s);
+    block_sums(array, layout, fine, across * x, across * y, across).mean(s)
+}
+
+/// Over so many rows of as many pixels.
+fn block_sums<A: Array>(
+    array: &A,
+    layout: &Layout,
+    fine: &Scene,
+    from: u32,
+    top: u32,
+    across: u32,
+) -> Sums
+    requires few { across ≤ 4 }
+    requires across { from + across ≤ fine.now.width }
+    requires down { top + across ≤ fine.now.height }
+    requires stored { IsStored A.BITS fine.now layout.now (A.device array.now) }
+    ensures sums { result ≡ block_sums
+        (stored_face_colour fine.now layout.now (A.device array.now).state)
+        across from top across }
+    ensures most { IsAtMost (255 * (across * across)) result }
+{
+    let mut sums = Sums::new();
+    for j in 0..across {
+        sums = sums.plus(&row_sums(array, layout, fine, from, top + j, across));
+    }
+    sums
+}
+
+/// Over so many pixels of row `y`.
+fn row_sums<A: Array>(
+    array: &A,
+    layout: &Layout,
+    fine: &Scene,
+    from: u32,
+    y: u32,
+    across: u32,
+) -> Sums
+    requires few { across ≤ 4 }
+    requires across { from + across ≤ fine.now.width }
+    requires down { y < fine.now.height }
+    requires stored { IsStored A.BITS fine.now layout.now (A.device array.now) }
+    ensures sums { result ≡ row_sums
+        (stored_face_colour fine.now layout.now (A.device array.now).state) from y across }
+    ensures most { IsAtMost (255 * across) result }
+{
+    let mut sums = Sums::new();
+    for i in 0..across {
+        sums = sums.with(colour_at(array, layout, fine, from + i, y));
+    }
+    sums
+}
+
+/// The colour of the face that the array stores at the pixel (x, y).
+fn colour_at<A: Array>(array: &A, layout: &Layout, fine: &Scene, x: u32, y: u32) -> Colour
+    requires across { x < fine.now.width }
+    requires down { y < fine.now.height }
+    requires stored { IsStored A.BITS fine.now layout.now (A.device array.now) }
+    ensures { result ≡ stored_face_colour fine.now layout.now (A.device array.now).state x y }
+{
+    let face = number_in(array, layout.b_number(), x, y) as u32;
+    fine.colour_of(face)
+}
