@@ -1,0 +1,11 @@
+pub mod TurnLemmas
+pub mod SolidLemmas
+pub mod LightLemmas
+pub mod SightLemmas
+pub mod DeviceLemmas
+pub mod StepLemmas
+pub mod FitLemmas
+pub mod FewLemmas
+pub mod ArrayLemmas
+pub mod SayingLemmas
+pub mod LineLemmas

@@ -1,0 +1,199 @@
+-- What the passes of a light leave in the memory of a pixel, and those of all lights.
+use Rattle.std.proofs.Common.{◌≡◌, ◌≢◌, ◌<◌, ◌≤◌, ◌+◌, ◌*◌, ◌^◌, ◌==◌, ◌∙◌, ℕ, Bool, true, false, ◌&&◌, not, List, [], ◌∷◌, ◌++◌, length, map, slice_set, if◌then◌else◌, All, Option, Some, None, refl, ap, sym, subst, arith, get_or-set_same, get_or, length-set}
+use Prim.Native.Nat.{zero, suc}
+use Rattle.std.specs.Bool.{beq}
+use Rattle.std.specs.List.{flat_map, list_all, range_with_len}
+use Rattle.std.proofs.lemmas.Bool.Decides.{nat_tests}
+use Rattle.std.proofs.lemmas.List.Folds.{list_all-append}
+use Rattle.px_num.proofs.BitLaws.{pow_above}
+use Rattle.px_macro.specs.declared.operation.Macro.{Macro}
+use Rattle.px_macro.specs.declared.operation.Macro.TheVariants as m
+use Rattle.px_macro.specs.Fields.{number_in, number_of}
+use Rattle.px_num.specs.Bits.{bit_at}
+use Rattle.px_macro.specs.FieldLaws.{NumberOfParts}
+use Rattle.px_macro.specs.Macros.{PixelBits, after_macros}
+use Rattle.px_normal.specs.declared.set.SolidSet.{SolidSet}
+use Rattle.px_normal.specs.Sets.{solids}
+use Rattle.px_model.specs.Scenes.{SceneView, IsLawfulScene}
+use Rattle.px_model.specs.Solids.{IsLawfulSolid, SolidView}
+use Rattle.px_model.specs.Cells.{depths_of, end_of, first_cell, is_inside, is_inside_at, picture, value_of}
+use Rattle.px_model.specs.CellLaws.{end_is_small}
+use Rattle.px_face.specs.Surfaces.{PicturesShowBackground, ShowsBackground}
+use Rattle.px_sched.specs.Layouts.{LayoutView, deep_part, depth_part, fraction_part, layout_of, need_of, number_part}
+use Rattle.px_sched.specs.Passes.{solid_of}
+use Rattle.px_sched.specs.PassesLaw.{HasSight}
+use Rattle.px_shadow.specs.Lights.{is_lit, is_lit_at, is_outside, light_at}
+use Rattle.px_shadow.specs.ShadowLaws.{ShadowLaw}
+use Rattle.px_shadow.specs.ShadowPasses.{background_passes, light_bit, light_passes, need_with, passes_from, shadow_passes, solid_passes}
+use Rattle.px_shadow.proofs.TurnLemmas.{Below, pixel}
+use Rattle.px_shadow.proofs.SolidLemmas.{GoesOut, Keeps, keeps_all, keeps_bit, keeps_both, keeps_if, number_kept, out_bit, solid_goes_out}
+
+range_more : (a n : ℕ) → range_with_len a (suc n) ≡ range_with_len a n ++ ((a + n) ∷ [])
+range_more a zero = let e : a + 0 ≡ a = omega arith in rw e refl
+range_more a (suc n) =
+    let e : a + 1 + n ≡ a + suc n = omega arith
+    in ap (λ l. a ∷ l) (range_more (a + 1) n ∙ ap (λ k. range_with_len (a + 1) n ++ (k ∷ [])) e)
+
+-- a number is 0 where each of its bits is
+is_zero : (bit : ℕ → Bool) (n : ℕ) → list_all (λ t. beq (bit t) false) (range_with_len 0 n) ≡ (number_of bit n == 0)
+is_zero bit zero = refl
+is_zero bit (suc n) =
+    let e : 0 + n ≡ n = omega arith in
+    ap (list_all (λ t. beq (bit t) false)) (range_more 0 n ∙ ap (λ k. range_with_len 0 n ++ (k ∷ [])) e)
+    ∙ list_all-append (λ t. beq (bit t) false) (range_with_len 0 n) (n ∷ [])
+    ∙ ap (λ b. b && (beq (bit n) false && true)) (is_zero bit n)
+    ∙ last (bit n) (number_of bit n) (2 ^ n) (pow_above n)
+  where
+    last : (b : Bool) (low high : ℕ) → 0 < high → ((low == 0) && (beq b false && true)) ≡ (low + (if b then high else 0) == 0)
+    last true low high some = grind (arith, nat_tests)
+    last false low high some = grind (arith, nat_tests)
+
+and_true : (a : Bool) → (a && true) ≡ a
+and_true true = refl
+and_true false = refl
+
+and_both : (a b c : Bool) → ((a && b) && c) ≡ (a && (b && c))
+and_both true b c = refl
+and_both false b c = refl
+
+-- the pixels at which all of these bits are 0 stay enabled
+bits_kept : (at : ℕ) (ts : List ℕ) (x y : ℕ) (memory : List Bool) (e : Bool)
+    → after_macros (map (λ t. m.KeepBit (at + t) false) ts) x y (pixel memory e)
+    ≡ pixel memory (e && list_all (λ t. beq (bit_at memory (at + t)) false) ts)
+bits_kept at [] x y memory e = ap (pixel memory) (sym (and_true e))
+bits_kept at (t ∷ ts) x y memory e =
+    let b = beq (bit_at memory (at + t)) false in
+    bits_kept at ts x y memory (e && b)
+    ∙ ap (pixel memory) (and_both e b (list_all (λ t. beq (bit_at memory (at + t)) false) ts))
+
+module _ (laws : Below) (l : LayoutView) (light : ℕ) (some : 0 < light) (x y : ℕ) where
+  abbrev bit : ℕ
+  bit = light_bit l light
+
+  background_goes_out : (p : PixelBits) → bit < length p.memory →
+      GoesOut l.par bit (number_in (number_part l l.key_b) p.memory == 0) p.memory (after_macros (background_passes l light) x y p).memory
+  background_goes_out p room =
+      let memory = p.memory in
+      let at = (number_part l l.key_b).at in
+      let none = number_in (number_part l l.key_b) memory == 0 in
+      let bits = map (λ t. m.KeepBit (at + t) false) (range_with_len 0 l.number_bits) in
+      let last = m.SetBit bit false ∷ [] in
+      let is : (after_macros (background_passes l light) x y p).memory ≡ (if none then slice_set memory bit false else memory) =
+      ap (λ (q : PixelBits). q.memory)
+      (laws.join bits last x y (pixel memory true)
+      ∙ ap (after_macros last x y) (bits_kept at (range_with_len 0 l.number_bits) x y memory true))
+      ∙ ap (λ b. if b then slice_set memory bit false else memory) (is_zero (λ t. bit_at memory (at + t)) l.number_bits) in
+      rw is record {
+        keeps = keeps_if l.par bit none memory _ _ (keeps_bit l.par bit memory false) (keeps_all l.par bit memory);
+        light = out_bit l.par bit none memory room;
+      }
+
+-- what the lights need of a layout
+pub record IsReady (l : LayoutView) (end : ℕ) : Type 0 where
+  pub big : end < 2 ^ (deep_part l l.key_b).len
+  pub deep : (deep_part l l.key_b).at + (deep_part l l.key_b).len ≤ l.par
+  pub number : (number_part l l.key_b).at + (number_part l l.key_b).len ≤ l.par
+
+module _ (laws : Below) (scene : SceneView) (l : LayoutView) (ready : IsReady l (end_of (depths_of scene))) (x y : ℕ) where
+  abbrev end : ℕ
+  end = end_of (depths_of scene)
+
+  abbrev pub deep : List Bool → ℕ
+  deep memory = number_in (deep_part l l.key_b) memory
+
+  abbrev pub number : List Bool → ℕ
+  number memory = number_in (number_part l l.key_b) memory
+
+  -- a value is outside each of some solids
+  abbrev pub outside : (v : ℕ) → List ℕ → Bool
+  outside v qs = list_all (λ q. not (is_inside_at (solid_of scene q) end x y v)) qs
+
+  regroup : (a b c : Bool) → ((a && b) && c) ≡ (a && (b && c))
+  regroup true b c = refl
+  regroup false b c = refl
+
+  solids_go_out : (light : ℕ) → 0 < light → (qs : List ℕ) (p : PixelBits) → light_bit l light < length p.memory →
+      let now = (after_macros (flat_map (λ q. solid_passes l end light (solid_of scene q)) qs) x y p).memory in
+      Keeps l.par (light_bit l light) p.memory now
+      × (bit_at now (light_bit l light) ≡ (bit_at p.memory (light_bit l light) && outside (deep p.memory) qs))
+  solids_go_out light some [] p room = (keeps_all l.par (light_bit l light) p.memory, sym (and_true (bit_at p.memory (light_bit l light))))
+  solids_go_out light some (q ∷ qs) p room =
+      let bit = light_bit l light in
+      let s = solid_of scene q in
+      let rest = flat_map (λ q. solid_passes l end light (solid_of scene q)) qs in
+      let next = after_macros (solid_passes l end light s) x y p in
+      let one = solid_goes_out laws l light some x y end s ready.big ready.deep p room in
+      let others = solids_go_out light some qs next (omega (arith, one.keeps.size)) in
+      let same : deep next.memory ≡ deep p.memory = number_kept l.par bit (deep_part l l.key_b) p.memory next.memory ready.deep (omega arith) one.keeps in
+      rw (laws.join (solid_passes l end light s) rest x y p) (
+        keeps_both l.par bit _ _ _ one.keeps others.0,
+        others.1
+            ∙ ap (λ v. bit_at next.memory bit && outside v qs) same
+            ∙ ap (λ b. b && outside (deep p.memory) qs) one.light
+            ∙ regroup (bit_at p.memory bit) (not (is_inside_at s end x y (deep p.memory))) (outside (deep p.memory) qs),
+      )
+
+  -- a light is on where a face is stored and the stored cell is outside its solids
+  abbrev pub lit : SolidSet → List Bool → Bool
+  lit set memory = outside (deep memory) (solids set) && not (number memory == 0)
+
+  light_is : (light : ℕ) → 0 < light → (set : SolidSet) (p : PixelBits) → light_bit l light < length p.memory →
+      let now = (after_macros (light_passes scene l light set) x y p).memory in
+      Keeps l.par (light_bit l light) p.memory now × (bit_at now (light_bit l light) ≡ lit set p.memory)
+  light_is light some set p room =
+      let bit = light_bit l light in
+      let start = pixel (slice_set p.memory bit true) true in
+      let on = keeps_bit l.par bit p.memory true in
+      let each = flat_map (λ q. solid_passes l end light (solid_of scene q)) (solids set) in
+      let between = after_macros each x y start in
+      let all = solids_go_out light some (solids set) start (omega (arith, length-set p.memory bit true)) in
+      let none = background_goes_out laws l light some x y between (omega (arith, all.0.size, length-set p.memory bit true)) in
+      let both = keeps_both l.par bit _ _ _ on all.0 in
+      let same_deep : deep start.memory ≡ deep p.memory = number_kept l.par bit (deep_part l l.key_b) p.memory start.memory ready.deep (omega arith) on in
+      let same_number : number between.memory ≡ number p.memory = number_kept l.par bit (number_part l l.key_b) p.memory between.memory ready.number (omega arith) both in
+      rw (laws.join each (background_passes l light) x y start) (
+        keeps_both l.par bit _ _ _ both none.keeps,
+        none.light
+            ∙ ap (λ n. bit_at between.memory bit && not (n == 0)) same_number
+            ∙ ap (λ b. b && not (number p.memory == 0))
+            (all.1 ∙ ap (λ v. bit_at start.memory bit && outside v (solids set)) same_deep
+            ∙ ap (λ b. b && outside (deep p.memory) (solids set)) (get_or-set_same p.memory bit true false room)),
+      )
+
+  -- what the passes of lights from one on leave: the bits before them, but for the parity, and each light
+  pub record AreLit (light : ℕ) (sets : List SolidSet) (before now : List Bool) : Type 0 where
+    pub rest : (place : ℕ) → place ≢ l.par → place < light_bit l light → bit_at now place ≡ bit_at before place
+    pub lights : (place : ℕ) → place < length sets → bit_at now (light_bit l light + place) ≡ lit (light_at sets place) before
+
+  -- a light is told by the stored key alone
+  lit_same : (set : SolidSet) (light : ℕ) (before now : List Bool) → Keeps l.par (light_bit l light) before now → lit set now ≡ lit set before
+  lit_same set light before now keeps =
+      rw (
+        number_kept l.par (light_bit l light) (deep_part l l.key_b) before now ready.deep (omega arith) keeps,
+        number_kept l.par (light_bit l light) (number_part l l.key_b) before now ready.number (omega arith) keeps,
+      ) refl
+
+  lights_of : (light : ℕ) → 0 < light → (set : SolidSet) (sets : List SolidSet) (before mid now : List Bool) →
+      Keeps l.par (light_bit l light) before mid → bit_at mid (light_bit l light) ≡ lit set before → AreLit (light + 1) sets mid now →
+      (place : ℕ) → place < length (set ∷ sets) → bit_at now (light_bit l light + place) ≡ lit (light_at (set ∷ sets) place) before
+  lights_of light some set sets before mid now keeps here others zero below =
+      let e : light_bit l light + 0 ≡ light_bit l light = omega arith in
+      rw e (others.rest (light_bit l light) (λ e. omega arith) (omega arith) ∙ here)
+  lights_of light some set sets before mid now keeps here others (suc place) below =
+      let e : light_bit l light + suc place ≡ light_bit l (light + 1) + place = omega arith in
+      rw e (others.lights place (omega arith) ∙ lit_same (light_at sets place) light before mid keeps)
+
+  pub are_lit : (light : ℕ) → 0 < light → (sets : List SolidSet) (p : PixelBits) → light_bit l light + length sets ≤ length p.memory →
+      AreLit light sets p.memory (after_macros (passes_from scene l light sets) x y p).memory
+  are_lit light some [] p room = record { rest = λ place a b. refl; lights = λ place none. absurd (omega arith) }
+  are_lit light some (set ∷ sets) p room =
+      let first = light_passes scene l light set in
+      let next = after_macros first x y p in
+      let now = (after_macros (passes_from scene l (light + 1) sets) x y next).memory in
+      let one = light_is light some set p (omega arith) in
+      let others = are_lit (light + 1) (omega arith) sets next (omega (arith, one.0.size)) in
+      rw (laws.join first (passes_from scene l (light + 1) sets) x y p)
+      record {
+        rest = λ place a b. others.rest place a (omega arith) ∙ one.0.rest place a (λ e. omega arith);
+        lights = lights_of light some set sets p.memory next.memory now one.0 one.1 others;
+      }

@@ -1,0 +1,120 @@
+-- What the passes of a solid, of the background and of a light leave in the memory of a pixel.
+use Rattle.std.proofs.Common.{◌≡◌, ◌≢◌, ◌<◌, ◌≤◌, ◌+◌, ◌^◌, ◌==◌, ◌∙◌, ℕ, Bool, true, false, ◌&&◌, not, List, [], ◌∷◌, ◌++◌, length, map, slice_set, if◌then◌else◌, refl, ap, sym, arith, get_or-set_same, get_or-set_other, length-set}
+use Prim.Native.Nat.{zero, suc}
+use Rattle.std.specs.Bool.{beq}
+use Rattle.std.specs.List.{flat_map, list_all, range_with_len}
+use Rattle.std.proofs.lemmas.Bool.Decides.{nat_tests}
+use Rattle.std.proofs.lemmas.List.Folds.{list_all-append}
+use Rattle.px_macro.specs.declared.field.Field.{Field}
+use Rattle.px_macro.specs.declared.operation.Macro.{Macro}
+use Rattle.px_macro.specs.declared.operation.Macro.TheVariants as m
+use Rattle.px_macro.specs.Fields.{number_in, number_of}
+use Rattle.px_num.specs.Bits.{bit_at}
+use Rattle.px_macro.specs.Macros.{PixelBits, after_macros}
+use Rattle.px_model.specs.Solids.{SolidView}
+use Rattle.px_model.specs.Cells.{is_inside_at}
+use Rattle.px_face.specs.Faces.{face_count}
+use Rattle.px_sched.specs.Layouts.{LayoutView, deep_part, number_part}
+use Rattle.px_shadow.specs.ShadowPasses.{background_passes, light_bit, solid_passes, stored_turn}
+use Rattle.px_shadow.proofs.TurnLemmas.{Below, all_turned, pixel}
+
+-- what passes of a light write: the parity bit and the light's
+pub record Keeps (par bit : ℕ) (before now : List Bool) : Type 0 where
+  pub size : length now ≡ length before
+  pub rest : (place : ℕ) → place ≢ par → place ≢ bit → bit_at now place ≡ bit_at before place
+
+pub keeps_all : (par bit : ℕ) (memory : List Bool) → Keeps par bit memory memory
+keeps_all par bit memory = record { size = refl; rest = λ place p b. refl }
+
+pub keeps_both : (par bit : ℕ) (a b c : List Bool) → Keeps par bit a b → Keeps par bit b c → Keeps par bit a c
+keeps_both par bit a b c first second = record {
+  size = second.size ∙ first.size;
+  rest = λ place p q. second.rest place p q ∙ first.rest place p q;
+}
+
+keeps_par : (par bit : ℕ) (memory : List Bool) (v : Bool) → Keeps par bit memory (slice_set memory par v)
+keeps_par par bit memory v = record {
+  size = length-set memory par v;
+  rest = λ place p q. get_or-set_other memory par place v false p;
+}
+
+pub keeps_bit : (par bit : ℕ) (memory : List Bool) (v : Bool) → Keeps par bit memory (slice_set memory bit v)
+keeps_bit par bit memory v = record {
+  size = length-set memory bit v;
+  rest = λ place p q. get_or-set_other memory bit place v false q;
+}
+
+pub keeps_if : (par bit : ℕ) (c : Bool) (a b d : List Bool) → Keeps par bit a b → Keeps par bit a d → Keeps par bit a (if c then b else d)
+keeps_if par bit true a b d first second = first
+keeps_if par bit false a b d first second = second
+
+pub same_numbers : (f g : ℕ → Bool) (n : ℕ) → ((t : ℕ) → t < n → f t ≡ g t) → number_of f n ≡ number_of g n
+same_numbers f g zero same = refl
+same_numbers f g (suc n) same = rw (same_numbers f g n (λ t h. same t (omega arith)), same n (omega arith)) refl
+
+-- a field before them keeps its number
+pub number_kept : (par bit : ℕ) (field : Field) (before now : List Bool) → field.at + field.len ≤ par → par ≤ bit →
+    Keeps par bit before now → number_in field now ≡ number_in field before
+number_kept par bit field before now low above keeps =
+    same_numbers (λ t. bit_at now (field.at + t)) (λ t. bit_at before (field.at + t)) field.len
+    (λ t h. keeps.rest (field.at + t) (λ e. omega arith) (λ e. omega arith))
+
+-- a bit that is cleared where a test holds
+pub out_bit : (par bit : ℕ) (c : Bool) (now : List Bool) → bit < length now →
+    bit_at (if c then slice_set now bit false else now) bit ≡ (bit_at now bit && not c)
+out_bit par bit true now room = get_or-set_same now bit false false room ∙ sym (and_false (bit_at now bit))
+  where
+    and_false : (a : Bool) → (a && false) ≡ false
+    and_false true = refl
+    and_false false = refl
+out_bit par bit false now room = sym (and_true (bit_at now bit))
+  where
+    and_true : (a : Bool) → (a && true) ≡ a
+    and_true true = refl
+    and_true false = refl
+
+-- what some passes of a light leave of a memory: they write no other bits, and the light goes out where a test holds
+pub record GoesOut (par bit : ℕ) (test : Bool) (before now : List Bool) : Type 0 where
+  pub keeps : Keeps par bit before now
+  pub light : bit_at now bit ≡ (bit_at before bit && not test)
+
+beq_true : (a : Bool) → (true && beq a true) ≡ a
+beq_true true = refl
+beq_true false = refl
+
+module _ (laws : Below) (l : LayoutView) (light : ℕ) (some : 0 < light) (x y : ℕ) where
+  abbrev bit : ℕ
+  bit = light_bit l light
+
+  -- the stored cell is inside a solid
+  abbrev pub is_stored_inside : (end : ℕ) → SolidView → List Bool → Bool
+  is_stored_inside end s memory = is_inside_at s end x y (number_in (deep_part l l.key_b) memory)
+
+  pub solid_goes_out : (end : ℕ) (s : SolidView) → end < 2 ^ (deep_part l l.key_b).len →
+      (deep_part l l.key_b).at + (deep_part l l.key_b).len ≤ l.par →
+      (p : PixelBits) → bit < length p.memory →
+      GoesOut l.par bit (is_stored_inside end s p.memory) p.memory (after_macros (solid_passes l end light s) x y p).memory
+  solid_goes_out end s big low p room =
+      let memory = p.memory in
+      let inside = is_stored_inside end s memory in
+      let start = pixel (slice_set memory l.par false) true in
+      let faces = flat_map (stored_turn l end s) (range_with_len 0 (face_count s)) in
+      let last = m.All ∷ m.KeepBit l.par true ∷ m.SetBit bit false ∷ [] in
+      let odd = slice_set memory l.par inside in
+      let is : (after_macros (solid_passes l end light s) x y p).memory ≡ (if inside then slice_set odd bit false else odd) =
+      ap (λ (q : PixelBits). q.memory) (laws.join faces last x y start)
+      ∙ ap (λ mem. if true && beq (bit_at mem l.par) true then slice_set mem bit false else mem)
+      (all_turned laws s end x y l memory (omega arith)
+      (λ v. number_kept l.par bit (deep_part l l.key_b) memory (slice_set memory l.par v) low (omega arith) (keeps_par l.par bit memory v))
+      big true)
+      ∙ ap (λ b. if true && beq b true then slice_set odd bit false else odd) (get_or-set_same memory l.par inside false (omega arith))
+      ∙ ap (λ b. if b then slice_set odd bit false else odd) (beq_true inside) in
+      rw is record {
+        keeps =
+            keeps_if l.par bit inside memory _ _
+            (keeps_both l.par bit memory odd _ (keeps_par l.par bit memory inside) (keeps_bit l.par bit odd false))
+            (keeps_par l.par bit memory inside);
+        light =
+            out_bit l.par bit inside odd (omega (arith, length-set memory l.par inside))
+            ∙ ap (λ b. b && not inside) (get_or-set_other memory l.par bit inside false (λ e. omega arith));
+      }

@@ -1,0 +1,61 @@
+-- The steps of the shadow passes as the functions make them, one after another.
+use Rattle.std.proofs.Common.{◌≡◌, ◌<◌, ◌+◌, ◌-◌, ◌∙◌, ℕ, false, List, [], ◌∷◌, ◌++◌, drop, length, map, ap, arith, refl, sym}
+use Rattle.std.specs.List.{flat_map, range_with_len}
+use Rattle.std.proofs.lemmas.List.Concat.{flat_map_single}
+use Rattle.std.proofs.lemmas.List.FromFn.{get_or-range_with_len}
+use Rattle.std.specs.Prelude.{get_or, All, nat_lt, true}
+use Rattle.std.proofs.lemmas.Bool.Decides.{nat_tests}
+use Rattle.std.proofs.lemmas.List.Elements.{All-weaker}
+use Rattle.std.proofs.lemmas.List.Sums.{AllPass-from_list_all}
+use Rattle.px_normal.specs.declared.set.SolidSet.{SolidSet}
+use Rattle.px_normal.specs.SetLaws.{LawsOfSets}
+use Rattle.px_normal.specs.Sets.{IsBelow, solids}
+use Prim.Native.Nat.{suc}
+use Rattle.std.proofs.Math.Seq.{drop-cons}
+use Rattle.px_model.specs.Scenes.{SceneView}
+use Rattle.px_model.specs.Solids.{SolidView}
+use Rattle.px_shadow.specs.ShadowPasses.{light_passes, passes_from, solid_passes}
+use Rattle.px_num.specs.declared.linear.Linear.{Linear}
+use Rattle.px_macro.specs.declared.operation.Macro.{Macro}
+use Rattle.px_macro.specs.declared.operation.Macro.TheVariants as m
+use Rattle.px_sched.specs.Layouts.{LayoutView, number_part}
+
+-- the test of a bit of the stored face number
+abbrev pub bit_test : LayoutView → (t : ℕ) → List Macro
+bit_test l t = m.KeepBit ((number_part l l.key_b).at + t) false ∷ []
+
+-- the test of an edge
+abbrev pub edge_test : Linear → List Macro
+edge_test form = m.KeepSign form ∷ []
+
+pub tests_are : {X : Type 0} (f : X → Macro) (xs : List X) (tail : List Macro) → map f xs ++ tail ≡ flat_map (λ x. f x ∷ []) xs ++ tail
+tests_are f xs tail = ap (λ ms. ms ++ tail) (sym (flat_map_single f xs))
+
+pub number_at : (n t : ℕ) → t < n → get_or (range_with_len 0 n) t 0 ≡ t
+number_at n t low = get_or-range_with_len 0 n t 0 low ∙ omega arith
+
+lt_true : (i n : ℕ) → i < n → nat_lt i n ≡ true
+lt_true i n h = grind (arith, nat_tests)
+
+lt_holds : (i n : ℕ) → nat_lt i n ≡ true → i < n
+lt_holds i n h = grind (arith, nat_tests)
+
+-- each solid of a set that has none but these is one of them
+pub all_known : LawsOfSets → (count : ℕ) (set : SolidSet) → IsBelow count set → All (λ q. q < count) (solids set)
+all_known laws count set known =
+    All-weaker (λ q. nat_lt q count ≡ true) (λ q. q < count) (λ q e. lt_holds q count e) (solids set)
+    (AllPass-from_list_all (λ q. nat_lt q count) (solids set)
+    ((laws.each (λ q. nat_lt q count) set).1 (λ q low h. lt_true q count (known q low h))))
+
+pub same_solid : (l : LayoutView) (light : ℕ) (a b : ℕ) (s t : SolidView) → a ≡ b → s ≡ t → solid_passes l a light s ≡ solid_passes l b light t
+same_solid l light a b s t ends same = ap (λ e. solid_passes l e light s) ends ∙ ap (λ u. solid_passes l b light u) same
+
+-- stands where no light is
+abbrev pub no_light : SolidSet
+no_light = record { words = [] }
+
+pub next_lights : (scene : SceneView) (l : LayoutView) (sets : List SolidSet) (i : ℕ) → i < length sets →
+    passes_from scene l (i + 1) (drop i sets) ≡ light_passes scene l (i + 1) (get_or sets i no_light) ++ passes_from scene l (i + 1 + 1) (drop (i + 1) sets)
+next_lights scene l sets i there =
+    let next : suc i ≡ i + 1 = omega arith in
+    ap (passes_from scene l (i + 1)) (drop-cons sets i no_light there ∙ ap (λ k. get_or sets i no_light ∷ drop k sets) next)

@@ -1,0 +1,42 @@
+use Rattle.std.proofs.Common.{◌≡◌, ◌<◌, ◌++◌, arith, ap, Result, Ok, Err, OnErr}
+use Rattle.std.specs.List.{flat_map, range_with_len}
+use Rattle.px_macro.specs.declared.field.Field.{Field}
+use Rattle.px_io.proofs.ToldLaws.{front_before}
+use Rattle.px_frame.specs.Image.{header, row_bytes}
+use Rattle.px_frame.proofs.RowLaws.{rows_broken, rows_grown}
+use Rattle.px_shadow.specs.Stored.{stored_number}
+use Rattle.px_shadow.proofs.masks.write_masks.Goals as goal
+
+on_err : {T E P : Type 0} (r : Result T E) → P → OnErr r P
+on_err (Ok x) p = tt
+on_err (Err x) p = p
+
+pub returns-in_err-write_whole-clause-err : goal.returns-in_err-write_whole-clause-err
+returns-in_err-write_whole-clause-err g c =
+    let bytes : c.as_bytes.result.now ≡ header c.args.scene.now.width c.args.scene.now.height = cc
+    in on_err _ (front_before _ _ _ _ _ _ (rw bytes at c.in_err-write_whole.ensures.err))
+
+pub returns-in_err-write_whole-2-clause-err : goal.returns-in_err-write_whole-2-clause-err
+returns-in_err-write_whole-2-clause-err g c =
+    let row = rw (c.as_slice.ensures.value, c.mask_row-row.ensures) at c.in_err-write_whole-2.ensures.err
+    in let above : c.loop-y.y < c.args.scene.now.height = omega (arith, c.height-y-end.ensures.value)
+    in on_err _ (rw c.lights_field-field.ensures.field at (rows_broken _ _ _ _ _ _ _ _ _ _ above c.loop-y.invariant.front row))
+
+pub loop-y-preserved : goal.loop-y-preserved
+loop-y-preserved g c =
+    let state = (g.A.Array.device c.args.array.now).state
+    in let above = header c.args.scene.now.width c.args.scene.now.height
+    in let row = row_bytes c.args.scene.now.width (stored_number c.lights_field-field.result state)
+    in let next = rw (c.as_slice.ensures.value, c.mask_row-row.ensures) at c.in_ok-write_whole-2.ensures.ok
+    in record {
+      front = rows_grown _ _ _ _ _ _ above row c.loop-y.y c.loop-y.invariant.front next;
+      calm = grind (arith, c.loop-y.invariant.calm, c.in_ok-write_whole-2.ensures.cause.calm);
+    }
+
+pub mask_row-row-requires-clause-room : goal.mask_row-row-requires-clause-room
+mask_row-row-requires-clause-room g c = omega (arith, c.lights_field-field.ensures.room, c.requires.room)
+
+pub returns-clause-ok : goal.returns-clause-ok
+returns-clause-ok g c =
+    let top : c.loop-y.y ≡ c.args.scene.now.height = omega (arith, c.height-y-end.ensures.value, c.loop-y-test.false) in
+    rw (c.lights_field-field.ensures.field, top) at c.loop-y.invariant.front

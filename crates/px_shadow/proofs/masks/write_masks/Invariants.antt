@@ -1,0 +1,16 @@
+use Rattle.std.proofs.Common.{◌≡◌, ◌++◌}
+use Rattle.std.specs.List.{flat_map, range_with_len}
+use Rattle.px_io.specs.Told.{TakesAll}
+use Rattle.px_frame.specs.Image.{header, row_bytes}
+use Rattle.px_shadow.specs.Stored.{stored_number}
+use Rattle.px_shadow.proofs.masks.write_masks.Given as goal
+
+abbrev pub invariant-loop-y : goal.invariant-loop-y
+invariant-loop-y g l =
+    let row = row_bytes l.scene.width (stored_number l.field (g.A.Array.device l.array).state)
+    in record {
+      front : TakesAll (g.O.Sink.written l.fn.out) (g.O.Sink.written l.out)
+          (g.O.Sink.finished l.fn.out) (g.O.Sink.finished l.out)
+          (header l.scene.width l.scene.height ++ flat_map row (range_with_len 0 l.y));
+      calm : g.O.Sink.faults l.out ≡ g.O.Sink.faults l.fn.out;
+    }

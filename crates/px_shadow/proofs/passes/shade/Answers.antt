@@ -1,0 +1,62 @@
+use Rattle.std.proofs.Common.{◌≡◌, ◌≤◌, List, length, ap, subst, sym, arith, ◌∙◌}
+use Rattle.px_array.specs.Slots.{worked}
+use Rattle.px_normal.specs.declared.set.SolidSet.{SolidSet}
+use Rattle.px_sched.specs.Layouts.{layout_of}
+use Rattle.px_shadow.specs.Carrying.{CanCarryOut, carried_out}
+use Rattle.px_shadow.specs.ShadowPasses.{need_with, shadow_passes}
+use Rattle.px_shadow.specs.Shaded.{IsShaded}
+use Rattle.px_shadow.specs.Stored.{StoresTheLights}
+use Rattle.px_shadow.proofs.ArrayLemmas.{can_shade, clocks_made, is_shaded}
+use Rattle.px_shadow.proofs.passes.shade.Given.{Over}
+use Rattle.px_shadow.proofs.passes.shade.Goals as goal
+
+pub all_lights-requires-clause-can : goal.all_lights-requires-clause-can
+all_lights-requires-clause-can g c =
+    let bits = g.A.Array.BITS in
+    let scene = c.args.scene.now in
+    let lights = c.args.lights.now.items in
+    let device = g.A.Array.device c.args.array.now in
+    let layout = c.requires.layout in
+    let passes = c.law_of_shadow_passes.ensures in
+    let enough : need_with (layout_of scene) (length lights) ≤ bits = subst (λ l. need_with l (length lights) ≤ bits) layout c.requires.need in
+    let few : length lights ≤ 8 = omega (arith, c.as_slice.ensures.fits, ap (λ (sets : List SolidSet). length sets) c.as_slice.ensures.value) in
+    subst (λ sets. CanCarryOut bits (shadow_passes scene c.args.layout.now sets) device) (sym c.as_slice.ensures.value)
+    (subst (λ l. CanCarryOut bits (shadow_passes scene l lights) device) (sym layout)
+    (can_shade c.laws_of_passes.ensures.layout c.laws_of_operations.ensures.more passes.lawful passes.few c.law_of_clocks.ensures.bound c.law_of_sizes.ensures
+    bits scene lights device c.laws_of_scenes.ensures.scene c.laws_of_scenes.ensures.solids c.requires.products c.requires.at c.requires.known enough few))
+
+made : (g : Over) (c : goal.After-all_lights g) → IsShaded g.A.Array.BITS c.args.scene.now c.args.lights.now.items (g.A.Array.device c.all_lights.new.array)
+made g c =
+    let bits = g.A.Array.BITS in
+    let scene = c.args.scene.now in
+    let lights = c.args.lights.now.items in
+    let device = g.A.Array.device c.args.array.now in
+    let layout = c.requires.layout in
+    is_shaded bits scene lights device (g.A.Array.device c.all_lights.new.array) c.requires.at
+    (subst (λ l. need_with l (length lights) ≤ bits) layout c.requires.need)
+    (c.all_lights.ensures.device
+    ∙ ap (λ sets. carried_out (shadow_passes scene c.args.layout.now sets) device) c.as_slice.ensures.value
+    ∙ ap (λ l. carried_out (shadow_passes scene l lights) device) layout)
+
+pub returns-clause-shaded : goal.returns-clause-shaded
+returns-clause-shaded g c = made g c
+
+pub returns-clause-lights : goal.returns-clause-lights
+returns-clause-lights g c =
+    let scene = c.args.scene.now in
+    let lights = c.args.lights.now.items in
+    let now = g.A.Array.device c.all_lights.new.array in
+    subst (λ l. StoresTheLights scene l lights now.state) (sym c.requires.layout)
+    (c.laws_of_shadows.ensures.shaded g.A.Array.BITS scene lights now c.laws_of_scenes.ensures.scene c.laws_of_scenes.ensures.solids c.requires.known (made g c))
+
+pub returns-clause-grid : goal.returns-clause-grid
+returns-clause-grid g c =
+    c.laws_of_shadows.ensures.grid g.A.Array.BITS c.args.scene.now c.args.lights.now.items (g.A.Array.device c.all_lights.new.array) c.laws_of_scenes.ensures.scene (made g c)
+
+pub returns-clause-work : goal.returns-clause-work
+returns-clause-work g c =
+    let scene = c.args.scene.now in
+    let lights = c.args.lights.now.items in
+    c.all_lights.ensures.work
+    ∙ ap (λ n. worked n (g.A.Array.work c.args.array.now))
+    (clocks_made g.A.Array.BITS scene lights (g.A.Array.device c.args.array.now) (g.A.Array.device c.all_lights.new.array) c.requires.at (made g c))

@@ -1,0 +1,16 @@
+pub use Rattle.px_array.specs.Arrays
+pub use Rattle.px_model.specs.Cells
+pub use Rattle.px_model.specs.Scenes
+pub use Rattle.px_normal.specs.Sets
+pub use Rattle.px_sched.specs.Layouts
+pub use Rattle.px_sched.specs.PassesLaw
+pub use Rattle.px_control.specs.Program
+pub mod Carrying
+pub mod LightLines
+pub mod Lights
+pub mod Passing
+pub mod Saying
+pub mod Shaded
+pub mod ShadowLaws
+pub mod ShadowPasses
+pub mod Stored

@@ -1,0 +1,67 @@
+-- Light lines: which solids each of them names, and why the first bad line is bad. Clauses of public calls stand on it.
+use Rattle.std.specs.Prelude.{ℕ, ◌+◌, ◌==◌, Bool, true, false, not, List, [], ◌∷◌, length, map, take, filter, get_or, codes, if◌then◌else◌, Option, Some, None, is_some, Result, Ok, Err}
+use Prim.Native.Nat.{zero, suc}
+use Rattle.std.specs.List.{filter_map, list_all, position}
+use Rattle.std.specs.Option.{option_or}
+use Rattle.std.specs.Str.{bytes_eq}
+use Rattle.px_text.specs.Text.{Words}
+use Rattle.px_text.specs.Word.{is_name}
+use Rattle.px_normal.specs.declared.set.SolidSet.{SolidSet}
+use Rattle.px_model.specs.Solids.{SolidView}
+use Rattle.px_prune.specs.Kept.{set_of}
+use Rattle.px_scene.specs.declared.line.Cause.{Cause}
+use Rattle.px_scene.specs.declared.line.Cause.TheVariants.{BadName, Unexpected, UnknownName, WordCount}
+use Rattle.px_shadow.specs.declared.light.LightFault.{LightFault}
+use Rattle.px_shadow.specs.declared.light.LightFault.TheVariants.{Limit, Malformed}
+
+-- the index of the solid of this name
+abbrev pub solid_named : List SolidView → (name : List ℕ) → Option ℕ
+solid_named ss name = position (λ s. bytes_eq s.name name) ss
+
+abbrev pub is_solid : List SolidView → (name : List ℕ) → Bool
+is_solid ss name = is_some (solid_named ss name)
+
+-- the solids that these words name: one at least, all of them names, and all of solids
+abbrev pub named : List SolidView → Words → Result SolidSet Cause
+named ss [] = Err WordCount
+named ss (w ∷ ws) =
+    if not (list_all is_name (w ∷ ws)) then Err BadName else
+    if not (list_all (is_solid ss) (w ∷ ws)) then Err UnknownName else
+    Ok (set_of (filter_map (solid_named ss) (w ∷ ws)))
+
+abbrev pub as_light : Result SolidSet Cause → Result (Option SolidSet) Cause
+as_light (Ok set) = Ok (Some set)
+as_light (Err cause) = Err cause
+
+-- a line is `light` and names, or it has no words and says nothing
+abbrev pub light_of : List SolidView → Words → Result (Option SolidSet) Cause
+light_of ss [] = Ok None
+light_of ss (w ∷ ws) = if bytes_eq w (codes "light") then as_light (named ss ws) else Err Unexpected
+
+abbrev pub light_in : Result (Option SolidSet) Cause → Option SolidSet
+light_in (Ok light) = light
+light_in (Err cause) = None
+
+-- the lights of some lines, in order
+abbrev pub lights_of : List SolidView → List Words → List SolidSet
+lights_of ss lines = filter_map (λ line. light_in (light_of ss line)) lines
+
+-- a line of this number is bad by its words, or as the ninth light
+abbrev pub line_fault : (number lights_before : ℕ) → Result (Option SolidSet) Cause → Option LightFault
+line_fault number before (Err cause) = Some (Malformed number cause)
+line_fault number before (Ok None) = None
+line_fault number before (Ok (Some light)) = if before == 8 then Some (Limit number 9) else None
+
+-- what is bad of a line by its place, where the first line has this number
+abbrev pub fault_at : List SolidView → (first : ℕ) → List Words → (place : ℕ) → Option LightFault
+fault_at ss first lines place =
+    line_fault (first + place) (length (lights_of ss (take place lines))) (light_of ss (get_or lines place []))
+
+-- the fault of the least place below n that has one
+abbrev pub first_fault : (ℕ → Option LightFault) → (n : ℕ) → Option LightFault
+first_fault f zero = None
+first_fault f (suc n) = option_or (first_fault f n) (f n)
+
+-- the fault of the first bad line, if one is bad
+abbrev pub fault_of : List SolidView → (first : ℕ) → List Words → Option LightFault
+fault_of ss first lines = first_fault (fault_at ss first lines) (length lines)

@@ -1,0 +1,15 @@
+//! Shadows: by which of up to eight lights each pixel of a picture is lit.
+#![tactic(auto)]
+
+mod carrying;
+mod law;
+mod light;
+mod masks;
+mod passes;
+#[cfg(test)]
+mod tests;
+
+pub use law::laws_of_shadows;
+pub use light::{LightFault, read_lights};
+pub use masks::write_masks;
+pub use passes::{need, shade};

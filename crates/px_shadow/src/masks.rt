@@ -1,0 +1,100 @@
+//! The image of the lights, as an array stores them.
+ghost use Rattle.std.specs.Prelude.{◌≡◌, ◌+◌, ◌^◌, ◌<◌, ◌≤◌, OnErr, OnOk};
+ghost use Rattle.px_io.specs.Counts.{HasCause};
+ghost use Rattle.px_io.specs.Told.{TakesAll, TakesFront};
+ghost use Rattle.px_array.specs.Arrays.{HasPixel, IsOpen};
+ghost use Rattle.px_frame.specs.Image.{row_bytes};
+ghost use Rattle.px_frame.specs.Stored.{HasColumns, HasRows};
+ghost use Rattle.px_shadow.specs.ShadowPasses.{need_with};
+ghost use Rattle.px_shadow.specs.Stored.{lights_field, stored_masks, stored_number};
+
+use arrayvec::ArrayVec;
+use px_array::Array;
+use px_asm::number_in;
+use px_frame::{header, three_bytes};
+use px_io::{Failed, Sink, write_whole};
+use px_macro::Field;
+use px_model::Scene;
+use px_sched::Layout;
+
+/// Three bytes a pixel, for the 512 pixels of the widest picture.
+const ROW_BYTES: usize = 1536;
+
+/// Appends the image of the lights that the array stores to the sink, or a front of it where a
+/// write fails (docs/SHADOWS.md, "Image"). The sink is not finished.
+///
+/// Bit `l - 1` of a pixel's number says whether light `l` lights it.
+pub fn write_masks<A: Array, O: Sink>(
+    array: &A,
+    layout: &Layout,
+    scene: &Scene,
+    lights: usize,
+    out: &mut O,
+) -> Result<(), Failed>
+    requires open { IsOpen (A.device array.now) }
+    requires columns { HasColumns scene.now (A.device array.now).state }
+    requires rows { HasRows scene.now (A.device array.now).state }
+    requires few { lights ≤ 8 }
+    requires room { need_with layout.now lights ≤ A.BITS }
+    ensures ok { OnOk result (TakesAll (O.written out.old) (O.written out.new)
+        (O.finished out.old) (O.finished out.new)
+        (stored_masks scene.now layout.now lights (A.device array.now).state)) }
+    ensures err { OnErr result (TakesFront (O.written out.old) (O.written out.new)
+        (O.finished out.old) (O.finished out.new)
+        (stored_masks scene.now layout.now lights (A.device array.now).state)) }
+    ensures cause { HasCause (O.faults out.old) (O.faults out.new) result }
+{
+    let field = lights_field(layout, lights);
+    let header = header(scene.width(), scene.height());
+    write_whole(out, header.as_str().as_bytes())?;
+    for y in 0..scene.height() {
+        let row = mask_row(array, &field, scene, y);
+        write_whole(out, row.as_slice())?;
+    }
+    Ok(())
+}
+
+/// The memory bits of so many lights, as a field.
+fn lights_field(layout: &Layout, lights: usize) -> Field
+    requires { lights ≤ 8 }
+    ensures field { result ≡ lights_field layout.now lights }
+    ensures room { result.at + result.len ≡ need_with layout.now lights }
+    ensures low { result.at ≤ 256 }
+{
+    Field {
+        at: layout.par + 1,
+        len: lights as u32,
+    }
+}
+
+/// The pixels of row `y`, from the left.
+fn mask_row<A: Array>(array: &A, field: &Field, scene: &Scene, y: u32) -> ArrayVec<u8, ROW_BYTES>
+    requires open { IsOpen (A.device array.now) }
+    requires columns { HasColumns scene.now (A.device array.now).state }
+    requires rows { HasRows scene.now (A.device array.now).state }
+    requires room { field.now.at + field.now.len ≤ A.BITS }
+    requires low { field.now.at ≤ 256 }
+    requires few { field.now.len ≤ 8 }
+    requires y { y < scene.now.height }
+    ensures { result.items ≡ row_bytes scene.now.width
+        (stored_number field.now (A.device array.now).state) y }
+{
+    let mut bytes = ArrayVec::new();
+    for x in 0..scene.width() {
+        let pixel = three_bytes(mask_at(array, *field, x, y));
+        bytes.try_extend_from_slice(&pixel).unwrap();
+    }
+    bytes
+}
+
+/// The number of the lights that the pixel (x, y) stores.
+fn mask_at<A: Array>(array: &A, field: Field, x: u32, y: u32) -> u32
+    requires pixel { HasPixel (A.device array.now) x y }
+    requires room { field.at + field.len ≤ A.BITS }
+    requires low { field.at ≤ 256 }
+    requires few { field.len ≤ 8 }
+    ensures number { result ≡ stored_number field (A.device array.now).state x y }
+    ensures small { result < 2 ^ 24 }
+{
+    number_in(array, field, x, y) as u32
+}

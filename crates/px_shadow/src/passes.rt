@@ -1,0 +1,191 @@
+//! The shadow passes, made on an array that stores the picture of a scene.
+ghost use Rattle.std.specs.Prelude.{◌≡◌, ◌+◌, ◌-◌, ◌<◌, ◌≤◌, All, length};
+ghost use Rattle.px_array.specs.Slots.{worked};
+ghost use Rattle.px_face.specs.Faces.{face_count};
+ghost use Rattle.px_normal.specs.Sets.{IsBelow};
+ghost use Rattle.px_model.specs.Cells.{depths_of, end_of};
+ghost use Rattle.px_prune.specs.Kept.{plan_of};
+ghost use Rattle.px_sched.specs.Layouts.{layout_of};
+ghost use Rattle.px_control.specs.GridLaw.{CoversThePicture};
+ghost use Rattle.px_control.specs.Program.{IsAt, total};
+ghost use Rattle.px_sched.specs.Passes.{solid_of};
+ghost use Rattle.px_shadow.specs.Carrying.{CanCarryOut, CarriesOut};
+ghost use Rattle.px_shadow.specs.Shaded.{IsShaded, shadow_program};
+ghost use Rattle.px_shadow.specs.Stored.{StoresTheLights};
+ghost use Rattle.px_shadow.specs.ShadowPasses.{
+  background_passes,
+  light_bit,
+  light_passes,
+  need_with,
+  shadow_passes,
+  solid_passes,
+  stored_turn,
+};
+
+use crate::carrying::carry_out;
+use crate::law::{law_of_shadow_passes, laws_of_shadows};
+use arrayvec::ArrayVec;
+use px_array::Array;
+use px_control::{law_of_clocks, law_of_sizes};
+use px_face::{edge_at, edge_count, face_count, laws_of_edges, plane_of};
+use px_macro::{Macro, laws_of_operations};
+use px_model::{Scene, Solid, laws_of_scenes};
+use px_normal::{SolidSet, laws_of_sets};
+use px_sched::{Layout, laws_of_passes};
+
+/// How many lights there can be.
+pub(crate) const MOST_LIGHTS: usize = 8;
+
+/// How many memory bits a pixel needs for the keys of a layout and so many lights, at most 8
+/// (docs/SHADOWS.md, "Memory").
+pub fn need(layout: &Layout, lights: usize) -> u32
+    requires { lights ≤ 8 }
+    ensures { result ≡ need_with layout.now lights }
+{
+    layout.par + 1 + lights as u32
+}
+
+/// Finds by which lights each pixel is lit, on an array that stores the picture of a scene
+/// (docs/SHADOWS.md, "Shadow passes").
+///
+/// Each light is the set of its shadow solids. Light `l`, counted from 1, has bit `par + l` of
+/// each pixel's memory. The layout is that of `Layout::of`, and the array is the one that the whole
+/// program of the scene leaves.
+pub fn shade<A: Array>(
+    scene: &Scene,
+    layout: &Layout,
+    lights: &ArrayVec<SolidSet, 8>,
+    array: &mut A,
+)
+    requires layout { layout.now ≡ layout_of scene.now }
+    requires products { length (plan_of scene.now) ≤ 1024 }
+    requires at { IsAt A.BITS scene.now (total scene.now) (A.device array.old) }
+    requires need { need_with layout.now (length lights.now.items) ≤ A.BITS }
+    requires known { All (IsBelow (length scene.now.solids)) lights.now.items }
+    ensures shaded { IsShaded A.BITS scene.now lights.now.items (A.device array.new) }
+    ensures lights { StoresTheLights scene.now layout.now lights.now.items
+        (A.device array.new).state }
+    ensures grid { CoversThePicture scene.now (A.device array.new) }
+    ensures slots { A.slots array.new ≡ A.slots array.old }
+    ensures work { A.work array.new
+        ≡ worked (length (shadow_program scene.now lights.now.items)) (A.work array.old) }
+{
+    laws_of_scenes(scene);
+    laws_of_shadows();
+    law_of_shadow_passes();
+    law_of_clocks();
+    law_of_sizes();
+    laws_of_operations();
+    laws_of_passes();
+    all_lights(array, scene, layout, lights.as_slice());
+}
+
+/// The passes of all lights.
+fn all_lights<A: Array>(array: &mut A, scene: &Scene, layout: &Layout, lights: &[SolidSet])
+    requires few { length lights.now ≤ 8 }
+    requires known { All (IsBelow (length scene.now.solids)) lights.now }
+    requires can { CanCarryOut A.BITS (shadow_passes scene.now layout.now lights.now)
+        (A.device array.old) }
+    ensures { CarriesOut A.device A.slots A.work (shadow_passes scene.now layout.now lights.now)
+        array.old array.new }
+{
+    for (i, light) in lights.iter().enumerate() {
+        one_light(array, scene, layout, i as u32 + 1, light);
+    }
+}
+
+/// The passes of a light.
+fn one_light<A: Array>(array: &mut A, scene: &Scene, layout: &Layout, light: u32, solids: &SolidSet)
+    requires number { light ≤ 8 }
+    requires known { IsBelow (length scene.now.solids) solids.now }
+    requires can { CanCarryOut A.BITS (light_passes scene.now layout.now light solids.now)
+        (A.device array.old) }
+    ensures { CarriesOut A.device A.slots A.work (light_passes scene.now layout.now light solids.now)
+        array.old array.new }
+{
+    carry_out(
+        array,
+        &[Macro::All, Macro::SetBit(light_bit(layout, light), true)],
+    );
+    laws_of_sets();
+    let list = solids.solids();
+    for solid in list.as_slice() {
+        one_solid(array, layout, scene.end(), light, solid_at(scene, *solid));
+    }
+    background(array, layout, light);
+}
+
+/// The passes of a solid of a light, which put the light out where the stored cell is inside it.
+fn one_solid<A: Array>(array: &mut A, layout: &Layout, end: u32, light: u32, solid: &Solid)
+    requires number { light ≤ 8 }
+    requires can { CanCarryOut A.BITS (solid_passes layout.now end light solid.now)
+        (A.device array.old) }
+    ensures { CarriesOut A.device A.slots A.work (solid_passes layout.now end light solid.now)
+        array.old array.new }
+{
+    carry_out(array, &[Macro::All, Macro::SetBit(layout.par, false)]);
+    for face in 0..face_count(solid) {
+        one_face(array, layout, end, solid, face);
+    }
+    carry_out(
+        array,
+        &[
+            Macro::All,
+            Macro::KeepBit(layout.par, true),
+            Macro::SetBit(light_bit(layout, light), false),
+        ],
+    );
+}
+
+/// The passes of a face, which turn the parity where it is not behind the stored cell.
+fn one_face<A: Array>(array: &mut A, layout: &Layout, end: u32, solid: &Solid, face: usize)
+    requires face { face < face_count solid.now }
+    requires can { CanCarryOut A.BITS (stored_turn layout.now end solid.now face)
+        (A.device array.old) }
+    ensures { CarriesOut A.device A.slots A.work (stored_turn layout.now end solid.now face)
+        array.old array.new }
+{
+    laws_of_edges();
+    carry_out(array, &[Macro::All]);
+    for place in 0..edge_count(solid) {
+        carry_out(array, &[Macro::KeepSign(edge_at(solid, end, face, place))]);
+    }
+    let plane = plane_of(solid, end, face);
+    carry_out(
+        array,
+        &[
+            Macro::KeepAtMost(plane, layout.b_deep()),
+            Macro::Toggle(layout.par),
+        ],
+    );
+}
+
+/// The passes that put a light out where no face is stored.
+fn background<A: Array>(array: &mut A, layout: &Layout, light: u32)
+    requires number { light ≤ 8 }
+    requires can { CanCarryOut A.BITS (background_passes layout.now light) (A.device array.old) }
+    ensures { CarriesOut A.device A.slots A.work (background_passes layout.now light)
+        array.old array.new }
+{
+    let number = layout.b_number();
+    carry_out(array, &[Macro::All]);
+    for t in 0..number.len {
+        carry_out(array, &[Macro::KeepBit(number.at + t, false)]);
+    }
+    carry_out(array, &[Macro::SetBit(light_bit(layout, light), false)]);
+}
+
+/// The memory bit of a light; lights are counted from 1.
+fn light_bit(layout: &Layout, light: u32) -> u32
+    requires { light ≤ 8 }
+    ensures { result ≡ light_bit layout.now light }
+{
+    layout.par + light
+}
+
+fn solid_at(scene: &Scene, solid: u8) -> &Solid
+    requires { solid < length scene.now.solids }
+    ensures { result.now ≡ solid_of scene.now solid }
+{
+    &scene.solids()[usize::from(solid)]
+}
