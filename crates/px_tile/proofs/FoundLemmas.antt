@@ -1,0 +1,114 @@
+-- Numbers that are put row by row into those of a wide picture.
+use Rattle.std.proofs.Common.{◌≡◌, ◌≢◌, ℕ, ◌+◌, ◌*◌, ◌<◌, ◌≤◌, ◌⊎◌, inl, inr, List, length, slice_set as set, refl, ap, sym, ◌∙◌, arith, slice_index}
+use Rattle.std.proofs.Math.Nat.{mul-le-mul_right}
+use Rattle.std.proofs.lemmas.Bool.{cases_lt}
+use Rattle.std.proofs.lemmas.List.{length-set, get_or-set_other, get_or-set_same}
+use Rattle.px_model.specs.Scenes.{SceneView}
+use Rattle.px_model.specs.Cells.{Sight, picture}
+use Rattle.px_tile.specs.Found.{IsInTile, PutsTile, number_of}
+use Rattle.px_tile.specs.Stored.{PutsRow, PutsRows}
+
+-- the number of what is stored
+pub number_shown : (depth face n : ℕ) (sight : Sight) → n ≡ number_of (record { depth = depth; face = face })
+    → depth ≡ sight.depth → face ≡ sight.face → n ≡ number_of sight
+number_shown depth face n sight is p q = rw (is, p, q) refl
+
+-- one pixel more of a row
+pub row_more : (scene : SceneView) (x y start n : ℕ) (old mid new : List ℕ) → PutsRow scene x y start old mid
+    → start + x < length mid → n ≡ number_of (picture scene x y) → new ≡ set mid (start + x) n
+    → PutsRow scene (x + 1) y start old new
+row_more scene x y start n old mid new put inside is now = record {
+  same_count = rw now (length-set mid (start + x) n ∙ put.same_count);
+  row = λ left low. elim (cases_lt left x) [
+    | inl before ↦
+        let apart : start + left ≢ start + x = λ e. absurd (omega arith) in
+        rw now (get_or-set_other mid (start + x) (start + left) n 0 apart ∙ put.row left before)
+    | inr last ↦
+        let same : left ≡ x = omega arith in
+        rw (now, same) (get_or-set_same mid (start + x) n 0 inside ∙ is)
+  ];
+  rest = λ place out.
+      let apart : place ≢ start + x = λ e. absurd (omega arith) in
+      let wider : (place < start) ⊎ (start + x ≤ place) = elim out [ inl low ↦ inl low | inr high ↦ inr (omega arith) ] in
+      rw now (get_or-set_other mid (start + x) place n 0 apart ∙ put.rest place wider);
+}
+
+-- the rows before one end before it
+ends_before : (width y later x : ℕ) → x < width → y < later → y * width + x < later * width
+ends_before width y later x left before =
+    let one : (y + 1) * width ≡ y * width + width = grind arith in
+    let more : (y + 1) * width ≤ later * width = mul-le-mul_right width (omega arith) in
+    omega arith
+
+ends_at_most : (width y later x : ℕ) → x ≤ width → y < later → y * width + x ≤ later * width
+ends_at_most width y later x within before =
+    let one : (y + 1) * width ≡ y * width + width = grind arith in
+    let more : (y + 1) * width ≤ later * width = mul-le-mul_right width (omega arith) in
+    omega arith
+
+-- one row more
+pub rows_more : (scene : SceneView) (y x0 y0 width start : ℕ) (old mid new : List ℕ) → PutsRows scene y x0 y0 width old mid
+    → PutsRow scene scene.width y start mid new → start ≡ (y0 + y) * width + x0 → x0 + scene.width ≤ width
+    → PutsRows scene (y + 1) x0 y0 width old new
+rows_more scene y x0 y0 width start old mid new before put is fits = record {
+  same_count = put.same_count ∙ before.same_count;
+  rows = λ x row left low. elim (cases_lt row y) [
+    | inl above ↦
+        let early : (y0 + row) * width + (x0 + x) < (y0 + y) * width = ends_before width (y0 + row) (y0 + y) (x0 + x) (omega arith) (omega arith) in
+        put.rest _ (inl (omega arith)) ∙ before.rows x row left above
+    | inr last ↦
+        let same : row ≡ y = omega arith in
+        let place : (y0 + row) * width + (x0 + x) ≡ start + x = rw same (omega arith) in
+        ap (slice_index new) place ∙ put.row x left ∙ ap (λ r. number_of (picture scene x r)) (sym same)
+  ];
+  rest = λ x row left out. put.rest _ (outside x row left out) ∙ before.rest x row left (fewer x row out);
+}
+  where
+    fewer : (x row : ℕ) → (row < y0) ⊎ (y0 + (y + 1) ≤ row) ⊎ (x < x0) ⊎ (x0 + scene.width ≤ x)
+        → (row < y0) ⊎ (y0 + y ≤ row) ⊎ (x < x0) ⊎ (x0 + scene.width ≤ x)
+    fewer x row (inl low) = inl low
+    fewer x row (inr (inl high)) = inr (inl (omega arith))
+    fewer x row (inr (inr side)) = inr (inr side)
+
+    beside : (x row : ℕ) → row ≡ y0 + y → (row < y0) ⊎ (y0 + (y + 1) ≤ row) ⊎ (x < x0) ⊎ (x0 + scene.width ≤ x)
+        → (row * width + x < start) ⊎ (start + scene.width ≤ row * width + x)
+    beside x row same (inl low) = absurd (omega arith)
+    beside x row same (inr (inl high)) = absurd (omega arith)
+    beside x row same (inr (inr (inl before))) = inl (rw (same, is) (omega arith))
+    beside x row same (inr (inr (inr behind))) = inr (rw (same, is) (omega arith))
+
+    outside : (x row : ℕ) → x < width → (row < y0) ⊎ (y0 + (y + 1) ≤ row) ⊎ (x < x0) ⊎ (x0 + scene.width ≤ x)
+        → (row * width + x < start) ⊎ (start + scene.width ≤ row * width + x)
+    outside x row left out = elim (cases_lt row (y0 + y)) [
+      | inl above ↦ inl (omega (arith, ends_before width row (y0 + y) x left above))
+      | inr from ↦ elim (cases_lt (y0 + y) row) [
+        | inl below ↦ inr (omega (arith, ends_at_most width (y0 + y) row (x0 + scene.width) fits below))
+        | inr upto ↦
+            let same : row ≡ y0 + y = omega arith in beside x row same out
+      ]
+    ]
+
+-- all rows are the tile
+pub rows_all : (scene : SceneView) (x0 y0 width : ℕ) (old new : List ℕ) → PutsRows scene scene.height x0 y0 width old new
+    → PutsTile scene x0 y0 width old new
+rows_all scene x0 y0 width old new put = record {
+  count = put.same_count;
+  shown = put.rows;
+  rest = λ x y left out. put.rest x y left (outside x y out);
+}
+  where
+    outside : (x y : ℕ) → (IsInTile scene x0 y0 x y → ⊥)
+        → (y < y0) ⊎ (y0 + scene.height ≤ y) ⊎ (x < x0) ⊎ (x0 + scene.width ≤ x)
+    outside x y out = elim (cases_lt y y0) [
+      | inl a ↦ inl a
+      | inr b ↦ elim (cases_lt y (y0 + scene.height)) [
+        | inr c ↦ inr (inl c)
+        | inl d ↦ elim (cases_lt x x0) [
+          | inl e ↦ inr (inr (inl e))
+          | inr f ↦ elim (cases_lt x (x0 + scene.width)) [
+            | inl g ↦ absurd (out (record { from_left = f; left = g; from_top = b; above = d }))
+            | inr h ↦ inr (inr (inr h))
+          ]
+        ]
+      ]
+    ]

@@ -1,0 +1,9 @@
+pub mod DrawLemmas
+pub mod FirstLemmas
+pub mod FoundLemmas
+pub mod ImageLemmas
+pub mod PastLemmas
+pub mod SceneLemmas
+pub mod SolidLemmas
+pub mod TileLemmas
+pub mod TilingLemmas

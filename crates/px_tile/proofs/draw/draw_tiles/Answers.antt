@@ -1,0 +1,47 @@
+use Rattle.std.proofs.Common.{◌≡◌, ◌<◌, ◌++◌, ap, arith, drop, inr, length, refl, take}
+use Rattle.px_tile.specs.Tilings.{tile_count}
+use Rattle.px_tile.proofs.DrawLemmas.{last_left, put_back, tile_fits, tile_within, tiles_all, tiles_more}
+use Rattle.px_tile.proofs.draw.draw_tiles.Goals as goal
+
+pub draw_tile-requires-clause-within : goal.draw_tile-requires-clause-within
+draw_tile-requires-clause-within g c =
+    let low : c.loop-tile.tile < tile_count c.args.scene.now c.args.width c.args.height = omega (arith, c.tile_count-tile-end.ensures) in
+    tile_within c.args.scene.now c.args.width c.args.height _ c.loop-tile.tile c.requires.fits low
+
+pub draw_tile-requires-clause-fits : goal.draw_tile-requires-clause-fits
+draw_tile-requires-clause-fits g c =
+    let low : c.loop-tile.tile < tile_count c.args.scene.now c.args.width c.args.height = omega (arith, c.tile_count-tile-end.ensures) in
+    tile_fits c.args.scene.now c.args.width c.args.height _ c.loop-tile.tile c.requires.fits low
+
+pub loop-tile-preserved : goal.loop-tile-preserved
+loop-tile-preserved g c =
+    let low : c.loop-tile.tile < tile_count c.args.scene.now c.args.width c.args.height = omega (arith, c.tile_count-tile-end.ensures) in
+    let law = c.laws_of_scenes.ensures.scene in
+    let numbers = c.as_mut_slice-numbers.ensures in
+    let put = rw numbers.value at c.in_default-draw_tile.ensures.ok in
+    let more = tiles_more c.args.scene.now c.args.width c.args.height law.some_width law.some_height c.requires.size
+    c.laws_of_tiles.ensures c.loop-tile.tile _ _ c.loop-tile.invariant.tiles put in
+    let old = c.loop-tile.found.items in
+    let new = c.draw_tile.new.found in
+    let back : take c.loop-tile.found.len (new ++ drop (length new) old) ≡ new =
+    put_back c.loop-tile.found.len new old put.count (omega (arith, ap length numbers.value, numbers.len)) in
+    record {
+      tiles = rw back more;
+      left = inr (c.loop-tile.tile, refl, low, c.in_default-draw_tile.ensures.drawn);
+    }
+
+pub returns-clause-found : goal.returns-clause-found
+returns-clause-found g c =
+    let law = c.laws_of_scenes.ensures.scene in
+    let done : c.loop-tile.tile ≡ tile_count c.args.scene.now c.args.width c.args.height =
+    omega (arith, c.tile_count-tile-end.ensures, c.loop-tile.auto.tile-end) in
+    tiles_all c.args.scene.now c.args.width c.args.height law.some_width law.some_height c.requires.size c.loop-tile.found.items
+    (rw done at c.loop-tile.invariant.tiles)
+
+pub returns-clause-drawn : goal.returns-clause-drawn
+returns-clause-drawn g c =
+    let law = c.laws_of_scenes.ensures.scene in
+    let done : c.loop-tile.tile ≡ tile_count c.args.scene.now c.args.width c.args.height =
+    omega (arith, c.tile_count-tile-end.ensures, c.loop-tile.auto.tile-end) in
+    last_left c.args.scene.now c.args.width c.args.height law.some_width law.some_height c.requires.size _ _ _
+    (rw done at c.loop-tile.invariant.left)

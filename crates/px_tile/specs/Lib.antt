@@ -1,0 +1,17 @@
+pub use Rattle.px_array.specs.Arrays
+pub use Rattle.px_array.specs.Slots
+pub use Rattle.px_control.specs.Program
+pub use Rattle.px_control.specs.Standing
+pub use Rattle.px_frame.specs.Picture
+pub use Rattle.px_model.specs.Cells
+pub use Rattle.px_model.specs.Scenes
+pub mod Coefficients
+pub mod Drawn
+pub mod Found
+pub mod Parts
+pub mod Pictures
+pub mod Refusals
+pub mod Stored
+pub mod Tiles
+pub mod TilesLaw
+pub mod Tilings

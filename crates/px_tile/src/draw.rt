@@ -1,0 +1,257 @@
+//! Drawing a wide picture tile by tile on one array.
+ghost use Rattle.std.specs.Prelude.{◌≡◌, ◌*◌, ◌<◌, ◌≤◌, ◌⊎◌, nat_lt, IfErr, IfOk, None, OnErr, OnOk, Some, length, vec_len};
+ghost use Rattle.std.specs.Option.{option_map};
+ghost use Rattle.px_array.specs.Arrays.{closed};
+ghost use Rattle.px_sched.specs.Layouts.{layout_of, need_of};
+ghost use Rattle.px_tile.specs.Coefficients.{coefficient_past};
+ghost use Rattle.px_tile.specs.Found.{IsFound, PutsTile};
+ghost use Rattle.px_tile.specs.Pictures.{IsLastDrawn, IsTileDrawn, LeavesOnWideRefusal};
+ghost use Rattle.px_tile.specs.Refusals.{
+  crowd_of_tile,
+  first_coefficient,
+  first_crowd,
+  refusal_of,
+  wide_refusal,
+};
+ghost use Rattle.px_tile.specs.Tilings.{
+  IsWideSize,
+  column_of,
+  row_of,
+  scene_of_tile,
+  tile_count,
+};
+
+use crate::coefficient::coefficient_past;
+use crate::fault::WideFault;
+use crate::law::laws_of_tiles;
+use crate::render::render_tile;
+use crate::tile::moved_scene;
+use crate::tiling::{tile_at, tile_count};
+use px_array::Array;
+use px_model::{Scene, laws_of_scenes};
+use px_normal::NormalFault;
+use px_num::Memory;
+use px_prune::plan_of;
+use px_sched::{Layout, NeedBits, laws_of_passes};
+use std::alloc::Global;
+
+/// No picture has more tiles.
+const MOST_TILES: u32 = 1024;
+
+/// No scene needs more bits of memory in a pixel.
+const MOST_BITS: usize = 74;
+
+/// Whether a picture of `width` by `height` pixels, each from 1 to 4096, can be drawn tile by tile
+/// on an array with pixels of so many memory bits, each tile of the size of the scene's picture, or
+/// why not (docs/PICTURE.md, "Tiles").
+pub fn check_tiles(
+    alloc: Global,
+    scene: &Scene,
+    width: u32,
+    height: u32,
+    bits: u32,
+) -> Result<(), WideFault>
+    requires size { IsWideSize width height }
+    ensures ok { OnOk result (wide_refusal scene.now width height bits ≡ None) }
+    ensures err { IfErr result (λ fault.
+        (wide_refusal scene.now width height bits ≡ Some fault) ⊎ (fault ≡ WideFault.Memory)) }
+{
+    let count = tile_count(scene, width, height);
+    if count > MOST_TILES {
+        return Err(WideFault::Tiles { found: count });
+    }
+    if let Some(found) = first_coefficient(scene, width, height) {
+        return Err(WideFault::Coefficient { found });
+    }
+    if let Err(NeedBits { need }) = Layout::of(scene, bits) {
+        return Err(WideFault::PixelMemory { need });
+    }
+    check_products(alloc, scene, width, height)
+}
+
+/// The first coefficient past the limit of the first tile that has one.
+fn first_coefficient(scene: &Scene, width: u32, height: u32) -> Option<i64>
+    requires size { IsWideSize width height }
+    ensures { result ≡ first_coefficient scene.now width height }
+{
+    for tile in 0..tile_count(scene, width, height) {
+        let found = coefficient_of_tile(scene, width, height, tile);
+        if found.is_some() {
+            return found;
+        }
+    }
+    None
+}
+
+/// The first coefficient past the limit of a tile.
+fn coefficient_of_tile(scene: &Scene, width: u32, height: u32, tile: u32) -> Option<i64>
+    requires size { IsWideSize width height }
+    requires tile { tile < tile_count scene.now width height }
+    ensures { result ≡ coefficient_past (scene_of_tile scene.now width height tile).solids }
+{
+    let tile = tile_at(scene, width, height, tile);
+    coefficient_past(scene, tile.x0, tile.y0)
+}
+
+/// Whether no tile has a wanted list of products past the limit, or the length of the first one.
+fn check_products(alloc: Global, scene: &Scene, width: u32, height: u32) -> Result<(), WideFault>
+    requires size { IsWideSize width height }
+    requires within { first_coefficient scene.now width height ≡ None }
+    ensures ok { OnOk result (first_crowd scene.now width height ≡ None) }
+    ensures err { IfErr result (λ fault.
+        (option_map WideFault.Products (first_crowd scene.now width height) ≡ Some fault)
+        ⊎ (fault ≡ WideFault.Memory)) }
+{
+    for tile in 0..tile_count(scene, width, height) {
+        if let Err(fault) = check_products_of_tile(alloc, scene, width, height, tile) {
+            return Err(fault);
+        }
+    }
+    Ok(())
+}
+
+/// The same of one tile.
+fn check_products_of_tile(
+    alloc: Global,
+    scene: &Scene,
+    width: u32,
+    height: u32,
+    tile: u32,
+) -> Result<(), WideFault>
+    requires size { IsWideSize width height }
+    requires tile { tile < tile_count scene.now width height }
+    requires within { coefficient_past (scene_of_tile scene.now width height tile).solids ≡ None }
+    ensures ok { OnOk result (crowd_of_tile scene.now width height tile ≡ None) }
+    ensures err { IfErr result (λ fault.
+        (option_map WideFault.Products (crowd_of_tile scene.now width height tile) ≡ Some fault)
+        ⊎ (fault ≡ WideFault.Memory)) }
+{
+    let Ok(tile) = scene_of_tile(alloc, scene, width, height, tile) else {
+        return Err(WideFault::Memory);
+    };
+    match plan_of(alloc, &tile) {
+        Ok(_) => Ok(()),
+        Err(NormalFault::TooMany { count }) => Err(WideFault::Products { count }),
+        Err(NormalFault::Memory) => Err(WideFault::Memory),
+    }
+}
+
+/// The scene of a tile that has no coefficient past the limit.
+fn scene_of_tile(
+    alloc: Global,
+    scene: &Scene,
+    width: u32,
+    height: u32,
+    tile: u32,
+) -> Result<Scene, Memory>
+    requires size { IsWideSize width height }
+    requires tile { tile < tile_count scene.now width height }
+    requires within { coefficient_past (scene_of_tile scene.now width height tile).solids ≡ None }
+    ensures { IfOk result (λ found. found ≡ scene_of_tile scene.now width height tile) }
+{
+    let tile = tile_at(scene, width, height, tile);
+    moved_scene(alloc, scene, tile.x0, tile.y0, tile.width, tile.height)
+}
+
+/// Draws a picture of `width` by `height` pixels, each from 1 to 4096, tile by tile on one array,
+/// each tile of the size of the scene's picture (docs/PICTURE.md, "Tiles").
+///
+/// Ok has a number for each pixel, row by row: `depth * 2^32 + face`. Every refusal but the want of
+/// memory is found before the array is opened. The numbers take at most 128 MB.
+pub fn render_tiles<A: Array>(
+    alloc: Global,
+    scene: &Scene,
+    width: u32,
+    height: u32,
+    array: &mut A,
+) -> Result<Vec<u64>, WideFault>
+    requires size { IsWideSize width height }
+    ensures fits { OnOk result (wide_refusal scene.now width height A.BITS ≡ None) }
+    ensures found { IfOk result (λ found. IsFound scene.now width height found.items) }
+    ensures drawn { OnOk result
+        (IsLastDrawn A.BITS scene.now width height (A.device array.new)) }
+    ensures err { IfErr result (λ fault.
+        (wide_refusal scene.now width height A.BITS ≡ Some fault) ⊎ (fault ≡ WideFault.Memory)) }
+    ensures array { IfErr result (λ fault. LeavesOnWideRefusal fault A.BITS scene.now width height
+        (A.device array.old) (A.device array.new)) }
+{
+    if let Err(fault) = check_tiles(alloc, scene, width, height, memory_bits::<A>(scene)) {
+        return Err(fault);
+    }
+    match draw_tiles(alloc, scene, width, height, array) {
+        Ok(found) => Ok(found),
+        Err(_) => Err(WideFault::Memory),
+    }
+}
+
+/// Draws the tiles of a picture that is not refused.
+fn draw_tiles<A: Array>(
+    alloc: Global,
+    scene: &Scene,
+    width: u32,
+    height: u32,
+    array: &mut A,
+) -> Result<Vec<u64>, Memory>
+    requires size { IsWideSize width height }
+    requires fits { wide_refusal scene.now width height A.BITS ≡ None }
+    ensures found { IfOk result (λ found. IsFound scene.now width height found.items) }
+    ensures drawn { OnOk result
+        (IsLastDrawn A.BITS scene.now width height (A.device array.new)) }
+    ensures array { OnErr result (LeavesOnWideRefusal WideFault.Memory A.BITS scene.now width height
+        (A.device array.old) (A.device array.new)) }
+{
+    let Ok(mut found) = Vec::from_elem(alloc, 0, width as usize * height as usize) else {
+        return Err(Memory);
+    };
+    laws_of_scenes(scene);
+    laws_of_tiles();
+    for tile in 0..tile_count(scene, width, height) {
+        let numbers = found.as_mut_slice();
+        if let Err(fault) = draw_tile(alloc, scene, width, height, tile, numbers, array) {
+            return Err(fault);
+        }
+    }
+    Ok(found)
+}
+
+/// Draws a tile that is not refused, and puts its picture into the numbers.
+fn draw_tile<A: Array>(
+    alloc: Global,
+    scene: &Scene,
+    width: u32,
+    height: u32,
+    tile: u32,
+    found: &mut [u64],
+    array: &mut A,
+) -> Result<(), Memory>
+    requires size { IsWideSize width height }
+    requires tile { tile < tile_count scene.now width height }
+    requires within { coefficient_past (scene_of_tile scene.now width height tile).solids ≡ None }
+    requires fits { refusal_of (scene_of_tile scene.now width height tile) A.BITS ≡ None }
+    requires room { length found.old ≡ width * height }
+    ensures ok { OnOk result (PutsTile (scene_of_tile scene.now width height tile)
+        (column_of scene.now width tile) (row_of scene.now width tile) width found.old found.new) }
+    ensures drawn { OnOk result
+        (IsTileDrawn A.BITS scene.now width height tile (A.device array.new)) }
+    ensures array { OnErr result ((A.device array.new ≡ A.device array.old)
+        ⊎ (A.device array.new ≡ closed)) }
+{
+    let place = tile_at(scene, width, height, tile);
+    let Ok(scene) = scene_of_tile(alloc, scene, width, height, tile) else {
+        return Err(Memory);
+    };
+    match render_tile(alloc, &scene, place.x0, width, place.y0, found, array) {
+        Ok(()) => Ok(()),
+        Err(_) => Err(Memory),
+    }
+}
+
+/// How many bits of memory a pixel of an array has, as far as a scene can need them.
+fn memory_bits<A: Array>(scene: &Scene) -> u32
+    ensures { nat_lt result (need_of (layout_of scene.now))
+        ≡ nat_lt A.BITS (need_of (layout_of scene.now)) }
+{
+    laws_of_scenes(scene);
+    laws_of_passes();
+    A::BITS.min(MOST_BITS) as u32
+}

@@ -1,0 +1,127 @@
+//! The images of a wide picture, from the numbers that are found of it.
+ghost use Rattle.std.specs.Prelude.{◌≡◌, ◌++◌, ◌*◌, ◌^◌, ◌<◌, ◌≤◌, All, OnErr, OnOk, length};
+ghost use Rattle.std.specs.List.{flat_map};
+ghost use Rattle.px_frame.specs.Image.{header, three_bytes};
+ghost use Rattle.px_frame.specs.Picture.{depth_image, face_image};
+ghost use Rattle.px_io.specs.Counts.{HasCause};
+ghost use Rattle.px_io.specs.Told.{TakesAll, TakesFront};
+ghost use Rattle.px_tile.specs.Found.{IsFound};
+ghost use Rattle.px_tile.specs.Parts.{IsSmall, bytes_of, part_image, part_of};
+ghost use Rattle.px_tile.specs.Tiles.{wide_scene};
+ghost use Rattle.px_tile.specs.Tilings.{IsWideSize};
+
+use arrayvec::ArrayVec;
+use px_face::laws_of_surfaces;
+use px_frame::{header, three_bytes};
+use px_io::{Failed, Sink, write_whole};
+use px_model::{Scene, laws_of_scenes};
+
+/// So many pixels are written at once.
+const PIECE: usize = 512;
+
+/// Three bytes a pixel.
+const PIECE_BYTES: usize = 1536;
+
+/// What an image shows of each number.
+#[derive(Clone, Copy, Debug, PartialEq, Eq)]
+pub(crate) enum Part {
+    Depth,
+    Face,
+}
+
+/// Appends the depth image and the face image of a wide picture to the sink, or a front of them
+/// where a write fails (docs/PICTURE.md, "Images"). The sink is not finished.
+///
+/// The numbers are those that are found of the wide picture of the scene.
+pub fn write_wide<O: Sink>(
+    found: &[u64],
+    scene: &Scene,
+    width: u32,
+    height: u32,
+    out: &mut O,
+) -> Result<(), Failed>
+    requires size { IsWideSize width height }
+    requires found { IsFound scene.now width height found.now }
+    ensures ok { OnOk result (TakesAll (O.written out.old) (O.written out.new)
+        (O.finished out.old) (O.finished out.new)
+        (depth_image (wide_scene scene.now width height)
+        ++ face_image (wide_scene scene.now width height))) }
+    ensures err { OnErr result (TakesFront (O.written out.old) (O.written out.new)
+        (O.finished out.old) (O.finished out.new)
+        (depth_image (wide_scene scene.now width height)
+        ++ face_image (wide_scene scene.now width height))) }
+    ensures cause { HasCause (O.faults out.old) (O.faults out.new) result }
+{
+    write_part(found, scene, width, height, Part::Depth, out)?;
+    write_part(found, scene, width, height, Part::Face, out)
+}
+
+/// Appends one of the images.
+fn write_part<O: Sink>(
+    found: &[u64],
+    scene: &Scene,
+    width: u32,
+    height: u32,
+    part: Part,
+    out: &mut O,
+) -> Result<(), Failed>
+    requires size { IsWideSize width height }
+    requires found { IsFound scene.now width height found.now }
+    ensures ok { OnOk result (TakesAll (O.written out.old) (O.written out.new)
+        (O.finished out.old) (O.finished out.new)
+        (part_image part (wide_scene scene.now width height))) }
+    ensures err { OnErr result (TakesFront (O.written out.old) (O.written out.new)
+        (O.finished out.old) (O.finished out.new)
+        (part_image part (wide_scene scene.now width height))) }
+    ensures cause { HasCause (O.faults out.old) (O.faults out.new) result }
+{
+    laws_of_scenes(scene);
+    laws_of_surfaces();
+    let header = header(width, height);
+    write_whole(out, header.as_str().as_bytes())?;
+    write_pixels(found, part, out)
+}
+
+/// Appends the pixels of one of the images.
+fn write_pixels<O: Sink>(found: &[u64], part: Part, out: &mut O) -> Result<(), Failed>
+    requires small { All (IsSmall part) found.now }
+    ensures ok { OnOk result (TakesAll (O.written out.old) (O.written out.new)
+        (O.finished out.old) (O.finished out.new) (bytes_of part found.now)) }
+    ensures err { OnErr result (TakesFront (O.written out.old) (O.written out.new)
+        (O.finished out.old) (O.finished out.new) (bytes_of part found.now)) }
+    ensures cause { HasCause (O.faults out.old) (O.faults out.new) result }
+{
+    let mut start = 0;
+    while start < found.len() {
+        let end = found.len().min(start + PIECE);
+        let bytes = piece_bytes(&found[start..end], part);
+        write_whole(out, bytes.as_slice())?;
+        start = end;
+    }
+    Ok(())
+}
+
+/// The pixels of at most 512 numbers.
+fn piece_bytes(piece: &[u64], part: Part) -> ArrayVec<u8, PIECE_BYTES>
+    requires few { length piece.now ≤ 512 }
+    requires small { All (IsSmall part) piece.now }
+    ensures { result.items ≡ bytes_of part piece.now }
+{
+    let mut bytes = ArrayVec::new();
+    for number in piece {
+        let pixel = three_bytes(part_of(*number, part));
+        bytes.try_extend_from_slice(&pixel).unwrap();
+    }
+    bytes
+}
+
+/// The depth or the face of a number.
+fn part_of(number: u64, part: Part) -> u32
+    requires { IsSmall part number }
+    ensures { result ≡ part_of part number }
+{
+    match part {
+        Part::Depth => (number / 4294967296) as u32,
+        Part::Face => (number % 4294967296) as u32,
+    }
+}

@@ -1,0 +1,108 @@
+//! Drawing one tile, and putting its picture into the numbers of the wide picture.
+ghost use Rattle.std.specs.Prelude.{◌≡◌, ◌+◌, ◌*◌, ◌<◌, ◌≤◌, ◌⊎◌, IfErr, None, OnErr, OnOk, Some, length};
+ghost use Rattle.px_array.specs.Arrays.{pixel_of};
+ghost use Rattle.px_control.specs.GridLaw.{CoversThePicture};
+ghost use Rattle.px_control.specs.Program.{IsAt, total};
+ghost use Rattle.px_control.specs.Standing.{LeavesOnRefusal};
+ghost use Rattle.px_model.specs.Cells.{picture};
+ghost use Rattle.px_sched.specs.Layouts.{layout_of, need_of};
+ghost use Rattle.px_sched.specs.PassesLaw.{ShowsThePicture};
+ghost use Rattle.px_tile.specs.Found.{PutsTile, number_of};
+ghost use Rattle.px_tile.specs.Refusals.{refusal_of};
+ghost use Rattle.px_tile.specs.Stored.{PutsRow, PutsRows};
+
+use px_array::Array;
+use px_control::{Job, JobFault, law_of_grids};
+use px_frame::stored;
+use px_model::{Scene, laws_of_scenes};
+use px_sched::Layout;
+use std::alloc::Global;
+
+/// Draws a tile on an array and puts its picture into the numbers that are found of a wide picture
+/// (docs/PICTURE.md, "Tiles"): for each pixel of the tile `depth * 2^32 + face`.
+///
+/// `scene` is the tile's, which begins at the pixel (x0, y0) of a picture of `width` columns and
+/// lies in it; `found` has a number for each pixel of the wide picture, row by row. It is refused
+/// as `Job::open`, and then leaves the numbers.
+pub fn render_tile<A: Array>(
+    alloc: Global,
+    scene: &Scene,
+    x0: u32,
+    width: u32,
+    y0: u32,
+    found: &mut [u64],
+    array: &mut A,
+) -> Result<(), JobFault>
+    requires columns { x0 + scene.now.width ≤ width }
+    requires rows { (y0 + scene.now.height) * width ≤ length found.old }
+    ensures fits { OnOk result (refusal_of scene.now A.BITS ≡ None) }
+    ensures ok { OnOk result (PutsTile scene.now x0 y0 width found.old found.new) }
+    ensures drawn { OnOk result (IsAt A.BITS scene.now (total scene.now) (A.device array.new)) }
+    ensures err { IfErr result (λ fault.
+        (refusal_of scene.now A.BITS ≡ Some fault) ⊎ (fault ≡ JobFault.Memory)) }
+    ensures found { OnErr result (found.new ≡ found.old) }
+    ensures array { IfErr result (λ fault.
+        LeavesOnRefusal fault (A.device array.old) (A.device array.new)) }
+{
+    let mut job = Job::open(alloc, scene, array)?;
+    job.finish(array);
+    let layout = job.layout();
+    laws_of_scenes(scene);
+    law_of_grids();
+    put_tile(array, &layout, scene, x0, width, y0, found);
+    Ok(())
+}
+
+/// Puts the picture that an array stores of a tile into the numbers of the wide picture.
+fn put_tile<A: Array>(
+    array: &A,
+    layout: &Layout,
+    scene: &Scene,
+    x0: u32,
+    width: u32,
+    y0: u32,
+    found: &mut [u64],
+)
+    requires columns { x0 + scene.now.width ≤ width }
+    requires rows { (y0 + scene.now.height) * width ≤ length found.old }
+    requires covers { CoversThePicture scene.now (A.device array.now) }
+    requires room { need_of layout.now ≤ A.BITS }
+    requires shows { ShowsThePicture scene.now layout.now
+        (λ x y. (pixel_of (A.device array.now).state x y).memory) }
+    ensures { PutsTile scene.now x0 y0 width found.old found.new }
+{
+    for y in 0..scene.height() {
+        let start = (y0 as usize + y as usize) * width as usize + x0 as usize;
+        put_row(array, layout, scene, y, start, found);
+    }
+}
+
+/// Puts row `y` of it from a place on.
+fn put_row<A: Array>(
+    array: &A,
+    layout: &Layout,
+    scene: &Scene,
+    y: u32,
+    start: usize,
+    found: &mut [u64],
+)
+    requires y { y < scene.now.height }
+    requires fits { start + scene.now.width ≤ length found.old }
+    requires covers { CoversThePicture scene.now (A.device array.now) }
+    requires room { need_of layout.now ≤ A.BITS }
+    requires shows { ShowsThePicture scene.now layout.now
+        (λ x y. (pixel_of (A.device array.now).state x y).memory) }
+    ensures { PutsRow scene.now scene.now.width y start found.old found.new }
+{
+    for x in 0..scene.width() {
+        let (depth, face) = stored(array, layout, x, y);
+        found[start + x as usize] = number_of(depth, face);
+    }
+}
+
+/// A depth and a face number as one number.
+fn number_of(depth: u32, face: u32) -> u64
+    ensures { result ≡ number_of (record { depth = depth; face = face }) }
+{
+    (u64::from(depth) << 32) + u64::from(face)
+}
