@@ -1,0 +1,11 @@
+pub mod LimitLemmas
+pub mod MemoryLemmas
+pub mod PassesLemmas
+pub mod PieceLemmas
+pub mod PlainLemmas
+pub mod PlayLemmas
+pub mod ReadLemmas
+pub mod RoundLemmas
+pub mod RowLemmas
+pub mod TextLemmas
+pub mod WordLemmas

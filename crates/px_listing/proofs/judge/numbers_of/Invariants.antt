@@ -1,0 +1,8 @@
+use Rattle.std.proofs.Common.{◌≡◌, ◌^◌, All, take}
+use Rattle.px_num.specs.Forms.{IsWithin}
+use Rattle.px_text.specs.Text.{now_of}
+use Rattle.px_listing.specs.Lines.{numbers_of}
+use Rattle.px_listing.proofs.judge.numbers_of.Given as goal
+
+abbrev pub invariant-loop-word : goal.invariant-loop-word
+invariant-loop-word l = l.numbers.items ≡ take l.word-index (numbers_of (now_of l.words))

@@ -1,0 +1,18 @@
+use Rattle.px_listing.proofs.MemoryLemmas.{show_the_played}
+use Rattle.px_listing.proofs.PassesLemmas.{passes_read_back, show_the_picture}
+use Rattle.px_listing.proofs.TextLemmas.{read_back}
+use Rattle.px_listing.proofs.law.laws_of_listings.Goals as goal
+
+pub returns-clause-read_back : goal.returns-clause-read_back
+returns-clause-read_back c = let law = c.written_law.ensures in read_back law.numbers law.words law.lines
+
+pub returns-clause-printed : goal.returns-clause-printed
+returns-clause-printed c = show_the_played
+
+pub returns-clause-passes : goal.returns-clause-passes
+returns-clause-passes c =
+    let law = c.written_law.ensures in
+    passes_read_back c.laws_of_operations.ensures.more c.laws_of_passes.ensures.lawful (read_back law.numbers law.words law.lines)
+
+pub returns-clause-picture : goal.returns-clause-picture
+returns-clause-picture c = show_the_picture c.laws_of_passes.ensures.picture

@@ -1,0 +1,13 @@
+use Rattle.std.proofs.Common.{◌≡◌, ◌^◌, ◌≤◌, ◌<◌, ℕ, pos, arith, to_z, of_z, w64}
+use Rattle.std.proofs.Math.Pow.{pow_mono}
+use Rattle.std.proofs.lemmas.Int.{ints}
+use Rattle.px_listing.proofs.limit.greatest.Goals as goal
+
+small : (n len : ℕ) → n ≡ 2 ^ len → len ≤ 40 → n ≤ 2 ^ 40
+small n len is few = let most : 2 ^ len ≤ 2 ^ 40 = pow_mono few in omega (arith, most)
+
+pub overflow_cast-result : goal.overflow_cast-result
+overflow_cast-result c = let few = small _ _ c.power.ensures c.length_of.ensures.few in omega (arith, ints, few)
+
+pub overflow_sub-result : goal.overflow_sub-result
+overflow_sub-result c = let few = small _ _ c.power.ensures c.length_of.ensures.few in omega (arith, ints, few)

@@ -1,0 +1,55 @@
+use Rattle.std.proofs.Common.{◌≡◌, ◌<◌, ◌+◌, ◌++◌, [], ◌∙◌, List, ap, refl, sym, arith, append_assoc, length, take, drop, get_or}
+use Rattle.std.specs.List.{flat_map}
+use Rattle.std.proofs.lemmas.List.{append-nil, take_all}
+use Rattle.px_macro.specs.declared.operation.Macro.TheVariants as m
+use Rattle.px_listing.specs.Listings.{ListingView, canonical_text, end_line, first_lines, macro_line}
+use Rattle.px_listing.proofs.PieceLemmas.{err_cut, if_err, ok_all, puts_both, puts_cut}
+use Rattle.px_listing.proofs.RowLemmas.{behind, listed_cut, listed_more}
+use Rattle.px_listing.proofs.write.write_listing.Goals as goal
+
+pub returns-in_err-put-clause-err : goal.returns-in_err-put-clause-err
+returns-in_err-put-clause-err g c =
+    let l = c.args.listing.now in
+    let i = c.loop-m.m-index in
+    let items = c.deref-m-items.ensures.value ∙ ap (λ (l : ListingView). l.macros) c.listing.view_is in
+    let within : i < length l.macros = rw items at c.loop-m-test.true in
+    let line = c.as_str.ensures.value ∙ (c.macro_line.ensures ∙ ap (λ os. macro_line (get_or os i m.All)) items) in
+    let others = flat_map macro_line (drop (i + 1) l.macros) ++ end_line in
+    let first = first_lines l.nx l.ny in
+    let cut = behind first (flat_map macro_line (take i l.macros)) (macro_line (get_or l.macros i m.All)) (flat_map macro_line (drop (i + 1) l.macros))
+    end_line (flat_map macro_line l.macros) (listed_cut macro_line l.macros i m.All within) in
+    if_err _ (puts_cut _ _ _ _ _ _ [] _ _ _ others (canonical_text l) cut c.loop-m.invariant.put (rw line at c.in_err-put.ensures.err))
+
+pub loop-m-preserved : goal.loop-m-preserved
+loop-m-preserved g c =
+    let l = c.args.listing.now in
+    let i = c.loop-m.m-index in
+    let items = c.deref-m-items.ensures.value ∙ ap (λ (l : ListingView). l.macros) c.listing.view_is in
+    let within : i < length l.macros = rw items at c.loop-m-test.true in
+    let line = c.as_str.ensures.value ∙ (c.macro_line.ensures ∙ ap (λ os. macro_line (get_or os i m.All)) items) in
+    let first = first_lines l.nx l.ny in
+    let more = append_assoc first (flat_map macro_line (take i l.macros)) (macro_line (get_or l.macros i m.All))
+    ∙ ap (λ bytes. first ++ bytes) (listed_more macro_line l.macros i m.All within) in
+    record {
+      put = rw more at (puts_both _ _ _ _ _ _ [] _ _ _ _ c.loop-m.invariant.put (rw line at c.in_ok-put.ensures.ok));
+      calm = c.in_ok-put.ensures.cause.calm ∙ c.loop-m.invariant.calm;
+    }
+
+pub returns-clause-ok : goal.returns-clause-ok
+returns-clause-ok g c =
+    let l = c.args.listing.now in
+    let items = c.deref-m-items.ensures.value ∙ ap (λ (l : ListingView). l.macros) c.listing.view_is in
+    let all = take_all c.loop-m.m-index l.macros (rw items at c.loop-m-test.false) in
+    let put = rw all at c.loop-m.invariant.put in
+    ok_all _ _ _ _ _ _ _ [] _ _ end_line (canonical_text l) refl put c.put_end.ensures.ok
+
+pub returns-clause-err : goal.returns-clause-err
+returns-clause-err g c =
+    let l = c.args.listing.now in
+    let items = c.deref-m-items.ensures.value ∙ ap (λ (l : ListingView). l.macros) c.listing.view_is in
+    let all = take_all c.loop-m.m-index l.macros (rw items at c.loop-m-test.false) in
+    let put = rw all at c.loop-m.invariant.put in
+    let first = first_lines l.nx l.ny in
+    let text = flat_map macro_line l.macros in
+    err_cut _ _ _ _ _ _ _ [] _ (first ++ text) end_line [] (canonical_text l)
+    (ap (λ bytes. (first ++ text) ++ bytes) (append-nil end_line)) put c.put_end.ensures.err

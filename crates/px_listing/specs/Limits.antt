@@ -1,0 +1,93 @@
+-- The limits of a line's numbers, in the order in which they are asked. Clauses of public calls stand on it.
+use Rattle.std.specs.Prelude.{ℕ, ◌-◌, ◌^◌, ℤ, pos, ◌+ℤ◌, ◌-ℤ◌, List, [], ◌∷◌, ◌&&◌, ◌||◌, not, if◌then◌else◌, Option, Some, None}
+use lib.Signed.{le_z}
+use Rattle.std.specs.Option.{option_or}
+use Rattle.px_listing.specs.Operations.{size_of}
+use Rattle.px_listing.specs.declared.keyword.Keyword.{Keyword}
+use Rattle.px_listing.specs.declared.keyword.Keyword.TheVariants as k
+use Rattle.px_listing.specs.declared.limit.LineFault.{LineFault}
+use Rattle.px_listing.specs.declared.limit.LineFault.TheVariants as f
+use Rattle.px_listing.specs.declared.limit.ListKind.{ListKind}
+use Rattle.px_listing.specs.declared.limit.ListKind.TheVariants as kind
+
+-- a number past its range
+abbrev pub past : ListKind → ℤ → ℤ → ℤ → Option LineFault
+past limit low high found = if le_z low found && le_z found high then None else Some (f.Limit limit found)
+
+abbrev pub grid_past : List ℤ → Option LineFault
+grid_past (nx ∷ ny ∷ []) = option_or (past kind.Grid (pos 1) (pos 9) nx) (past kind.Grid (pos 1) (pos 9) ny)
+grid_past zs = None
+
+-- a coefficient past n in size
+abbrev pub size_past : ℕ → ℤ → Option LineFault
+size_past n z = past kind.Coefficient (pos 0 -ℤ pos n) (pos n) z
+
+abbrev pub form_past : (a b c : ℤ) → Option LineFault
+form_past a b c = option_or (option_or (size_past (2 ^ 27) a) (size_past (2 ^ 27) b)) (size_past (2 ^ 38) c)
+
+abbrev pub sign_past : List ℤ → Option LineFault
+sign_past (a ∷ b ∷ c ∷ []) = form_past a b c
+sign_past zs = None
+
+-- a place that is negative, or, with so many bits from it on, past the memory: then its end is found
+abbrev pub end_past : (bits : ℕ) → (at len : ℤ) → Option LineFault
+end_past bits at len =
+    if not (le_z (pos 0) at) then Some (f.Limit kind.Place at)
+    else if le_z (at +ℤ len) (pos bits) then None
+    else Some (f.Limit kind.Place (at +ℤ len))
+
+abbrev pub place_past : (bits : ℕ) → List ℤ → Option LineFault
+place_past bits (place ∷ []) = end_past bits place (pos 1)
+place_past bits zs = None
+
+abbrev pub bit_past : (bits : ℕ) → List ℤ → Option LineFault
+bit_past bits (place ∷ v ∷ []) = option_or (end_past bits place (pos 1)) (past kind.Value (pos 0) (pos 1) v)
+bit_past bits zs = None
+
+-- the length of a field, and then its place
+abbrev pub field_past : (bits : ℕ) → (at len : ℤ) → Option LineFault
+field_past bits at len = option_or (past kind.Length (pos 1) (pos 40) len) (end_past bits at len)
+
+abbrev pub linear_past : (bits : ℕ) → List ℤ → Option LineFault
+linear_past bits (a ∷ b ∷ c ∷ at ∷ len ∷ []) = option_or (form_past a b c) (field_past bits at len)
+linear_past bits zs = None
+
+-- a constant that has more bits than its field
+abbrev pub value_past : (len number : ℤ) → Option LineFault
+value_past len number = past kind.Value (pos 0) (pos (2 ^ size_of len - 1)) number
+
+abbrev pub const_past : (bits : ℕ) → List ℤ → Option LineFault
+const_past bits (at ∷ len ∷ number ∷ []) = option_or (field_past bits at len) (value_past len number)
+const_past bits zs = None
+
+-- two fields of one length
+abbrev pub fields_past : (bits : ℕ) → (at len to : ℤ) → Option LineFault
+fields_past bits at len to = option_or (field_past bits at len) (end_past bits to len)
+
+-- two fields that share a bit: the place of the second is found
+abbrev pub overlap : (at len to : ℤ) → Option LineFault
+overlap at len to =
+    if le_z (at +ℤ len) to || le_z (to +ℤ len) at then None else Some (f.Limit kind.Overlap to)
+
+abbrev pub copy_past : (bits : ℕ) → List ℤ → Option LineFault
+copy_past bits (at ∷ len ∷ to ∷ []) = option_or (fields_past bits at len to) (overlap at len to)
+copy_past bits zs = None
+
+abbrev pub less_past : (bits : ℕ) → List ℤ → Option LineFault
+less_past bits (at ∷ len ∷ to ∷ []) = fields_past bits at len to
+less_past bits zs = None
+
+-- the first limit that a line of good form passes, in pixels of so many memory bits
+abbrev pub limit_of : (bits : ℕ) → Keyword → List ℤ → Option LineFault
+limit_of bits k.Grid zs = grid_past zs
+limit_of bits k.KeepSign zs = sign_past zs
+limit_of bits k.KeepBit zs = bit_past bits zs
+limit_of bits k.SetBit zs = bit_past bits zs
+limit_of bits k.Toggle zs = place_past bits zs
+limit_of bits k.LoadLinear zs = linear_past bits zs
+limit_of bits k.KeepAtMost zs = linear_past bits zs
+limit_of bits k.AddLinear zs = linear_past bits zs
+limit_of bits k.LoadConst zs = const_past bits zs
+limit_of bits k.Copy zs = copy_past bits zs
+limit_of bits k.KeepLess zs = less_past bits zs
+limit_of bits keyword zs = None

@@ -1,0 +1,106 @@
+-- A listing's text line by line: the first bad line, and the listing of a text that has none.
+-- Each line is judged by what is due behind the lines before it. Clauses of public calls stand on it.
+use Rattle.std.specs.Prelude.{ℕ, ℤ, pos, ◌+◌, List, [], ◌∷◌, ◌++◌, length, Bool, true, false, Option, Some, None}
+use Rattle.std.specs.List.{filter_map}
+use Rattle.px_macro.specs.declared.operation.Macro.{Macro}
+use Rattle.px_scene.specs.declared.line.Cause.{Cause}
+use Rattle.px_scene.specs.declared.line.Cause.TheVariants as c
+use Rattle.px_text.specs.Text.{Words, lines_of, worded}
+use Rattle.px_listing.specs.Keywords.{due_after, keyword_of}
+use Rattle.px_listing.specs.Limits.{limit_of}
+use Rattle.px_listing.specs.Lines.{cause_of, numbers_of}
+use Rattle.px_listing.specs.Listings.{ListingView}
+use Rattle.px_listing.specs.Operations.{operation_of, size_of}
+use Rattle.px_listing.specs.declared.keyword.Keyword.{Keyword}
+use Rattle.px_listing.specs.declared.keyword.Keyword.TheVariants as k
+use Rattle.px_listing.specs.declared.keyword.Due.{Due}
+use Rattle.px_listing.specs.declared.keyword.Due.TheVariants as d
+use Rattle.px_listing.specs.declared.limit.LineFault.{LineFault}
+use Rattle.px_listing.specs.declared.limit.LineFault.TheVariants as f
+use Rattle.px_listing.specs.declared.read.ListFault.{ListFault}
+use Rattle.px_listing.specs.declared.read.ListFault.TheVariants as fault
+
+-- the last of some, or else another
+abbrev pub last_or : {A : Type 0} → A → List A → A
+last_or a [] = a
+last_or a (x ∷ xs) = last_or x xs
+
+-- what is due behind a line that has words
+abbrev pub due_behind_line : Words → Option Due
+due_behind_line [] = None
+due_behind_line (w ∷ ws) = Some (due_after (keyword_of w))
+
+-- what is due behind lines, by the last of them that has words
+abbrev pub due_behind : List Words → Due
+due_behind lines = last_or d.Header (filter_map due_behind_line lines)
+
+abbrev pub judged : Option Cause → Option LineFault → Option LineFault
+judged (Some cause) limit = Some (f.Malformed cause)
+judged None limit = limit
+
+-- why a line is bad, where it is: its form first, and then its limits in pixels of so many memory bits
+abbrev pub fault_of : (bits : ℕ) → Due → Words → Option LineFault
+fault_of bits due [] = None
+fault_of bits due (w ∷ ws) = judged (cause_of due w ws) (limit_of bits (keyword_of w) (numbers_of ws))
+
+abbrev pub at_line : ℕ → Option LineFault → Option (ℕ × LineFault) → Option (ℕ × LineFault)
+at_line number (Some fault) later = Some (number, fault)
+at_line number None later = later
+
+-- the first bad line, counted from 1, and why it is bad
+abbrev pub first_bad : (bits : ℕ) → List Words → List Words → Option (ℕ × LineFault)
+first_bad bits before [] = None
+first_bad bits before (l ∷ ls) = at_line (length before + 1) (fault_of bits (due_behind before) l) (first_bad bits (before ++ l ∷ []) ls)
+
+-- the exponents of a grid's columns and rows
+pub record Exponents : Type 0 where
+  pub nx : ℕ
+  pub ny : ℕ
+
+abbrev pub exponents_of : Keyword → List ℤ → Option Exponents
+exponents_of k.Grid (nx ∷ ny ∷ []) = Some (record { nx = size_of nx; ny = size_of ny })
+exponents_of keyword zs = None
+
+-- what a line says of the grid
+abbrev pub grid_in : Words → Option Exponents
+grid_in [] = None
+grid_in (w ∷ ws) = exponents_of (keyword_of w) (numbers_of ws)
+
+-- the operation of a line
+abbrev pub operation_in : Words → Option Macro
+operation_in [] = None
+operation_in (w ∷ ws) = operation_of (keyword_of w) (numbers_of ws)
+
+-- stands where no line says the grid
+abbrev pub least_grid : Exponents
+least_grid = record { nx = 1; ny = 1 }
+
+-- the grid that lines say; a good text says it once
+abbrev pub grid_of : List Words → Exponents
+grid_of lines = last_or least_grid (filter_map grid_in lines)
+
+-- the listing of a text without a bad line
+abbrev pub listing_of : List Words → ListingView
+listing_of lines = record {
+  nx = (grid_of lines).nx;
+  ny = (grid_of lines).ny;
+  macros = filter_map operation_in lines;
+}
+
+abbrev pub fault_at : ℕ → LineFault → ListFault
+fault_at line (f.Malformed cause) = fault.Malformed line cause
+fault_at line (f.Limit kind found) = fault.Limit line kind found
+
+abbrev pub is_nothing : Due → Bool
+is_nothing d.Nothing = true
+is_nothing due = false
+
+-- the first bad line, or else the missing end, at the last line
+abbrev pub refused : Option (ℕ × LineFault) → Bool → ℕ → Option ListFault
+refused (Some bad) ended count = Some (fault_at bad.0 bad.1)
+refused None true count = None
+refused None false count = Some (fault.Malformed count c.MissingEnd)
+
+-- why a text is no listing for pixels of so many memory bits, where it is none
+abbrev pub refusal_of : (bits : ℕ) → List ℕ → Option ListFault
+refusal_of bits text = refused (first_bad bits [] (worded text)) (is_nothing (due_behind (worded text))) (length (lines_of text))

@@ -1,0 +1,149 @@
+//! What the lines of a listing have said so far.
+ghost use Rattle.std.specs.Prelude.{◌≡◌, ◌∷◌, [], ◌+◌, ◌≤◌, ℕ, All, IsErrOf, None, OnOk, Some, length, IfSome, is_some};
+ghost use Rattle.px_listing.specs.Drafts.{IsDraft, head_of, or_else, taken, view_of, with_line, with_operation};
+ghost use Rattle.px_listing.specs.Limits.{grid_past, limit_of};
+ghost use Rattle.px_listing.specs.Operations.{operation_of};
+ghost use Rattle.px_listing.specs.Reading.{exponents_of, fault_of, is_nothing, least_grid};
+ghost use Rattle.px_listing.specs.declared.keyword.Due.TheVariants as Due;
+ghost use Rattle.px_listing.specs.declared.keyword.Keyword.TheVariants as Keyword;
+ghost use Rattle.px_tree.specs.Nodes.{IsGrid};
+ghost use Rattle.px_listing.specs.declared.limit.LineFault.{LineFault};
+ghost use Rattle.px_macro.specs.Macros.{IsLawful};
+ghost use Rattle.px_text.specs.Text.{now_of, words_of};
+
+use crate::judge::{cause_of, numbers_of};
+use crate::keyword::{Due, Keyword, due_after, keyword_of};
+use crate::limit::{LineError, LineFault, limit_of};
+use crate::listing::Listing;
+use crate::reading::operation_of;
+use px_macro::Macro;
+use px_num::Memory;
+use px_text::words_of;
+use std::alloc::Global;
+
+/// What the lines so far have said.
+#[derive(Drop)]
+pub(crate) struct Draft {
+    due: Due,
+    nx: u32,
+    ny: u32,
+    macros: Vec<Macro>,
+}
+
+impl Draft {
+    /// What stands before the first line.
+    pub(crate) fn new(alloc: Global) -> Draft
+        ensures { view_of result ≡ record { due = Due.Header; grid = least_grid; macros = [] } }
+    {
+        Draft {
+            due: Due::Header,
+            nx: 1,
+            ny: 1,
+            macros: Vec::new(alloc),
+        }
+    }
+
+    /// Takes a line in; one without words says nothing.
+    pub(crate) fn add_line(
+        &mut self,
+        alloc: Global,
+        bits: u32,
+        line: &[u8],
+    ) -> Result<(), LineError>
+        requires bits { bits ≤ 256 }
+        ensures bad { (f : LineFault) → IsErrOf result (LineError.Bad f) →
+            fault_of bits self.old.due (words_of line.now) ≡ Some f }
+        ensures good { OnOk result (fault_of bits self.old.due (words_of line.now) ≡ None) }
+        ensures taken { OnOk result (view_of self.new ≡ taken (view_of self.old) (words_of line.now)) }
+        ensures keeps { (count : ℕ) → IsDraft bits count (view_of self.old) →
+            OnOk result (IsDraft bits (count + 1) (view_of self.new)) }
+    {
+        let words = words_of(alloc, line)?;
+        match words.as_slice() {
+            [] => Ok(()),
+            [word, arguments @ ..] => self.add(bits, word, arguments),
+        }
+    }
+
+    /// Takes a line in, by its first word and the words after it.
+    fn add(&mut self, bits: u32, word: &[u8], arguments: &[&[u8]]) -> Result<(), LineError>
+        requires bits { bits ≤ 256 }
+        ensures bad { (f : LineFault) → IsErrOf result (LineError.Bad f) →
+            fault_of bits self.old.due (word.now ∷ now_of arguments.now) ≡ Some f }
+        ensures good { OnOk result
+            (fault_of bits self.old.due (word.now ∷ now_of arguments.now) ≡ None) }
+        ensures taken { OnOk result (view_of self.new
+            ≡ taken (view_of self.old) (word.now ∷ now_of arguments.now)) }
+        ensures keeps { (count : ℕ) → IsDraft bits count (view_of self.old) →
+            OnOk result (IsDraft bits (count + 1) (view_of self.new)) }
+    {
+        let keyword = keyword_of(word);
+        if let Some(cause) = cause_of(self.due, keyword, word, arguments) {
+            return Err(LineError::Bad(LineFault::Malformed(cause)));
+        }
+        let numbers = numbers_of(arguments);
+        if let Some(fault) = limit_of(bits, keyword, numbers.as_slice()) {
+            return Err(LineError::Bad(fault));
+        }
+        self.take(bits, keyword, numbers.as_slice())?;
+        Ok(())
+    }
+
+    /// Takes in what a good line says.
+    fn take(&mut self, bits: u32, keyword: Keyword, numbers: &[i64]) -> Result<(), Memory>
+        requires bits { bits ≤ 256 }
+        requires limit { limit_of bits keyword numbers.now ≡ None }
+        ensures taken { OnOk result
+            (view_of self.new ≡ with_line keyword numbers.now (view_of self.old)) }
+        ensures lawful { IfSome (operation_of keyword numbers.now) (λ m. IsLawful m bits) }
+    {
+        self.take_operation(operation_of(bits, keyword, numbers))?;
+        self.take_grid(keyword, numbers);
+        self.due = due_after(keyword);
+        Ok(())
+    }
+
+    fn take_operation(&mut self, operation: Option<Macro>) -> Result<(), Memory>
+        ensures { OnOk result (view_of self.new ≡ record (view_of self.old) {
+          macros = with_operation operation self.old.macros.items;
+        }) }
+    {
+        if let Some(operation) = operation {
+            self.macros.push(operation)?;
+        }
+        Ok(())
+    }
+
+    fn take_grid(&mut self, keyword: Keyword, numbers: &[i64])
+        requires limit { keyword ≡ Keyword.Grid → grid_past numbers.now ≡ None }
+        ensures { view_of self.new ≡ record (view_of self.old) {
+          grid = or_else (exponents_of keyword numbers.now) (view_of self.old).grid;
+        } }
+    {
+        if let (Keyword::Grid, [nx, ny]) = (keyword, numbers) {
+            self.nx = *nx as u32;
+            self.ny = *ny as u32;
+        }
+    }
+
+    /// The listing, where the last line is the end.
+    pub(crate) fn into_listing(self) -> Option<Listing>
+        requires grid { IsGrid self.nx self.ny }
+        requires few { length self.macros.items + head_of self.due ≤ 1048577 }
+        requires lawful { All (λ m. IsLawful m 256) self.macros.items }
+        ensures ended { is_some result ≡ is_nothing self.due }
+        ensures listing { IfSome result (λ l.
+            l ≡ record { nx = self.nx; ny = self.ny; macros = self.macros.items }) }
+    {
+        let Draft {
+            due,
+            nx,
+            ny,
+            macros,
+        } = self;
+        match due {
+            Due::Nothing => Some(Listing { nx, ny, macros }),
+            Due::Header | Due::Grid | Due::Operation => None,
+        }
+    }
+}

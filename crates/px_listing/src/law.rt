@@ -1,0 +1,24 @@
+//! What holds of every listing.
+ghost use Rattle.px_listing.specs.Laws.{MemoriesShowThePlayed};
+ghost use Rattle.px_listing.specs.PassesText.{PassesAreReadBack, PlayedPassesShowThePicture};
+ghost use Rattle.px_listing.specs.RoundTrip.{TextsAreReadBack};
+
+use px_macro::laws_of_operations;
+use px_sched::laws_of_passes;
+use px_text::written_law;
+
+/// The laws of listings, for whoever writes and plays them.
+///
+/// The canonical text of a listing is read as the listing. What is printed of an array that has
+/// played a listing is what the listing's operations mean. An array that has played the passes of a
+/// scene stores the picture of the scene.
+pub fn laws_of_listings()
+    ensures read_back { TextsAreReadBack }
+    ensures printed { MemoriesShowThePlayed }
+    ensures passes { PassesAreReadBack }
+    ensures picture { PlayedPassesShowThePicture }
+{
+    written_law();
+    laws_of_operations();
+    laws_of_passes();
+}

@@ -1,0 +1,29 @@
+//! Listings: broadcasts as text, which an array plays.
+#![tactic(auto)]
+
+mod draft;
+mod judge;
+mod keyword;
+mod law;
+mod limit;
+mod line;
+mod listing;
+mod memory;
+mod operation;
+mod passes;
+mod piece;
+mod playing;
+mod read;
+mod reading;
+#[cfg(test)]
+mod tests;
+mod write;
+
+pub use law::laws_of_listings;
+pub use limit::ListKind;
+pub use listing::Listing;
+pub use memory::write_memory;
+pub use passes::write_passes;
+pub use playing::play;
+pub use read::{ListFault, read_listing};
+pub use write::write_listing;

@@ -1,0 +1,296 @@
+//! The limits of a line's numbers.
+ghost use Rattle.std.specs.Prelude.{◌≡◌, ◌≤◌, ◌^◌, ◌-◌, ◌+ℤ◌, ◌≤ℤ◌, pos, All, None};
+ghost use lib.Signed.{le_z};
+ghost use Rattle.px_listing.specs.Operations.{size_of};
+ghost use Rattle.px_num.specs.Forms.{IsWithin};
+ghost use Rattle.px_listing.specs.declared.limit.ListKind.TheVariants as Kind;
+ghost use Rattle.px_listing.specs.Limits.{
+  bit_past,
+  const_past,
+  copy_past,
+  end_past,
+  field_past,
+  fields_past,
+  form_past,
+  grid_past,
+  less_past,
+  limit_of,
+  linear_past,
+  overlap,
+  past,
+  place_past,
+  sign_past,
+  value_past,
+};
+
+use crate::keyword::Keyword;
+use px_num::{Memory, power};
+use px_scene::Cause;
+
+/// What has a limit in a listing (docs/LISTINGS.md, "Limits").
+#[derive(Clone, Copy, Debug, PartialEq, Eq)]
+pub enum ListKind {
+    Grid,
+    Coefficient,
+    Length,
+    Place,
+    Value,
+    Overlap,
+}
+
+/// A line's form is bad, or else one of its numbers passes a limit.
+#[derive(Clone, Copy, Debug, PartialEq, Eq)]
+pub(crate) enum LineFault {
+    Malformed(Cause),
+    Limit { kind: ListKind, found: i64 },
+}
+
+/// A line is bad, or memory was wanted and not given.
+#[derive(Clone, Copy, Debug, PartialEq, Eq)]
+pub(crate) enum LineError {
+    Bad(LineFault),
+    Memory,
+}
+
+impl From<Memory> for LineError {
+    ghost use Rattle.std.specs.Prelude.{◌≡◌};
+    ghost use Rattle.px_listing.specs.declared.limit.LineError.TheVariants.{Memory};
+
+    ghost from_gives = { λ _ e. e ≡ Memory };
+
+    fn from(_: Memory) -> Self {
+        LineError::Memory
+    }
+}
+
+/// The first limit that a line of good form passes, where it passes one, in pixels of so many
+/// memory bits (docs/LISTINGS.md, "Limits").
+pub(crate) fn limit_of(bits: u32, keyword: Keyword, numbers: &[i64]) -> Option<LineFault>
+    requires bits { bits ≤ 256 }
+    requires small { All (IsWithin (10 ^ 18)) numbers.now }
+    ensures { result ≡ limit_of bits keyword numbers.now }
+{
+    match keyword {
+        Keyword::Grid => grid_past(numbers),
+        Keyword::KeepSign => sign_past(numbers),
+        Keyword::KeepBit | Keyword::SetBit => bit_past(bits, numbers),
+        Keyword::Toggle => place_past(bits, numbers),
+        Keyword::LoadLinear | Keyword::KeepAtMost | Keyword::AddLinear => linear_past(
+            bits, numbers,
+        ),
+        Keyword::LoadConst => const_past(bits, numbers),
+        Keyword::Copy => copy_past(bits, numbers),
+        Keyword::KeepLess => less_past(bits, numbers),
+        Keyword::Pxlist | Keyword::All | Keyword::End | Keyword::Other => None,
+    }
+}
+
+fn past(kind: ListKind, low: i64, high: i64, found: &i64) -> Option<LineFault>
+    ensures { result ≡ past kind low high found.now }
+{
+    if low <= *found && *found <= high {
+        None
+    } else {
+        Some(LineFault::Limit {
+            kind,
+            found: *found,
+        })
+    }
+}
+
+fn grid_past(numbers: &[i64]) -> Option<LineFault>
+    ensures { result ≡ grid_past numbers.now }
+{
+    match numbers {
+        [nx, ny] => past(ListKind::Grid, 1, 9, nx).or(past(ListKind::Grid, 1, 9, ny)),
+        _ => None,
+    }
+}
+
+fn sign_past(numbers: &[i64]) -> Option<LineFault>
+    ensures { result ≡ sign_past numbers.now }
+{
+    match numbers {
+        [a, b, c] => form_past(a, b, c),
+        _ => None,
+    }
+}
+
+fn form_past(a: &i64, b: &i64, c: &i64) -> Option<LineFault>
+    ensures { result ≡ form_past a.now b.now c.now }
+{
+    past(ListKind::Coefficient, -134217728, 134217728, a)
+        .or(past(ListKind::Coefficient, -134217728, 134217728, b))
+        .or(past(ListKind::Coefficient, -274877906944, 274877906944, c))
+}
+
+fn place_past(bits: u32, numbers: &[i64]) -> Option<LineFault>
+    requires bits { bits ≤ 256 }
+    requires small { All (IsWithin (10 ^ 18)) numbers.now }
+    ensures { result ≡ place_past bits numbers.now }
+{
+    match numbers {
+        [place] => end_past(bits, place, &1),
+        _ => None,
+    }
+}
+
+/// A place that is negative, or with so many bits from it on past the memory.
+fn end_past(bits: u32, at: &i64, len: &i64) -> Option<LineFault>
+    requires bits { bits ≤ 256 }
+    requires small { IsWithin (10 ^ 18) at.now }
+    requires low { pos 1 ≤ℤ len.now }
+    requires high { len.now ≤ℤ pos 40 }
+    ensures { result ≡ end_past bits at.now len.now }
+{
+    let end = *at + *len;
+    if *at < 0 {
+        Some(LineFault::Limit {
+            kind: ListKind::Place,
+            found: *at,
+        })
+    } else if end > i64::from(bits) {
+        Some(LineFault::Limit {
+            kind: ListKind::Place,
+            found: end,
+        })
+    } else {
+        None
+    }
+}
+
+fn bit_past(bits: u32, numbers: &[i64]) -> Option<LineFault>
+    requires bits { bits ≤ 256 }
+    requires small { All (IsWithin (10 ^ 18)) numbers.now }
+    ensures { result ≡ bit_past bits numbers.now }
+{
+    match numbers {
+        [place, v] => end_past(bits, place, &1).or(past(ListKind::Value, 0, 1, v)),
+        _ => None,
+    }
+}
+
+/// The length first, and then the place.
+fn field_past(bits: u32, at: &i64, len: &i64) -> Option<LineFault>
+    requires bits { bits ≤ 256 }
+    requires small { IsWithin (10 ^ 18) at.now }
+    ensures { result ≡ field_past bits at.now len.now }
+{
+    match past(ListKind::Length, 1, 40, len) {
+        None => end_past(bits, at, len),
+        past => past,
+    }
+}
+
+fn linear_past(bits: u32, numbers: &[i64]) -> Option<LineFault>
+    requires bits { bits ≤ 256 }
+    requires small { All (IsWithin (10 ^ 18)) numbers.now }
+    ensures { result ≡ linear_past bits numbers.now }
+{
+    match numbers {
+        [a, b, c, at, len] => form_past(a, b, c).or(field_past(bits, at, len)),
+        _ => None,
+    }
+}
+
+fn const_past(bits: u32, numbers: &[i64]) -> Option<LineFault>
+    requires bits { bits ≤ 256 }
+    requires small { All (IsWithin (10 ^ 18)) numbers.now }
+    ensures { result ≡ const_past bits numbers.now }
+{
+    match numbers {
+        [at, len, number] => match field_past(bits, at, len) {
+            None => value_past(len, number),
+            past => past,
+        },
+        _ => None,
+    }
+}
+
+/// A constant that has more bits than its field.
+fn value_past(len: &i64, number: &i64) -> Option<LineFault>
+    requires good { past Kind.Length (pos 1) (pos 40) len.now ≡ None }
+    ensures { result ≡ value_past len.now number.now }
+{
+    past(ListKind::Value, 0, greatest(len), number)
+}
+
+/// The greatest number of so many bits.
+fn greatest(len: &i64) -> i64
+    requires good { past Kind.Length (pos 1) (pos 40) len.now ≡ None }
+    ensures { result ≡ pos (2 ^ size_of len.now - 1) }
+{
+    power(length_of(len)) as i64 - 1
+}
+
+fn length_of(len: &i64) -> u32
+    requires good { past Kind.Length (pos 1) (pos 40) len.now ≡ None }
+    ensures value { result ≡ size_of len.now }
+    ensures few { result ≤ 40 }
+{
+    *len as u32
+}
+
+/// The two fields of one length.
+fn fields_past(bits: u32, at: &i64, len: &i64, to: &i64) -> Option<LineFault>
+    requires bits { bits ≤ 256 }
+    requires first { IsWithin (10 ^ 18) at.now }
+    requires second { IsWithin (10 ^ 18) to.now }
+    ensures { result ≡ fields_past bits at.now len.now to.now }
+{
+    match field_past(bits, at, len) {
+        None => end_past(bits, to, len),
+        past => past,
+    }
+}
+
+fn copy_past(bits: u32, numbers: &[i64]) -> Option<LineFault>
+    requires bits { bits ≤ 256 }
+    requires small { All (IsWithin (10 ^ 18)) numbers.now }
+    ensures { result ≡ copy_past bits numbers.now }
+{
+    match numbers {
+        [at, len, to] => match fields_past(bits, at, len, to) {
+            None => overlap(at, len, to),
+            past => past,
+        },
+        _ => None,
+    }
+}
+
+/// Two fields that share a bit.
+fn overlap(at: &i64, len: &i64, to: &i64) -> Option<LineFault>
+    requires first { IsWithin (10 ^ 18) at.now }
+    requires second { IsWithin (10 ^ 18) to.now }
+    requires length { IsWithin 40 len.now }
+    ensures { result ≡ overlap at.now len.now to.now }
+{
+    if is_behind(at, len, to) || is_behind(to, len, at) {
+        None
+    } else {
+        Some(LineFault::Limit {
+            kind: ListKind::Overlap,
+            found: *to,
+        })
+    }
+}
+
+/// Whether a field ends before another place.
+fn is_behind(at: &i64, len: &i64, to: &i64) -> bool
+    requires at { IsWithin (10 ^ 18) at.now }
+    requires length { IsWithin 40 len.now }
+    ensures { result ≡ le_z (at.now +ℤ len.now) to.now }
+{
+    *at + *len <= *to
+}
+
+fn less_past(bits: u32, numbers: &[i64]) -> Option<LineFault>
+    requires bits { bits ≤ 256 }
+    requires small { All (IsWithin (10 ^ 18)) numbers.now }
+    ensures { result ≡ less_past bits numbers.now }
+{
+    match numbers {
+        [at, len, to] => fields_past(bits, at, len, to),
+        _ => None,
+    }
+}

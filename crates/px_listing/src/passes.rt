@@ -1,0 +1,85 @@
+//! Writing the passes of a scene as a listing.
+ghost use Rattle.std.specs.Prelude.{◌≡◌, ◌≤◌, ◌^◌, ◌<◌, ◌++◌, All, OnErr, OnOk, length};
+ghost use Rattle.std.specs.List.{flat_map};
+ghost use Rattle.px_io.specs.Counts.{HasCause};
+ghost use Rattle.px_io.specs.Told.{TakesAll, TakesFront};
+ghost use Rattle.px_listing.specs.Listings.{canonical_text, macro_line};
+ghost use Rattle.px_listing.specs.PassesText.{exponent_of, passes_listing};
+ghost use Rattle.px_listing.specs.Pieces.{Puts};
+ghost use Rattle.px_macro.specs.Macros.{IsLawful};
+ghost use Rattle.px_prune.specs.Kept.{plan_of};
+ghost use Rattle.px_sched.specs.Layouts.{layout_of};
+ghost use Rattle.px_sched.specs.Passes.{passes};
+
+use crate::piece::{Piece, put};
+use crate::write::{macro_line, put_end, put_first_lines};
+use px_io::{Failed, Sink};
+use px_macro::laws_of_operations;
+use px_model::{Scene, laws_of_scenes};
+use px_prune::Plan;
+use px_sched::{Cursor, Layout, laws_of_passes};
+
+/// Writes the canonical text of a scene's grid and passes (docs/LISTINGS.md, "Canonical text").
+///
+/// The plan is the one that `plan_of` gives for the scene, of at most 1024 products, and the layout
+/// that of `Layout::of`. After `Failed` a front of the text was written. The sink is not finished.
+pub fn write_passes<O: Sink>(
+    scene: &Scene,
+    plan: &Plan,
+    layout: &Layout,
+    out: &mut O,
+) -> Result<(), Failed>
+    requires products { plan.now.products.items ≡ plan_of scene.now }
+    requires few { length (plan_of scene.now) ≤ 1024 }
+    requires layout { layout.now ≡ layout_of scene.now }
+    ensures ok { OnOk result (TakesAll (O.written out.old) (O.written out.new)
+        (O.finished out.old) (O.finished out.new) (canonical_text (passes_listing scene.now))) }
+    ensures err { OnErr result (TakesFront (O.written out.old) (O.written out.new)
+        (O.finished out.old) (O.finished out.new) (canonical_text (passes_listing scene.now))) }
+    ensures cause { HasCause (O.faults out.old) (O.faults out.new) result }
+{
+    laws_of_scenes(scene);
+    laws_of_passes();
+    laws_of_operations();
+    let mut piece = Piece::new();
+    let (nx, ny) = grid_of(scene);
+    put_first_lines(out, &mut piece, nx, ny)?;
+    put_passes(scene, plan, layout, out, &mut piece)?;
+    put_end(out, &mut piece)
+}
+
+/// The exponents of a scene's grid.
+fn grid_of(scene: &Scene) -> (u32, u32)
+    ensures columns { result.0 ≡ exponent_of scene.now.width }
+    ensures rows { result.1 ≡ exponent_of scene.now.height }
+{
+    laws_of_scenes(scene);
+    scene.grid()
+}
+
+/// A line for each operation of the passes.
+fn put_passes<O: Sink>(
+    scene: &Scene,
+    plan: &Plan,
+    layout: &Layout,
+    out: &mut O,
+    piece: &mut Piece,
+) -> Result<(), Failed>
+    requires products { plan.now.products.items ≡ plan_of scene.now }
+    requires layout { layout.now ≡ layout_of scene.now }
+    requires few { length (passes scene.now) < 2 ^ 64 }
+    requires lawful { All (λ m. IsLawful m 256) (passes scene.now) }
+    ensures ok { OnOk result (Puts (O.written out.old) (O.written out.new)
+        (O.finished out.old) (O.finished out.new) piece.old.bytes
+        (flat_map macro_line (passes scene.now)) piece.new.bytes) }
+    ensures err { OnErr result (TakesFront (O.written out.old) (O.written out.new)
+        (O.finished out.old) (O.finished out.new)
+        (piece.old.bytes ++ flat_map macro_line (passes scene.now))) }
+    ensures cause { HasCause (O.faults out.old) (O.faults out.new) result }
+{
+    let mut cursor = Cursor::start();
+    while let Some(m) = cursor.next_macro(scene, plan, layout) {
+        put(out, piece, macro_line(&m).as_str())?;
+    }
+    Ok(())
+}

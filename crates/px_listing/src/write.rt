@@ -1,0 +1,84 @@
+//! Writing a listing.
+ghost use Rattle.std.specs.Prelude.{◌≡◌, ◌≤◌, pos, [], ◌∷◌, ◌++◌, codes, length, OnErr, OnOk};
+ghost use Rattle.px_io.specs.Counts.{HasCause};
+ghost use Rattle.px_io.specs.Told.{TakesAll, TakesFront};
+ghost use Rattle.px_macro.specs.Macros.{IsLawful};
+ghost use Rattle.px_listing.specs.Lines.{number_line};
+ghost use Rattle.px_listing.specs.Listings.{canonical_text, end_line, first_lines, grid_line, header_line, macro_line};
+ghost use Rattle.px_listing.specs.Pieces.{Puts};
+
+use crate::line::{Line, line_of};
+use crate::listing::Listing;
+use crate::operation::{operands_of, word_of};
+use crate::piece::{Piece, flush, put};
+use px_io::{Failed, Sink};
+use px_macro::Macro;
+
+/// Writes the canonical text of a listing (docs/LISTINGS.md, "Canonical text").
+///
+/// After `Failed` a front of it was written. The sink is not finished.
+pub fn write_listing<O: Sink>(listing: &Listing, out: &mut O) -> Result<(), Failed>
+    ensures ok { OnOk result (TakesAll (O.written out.old) (O.written out.new)
+        (O.finished out.old) (O.finished out.new) (canonical_text listing.now)) }
+    ensures err { OnErr result (TakesFront (O.written out.old) (O.written out.new)
+        (O.finished out.old) (O.finished out.new) (canonical_text listing.now)) }
+    ensures cause { HasCause (O.faults out.old) (O.faults out.new) result }
+{
+    let mut piece = Piece::new();
+    put_first_lines(out, &mut piece, listing.nx, listing.ny)?;
+    for m in listing.macros.iter() {
+        put(out, &mut piece, macro_line(m).as_str())?;
+    }
+    put_end(out, &mut piece)
+}
+
+/// The header and the grid.
+pub(crate) fn put_first_lines<O: Sink>(
+    out: &mut O,
+    piece: &mut Piece,
+    nx: u32,
+    ny: u32,
+) -> Result<(), Failed>
+    ensures ok { OnOk result (Puts (O.written out.old) (O.written out.new)
+        (O.finished out.old) (O.finished out.new) piece.old.bytes (first_lines nx ny) piece.new.bytes) }
+    ensures err { OnErr result (TakesFront (O.written out.old) (O.written out.new)
+        (O.finished out.old) (O.finished out.new) (piece.old.bytes ++ first_lines nx ny)) }
+    ensures cause { HasCause (O.faults out.old) (O.faults out.new) result }
+{
+    put(out, piece, header_line())?;
+    put(out, piece, grid_line(nx, ny).as_str())
+}
+
+#[tactic(auto, unfolding(crate::specs::Listings::header_line))]
+fn header_line() -> &'static str
+    ensures text { result.now ≡ header_line }
+    ensures short { length result.now ≤ 16 }
+{
+    "pxlist 1\n"
+}
+
+fn grid_line(nx: u32, ny: u32) -> Line
+    ensures { result.bytes ≡ grid_line nx ny }
+{
+    line_of("grid", &[i64::from(nx), i64::from(ny)])
+}
+
+/// The end of a listing, with which all of it is written.
+pub(crate) fn put_end<O: Sink>(out: &mut O, piece: &mut Piece) -> Result<(), Failed>
+    ensures ok { OnOk result (TakesAll (O.written out.old) (O.written out.new)
+        (O.finished out.old) (O.finished out.new) (piece.old.bytes ++ end_line)) }
+    ensures err { OnErr result (TakesFront (O.written out.old) (O.written out.new)
+        (O.finished out.old) (O.finished out.new) (piece.old.bytes ++ end_line)) }
+    ensures cause { HasCause (O.faults out.old) (O.faults out.new) result }
+{
+    put(out, piece, line_of("end", &[]).as_str())?;
+    flush(out, piece)
+}
+
+/// The line of an operation (docs/LISTINGS.md, "Operations").
+pub(crate) fn macro_line(m: &Macro) -> Line
+    requires lawful { IsLawful m.now 256 }
+    ensures { result.bytes ≡ macro_line m.now }
+{
+    line_of(word_of(m), operands_of(m).as_slice())
+}
