@@ -1,2 +1,9 @@
-pub mod AnswerLemmas
+pub mod DebugLemmas
 pub mod ErrLemmas
+pub mod ImageLemmas
+pub mod MeanLemmas
+pub mod OpenLemmas
+pub mod PartLemmas
+pub mod RunLemmas
+pub mod SampleLemmas
+pub mod WorkLemmas

@@ -1,16 +1,16 @@
 -- What a run leaves of the array. Clauses of public calls stand on it.
-use Rattle.std.specs.Prelude.{◌≡◌, ℕ, ◌⊎◌, List, Option, Some, None}
+use Rattle.std.specs.Prelude.{◌≡◌, ℕ, ◌⊎◌}
 use Rattle.px_array.specs.Arrays.{Device, closed, pixel_of}
 use Rattle.px_scene.specs.Scenes.{SceneView}
-use Rattle.px_scene.specs.Text.{worded}
-use Rattle.px_scene.specs.Reading.{scene_of}
 use Rattle.px_face.specs.Surfaces.{ShowsBackground}
 use Rattle.px_control.specs.Program.{IsAt, total}
 use Rattle.px_control.specs.Standing.{JobView}
 use Rattle.px_sched.specs.Layouts.{layout_of}
 use Rattle.px_sched.specs.PassesLaw.{ShowsThePicture}
-use Rattle.px_draw.specs.declared.command.Command.{Command}
-use Rattle.px_draw.specs.declared.command.Command.TheVariants as c
+use Rattle.px_refine.specs.Finer.{fine_scene}
+use Rattle.px_draw.specs.Refining.{doublings}
+use Rattle.px_draw.specs.declared.command.Work.{Work}
+use Rattle.px_draw.specs.declared.command.Work.TheVariants as w
 use Rattle.px_draw.specs.declared.status.Status.{Status}
 use Rattle.px_draw.specs.declared.status.Status.TheVariants as status
 
@@ -30,20 +30,16 @@ pub record IsFinished (before now : JobView) : Type 0 where
 abbrev pub IsKeptOrClosed : (before now : Device) → Type 0
 IsKeptOrClosed before now = (now ≡ before) ⊎ (now ≡ closed)
 
--- what a command that draws leaves of the array: the drawn scene, also where it could not be written, and else the array as before
+-- what is left of the array where a scene is drawn: the drawn scene, also where it could not be written, and else the array as before
 abbrev pub Draws : Status → (bits : ℕ) → SceneView → (before now : Device) → Type 0
 Draws status.Done bits scene before now = IsDrawn bits scene now
 Draws status.WriteFault bits scene before now = IsDrawn bits scene now
 Draws status.Memory bits scene before now = IsKeptOrClosed before now
 Draws status bits scene before now = now ≡ before
 
--- what a command leaves of the array: every one but those that draw leaves it as before, whatever the status
-abbrev pub Leaves : Command → Status → (bits : ℕ) → SceneView → (before now : Device) → Type 0
-Leaves c.Render status bits scene before now = Draws status bits scene before now
-Leaves c.Colour status bits scene before now = Draws status bits scene before now
-Leaves command status bits scene before now = now ≡ before
-
--- what a run leaves of the array, where its input is these bytes
-abbrev pub LeavesArray : Option Command → Status → (bits : ℕ) → (bytes : List ℕ) → (before now : Device) → Type 0
-LeavesArray None status bits bytes before now = now ≡ before
-LeavesArray (Some command) status bits bytes before now = Leaves command status bits (scene_of (worded bytes)) before now
+-- what is left of the array: all but what draws leaves it as before, whatever the status
+abbrev pub LeavesArray : Work → Status → (bits : ℕ) → SceneView → (before now : Device) → Type 0
+LeavesArray w.Render status bits scene before now = Draws status bits scene before now
+LeavesArray w.Colour status bits scene before now = Draws status bits scene before now
+LeavesArray (w.Refine fineness) status bits scene before now = Draws status bits (fine_scene (doublings fineness) scene) before now
+LeavesArray work status bits scene before now = now ≡ before

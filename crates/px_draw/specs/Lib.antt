@@ -2,9 +2,17 @@ pub use Rattle.px_face.specs.Surfaces
 pub mod Arrays
 pub mod Commands
 pub mod CostText
+pub mod Countings
+pub mod Debugs
 pub mod Notes
 pub mod Outcomes
 pub mod Plans
+pub mod Refining
+pub mod Refusals
 pub mod Runs
+pub mod Samples
 pub mod Statuses
+pub mod Sittings
 pub mod Stops
+pub mod Untouched
+pub mod Works

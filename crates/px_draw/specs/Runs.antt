@@ -4,23 +4,50 @@ use Rattle.std.specs.Io.KnownBytes.{Appends, Keeps}
 use Rattle.px_io.specs.Counts.{Rose, Still}
 use Rattle.px_io.specs.Told.{ConsumesAtMost, TakesFront, Tells}
 use Rattle.px_array.specs.Arrays.{Device}
+use Rattle.px_scene.specs.Text.{worded}
+use Rattle.px_scene.specs.Reading.{scene_of}
 use Rattle.px_scene.specs.declared.line.Cause.{Cause}
-use Rattle.px_scene.specs.declared.line.LimitKind.{LimitKind}
-use Rattle.px_scene.specs.declared.read.SceneFault.TheVariants as f
+use Rattle.px_draw.specs.declared.command.Command.{Command}
+use Rattle.px_draw.specs.declared.command.Command.TheVariants as c
+use Rattle.px_draw.specs.declared.command.Work.{Work}
+use Rattle.px_draw.specs.declared.refusal.Kind.{Kind}
+use Rattle.px_draw.specs.declared.refusal.Refusal.TheVariants as r
 use Rattle.px_draw.specs.declared.status.Status.{Status}
 use Rattle.px_draw.specs.declared.status.Status.TheVariants as status
-use Rattle.px_draw.specs.Arrays.{LeavesArray}
+use Rattle.px_draw.specs.Arrays.{Draws, LeavesArray}
 use Rattle.px_draw.specs.Commands.{command_of}
-use Rattle.px_draw.specs.Outcomes.{Outcome, usage, refused, done, outcome, output}
+use Rattle.px_draw.specs.Outcomes.{Outcome, usage, refused, cut, done, output, refusal}
 use Rattle.px_draw.specs.Notes.{note}
+use Rattle.px_draw.specs.Debugs.{LeavesSession, debugged}
+use Rattle.px_draw.specs.Samples.{sample_scene, sampled}
+use Rattle.px_draw.specs.Untouched.{IsUntouched}
+use Rattle.px_draw.specs.Works.{worked_out}
+
+-- what a command answers, where these are the bytes of its input
+abbrev pub commanded : Option Command → (bytes : List ℕ) → (bits : ℕ) → Outcome
+commanded None bytes bits = usage
+commanded (Some (c.Make work)) bytes bits = worked_out work bytes bits
+commanded (Some c.Debug) bytes bits = debugged bytes bits
+commanded (Some (c.Sample n)) bytes bits = sampled n bits
+
+-- what these words answer
+abbrev pub outcome : (words : List (List ℕ)) → (bytes : List ℕ) → (bits : ℕ) → Outcome
+outcome words bytes bits = commanded (command_of words) bytes bits
 
 -- the outcome of a text that is refused by its form
 abbrev pub IsMalformed : Outcome → Type 0
-IsMalformed o = (line : ℕ) × (cause : Cause) × (o ≡ refused (f.Malformed line cause))
+IsMalformed o = (line : ℕ) × (cause : Cause) × (refusal o ≡ Some (r.Malformed line cause))
 
 -- the outcome of a text that passes a limit
 abbrev pub IsPastLimit : Outcome → Type 0
-IsPastLimit o = (line : ℕ) × (kind : LimitKind) × (found : ℤ) × (o ≡ refused (f.Limit line kind found))
+IsPastLimit o = (line : ℕ) × (kind : Kind) × (found : ℤ) × (refusal o ≡ Some (r.Limit line kind found))
+
+-- there is an output to write
+abbrev pub HasOutput : Outcome → Type 0
+HasOutput usage = ⊥
+HasOutput (refused reason) = ⊥
+HasOutput (cut bytes reason) = ⊤
+HasOutput (done bytes) = ⊤
 
 -- the status is the outcome's, where it is not a read fault's or the want of memory
 abbrev pub IsStatusOf : Status → Outcome → Type 0
@@ -29,7 +56,7 @@ IsStatusOf status.Usage o = o ≡ usage
 IsStatusOf status.Malformed o = IsMalformed o
 IsStatusOf status.Limit o = IsPastLimit o
 IsStatusOf status.ReadFault o = ⊤
-IsStatusOf status.WriteFault o = o ≡ done (output o)
+IsStatusOf status.WriteFault o = HasOutput o
 IsStatusOf status.Memory o = ⊤
 
 -- the output was written and finished, or a front of it that is not finished where a write failed, or nothing
@@ -40,6 +67,30 @@ Wrote status.WriteFault bytes written_old written_new finished_old finished_new 
     TakesFront written_old written_new finished_old finished_new bytes
 Wrote status bytes written_old written_new finished_old finished_new =
     Keeps written_old written_new × (finished_new ≡ finished_old)
+
+-- what is written, and what is left of the array, where something is made of a scene
+pub record LeavesWork (work : Work) (found : Status) (bits : ℕ) (bytes : List ℕ)
+    (written_old written_new : Option (List ℕ)) (finished_old finished_new : Option Bool) (before now : Device) : Type 0 where
+  pub wrote : Wrote found (output (worked_out work bytes bits)) written_old written_new finished_old finished_new
+  pub array : LeavesArray work found bits (scene_of (worded bytes)) before now
+
+-- what is written, and what is left of the array, where the sample of so many blocks is drawn
+pub record LeavesSample (n : ℕ) (found : Status) (bits : ℕ)
+    (written_old written_new : Option (List ℕ)) (finished_old finished_new : Option Bool) (before now : Device) : Type 0 where
+  pub wrote : Wrote found (output (sampled n bits)) written_old written_new finished_old finished_new
+  pub array : Draws found bits (sample_scene n) before now
+
+-- what is written, and what is left of the array, by the command, where these are the bytes of the input, and of them those taken
+abbrev pub Leaves : Option Command → (found : Status) → (bits : ℕ) → (bytes taken : List ℕ)
+    → (written_old written_new : Option (List ℕ)) → (finished_old finished_new : Option Bool) → (before now : Device) → Type 0
+Leaves None found bits bytes taken written_old written_new finished_old finished_new before now =
+    IsUntouched written_old written_new finished_old finished_new before now
+Leaves (Some (c.Make work)) found bits bytes taken written_old written_new finished_old finished_new before now =
+    LeavesWork work found bits bytes written_old written_new finished_old finished_new before now
+Leaves (Some c.Debug) found bits bytes taken written_old written_new finished_old finished_new before now =
+    LeavesSession found bits bytes taken written_old written_new finished_old finished_new before now
+Leaves (Some (c.Sample n)) found bits bytes taken written_old written_new finished_old finished_new before now =
+    LeavesSample n found bits written_old written_new finished_old finished_new before now
 
 -- a line was written whole, and then the notes were finished
 abbrev pub IsWhole : List ℕ → (written_old written_new : Option (List ℕ)) (finished_new : Option Bool) → Type 0
@@ -60,17 +111,21 @@ IsNoted status.Done line written_old written_new finished_old finished_new fault
 IsNoted status line written_old written_new finished_old finished_new faults_old faults_new =
     IsTold line written_old written_new finished_old finished_new faults_old faults_new
 
--- a run of these words over an input of these bytes, on an array with pixels of so many bits: its status, what it wrote to
--- the output and to the notes, and what it left of the array
-pub record IsRunOf (words : List (List ℕ)) (bytes : List ℕ) (bits : ℕ) (found : Status)
+-- where an input tells its bytes, it is these
+abbrev pub IsInput : Option (List ℕ) → List ℕ → Type 0
+IsInput None bytes = ⊤
+IsInput (Some known) bytes = bytes ≡ known
+
+-- a run of these words over an input of these bytes, of which some were taken, on an array with pixels of so many bits: its
+-- status, what it wrote to the output and to the notes, and what it left of the array
+pub record IsRunOf (words : List (List ℕ)) (bytes taken : List ℕ) (bits : ℕ) (found : Status)
     (written_old written_new : Option (List ℕ)) (finished_old finished_new : Option Bool)
     (noted_old noted_new : Option (List ℕ)) (closed_old closed_new : Option Bool) (faults_old faults_new : ℕ)
     (before now : Device) : Type 0 where
   pub status : IsStatusOf found (outcome words bytes bits)
-  pub wrote : Wrote found (output (outcome words bytes bits)) written_old written_new finished_old finished_new
+  pub leaves : Leaves (command_of words) found bits bytes taken written_old written_new finished_old finished_new before now
   pub noted : IsNoted found (note found (outcome words bytes bits)) noted_old noted_new closed_old closed_new
       faults_old faults_new
-  pub array : LeavesArray (command_of words) found bits bytes before now
 
 -- a fault's status comes only where the count of its end rose, and every other leaves the counts
 pub record HasRisen (found : Status) (input_old input_new out_old out_new : ℕ) : Type 0 where
@@ -84,9 +139,15 @@ abbrev pub IsRestBehind : Option (List ℕ) → Option (List ℕ) → Type 0
 IsRestBehind None new = ⊤
 IsRestBehind (Some bytes) new = new ≡ Some (drop 1048577 bytes)
 
--- the bytes that were taken: all of them, or the first past the limit of a text; none for other words; at most as many where reading failed or memory
-abbrev pub Took : Status → Option (List ℕ) → Option (List ℕ) → Type 0
-Took status.Usage old new = new ≡ old
-Took status.ReadFault old new = ConsumesAtMost old new 1048577
-Took status.Memory old new = ConsumesAtMost old new 1048577
-Took status old new = IsRestBehind old new
+-- a whole text was taken, or its first bytes up to one past the limit of a text; at most as many where reading failed or memory
+abbrev pub TookText : Status → Option (List ℕ) → Option (List ℕ) → Type 0
+TookText status.ReadFault old new = ConsumesAtMost old new 1048577
+TookText status.Memory old new = ConsumesAtMost old new 1048577
+TookText status old new = IsRestBehind old new
+
+-- the bytes that were taken, by the command
+abbrev pub Took : Option Command → Status → Option (List ℕ) → Option (List ℕ) → Type 0
+Took None found old new = new ≡ old
+Took (Some (c.Make work)) found old new = TookText found old new
+Took (Some c.Debug) found old new = ConsumesAtMost old new 1048577
+Took (Some (c.Sample n)) found old new = new ≡ old

@@ -1,26 +1,29 @@
 -- What a piece of the work says by its result. Only proofs and private functions stand on it.
 use Rattle.std.specs.Prelude.{ℕ, ◌≡◌, ◌≢◌, List, Bool, true, ⊤, Option, Some, Result, Ok, Err}
-use Rattle.std.specs.Io.KnownBytes.{Appends, Keeps}
+use Rattle.std.specs.Io.KnownBytes.{Appends, Consumes, Keeps}
 use Rattle.px_io.specs.Counts.{Rose}
-use Rattle.px_io.specs.Told.{ConsumesAtMost, TakesFront, Tells}
+use Rattle.px_io.specs.Told.{TakesFront, Tells}
 use Rattle.px_array.specs.Arrays.{Device}
-use Rattle.px_scene.specs.declared.read.SceneFault.TheVariants as f
-use Rattle.px_scene.specs.Refusals.{refusal_of}
+use Rattle.px_scene.specs.Text.{worded}
+use Rattle.px_scene.specs.Reading.{scene_of}
 use Rattle.px_draw.specs.declared.command.Command.{Command}
-use Rattle.px_draw.specs.declared.note.Stop.{Stop}
-use Rattle.px_draw.specs.declared.note.Stop.TheVariants as s
+use Rattle.px_draw.specs.declared.command.Work.{Work}
+use Rattle.px_draw.specs.declared.refusal.Refusal.TheVariants as r
+use Rattle.px_draw.specs.declared.stop.Stop.{Stop}
+use Rattle.px_draw.specs.declared.stop.Stop.TheVariants as s
 use Rattle.px_draw.specs.declared.status.Status.{Status}
 use Rattle.px_draw.specs.declared.status.Status.TheVariants as status
 use Rattle.px_draw.specs.Arrays.{LeavesArray}
-use Rattle.px_draw.specs.Notes.{fault_line, memory_line, read_fault_line, usage_line, write_fault_line}
-use Rattle.px_draw.specs.Outcomes.{Outcome, usage, refused, done, commanded, output}
-use Rattle.px_draw.specs.Runs.{IsRestBehind}
+use Rattle.px_draw.specs.Notes.{memory_line, note, read_fault_line, refusal_line, usage_line, write_fault_line}
+use Rattle.px_draw.specs.Outcomes.{Outcome, usage, refused, done, output}
+use Rattle.px_draw.specs.Refusals.{text_refusal}
+use Rattle.px_draw.specs.Runs.{IsInput, IsStatusOf, Leaves, commanded}
+use Rattle.px_draw.specs.Works.{worked_out}
 
 abbrev pub status_of : Stop → Status
 status_of s.Usage = status.Usage
-status_of (s.Refused (f.Malformed line cause)) = status.Malformed
-status_of (s.Refused (f.Limit line kind found)) = status.Limit
-status_of (s.Refused f.Memory) = status.Memory
+status_of (s.Refused (r.Malformed line cause)) = status.Malformed
+status_of (s.Refused (r.Limit line kind found)) = status.Limit
 status_of s.ReadFault = status.ReadFault
 status_of s.WriteFault = status.WriteFault
 status_of s.Memory = status.Memory
@@ -33,17 +36,32 @@ status_in (Err stop) = status_of stop
 -- the line of a stop
 abbrev pub note_of : Stop → List ℕ
 note_of s.Usage = usage_line
-note_of (s.Refused fault) = fault_line fault
+note_of (s.Refused reason) = refusal_line reason
 note_of s.ReadFault = read_fault_line
 note_of s.WriteFault = write_fault_line
 note_of s.Memory = memory_line
+
+-- the line of a stop is the one that its status tells of an outcome
+abbrev pub IsLineOf : Result (Unit {0}) Stop → Outcome → Type 0
+IsLineOf (Ok u) o = ⊤
+IsLineOf (Err stop) o = note_of stop ≡ note (status_of stop) o
+
+-- what a command does, where these are the bytes of its input, and of them those taken
+pub record Performs (result : Result (Unit {0}) Stop) (command : Option Command) (bits : ℕ) (known_old known_new : Option (List ℕ))
+    (written_old written_new : Option (List ℕ)) (finished_old finished_new : Option Bool) (before now : Device) : Type 0 where
+  pub bytes : List ℕ
+  pub taken : List ℕ
+  pub input : IsInput known_old bytes
+  pub consumed : Consumes known_old known_new taken
+  pub status : IsStatusOf (status_in result) (commanded command bytes bits)
+  pub line : IsLineOf result (commanded command bytes bits)
+  pub leaves : Leaves command (status_in result) bits bytes taken written_old written_new finished_old finished_new before now
 
 -- the answer is the outcome's, where it is not a fault's or the want of memory
 abbrev pub Meets : Result (Unit {0}) Stop → Outcome → Type 0
 Meets (Ok u) o = o ≡ done (output o)
 Meets (Err s.Usage) o = o ≡ usage
-Meets (Err (s.Refused f.Memory)) o = ⊤
-Meets (Err (s.Refused fault)) o = o ≡ refused fault
+Meets (Err (s.Refused reason)) o = o ≡ refused reason
 Meets (Err s.ReadFault) o = ⊤
 Meets (Err s.WriteFault) o = o ≡ done (output o)
 Meets (Err s.Memory) o = ⊤
@@ -73,20 +91,12 @@ pub record Serves (result : Result (Unit {0}) Stop) (o : Outcome)
   pub worded : result ≢ Err s.Usage
   pub reads : result ≢ Err s.ReadFault
 
--- what the whole work does, where these bytes were read
-pub record Answers (result : Result (Unit {0}) Stop) (command : Option Command) (bytes : List ℕ) (bits : ℕ)
+-- what is made of a scene, where these bytes were read
+pub record WorksOn (result : Result (Unit {0}) Stop) (work : Work) (bytes : List ℕ) (bits : ℕ)
     (written_old written_new : Option (List ℕ)) (finished_old finished_new : Option Bool) (before now : Device) : Type 0 where
-  pub meets : Meets result (commanded command bytes bits)
-  pub writes : Writes result (commanded command bytes bits) written_old written_new finished_old finished_new
-  pub array : LeavesArray command (status_in result) bits bytes before now
-
--- the bytes that were taken: all of them, or the first past the limit of a text; after a failure at most as many
-abbrev pub Takes : Result (Unit {0}) Stop → Option (List ℕ) → Option (List ℕ) → Type 0
-Takes (Err s.Usage) old new = new ≡ old
-Takes (Err s.ReadFault) old new = ConsumesAtMost old new 1048577
-Takes (Err s.Memory) old new = ConsumesAtMost old new 1048577
-Takes (Err (s.Refused f.Memory)) old new = ConsumesAtMost old new 1048577
-Takes result old new = IsRestBehind old new
+  pub meets : Meets result (worked_out work bytes bits)
+  pub writes : Writes result (worked_out work bytes bits) written_old written_new finished_old finished_new
+  pub array : LeavesArray work (status_in result) bits (scene_of (worded bytes)) before now
 
 -- why a text was not read
 abbrev pub IsReadStop : Stop → ℕ → ℕ → Type 0
@@ -96,13 +106,13 @@ IsReadStop stop old new = ⊥
 
 -- why a text is no scene
 abbrev pub IsTextStop : Stop → List ℕ → Type 0
-IsTextStop (s.Refused fault) text = refusal_of text ≡ Some fault
+IsTextStop (s.Refused reason) text = text_refusal text ≡ Some reason
 IsTextStop s.Memory text = ⊤
 IsTextStop stop text = ⊥
 
 -- why a scene was not served: by what it is, or for want of memory
 abbrev pub IsSceneStop : Stop → Type 0
-IsSceneStop (s.Refused fault) = ⊤
+IsSceneStop (s.Refused reason) = ⊤
 IsSceneStop s.Memory = ⊤
 IsSceneStop stop = ⊥
 

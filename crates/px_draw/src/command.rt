@@ -1,10 +1,37 @@
 //! The words of the command line.
-ghost use Rattle.std.specs.Prelude.{◌≡◌, map, string_bytes};
-ghost use Rattle.px_draw.specs.Commands.{command_of, word_of};
+ghost use Rattle.std.specs.Prelude.{◌≡◌, ◌-◌, ◌≤◌, IfSome, map, string_bytes};
+ghost use Rattle.std.specs.List.{list_all};
+ghost use Rattle.px_draw.specs.Commands.{
+  HasBlocks,
+  command_of,
+  fineness_of,
+  is_count,
+  is_digit,
+  count_in,
+  of_one,
+  of_two,
+  refining,
+  sample_of,
+};
+ghost use Rattle.px_draw.specs.Refining.{doublings};
+
+/// The most blocks of a sample.
+const MOST_BLOCKS: u32 = 200;
 
 /// What the program is asked to do.
 #[derive(Clone, Copy, Debug, PartialEq, Eq)]
 pub(crate) enum Command {
+    /// Makes something of the scene that is the whole input.
+    Make(Work),
+    /// Answers command lines in a session over the scene before them.
+    Debug,
+    /// Draws the sample of so many blocks, 1 to 200, and prints four numbers of it.
+    Sample(u32),
+}
+
+/// What is made of a scene.
+#[derive(Clone, Copy, Debug, PartialEq, Eq)]
+pub(crate) enum Work {
     /// Draws the depth image and the face image.
     Render,
     /// Draws the colour image.
@@ -15,33 +42,148 @@ pub(crate) enum Command {
     Plan,
     /// Prints how many operations and clocks the scene takes.
     Cost,
+    /// Draws the finer scene, and one colour image of means over it.
+    Refine(Fineness),
+}
+
+/// How many finer pixels stand along each side of a pixel.
+#[derive(Clone, Copy, Debug, PartialEq, Eq)]
+pub(crate) enum Fineness {
+    Two,
+    Four,
+}
+
+impl Fineness {
+    /// How often the pixels on each side are doubled.
+    pub(crate) fn doublings(self) -> u32
+        ensures { result ≡ doublings self }
+    {
+        match self {
+            Fineness::Two => 1,
+            Fineness::Four => 2,
+        }
+    }
 }
 
 /// The command of these words, where they name one.
 pub(crate) fn command_of(words: &[String]) -> Option<Command>
-    ensures { result ≡ command_of (map string_bytes words.now) }
+    ensures command { result ≡ command_of (map string_bytes words.now) }
+    ensures blocks { IfSome result HasBlocks }
 {
     match words {
-        [] => Some(Command::Render),
-        [word] => word_of(word.as_bytes()),
-        [_, _, ..] => None,
+        [] => Some(Command::Make(Work::Render)),
+        [word] => of_one(word.as_bytes()),
+        [word, argument] => of_two(word.as_bytes(), argument.as_bytes()),
+        [_, _, _, ..] => None,
     }
 }
 
-fn word_of(word: &[u8]) -> Option<Command>
-    ensures { result ≡ word_of word.now }
+fn of_one(word: &[u8]) -> Option<Command>
+    ensures command { result ≡ of_one word.now }
+    ensures blocks { IfSome result HasBlocks }
 {
     if word == b"render".as_slice() {
-        Some(Command::Render)
+        Some(Command::Make(Work::Render))
     } else if word == b"colour".as_slice() {
-        Some(Command::Colour)
+        Some(Command::Make(Work::Colour))
     } else if word == b"tidy".as_slice() {
-        Some(Command::Tidy)
+        Some(Command::Make(Work::Tidy))
     } else if word == b"plan".as_slice() {
-        Some(Command::Plan)
+        Some(Command::Make(Work::Plan))
     } else if word == b"cost".as_slice() {
-        Some(Command::Cost)
+        Some(Command::Make(Work::Cost))
+    } else if word == b"debug".as_slice() {
+        Some(Command::Debug)
     } else {
         None
+    }
+}
+
+fn of_two(word: &[u8], argument: &[u8]) -> Option<Command>
+    ensures command { result ≡ of_two word.now argument.now }
+    ensures blocks { IfSome result HasBlocks }
+{
+    if word == b"sample".as_slice() && is_count(argument) {
+        sample_of(count_in(argument))
+    } else if word == b"refine".as_slice() {
+        refining(fineness_of(argument))
+    } else {
+        None
+    }
+}
+
+/// Whether a word is of digits, of which the first is not 0.
+fn is_count(word: &[u8]) -> bool
+    ensures { result ≡ is_count word.now }
+{
+    match word {
+        [] => false,
+        [first, ..] => *first != b'0' && are_digits(word),
+    }
+}
+
+fn are_digits(word: &[u8]) -> bool
+    ensures { result ≡ list_all is_digit word.now }
+{
+    word.iter().all(|b| is_digit(*b))
+}
+
+fn is_digit(b: u8) -> bool
+    ensures { result ≡ is_digit b }
+{
+    b'0' <= b && b <= b'9'
+}
+
+/// The number that one to three digits write.
+fn count_in(digits: &[u8]) -> Option<u32>
+    ensures { result ≡ count_in digits.now }
+{
+    match digits {
+        [] => None,
+        [one] => Some(digit(*one)),
+        [ten, one] => Some(10 * digit(*ten) + digit(*one)),
+        [hundred, ten, one] => Some(100 * digit(*hundred) + 10 * digit(*ten) + digit(*one)),
+        [_, _, _, _, ..] => None,
+    }
+}
+
+fn digit(b: u8) -> u32
+    ensures value { result ≡ b - 48 }
+    ensures small { result ≤ 255 }
+{
+    u32::from(b.saturating_sub(b'0'))
+}
+
+/// The sample of so many blocks, where there is one.
+fn sample_of(number: Option<u32>) -> Option<Command>
+    ensures command { result ≡ sample_of number }
+    ensures blocks { IfSome result HasBlocks }
+{
+    match number {
+        Some(n) if 1 <= n && n <= MOST_BLOCKS => Some(Command::Sample(n)),
+        _ => None,
+    }
+}
+
+fn fineness_of(word: &[u8]) -> Option<Fineness>
+    ensures { result ≡ fineness_of word.now }
+{
+    if word == b"2".as_slice() {
+        Some(Fineness::Two)
+    } else if word == b"4".as_slice() {
+        Some(Fineness::Four)
+    } else {
+        None
+    }
+}
+
+/// The refinement of this fineness, where there is one.
+fn refining(fineness: Option<Fineness>) -> Option<Command>
+    ensures command { result ≡ refining fineness }
+    ensures blocks { IfSome result HasBlocks }
+{
+    match fineness {
+        Some(fineness) => Some(Command::Make(Work::Refine(fineness))),
+        None => None,
     }
 }

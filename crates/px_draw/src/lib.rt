@@ -4,12 +4,17 @@
 
 mod command;
 mod cost;
+mod debug;
 mod make;
 mod note;
 mod plan;
+mod refine;
+mod refusal;
 mod render;
 mod running;
+mod sample;
 mod status;
+mod stop;
 
 pub use render::deliver;
 pub use running::run;

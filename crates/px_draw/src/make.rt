@@ -1,88 +1,144 @@
-//! What each command makes of a scene.
-ghost use Rattle.std.specs.Prelude.{◌≡◌, ◌≤◌, ◌^◌, IfErr, IfOk, OnErr, OnOk, length, pos, true, None};
-ghost use Rattle.std.specs.Io.KnownBytes.{Appends};
+//! What is made of the scene that is the whole input.
+ghost use Rattle.std.specs.Prelude.{◌≡◌, ◌≢◌, ◌≤◌, IfErr, IfOk, OnErr, OnOk, Err, Some, None, length, true};
+ghost use Rattle.std.specs.Io.KnownBytes.{Appends, Consumes};
 ghost use Rattle.px_io.specs.Counts.{HasCause};
-ghost use Rattle.px_io.specs.Told.{TakesFront, Tells};
+ghost use Rattle.px_io.specs.Told.{ConsumesAtMost, IsFrontOf, TakesFront, Tells};
+ghost use Rattle.px_scene.specs.Reading.{scene_of};
+ghost use Rattle.px_scene.specs.Text.{worded};
 ghost use Rattle.px_prune.specs.Kept.{crowd_of, plan_of};
 ghost use Rattle.px_control.specs.Program.{IsAt};
 ghost use Rattle.px_draw.specs.declared.command.Command.{Command};
-ghost use Rattle.px_draw.specs.Arrays.{Draws, Leaves};
-ghost use Rattle.px_draw.specs.Outcomes.{Outcome, done, drawable, made, planned, tidied};
-ghost use Rattle.px_draw.specs.Outcomes.{within_products};
-ghost use Rattle.px_draw.specs.Stops.{Serves, StopsAt, status_in, status_of};
+ghost use Rattle.px_draw.specs.declared.command.Work.{Work};
+ghost use Rattle.px_draw.specs.declared.stop.Stop.{Stop};
+ghost use Rattle.px_draw.specs.Arrays.{Draws, LeavesArray};
+ghost use Rattle.px_draw.specs.Outcomes.{Outcome, done, drawable, within_products};
+ghost use Rattle.px_draw.specs.Refusals.{text_refusal};
+ghost use Rattle.px_draw.specs.Runs.{IsRestBehind, Took};
+ghost use Rattle.px_draw.specs.Stops.{HasCauses, IsReadStop, IsTextStop, Performs, Serves, StopsAt};
+ghost use Rattle.px_draw.specs.Stops.{status_in, status_of};
+ghost use Rattle.px_draw.specs.Works.{images, made, planned, tidied};
 
-use crate::command::Command;
+use crate::command::Work;
 use crate::cost::cost_text;
-use crate::note::Stop;
 use crate::plan::plan_text;
-use crate::render::{deliver, deliver_colour};
+use crate::refine::make_refined;
+use crate::refusal::{Kind, Refusal, short_of_bits, too_many};
+use crate::render::deliver_images;
+use crate::stop::Stop;
 use arrayvec::ArrayString;
 use px_array::Array;
 use px_control::{Job, JobFault, cost};
-use px_io::{Failed, Sink, write_whole};
+use px_frame::Plane;
+use px_io::{Failed, ReadError, Sink, Source, read_whole, write_whole};
 use px_normal::{NormalFault, count_products};
 use px_prune::{Plan, plan_of};
-use px_scene::{LimitKind, Scene, SceneFault, write_scene};
+use px_scene::{Scene, SceneFault, read_scene, write_scene};
 use px_sched::{Layout, NeedBits};
 use std::alloc::Global;
 
-/// Does with a scene what the command asks.
-pub(crate) fn make<O: Sink, A: Array>(
-    command: Command,
+/// One byte more than a text may have.
+pub(crate) const READ_LIMIT: usize = 1_048_577;
+
+/// Reads the input to its end, and makes of its scene what is wanted.
+pub(crate) fn make_of_input<S: Source, O: Sink, A: Array>(
+    work: Work,
+    alloc: Global,
+    input: &mut S,
+    out: &mut O,
+    array: &mut A,
+) -> Result<(), Stop>
+    requires bits { A.BITS ≤ 256 }
+    ensures performs { Performs result (Some (Command.Make work)) A.BITS
+        (S.rest input.old) (S.rest input.new) (O.written out.old) (O.written out.new)
+        (O.finished out.old) (O.finished out.new) (A.device array.old) (A.device array.new) }
+    ensures causes { HasCauses result (S.faults input.old) (S.faults input.new) (O.faults out.old)
+        (O.faults out.new) }
+    ensures took { Took (Some (Command.Make work)) (status_in result)
+        (S.rest input.old) (S.rest input.new) }
+    ensures worded { result ≢ Err Stop.Usage }
+{
+    let text = read_text(alloc, input)?;
+    let scene = scene_in(alloc, text.as_slice())?;
+    make(work, alloc, &scene, out, array)
+}
+
+/// The input to its end, or to one byte past the limit of a text.
+pub(crate) fn read_text<S: Source>(alloc: Global, input: &mut S) -> Result<Vec<u8>, Stop>
+    ensures front { IfOk result (λ v. IsFrontOf (S.rest input.old) 1048577 v.items) }
+    ensures taken { IfOk result (λ v. Consumes (S.rest input.old) (S.rest input.new) v.items) }
+    ensures rest { OnOk result (IsRestBehind (S.rest input.old) (S.rest input.new)) }
+    ensures most { ConsumesAtMost (S.rest input.old) (S.rest input.new) 1048577 }
+    ensures calm { OnOk result (S.faults input.new ≡ S.faults input.old) }
+    ensures err { IfErr result (λ stop.
+        IsReadStop stop (S.faults input.old) (S.faults input.new)) }
+{
+    match read_whole(alloc, input, READ_LIMIT) {
+        Ok(text) => Ok(text),
+        Err(ReadError::Failed) => Err(Stop::ReadFault),
+        Err(ReadError::Memory) => Err(Stop::Memory),
+    }
+}
+
+/// The scene that a text writes.
+pub(crate) fn scene_in(alloc: Global, text: &[u8]) -> Result<Scene, Stop>
+    ensures ok { IfOk result (λ scene.
+        (text_refusal text.now ≡ None) × (scene ≡ scene_of (worded text.now))) }
+    ensures err { IfErr result (λ stop. IsTextStop stop text.now) }
+{
+    match read_scene(alloc, text) {
+        Ok(scene) => Ok(scene),
+        Err(SceneFault::Malformed { line, cause }) => {
+            Err(Stop::Refused(Refusal::Malformed { line, cause }))
+        }
+        Err(SceneFault::Limit { line, kind, found }) => {
+            let kind = Kind::Scene(kind);
+            Err(Stop::Refused(Refusal::Limit { line, kind, found }))
+        }
+        Err(SceneFault::Memory) => Err(Stop::Memory),
+    }
+}
+
+/// Makes of a scene what is wanted.
+fn make<O: Sink, A: Array>(
+    work: Work,
     alloc: Global,
     scene: &Scene,
     out: &mut O,
     array: &mut A,
 ) -> Result<(), Stop>
     requires bits { A.BITS ≤ 256 }
-    ensures serves { Serves result (made command scene.now A.BITS)
+    ensures serves { Serves result (made work scene.now A.BITS)
         (O.written out.old) (O.written out.new) (O.finished out.old) (O.finished out.new)
         (O.faults out.old) (O.faults out.new) }
-    ensures array { Leaves command (status_in result) A.BITS scene.now (A.device
+    ensures array { LeavesArray work (status_in result) A.BITS scene.now (A.device
         array.old) (A.device array.new) }
 {
-    match command {
-        Command::Render => make_render(alloc, scene, out, array),
-        Command::Colour => make_colour(alloc, scene, out, array),
-        Command::Tidy => make_tidy(alloc, scene, out),
-        Command::Plan => make_plan(alloc, scene, out),
-        Command::Cost => make_cost(alloc, scene, A::BITS as u32, out),
+    match work {
+        Work::Render => draw(alloc, scene, &[Plane::Depth, Plane::Face], out, array),
+        Work::Colour => draw(alloc, scene, &[Plane::Colour], out, array),
+        Work::Tidy => make_tidy(alloc, scene, out),
+        Work::Plan => make_plan(alloc, scene, out),
+        Work::Cost => make_cost(alloc, scene, A::BITS as u32, out),
+        Work::Refine(fineness) => make_refined(alloc, scene, fineness, out, array),
     }
 }
 
-fn make_render<O: Sink, A: Array>(
+/// Draws a scene on the array, and writes images of it.
+fn draw<O: Sink, A: Array>(
     alloc: Global,
     scene: &Scene,
+    planes: &[Plane],
     out: &mut O,
     array: &mut A,
 ) -> Result<(), Stop>
-    ensures serves { Serves result (made Command.Render scene.now A.BITS)
+    ensures serves { Serves result (drawable A.BITS scene.now (done (images scene.now planes.now)))
         (O.written out.old) (O.written out.new) (O.finished out.old) (O.finished out.new)
         (O.faults out.old) (O.faults out.new) }
-    ensures array { Leaves Command.Render (status_in result) A.BITS scene.now (A.device
-        array.old) (A.device array.new) }
+    ensures array { Draws (status_in result) A.BITS scene.now (A.device array.old)
+        (A.device array.new) }
 {
     let mut job = open_job(alloc, scene, array)?;
-    match deliver(&mut job, scene, array, out) {
-        Ok(()) => Ok(()),
-        Err(_) => Err(Stop::WriteFault),
-    }
-}
-
-fn make_colour<O: Sink, A: Array>(
-    alloc: Global,
-    scene: &Scene,
-    out: &mut O,
-    array: &mut A,
-) -> Result<(), Stop>
-    ensures serves { Serves result (made Command.Colour scene.now A.BITS)
-        (O.written out.old) (O.written out.new) (O.finished out.old) (O.finished out.new)
-        (O.faults out.old) (O.faults out.new) }
-    ensures array { Leaves Command.Colour (status_in result) A.BITS scene.now (A.device
-        array.old) (A.device array.new) }
-{
-    let mut job = open_job(alloc, scene, array)?;
-    match deliver_colour(&mut job, scene, array, out) {
+    match deliver_images(&mut job, scene, array, planes, out) {
         Ok(()) => Ok(()),
         Err(_) => Err(Stop::WriteFault),
     }
@@ -113,7 +169,7 @@ fn make_plan<O: Sink>(alloc: Global, scene: &Scene, out: &mut O) -> Result<(), S
 }
 
 fn make_cost<O: Sink>(alloc: Global, scene: &Scene, bits: u32, out: &mut O) -> Result<(), Stop>
-    ensures serves { Serves result (made Command.Cost scene.now bits)
+    ensures serves { Serves result (made Work.Cost scene.now bits)
         (O.written out.old) (O.written out.new) (O.finished out.old) (O.finished out.new)
         (O.faults out.old) (O.faults out.new) }
 {
@@ -122,7 +178,11 @@ fn make_cost<O: Sink>(alloc: Global, scene: &Scene, bits: u32, out: &mut O) -> R
 }
 
 /// Opens the array for a scene.
-fn open_job<'s, A: Array>(alloc: Global, scene: &'s Scene, array: &mut A) -> Result<Job<'s>, Stop>
+pub(crate) fn open_job<'s, A: Array>(
+    alloc: Global,
+    scene: &'s Scene,
+    array: &mut A,
+) -> Result<Job<'s>, Stop>
     ensures job { IfOk result (λ job. (job.scene ≡ scene.now) × (job.place.clock ≡ 0)) }
     ensures at { OnOk result (IsAt A.BITS scene.now 0 (A.device array.new)) }
     ensures fits { OnOk result ((o : Outcome) → drawable A.BITS scene.now o ≡ o) }
@@ -140,7 +200,7 @@ fn open_job<'s, A: Array>(alloc: Global, scene: &'s Scene, array: &mut A) -> Res
 
 /// The text of the command `cost`.
 fn cost_of(alloc: Global, scene: &Scene, bits: u32) -> Result<ArrayString<128>, Stop>
-    ensures ok { IfOk result (λ text. made Command.Cost scene.now bits ≡ done text.bytes) }
+    ensures ok { IfOk result (λ text. made Work.Cost scene.now bits ≡ done text.bytes) }
     ensures err { IfErr result (λ stop. StopsAt (drawable bits scene.now) stop) }
 {
     let layout = match Layout::of(scene, bits) {
@@ -153,7 +213,7 @@ fn cost_of(alloc: Global, scene: &Scene, bits: u32) -> Result<ArrayString<128>, 
 }
 
 /// The products that can show anything, where no wanted list is past the limit.
-fn kept_of(alloc: Global, scene: &Scene) -> Result<Plan, Stop>
+pub(crate) fn kept_of(alloc: Global, scene: &Scene) -> Result<Plan, Stop>
     ensures kept { IfOk result (λ plan. plan.products.items ≡ plan_of scene.now) }
     ensures few { IfOk result (λ plan. length plan.products.items ≤ 1024) }
     ensures fits { OnOk result (crowd_of scene.now ≡ None) }
@@ -163,27 +223,6 @@ fn kept_of(alloc: Global, scene: &Scene) -> Result<Plan, Stop>
         Ok(plan) => Ok(plan),
         Err(NormalFault::TooMany { count }) => Err(Stop::Refused(too_many(count))),
         Err(NormalFault::Memory) => Err(Stop::Memory),
-    }
-}
-
-fn too_many(count: u64) -> SceneFault
-    requires { count ≤ 2 ^ 21 }
-    ensures { result ≡ SceneFault.Limit 0 LimitKind.Products (pos count) }
-{
-    SceneFault::Limit {
-        line: 0,
-        kind: LimitKind::Products,
-        found: count as i64,
-    }
-}
-
-fn short_of_bits(need: u32) -> SceneFault
-    ensures { result ≡ SceneFault.Limit 0 LimitKind.PixelMemory (pos need) }
-{
-    SceneFault::Limit {
-        line: 0,
-        kind: LimitKind::PixelMemory,
-        found: i64::from(need),
     }
 }
 
@@ -199,7 +238,7 @@ fn write_out<O: Sink>(bytes: &[u8], out: &mut O) -> Result<(), Stop>
     }
 }
 
-fn write_finished<O: Sink>(bytes: &[u8], out: &mut O) -> Result<(), Failed>
+pub(crate) fn write_finished<O: Sink>(bytes: &[u8], out: &mut O) -> Result<(), Failed>
     ensures ok { OnOk result (Appends (O.written out.old) (O.written out.new) bytes.now) }
     ensures end { OnOk result (Tells (O.finished out.new) true) }
     ensures err { OnErr result (TakesFront (O.written out.old) (O.written out.new)

@@ -1,23 +1,15 @@
 //! The line that tells why a run did not do its work.
 ghost use Rattle.std.specs.Prelude.{◌≡◌, ◌≤◌, length};
-ghost use Rattle.px_draw.specs.Notes.{cause_word, kind_word, malformed_line, limit_line};
+ghost use Rattle.px_draw.specs.Notes.{cause_word, kind_word, limit_line, malformed_line, scene_word};
 ghost use Rattle.px_draw.specs.Runs.{IsTold};
 ghost use Rattle.px_draw.specs.Stops.{note_of};
 
+use crate::refusal::{Kind, Refusal};
+use crate::stop::Stop;
 use arrayvec::ArrayString;
 use itoa::Buffer;
 use px_io::{Sink, write_whole};
-use px_scene::{Cause, LimitKind, SceneFault};
-
-/// Why the work was not done.
-#[derive(Clone, Copy, Debug, PartialEq, Eq)]
-pub(crate) enum Stop {
-    Usage,
-    Refused(SceneFault),
-    ReadFault,
-    WriteFault,
-    Memory,
-}
+use px_scene::{Cause, LimitKind};
 
 /// Writes a line and finishes, whatever comes of it.
 pub(crate) fn tell<E: Sink>(line: &[u8], notes: &mut E)
@@ -34,12 +26,14 @@ pub(crate) fn line_of(stop: Stop) -> ArrayString<128>
     ensures { result.bytes ≡ note_of stop }
 {
     match stop {
-        Stop::Usage => { plain("usage: pxplanes [render|colour|tidy|plan|cost|debug|sample N]\n") }
-        Stop::Refused(SceneFault::Malformed { line, cause }) => malformed_line(line, cause),
-        Stop::Refused(SceneFault::Limit { line, kind, found }) => limit_line(line, kind, found),
-        Stop::Refused(SceneFault::Memory) | Stop::Memory => plain("out of memory\n"),
+        Stop::Usage => plain(
+            "usage: pxplanes [render|colour|tidy|plan|cost|debug|sample N|refine K]\n",
+        ),
+        Stop::Refused(Refusal::Malformed { line, cause }) => malformed_line(line, cause),
+        Stop::Refused(Refusal::Limit { line, kind, found }) => limit_line(line, kind, found),
         Stop::ReadFault => plain("read fault\n"),
         Stop::WriteFault => plain("write fault\n"),
+        Stop::Memory => plain("out of memory\n"),
     }
 }
 
@@ -67,7 +61,7 @@ fn malformed_line(line: u32, cause: Cause) -> ArrayString<128>
 }
 
 #[tactic(auto, unfolding(crate::specs::Notes::limit_line))]
-fn limit_line(line: u32, kind: LimitKind, found: i64) -> ArrayString<128>
+fn limit_line(line: u32, kind: Kind, found: i64) -> ArrayString<128>
     ensures { result.bytes ≡ limit_line line kind found }
 {
     let mut digits = Buffer::new();
@@ -100,8 +94,17 @@ fn cause_word(cause: Cause) -> &'static str
     }
 }
 
-fn kind_word(kind: LimitKind) -> &'static str
+fn kind_word(kind: Kind) -> &'static str
     ensures word { result.now ≡ kind_word kind }
+    ensures short { length result.now ≤ 12 }
+{
+    match kind {
+        Kind::Scene(kind) => scene_word(kind),
+    }
+}
+
+fn scene_word(kind: LimitKind) -> &'static str
+    ensures word { result.now ≡ scene_word kind }
     ensures short { length result.now ≤ 12 }
 {
     match kind {

@@ -5,8 +5,9 @@ ghost use Rattle.px_io.specs.Counts.{HasCause};
 ghost use Rattle.px_io.specs.Told.{TakesAll, TakesFront, Tells};
 ghost use Rattle.px_sched.specs.Layouts.{layout_of};
 ghost use Rattle.px_control.specs.Program.{IsAt};
-ghost use Rattle.px_frame.specs.Picture.{colour_image, depth_image, face_image, picture_image};
+ghost use Rattle.px_frame.specs.Picture.{depth_image, face_image, picture_image};
 ghost use Rattle.px_draw.specs.Arrays.{IsDrawn, IsFinished};
+ghost use Rattle.px_draw.specs.Works.{images};
 
 use px_array::Array;
 use px_control::{Job, law_of_grids};
@@ -39,38 +40,35 @@ pub fn deliver<A: Array, O: Sink>(
     ensures drawn { IsDrawn A.BITS scene.now (A.device array.new) }
     ensures job { IsFinished job.old job.new }
 {
-    let layout = draw(job, scene, array);
-    write_image(array, &layout, scene, Plane::Depth, out)?;
-    write_image(array, &layout, scene, Plane::Face, out)?;
-    out.finish()
+    deliver_images(job, scene, array, &[Plane::Depth, Plane::Face], out)
 }
 
-/// The same as `deliver` with the colour image alone.
-pub(crate) fn deliver_colour<A: Array, O: Sink>(
+/// The same with other images.
+pub(crate) fn deliver_images<A: Array, O: Sink>(
     job: &mut Job<'_>,
     scene: &Scene,
     array: &mut A,
+    planes: &[Plane],
     out: &mut O,
 ) -> Result<(), Failed>
     requires scene { scene.now ≡ job.old.scene }
     requires at { IsAt A.BITS scene.now job.old.place.clock (A.device array.old) }
     ensures ok { OnOk result (Appends (O.written out.old) (O.written out.new)
-        (colour_image scene.now)) }
+        (images scene.now planes.now)) }
     ensures end { OnOk result (Tells (O.finished out.new) true) }
     ensures err { OnErr result (TakesFront (O.written out.old) (O.written out.new)
-        (O.finished out.old) (O.finished out.new)
-        (colour_image scene.now)) }
+        (O.finished out.old) (O.finished out.new) (images scene.now planes.now)) }
     ensures cause { HasCause (O.faults out.old) (O.faults out.new) result }
     ensures drawn { IsDrawn A.BITS scene.now (A.device array.new) }
     ensures job { IsFinished job.old job.new }
 {
     let layout = draw(job, scene, array);
-    write_image(array, &layout, scene, Plane::Colour, out)?;
+    write_images(array, &layout, scene, planes, out)?;
     out.finish()
 }
 
 /// Makes the clocks that are left, and answers where the picture then stands in a pixel's memory.
-fn draw<A: Array>(job: &mut Job<'_>, scene: &Scene, array: &mut A) -> Layout
+pub(crate) fn draw<A: Array>(job: &mut Job<'_>, scene: &Scene, array: &mut A) -> Layout
     requires scene { scene.now ≡ job.old.scene }
     requires at { IsAt A.BITS scene.now job.old.place.clock (A.device array.old) }
     ensures layout { result ≡ layout_of scene.now }
@@ -81,6 +79,28 @@ fn draw<A: Array>(job: &mut Job<'_>, scene: &Scene, array: &mut A) -> Layout
     laws_of_scenes(scene);
     laws_of_surfaces();
     job.layout()
+}
+
+/// Writes images of a drawn array, one after another.
+fn write_images<A: Array, O: Sink>(
+    array: &A,
+    layout: &Layout,
+    scene: &Scene,
+    planes: &[Plane],
+    out: &mut O,
+) -> Result<(), Failed>
+    requires layout { layout.now ≡ layout_of scene.now }
+    requires drawn { IsDrawn A.BITS scene.now (A.device array.now) }
+    ensures ok { OnOk result (TakesAll (O.written out.old) (O.written out.new)
+        (O.finished out.old) (O.finished out.new) (images scene.now planes.now)) }
+    ensures err { OnErr result (TakesFront (O.written out.old) (O.written out.new)
+        (O.finished out.old) (O.finished out.new) (images scene.now planes.now)) }
+    ensures cause { HasCause (O.faults out.old) (O.faults out.new) result }
+{
+    for plane in planes {
+        write_image(array, layout, scene, *plane, out)?;
+    }
+    Ok(())
 }
 
 /// Writes one image of a drawn array.

@@ -1,11 +1,13 @@
-use Rattle.std.proofs.Common.{sym, ◌∙◌}
-use Rattle.px_draw.proofs.AnswerLemmas.{answers_usage, front_is, front_of}
+use Rattle.std.proofs.Common.{◌≡◌, Some, sym, ◌∙◌}
+use Rattle.px_draw.specs.declared.command.Command.TheVariants as command
+use Rattle.px_draw.proofs.RunLemmas.{performs_usage}
+use Rattle.px_draw.proofs.SampleLemmas.{performs_sample}
 use Rattle.px_draw.proofs.running.perform.Goals as goal
 
-pub returns-in-Some-clause-answers : goal.returns-in-Some-clause-answers
-returns-in-Some-clause-answers g c = rw (← c.command_of.ensures, c.in-Some.is) c.answer.ensures.answers
+pub returns-in-None-clause-performs : goal.returns-in-None-clause-performs
+returns-in-None-clause-performs g c = performs_usage _ _ _ _ _ _ (sym c.command_of.ensures.command ∙ c.in-None.is)
 
-pub returns-in-None-clause-answers : goal.returns-in-None-clause-answers
-returns-in-None-clause-answers g c =
-    let known = g.S.Source.rest c.args.input.now in
-    (front_of known, front_is known, answers_usage _ _ _ _ _ _ (sym c.command_of.ensures ∙ c.in-None.is))
+pub returns-in-Some-Sample-clause-performs : goal.returns-in-Some-Sample-clause-performs
+returns-in-Some-Sample-clause-performs g c =
+    let is : c.command_of.result ≡ Some (command.Sample c.in-Some-Sample.n) = cc in
+    performs_sample _ _ c.in-Some-Sample.n _ _ _ _ _ _ _ _ _ _ (sym c.command_of.ensures.command ∙ is) c.sample.ensures.serves c.sample.ensures.array

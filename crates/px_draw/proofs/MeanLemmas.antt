@@ -1,0 +1,32 @@
+-- The image of means over an array that stores the picture of the finer scene.
+use Rattle.std.proofs.Common.{ℕ, ◌≡◌, Bool, List, Option, None, Result, ap, subst, sym, ◌∙◌}
+use Rattle.px_array.specs.Arrays.{State, pixel_of}
+use Rattle.px_scene.specs.Scenes.{SceneView}
+use Rattle.px_sched.specs.Layouts.{LayoutView}
+use Rattle.px_sched.specs.PassesLaw.{ShowsThePicture}
+use Rattle.px_refine.specs.Finer.{fine_scene}
+use Rattle.px_refine.specs.Refined.{refined_image, stored_means}
+use Rattle.px_refine.specs.RefinedLaw.{MeansAreRefined}
+use Rattle.px_draw.specs.declared.refusal.Refusal.{Refusal}
+use Rattle.px_draw.specs.declared.stop.Stop.{Stop}
+use Rattle.px_draw.specs.Outcomes.{done, drawable, unless_refused}
+use Rattle.px_draw.specs.Refining.{fine_refusal, refined}
+use Rattle.px_draw.specs.Stops.{Serves}
+
+pub means_drawn : MeansAreRefined → (s : ℕ) (scene fine : SceneView) (layout drawn : LayoutView) (state : State)
+    → fine ≡ fine_scene s scene → layout ≡ drawn → ShowsThePicture fine drawn (λ x y. (pixel_of state x y).memory)
+    → stored_means s fine layout state ≡ refined_image s scene
+means_drawn law s scene fine layout drawn state is same shows =
+    let here = subst (λ (l : LayoutView). ShowsThePicture fine l (λ x y. (pixel_of state x y).memory)) (sym same) shows in
+    ap (λ f. stored_means s f layout state) is
+    ∙ law s scene layout state (subst (λ (f : SceneView). ShowsThePicture f layout (λ x y. (pixel_of state x y).memory)) is here)
+
+-- what serves the finer scene serves its refinement
+pub serves_refined : (result : Result (Unit {0}) Stop) (s t : ℕ) (scene fine : SceneView) (bits : ℕ)
+    (a b : Option (List ℕ)) (p q : Option Bool) (m n : ℕ) → s ≡ t → fine_refusal s scene ≡ None → fine ≡ fine_scene s scene
+    → Serves result (drawable bits fine (done (refined_image s scene))) a b p q m n
+    → Serves result (refined t scene bits) a b p q m n
+serves_refined result s t scene fine bits a b p q m n same none is serves =
+    subst (λ (k : ℕ). Serves result (refined k scene bits) a b p q m n) same
+    (subst (λ (r : Option Refusal). Serves result (unless_refused r (drawable bits (fine_scene s scene) (done (refined_image s scene)))) a b p q m n) (sym none)
+    (subst (λ (f : SceneView). Serves result (drawable bits f (done (refined_image s scene))) a b p q m n) is serves))

@@ -1,0 +1,143 @@
+-- What `debug` answers and leaves: a session over the bytes of an input. Clauses of public calls stand on it.
+use Rattle.std.specs.Prelude.{◌≡◌, ◌⊎◌, ℕ, ◌-◌, ◌^◌, ◌≤◌, List, [], Bool, true, false, ◌&&◌, not, if◌then◌else◌, length, nat_lt, take, Option}
+use Rattle.std.specs.Io.KnownBytes.{Appends, Keeps}
+use Rattle.px_io.specs.Told.{TakesAll, TakesFirst, Tells}
+use Rattle.px_array.specs.Arrays.{Device, closed}
+use Rattle.px_scene.specs.Scenes.{SceneView}
+use Rattle.px_scene.specs.Text.{worded}
+use Rattle.px_scene.specs.Reading.{scene_of}
+use Rattle.px_control.specs.Program.{IsAt}
+use Rattle.px_debug.specs.Moves.{SessionView}
+use Rattle.px_lines.specs.Lines.{all_lines, whole_lines}
+use Rattle.px_lines.specs.Parts.{behind_part, holds_part, scene_part}
+use Rattle.px_session.specs.Sessions.{after, answers, has_quit, opened, until_quit}
+use Rattle.px_draw.specs.declared.status.Status.{Status}
+use Rattle.px_draw.specs.declared.status.Status.TheVariants as status
+use Rattle.px_draw.specs.Outcomes.{Outcome, cut, done, drawable, refused, unless_refused}
+use Rattle.px_draw.specs.Refusals.{text_refusal, too_long}
+use Rattle.px_draw.specs.Untouched.{IsUntouched}
+
+-- the bytes that count: as many as a text may have
+abbrev pub within_limit : List ℕ → List ℕ
+within_limit bytes = take 1048576 bytes
+
+unfoldable pub is_long : List ℕ → Bool
+is_long bytes = nat_lt (2 ^ 20) (length bytes)
+
+-- the scene part
+unfoldable pub part_of : List ℕ → List ℕ
+part_of bytes = scene_part (within_limit bytes)
+
+-- whether it is whole, though the bytes may not be all
+unfoldable pub has_part : List ℕ → Bool
+has_part bytes = holds_part (within_limit bytes)
+
+-- its scene
+unfoldable pub scene_written : (part : List ℕ) → SceneView
+scene_written part = scene_of (worded part)
+
+abbrev pub part_scene : List ℕ → SceneView
+part_scene bytes = scene_written (part_of bytes)
+
+-- the bytes behind it
+unfoldable pub command_text : List ℕ → List ℕ
+command_text bytes = behind_part (within_limit bytes)
+
+-- the command lines: those that line feeds end, and with them a last piece
+abbrev pub whole_commands : List ℕ → List (List ℕ)
+whole_commands bytes = whole_lines (command_text bytes)
+
+abbrev pub all_commands : List ℕ → List (List ℕ)
+all_commands bytes = all_lines (command_text bytes)
+
+-- the session at its start
+abbrev pub session_of : List ℕ → SessionView
+session_of bytes = opened (part_scene bytes)
+
+-- the outcome, where a scene part is a scene's, and the array can draw it
+unfoldable pub admitted : (part : List ℕ) → (bits : ℕ) → Outcome → Outcome
+admitted part bits outcome = unless_refused (text_refusal part) (drawable bits (scene_written part) outcome)
+
+-- the answers to the commands up to a quit; past the limit of a text, where no whole line before is a quit, to those lines,
+-- and then the refusal
+unfoldable pub answered : (bytes : List ℕ) → (bits : ℕ) → Outcome
+answered bytes bits =
+    if is_long bytes && not (has_quit (whole_commands bytes))
+    then cut (answers bits (session_of bytes) (whole_commands bytes)) too_long
+    else done (answers bits (session_of bytes) (until_quit (all_commands bytes)))
+
+-- a scene part that is not whole within the limit of a text is past it
+unfoldable pub debugged : (bytes : List ℕ) → (bits : ℕ) → Outcome
+debugged bytes bits =
+    if is_long bytes && not (has_part bytes) then refused too_long else admitted (part_of bytes) bits (answered bytes bits)
+
+-- lines were obeyed, from the start of the session on: the array is as its broadcasts up to there leave it
+abbrev pub IsAfter : (bits : ℕ) → (bytes : List ℕ) → (lines : List (List ℕ)) → Device → Type 0
+IsAfter bits bytes lines device = IsAt bits (part_scene bytes) (after (session_of bytes) lines).now device
+
+-- all of the lines were answered, and the output was finished
+pub record IsOver (bits : ℕ) (bytes : List ℕ) (lines : List (List ℕ)) (written_old written_new : Option (List ℕ))
+    (finished_new : Option Bool) (device : Device) : Type 0 where
+  pub wrote : Appends written_old written_new (answers bits (session_of bytes) lines)
+  pub end : Tells finished_new true
+  pub array : IsAfter bits bytes lines device
+
+-- all of the lines were answered
+pub record IsAnswered (bits : ℕ) (bytes : List ℕ) (lines : List (List ℕ)) (written_old written_new : Option (List ℕ))
+    (finished_old finished_new : Option Bool) (device : Device) : Type 0 where
+  pub wrote : TakesAll written_old written_new finished_old finished_new (answers bits (session_of bytes) lines)
+  pub array : IsAfter bits bytes lines device
+
+-- a write failed in the answer to one of the lines, or in finishing behind the last: so many lines were obeyed, of whose
+-- answers a front was written, with all answers but the last in it
+pub record IsBroken (bits : ℕ) (bytes : List ℕ) (lines : List (List ℕ)) (written_old written_new : Option (List ℕ))
+    (finished_old finished_new : Option Bool) (device : Device) : Type 0 where
+  pub count : ℕ
+  pub within : count ≤ length lines
+  pub some : count ≡ 0 → lines ≡ []
+  pub gained : ℕ
+  pub before : length (answers bits (session_of bytes) (take (count - 1) lines)) ≤ gained
+  pub wrote : TakesFirst gained written_old written_new finished_old finished_new
+      (answers bits (session_of bytes) (take count lines))
+  pub array : IsAfter bits bytes (take count lines) device
+
+-- a read failed behind a whole scene part: it is a scene's that the array can draw, no whole command is a quit, and all are answered
+pub record IsCutOff (bits : ℕ) (taken : List ℕ) (written_old written_new : Option (List ℕ))
+    (finished_old finished_new : Option Bool) (device : Device) : Type 0 where
+  pub admits : (outcome : Outcome) → admitted (part_of taken) bits outcome ≡ outcome
+  pub quiet : has_quit (whole_commands taken) ≡ false
+  pub answered : IsAnswered bits taken (whole_commands taken) written_old written_new finished_old finished_new device
+
+-- and where the scene part was not whole, nothing is done
+pub record LeavesAtReadFault (bits : ℕ) (taken : List ℕ) (written_old written_new : Option (List ℕ))
+    (finished_old finished_new : Option Bool) (before now : Device) : Type 0 where
+  pub whole : has_part taken ≡ true → IsCutOff bits taken written_old written_new finished_old finished_new now
+  pub other : has_part taken ≡ false → IsUntouched written_old written_new finished_old finished_new before now
+
+-- at a limit: that of the text behind a scene part, or another
+abbrev pub LeavesAtLimit : Outcome → (bits : ℕ) → (bytes : List ℕ) → (written_old written_new : Option (List ℕ))
+    → (finished_old finished_new : Option Bool) → (before now : Device) → Type 0
+LeavesAtLimit (cut text reason) bits bytes written_old written_new finished_old finished_new before now =
+    IsAnswered bits bytes (whole_commands bytes) written_old written_new finished_old finished_new now
+LeavesAtLimit outcome bits bytes written_old written_new finished_old finished_new before now =
+    IsUntouched written_old written_new finished_old finished_new before now
+
+-- for want of memory the array is as before, or none is open, or it is opened for the scene
+abbrev pub IsKeptOrOpened : (bits : ℕ) → SceneView → (before now : Device) → Type 0
+IsKeptOrOpened bits scene before now = (now ≡ before) ⊎ (now ≡ closed) ⊎ IsAt bits scene 0 now
+
+-- what is written, and what is left of the array, where these are the bytes of the input, and of them those taken
+abbrev pub LeavesSession : (found : Status) → (bits : ℕ) → (bytes taken : List ℕ) → (written_old written_new : Option (List ℕ))
+    → (finished_old finished_new : Option Bool) → (before now : Device) → Type 0
+LeavesSession status.Done bits bytes taken written_old written_new finished_old finished_new before now =
+    IsOver bits bytes (until_quit (all_commands bytes)) written_old written_new finished_new now
+LeavesSession status.Limit bits bytes taken written_old written_new finished_old finished_new before now =
+    LeavesAtLimit (debugged bytes bits) bits bytes written_old written_new finished_old finished_new before now
+LeavesSession status.ReadFault bits bytes taken written_old written_new finished_old finished_new before now =
+    LeavesAtReadFault bits taken written_old written_new finished_old finished_new before now
+LeavesSession status.WriteFault bits bytes taken written_old written_new finished_old finished_new before now =
+    IsBroken bits taken (until_quit (all_commands taken)) written_old written_new finished_old finished_new now
+LeavesSession status.Memory bits bytes taken written_old written_new finished_old finished_new before now =
+    Keeps written_old written_new × (finished_new ≡ finished_old) × IsKeptOrOpened bits (part_scene taken) before now
+LeavesSession found bits bytes taken written_old written_new finished_old finished_new before now =
+    IsUntouched written_old written_new finished_old finished_new before now

@@ -1,0 +1,49 @@
+-- What is made of the scene that is the whole input. Clauses of public calls stand on it.
+use Rattle.std.specs.Prelude.{ℕ, List, [], ◌∷◌, length}
+use Rattle.std.specs.List.{flat_map}
+use Rattle.px_scene.specs.Solids.{names_of}
+use Rattle.px_scene.specs.Canonical.{canonical_text}
+use Rattle.px_scene.specs.Scenes.{SceneView}
+use Rattle.px_scene.specs.Text.{worded}
+use Rattle.px_scene.specs.Reading.{scene_of}
+use Rattle.px_normal.specs.Forms.{sum_of_products}
+use Rattle.px_normal.specs.Counting.{capped}
+use Rattle.px_prune.specs.Kept.{plan_of}
+use Rattle.px_sched.specs.Passes.{passes}
+use Rattle.px_control.specs.Program.{total}
+use Rattle.px_frame.specs.Picture.{picture_image}
+use Rattle.px_frame.specs.declared.plane.Plane.{Plane}
+use Rattle.px_frame.specs.declared.plane.Plane.TheVariants as p
+use Rattle.px_draw.specs.declared.command.Work.{Work}
+use Rattle.px_draw.specs.declared.command.Work.TheVariants as w
+use Rattle.px_draw.specs.CostText.{cost_text}
+use Rattle.px_draw.specs.Outcomes.{Outcome, done, drawable, unless_refused, within_products}
+use Rattle.px_draw.specs.Plans.{plan_text}
+use Rattle.px_draw.specs.Refining.{doublings, refined}
+use Rattle.px_draw.specs.Refusals.{text_refusal}
+
+-- images of a scene, one after another
+abbrev pub images : SceneView → List Plane → List ℕ
+images scene planes = flat_map (picture_image scene) planes
+
+-- the scene's canonical text
+abbrev pub tidied : SceneView → Outcome
+tidied scene = done (canonical_text scene)
+
+-- the products of the shown expression that can show anything
+abbrev pub planned : SceneView → Outcome
+planned scene = within_products scene (done (plan_text
+    (names_of scene.solids) (capped (length (sum_of_products scene.show))) (plan_of scene)))
+
+-- what comes of a scene
+abbrev pub made : Work → SceneView → (bits : ℕ) → Outcome
+made w.Render scene bits = drawable bits scene (done (images scene (p.Depth ∷ p.Face ∷ [])))
+made w.Colour scene bits = drawable bits scene (done (images scene (p.Colour ∷ [])))
+made w.Tidy scene bits = tidied scene
+made w.Plan scene bits = planned scene
+made w.Cost scene bits = drawable bits scene (done (cost_text (length (passes scene)) (total scene)))
+made (w.Refine fineness) scene bits = refined (doublings fineness) scene bits
+
+-- the refusal of the text, or else what comes of its scene
+abbrev pub worked_out : Work → List ℕ → (bits : ℕ) → Outcome
+worked_out work bytes bits = unless_refused (text_refusal bytes) (made work (scene_of (worded bytes)) bits)

@@ -1,0 +1,152 @@
+//! The command `refine`: a colour image of means over the finer scene.
+ghost use Rattle.std.specs.Prelude.{◌≡◌, ◌≤◌, IfErr, IfOk, OnErr, OnOk, None, Some, true, pos};
+ghost use Rattle.std.specs.Io.KnownBytes.{Appends};
+ghost use Rattle.px_io.specs.Counts.{HasCause};
+ghost use Rattle.px_io.specs.Told.{TakesAll, TakesFront, Tells};
+ghost use Rattle.px_sched.specs.Layouts.{layout_of};
+ghost use Rattle.px_control.specs.Program.{IsAt};
+ghost use Rattle.px_refine.specs.Finer.{fine_scene};
+ghost use Rattle.px_refine.specs.Refined.{refined_image};
+ghost use Rattle.px_draw.specs.Arrays.{Draws, IsDrawn, IsFinished};
+ghost use Rattle.px_draw.specs.Outcomes.{done, drawable, unless_refused};
+ghost use Rattle.px_draw.specs.Refining.{doublings, fine_refusal, refined, scene_limit};
+ghost use Rattle.px_draw.specs.Stops.{Serves, StopsAt, status_in};
+
+use crate::command::Fineness;
+use crate::make::open_job;
+use crate::refusal::{Kind, Refusal};
+use crate::render::draw;
+use crate::stop::Stop;
+use px_array::Array;
+use px_control::{Job, law_of_grids};
+use px_frame::laws_of_images;
+use px_io::{Failed, Sink};
+use px_refine::{FineFault, fine_scene, laws_of_refinement, write_refined};
+use px_scene::{LimitKind, Scene, laws_of_scenes};
+use px_sched::Layout;
+use std::alloc::Global;
+
+/// Draws the finer scene on the array, and writes one image of means over it.
+pub(crate) fn make_refined<O: Sink, A: Array>(
+    alloc: Global,
+    scene: &Scene,
+    fineness: Fineness,
+    out: &mut O,
+    array: &mut A,
+) -> Result<(), Stop>
+    ensures serves { Serves result (refined (doublings fineness) scene.now A.BITS)
+        (O.written out.old) (O.written out.new) (O.finished out.old) (O.finished out.new)
+        (O.faults out.old) (O.faults out.new) }
+    ensures array { Draws (status_in result) A.BITS (fine_scene (doublings fineness) scene.now)
+        (A.device array.old) (A.device array.new) }
+{
+    let s = fineness.doublings();
+    let fine = finer(alloc, scene, s)?;
+    draw_refined(alloc, scene, &fine, s, out, array)
+}
+
+/// The finer scene.
+fn finer(alloc: Global, scene: &Scene, s: u32) -> Result<Scene, Stop>
+    requires { s ≤ 2 }
+    ensures ok { IfOk result (λ fine.
+        (fine_refusal s scene.now ≡ None) × (fine ≡ fine_scene s scene.now)) }
+    ensures err { IfErr result (λ stop. StopsAt (unless_refused (fine_refusal s scene.now)) stop) }
+{
+    match fine_scene(alloc, scene, s) {
+        Ok(fine) => Ok(fine),
+        Err(FineFault::Fraction { found }) => {
+            Err(past_limit(LimitKind::Fraction, i64::from(found)))
+        }
+        Err(FineFault::Picture { found }) => Err(past_limit(LimitKind::Picture, i64::from(found))),
+        Err(FineFault::Coefficient { found }) => Err(past_limit(LimitKind::Coefficient, found)),
+        Err(FineFault::Memory) => Err(Stop::Memory),
+    }
+}
+
+/// The finer scene is past a limit.
+fn past_limit(kind: LimitKind, found: i64) -> Stop
+    ensures { result ≡ Stop.Refused (scene_limit kind found) }
+{
+    Stop::Refused(Refusal::Limit {
+        line: 0,
+        kind: Kind::Scene(kind),
+        found,
+    })
+}
+
+/// Draws a finer scene, and writes the image of means over it.
+fn draw_refined<O: Sink, A: Array>(
+    alloc: Global,
+    scene: &Scene,
+    fine: &Scene,
+    s: u32,
+    out: &mut O,
+    array: &mut A,
+) -> Result<(), Stop>
+    requires few { s ≤ 2 }
+    requires fine { fine.now ≡ fine_scene s scene.now }
+    ensures serves { Serves result
+        (drawable A.BITS fine.now (done (refined_image s scene.now)))
+        (O.written out.old) (O.written out.new) (O.finished out.old) (O.finished out.new)
+        (O.faults out.old) (O.faults out.new) }
+    ensures array { Draws (status_in result) A.BITS fine.now (A.device array.old)
+        (A.device array.new) }
+{
+    let mut job = open_job(alloc, fine, array)?;
+    match deliver_refined(&mut job, scene, fine, s, array, out) {
+        Ok(()) => Ok(()),
+        Err(_) => Err(Stop::WriteFault),
+    }
+}
+
+/// Makes the clocks that are left of the finer scene's job, writes the image of means, and finishes.
+fn deliver_refined<A: Array, O: Sink>(
+    job: &mut Job<'_>,
+    scene: &Scene,
+    fine: &Scene,
+    s: u32,
+    array: &mut A,
+    out: &mut O,
+) -> Result<(), Failed>
+    requires few { s ≤ 2 }
+    requires fine { fine.now ≡ fine_scene s scene.now }
+    requires scene { fine.now ≡ job.old.scene }
+    requires at { IsAt A.BITS fine.now job.old.place.clock (A.device array.old) }
+    ensures ok { OnOk result (Appends (O.written out.old) (O.written out.new)
+        (refined_image s scene.now)) }
+    ensures end { OnOk result (Tells (O.finished out.new) true) }
+    ensures err { OnErr result (TakesFront (O.written out.old) (O.written out.new)
+        (O.finished out.old) (O.finished out.new) (refined_image s scene.now)) }
+    ensures cause { HasCause (O.faults out.old) (O.faults out.new) result }
+    ensures drawn { IsDrawn A.BITS fine.now (A.device array.new) }
+{
+    let layout = draw(job, fine, array);
+    write_means(array, &layout, scene, fine, s, out)?;
+    out.finish()
+}
+
+/// Writes the image of means over a drawn array.
+fn write_means<A: Array, O: Sink>(
+    array: &A,
+    layout: &Layout,
+    scene: &Scene,
+    fine: &Scene,
+    s: u32,
+    out: &mut O,
+) -> Result<(), Failed>
+    requires few { s ≤ 2 }
+    requires fine { fine.now ≡ fine_scene s scene.now }
+    requires layout { layout.now ≡ layout_of fine.now }
+    requires drawn { IsDrawn A.BITS fine.now (A.device array.now) }
+    ensures ok { OnOk result (TakesAll (O.written out.old) (O.written out.new)
+        (O.finished out.old) (O.finished out.new) (refined_image s scene.now)) }
+    ensures err { OnErr result (TakesFront (O.written out.old) (O.written out.new)
+        (O.finished out.old) (O.finished out.new) (refined_image s scene.now)) }
+    ensures cause { HasCause (O.faults out.old) (O.faults out.new) result }
+{
+    laws_of_scenes(fine);
+    law_of_grids();
+    laws_of_images();
+    laws_of_refinement();
+    write_refined(array, layout, fine, s, out)
+}
