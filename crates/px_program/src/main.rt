@@ -6,6 +6,8 @@ ghost use Rattle.std.specs.Process.{exit_status};
 ghost use Rattle.px_draw.specs.Statuses.{code};
 
 #[cfg(test)]
+mod session_tests;
+#[cfg(test)]
 mod tests;
 
 pub use px_draw::{Status, deliver, run};
