@@ -1,9 +1,0 @@
-use Rattle.std.proofs.Common.{◌≡◌}
-use Rattle.px_debug.specs.Moves.{Fits}
-use Rattle.px_worked.proofs.sessions.answer_all.Given as goal
-
-abbrev pub invariant-loop-line : goal.invariant-loop-line
-invariant-loop-line g l = record {
-  fits : Fits 72 l.session l.array.device l.array.slots;
-  lines : l.session.lines ≡ l.line-index;
-}
