@@ -1,4 +1,4 @@
--- One clock of an array, and a run of clocks.
+-- One clock of an array, and a run of clocks. Clauses of public calls stand on it.
 use Rattle.std.specs.Prelude.{ℕ, ◌+◌, ◌^◌, All, List, [], ◌∷◌, length, slice_index_or}
 use Rattle.px_num.specs.Lists.{tabulate}
 use Rattle.px_pixel.specs.Acts.{HasPlace, after_act}

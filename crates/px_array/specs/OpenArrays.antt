@@ -1,4 +1,4 @@
--- What only proofs see of the slots: the room of each, and whether it is saved.
+-- The slots: the room of each, and whether it is saved. Only proofs and private functions stand on it.
 use Rattle.std.specs.Prelude.{◌≡◌, ℕ, All, List, Option, None, Some, false, if◌then◌else◌, map}
 use Rattle.px_array.specs.Arrays.{Device, opened}
 use Rattle.px_array.specs.declared.open_array.Slot.{Slot}

@@ -1,4 +1,4 @@
--- What the four slots of an array keep, and how its work grows.
+-- What the four slots of an array keep, and how its work grows. Clauses of public calls stand on it.
 use Rattle.std.specs.Prelude.{ℕ, ◌+◌, ◌-◌, ◌^◌, IsSome, List, Option, None, Some, min, replicate, slice_index_or, slice_set}
 use Rattle.px_array.specs.Arrays.{Device, closed}
 

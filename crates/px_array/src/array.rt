@@ -54,7 +54,9 @@ pub trait Array {
     /// `(nx, ny)`, or `(0, 0)` where no array is open.
     fn size(&self) -> (u32, u32)
         ensures size { result ≡ ((device self.now).state.tree.nx, (device self.now).state.tree.ny) }
-        ensures closed { IsClosed (device self.now) → device self.now ≡ closed };
+        ensures closed { IsClosed (device self.now) → device self.now ≡ closed }
+        ensures grid { IsOpen (device self.now)
+            → IsGrid (device self.now).state.tree.nx (device self.now).state.tree.ny };
 
     /// Bit `at` of the memory of a pixel.
     fn bit(&self, x: u32, y: u32, at: u32) -> bool

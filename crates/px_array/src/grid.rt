@@ -80,6 +80,7 @@ impl<const N: usize> Grid<N> {
     pub(crate) fn size(&self) -> (u32, u32)
         ensures size { result ≡ (self.now.state.tree.nx, self.now.state.tree.ny) }
         ensures is_open { IsOpen self.now }
+        ensures grid { IsGrid self.now.state.tree.nx self.now.state.tree.ny }
     {
         self.tree.size()
     }

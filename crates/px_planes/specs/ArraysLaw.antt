@@ -1,4 +1,4 @@
--- What the law of the arrays says: of both, and of each pixel alone.
+-- What the law of the arrays says: of both, and of each pixel alone. Clauses of public calls stand on it.
 use Rattle.std.specs.Prelude.{◌≡◌, ℕ, ◌+◌, ◌^◌, ◌<◌, List, [], ◌∷◌}
 use Rattle.px_array.specs.Arrays.{Device, State, pixel_at}
 use Rattle.px_array.specs.Clocks.{after_clocks, after_tree_op, all_clocked}

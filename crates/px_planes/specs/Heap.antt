@@ -1,4 +1,5 @@
--- What only proofs see of rows of words in heap order: the children of the nodes in word h stand in the words 2h and 2h + 1.
+-- Rows of words in heap order: the children of the nodes in word h stand in the words 2h and 2h + 1.
+-- Only proofs and private functions stand on it.
 use Rattle.std.specs.Prelude.{◌≡◌, ℕ, ◌+◌, ◌*◌, ◌/◌, ◌%◌, ◌<◌, ◌≤◌, ◌^◌, Bool, true, false, if◌then◌else◌, cond, ◌&&◌, eqb, nat_lt, List, length, slice_index, get_or}
 use Rattle.px_num.specs.Bits.{nat_bit}
 use Rattle.px_tree.specs.declared.node.Node.{Node}

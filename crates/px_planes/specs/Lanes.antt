@@ -1,4 +1,4 @@
--- What only proofs see of vectors, by their lanes.
+-- Vectors, by their lanes. Only proofs and private functions stand on it.
 use Rattle.std.specs.Prelude.{◌≡◌, ℕ, ◌+◌, ◌*◌, ◌/◌, ◌%◌, ◌^◌, ◌<◌, ◌≤◌, Bool, false, eqb, List, length, slice_index}
 use Rattle.px_num.specs.Bits.{nat_bit}
 use Rattle.px_tree.specs.Nodes.{next_node}

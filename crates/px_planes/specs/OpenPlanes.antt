@@ -1,4 +1,4 @@
--- What only proofs see of the slots of an open array: the room of each, and what it keeps.
+-- The slots of an open array: the room of each, and what it keeps. Only proofs and private functions stand on it.
 use Rattle.std.specs.Prelude.{◌≡◌, ℕ, All, List, Option, None, map}
 use Rattle.px_array.specs.Arrays.{Device}
 use Rattle.px_planes.specs.Shelves.{SlotView}

@@ -1,4 +1,4 @@
--- What only proofs see of bit planes: their rows as the pixels of an array.
+-- Bit planes: their rows as the pixels of an array. Only proofs and private functions stand on it.
 use Rattle.std.specs.Prelude.{◌≡◌, ℕ, ◌*◌, ◌%◌, ◌<◌, ◌≤◌, ◌&&◌, Bool, nat_lt, List, [], length, map, replicate, slice_index_or}
 use Rattle.px_num.specs.Bits.{nat_bit}
 use Rattle.px_num.specs.Lists.{tabulate}

@@ -1,4 +1,4 @@
--- What only proofs see of what a slot keeps: rows of words one behind another.
+-- What a slot keeps: rows of words one behind another. Only proofs and private functions stand on it.
 use Rattle.std.specs.Prelude.{◌≡◌, ℕ, ◌+◌, ◌*◌, ◌^◌, ◌<◌, ◌≤◌, Option, List, [], length, slice_index, slice_index_or}
 use Rattle.px_array.specs.Arrays.{Device}
 use Rattle.px_num.specs.Lists.{tabulate}

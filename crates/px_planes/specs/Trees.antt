@@ -1,4 +1,4 @@
--- What only proofs see of rows of words in heap order: the nodes of a tree.
+-- Rows of words in heap order: the nodes of a tree. Only proofs and private functions stand on it.
 use Rattle.std.specs.Prelude.{◌≡◌, ℕ, ◌+◌, ◌-◌, ◌*◌, ◌^◌, ◌<◌, ◌≤◌, Bool, true, false, cond, if◌then◌else◌, nat_lt, List, length, slice_index}
 use Rattle.px_num.specs.Bits.{nat_bit}
 use Rattle.px_num.specs.Lists.{tabulate}
