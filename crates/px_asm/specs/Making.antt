@@ -1,4 +1,4 @@
--- The micros of an operation on the grid of an array.
+-- The micros of an operation on the grid of an array. Clauses of public calls stand on it.
 use Rattle.std.specs.Prelude.{ℕ, List}
 use Rattle.px_array.specs.Arrays.{Device}
 use Rattle.px_array.specs.declared.micro.Micro.{Micro}

@@ -1,4 +1,5 @@
 -- The table of micros: how many clocks each operation takes, and what is broadcast in each of them, counted from 0.
+-- Clauses of public calls stand on it.
 use Rattle.std.specs.Prelude.{ℕ, ◌+◌, ◌-◌, ◌*◌, ◌/◌, ◌%◌, ◌==◌, true, false, if◌then◌else◌, nat_lt, List}
 use Rattle.std.specs.List.{flat_map}
 use Rattle.px_num.specs.Bits.{nat_bit}

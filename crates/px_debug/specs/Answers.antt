@@ -1,4 +1,5 @@
 -- The answers of a session: each is a function of the state after so many broadcasts, of the program and of the line.
+-- Clauses of public calls stand on it.
 use Rattle.std.specs.Prelude.{ℕ, ◌+◌, ◌-◌, ◌^◌, Bool, ◌&&◌, List, [], ◌∷◌, ◌++◌, codes, decimal, if◌then◌else◌, map, nat_le, nat_lt, take}
 use Rattle.circular_buffer.specs.Buffer.{keep_last}
 use Rattle.px_num.specs.Bits.{bit_at}

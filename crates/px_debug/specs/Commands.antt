@@ -1,4 +1,4 @@
--- What a command line asks for.
+-- What a command line asks for. Clauses of public calls stand on it.
 use Rattle.std.specs.Prelude.{ℕ, List, [], ◌∷◌, Option, Some, None, bytes_eq, codes, if◌then◌else◌, length, nat_lt}
 use Rattle.px_debug.specs.Words.{number_of, words_in}
 use Rattle.px_debug.specs.declared.command.Command.{Command}

@@ -1,4 +1,4 @@
--- What only proofs see of a job on its course, beside an array.
+-- A job on its course, beside an array. Only proofs and private functions stand on it.
 use Rattle.std.specs.Prelude.{◌≡◌, ℕ, List, Option}
 use Rattle.circular_buffer.specs.Buffer.{buffer}
 use Rattle.px_array.specs.Arrays.{Device}

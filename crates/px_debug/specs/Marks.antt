@@ -1,4 +1,4 @@
--- What only proofs see of a session: the places of the passed quarters, and the last broadcasts.
+-- A session: the places of the passed quarters, and the last broadcasts. Only proofs and private functions stand on it.
 use Rattle.std.specs.Prelude.{◌≡◌, ℕ, ◌-◌, ◌*◌, ◌<◌, ◌≤◌, List, length, take, get_or, Option, Some}
 use Rattle.circular_buffer.specs.Buffer.{keep_last}
 use Rattle.px_array.specs.Arrays.{Device}

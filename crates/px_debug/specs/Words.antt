@@ -1,4 +1,4 @@
--- The words and numbers of a command line.
+-- The words and numbers of a command line. Clauses of public calls stand on it.
 use Rattle.std.specs.Prelude.{ℕ, ◌-◌, ◌==◌, List, [], ◌∷◌, ◌&&◌, ◌||◌, Bool, true, false, filter, if◌then◌else◌, Option, Some, None, length, map, nat_le}
 use Rattle.std.specs.Int.Digits.{number_from_digits}
 use Rattle.std.specs.List.{list_all, slice_split}

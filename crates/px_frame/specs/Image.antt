@@ -1,4 +1,4 @@
--- The raw form of Netpbm's pixel maps.
+-- The raw form of Netpbm's pixel maps. Clauses of public calls stand on it.
 use Rattle.std.specs.Prelude.{ℕ, ◌/◌, ◌%◌, List, [], ◌∷◌, ◌++◌, codes, decimal}
 use Rattle.std.specs.List.{flat_map, range_with_len}
 

@@ -1,4 +1,4 @@
--- The images of an array that stores the picture of a scene are the images of that picture.
+-- The images of an array that stores the picture of a scene are the images of that picture. Clauses of public calls stand on it.
 use Rattle.std.specs.Prelude.{◌≡◌}
 use Rattle.px_array.specs.Arrays.{State, pixel_of}
 use Rattle.px_model.specs.Scenes.{IsLawfulScene, SceneView}

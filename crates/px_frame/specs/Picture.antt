@@ -1,4 +1,5 @@
 -- The picture of a scene as three images: the depth of each pixel, the number of its face, and that face's colour.
+-- Clauses of public calls stand on it.
 use Rattle.std.specs.Prelude.{ℕ, ◌+◌, ◌*◌, List}
 use Rattle.px_model.specs.declared.solid.Colour.{Colour}
 use Rattle.px_model.specs.Scenes.{SceneView, colour_in_scene}

@@ -1,4 +1,4 @@
--- A source and a sink over memory, as contracts see them.
+-- A source and a sink over memory, as contracts see them. Clauses of public calls stand on it.
 use Rattle.std.specs.Prelude.{ℕ, List, Bool}
 
 pub record SourceView : Type 0 where

@@ -1,4 +1,4 @@
--- Laws of numbers in fields.
+-- Laws of numbers in fields. Clauses of public calls stand on it.
 use Rattle.std.specs.Prelude.{◌≡◌, ℕ, ◌+◌, ◌-◌, ◌*◌, ◌%◌, ◌^◌, ◌<◌, ◌≤◌, Bool, false, if◌then◌else◌, List, length, slice_set}
 use Rattle.px_num.specs.Bits.{bit_at, nat_bit}
 use Rattle.px_macro.specs.Fields.{is_in, number_in, with_number}

@@ -1,4 +1,4 @@
--- What a contract sees of the numbers in fields of a memory.
+-- What a contract sees of the numbers in fields of a memory. Clauses of public calls stand on it.
 use Rattle.std.specs.Prelude.{ℕ, zero, suc, ◌+◌, ◌-◌, ◌^◌, Bool, ◌&&◌, if◌then◌else◌, nat_le, nat_lt, List, length}
 use Rattle.px_num.specs.Bits.{bit_at, nat_bit}
 use Rattle.px_num.specs.Lists.{tabulate}

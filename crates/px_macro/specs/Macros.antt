@@ -1,4 +1,4 @@
--- The meaning of each operation on one pixel, and which operations are lawful.
+-- The meaning of each operation on one pixel, and which operations are lawful. Clauses of public calls stand on it.
 use Rattle.std.specs.Prelude.{◌≡◌, ℕ, ◌+◌, ◌^◌, ◌<◌, ◌≤◌, ⊤, ◌⊎◌, pos, ◌+ℤ◌, Bool, true, not, ◌&&◌, if◌then◌else◌, nat_le, nat_lt, List, [], ◌∷◌, ◌++◌, length, slice_set}
 use Rattle.std.specs.Bool.{beq}
 use Rattle.std.specs.Int.{is_negative}

@@ -1,4 +1,4 @@
--- Lists that are known place by place.
+-- Lists that are known place by place. Clauses of public calls stand on it.
 use Rattle.std.specs.Prelude.{ℕ, List, map}
 use Rattle.std.specs.List.{range_with_len}
 

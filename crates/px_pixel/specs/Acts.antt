@@ -1,4 +1,4 @@
--- What each act does to a pixel.
+-- What each act does to a pixel. Clauses of public calls stand on it.
 use Rattle.std.specs.Prelude.{ℕ, ◌<◌, ⊤, Bool, true, not, ◌&&◌, slice_set, if◌then◌else◌}
 use Rattle.std.specs.Bool.{beq}
 use Rattle.px_num.specs.Bits.{bit_at, majority, xor}

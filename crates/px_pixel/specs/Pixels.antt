@@ -1,4 +1,4 @@
--- What a contract sees of a pixel.
+-- What a contract sees of a pixel. Clauses of public calls stand on it.
 use Rattle.std.specs.Prelude.{ℕ, Bool, false, List, replicate}
 
 -- the memory bits of a pixel, and its three registers

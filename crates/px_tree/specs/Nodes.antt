@@ -1,4 +1,5 @@
 -- What a contract sees of a multiplier tree: the latches of its nodes, and what a clear and a feed make of them.
+-- Clauses of public calls stand on it.
 -- Node i of level k stands at place 2^k + i, so that its parent stands at half its place. Place 1 is the root, where
 -- line c comes in, and place 0 is free; both stay 0.
 use Rattle.std.specs.Prelude.{ℕ, ◌+◌, ◌*◌, ◌/◌, ◌%◌, ◌^◌, ◌≤◌, ◌==◌, Bool, true, false, if◌then◌else◌, nat_lt, List, get_or, replicate}

@@ -1,4 +1,4 @@
--- The sums that come together in the tree while one linear form is fed.
+-- The sums that come together in the tree while one linear form is fed. Clauses of public calls stand on it.
 use Rattle.std.specs.Prelude.{◌≡◌, ℕ, zero, suc, ◌+◌, ◌-◌, ◌/◌, ◌%◌, ◌^◌, ◌<◌, ◌≤◌, ◌==◌, ℤ, pos, ◌+ℤ◌, ◌*ℤ◌, false, ◌&&◌, if◌then◌else◌, nat_lt}
 use Rattle.px_num.specs.Bits.{carry_from}
 use Rattle.px_num.specs.declared.linear.Linear.{Linear}

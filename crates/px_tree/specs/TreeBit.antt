@@ -1,5 +1,5 @@
 -- The main theorem of the tree: after a clear and t + nx + ny feeds of the lines of one linear form, each leaf is
--- bit t of the form's value at its pixel.
+-- bit t of the form's value at its pixel. Clauses of public calls stand on it.
 use Rattle.std.specs.Prelude.{◌≡◌, ℕ, suc, ◌+◌, ◌*◌, ◌/◌, ◌%◌, ◌^◌, ◌<◌, ◌≤◌, ◌==◌, Bool, if◌then◌else◌, nat_lt}
 use Rattle.std.specs.Int.{is_negative}
 use Rattle.px_num.specs.Bits.{bit_of, modulo, nat_bit}
