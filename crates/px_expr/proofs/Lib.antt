@@ -2,3 +2,5 @@ pub mod PostorderLemmas
 pub mod CellsLemmas
 pub mod WaitingLemmas
 pub mod SidesLemmas
+pub mod ShapeLaws
+pub mod StackLaws

@@ -5,7 +5,8 @@ use Rattle.std.proofs.lemmas.List.Sums.{fold-append}
 use Rattle.std.proofs.lemmas.List.Elements.{All-nil, All-cons, All-append}
 use Prim.Native.Nat.{zero, suc}
 use Rattle.px_expr.specs.Tree.{Tree, leaf, join, leaf_count, nesting, HasLeavesBelow}
-use Rattle.px_expr.specs.Shapes.{shape_of, shape_of_op, op_node, joined, CanPlace, IsLeafBelow}
+use Rattle.px_expr.specs.Shapes.{shape_of, op_node, joined, CanPlace, IsLeafBelow}
+use Rattle.px_expr.proofs.ShapeLaws.{shape_of_op}
 use Rattle.px_expr.specs.Postorder.{size, nodes_behind, nodes_of, placed, trees_after}
 use Rattle.px_expr.specs.declared.node.Node.{Node}
 use Rattle.px_expr.specs.declared.node.Op.{Op}

@@ -6,7 +6,8 @@ use Rattle.std.proofs.lemmas.List.Sums.{sum_by-append}
 use Rattle.std.proofs.lemmas.List.Elements.{All-nil, All-cons}
 use Prim.Native.Nat.{zero, suc}
 use Rattle.px_expr.specs.Tree.{Tree, leaf, join}
-use Rattle.px_expr.specs.Shapes.{shape_of, shape_of_op, op_node, sides}
+use Rattle.px_expr.specs.Shapes.{shape_of, op_node, sides}
+use Rattle.px_expr.proofs.ShapeLaws.{shape_of_op}
 use Rattle.px_expr.specs.Postorder.{size, nodes_behind, parent_count}
 use Rattle.px_expr.specs.declared.node.Node.{Node}
 use Rattle.px_expr.specs.declared.node.Op.{Op}

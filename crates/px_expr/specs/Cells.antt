@@ -1,4 +1,4 @@
--- What an expression is at a cell of a ray: a member or not, and the faces shown or hidden there.
+-- What an expression is at a cell of a ray: a member or not, and the faces shown or hidden there. Clauses of public calls stand on it.
 -- It follows from what each solid is at that cell, whatever that may be.
 use Rattle.std.specs.Prelude.{ℕ, ◌≡◌, ◌<◌, ◌==◌, Bool, true, false, ◌&&◌, ◌||◌, not, List, [], ◌++◌, length, if◌then◌else◌, slice_index_or}
 use Rattle.std.specs.List.{list_any}

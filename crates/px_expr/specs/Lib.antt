@@ -4,5 +4,4 @@ pub mod Waiting
 pub mod TreeCode
 pub mod Cells
 pub mod Postorder
-pub mod Stack
 pub mod Kept

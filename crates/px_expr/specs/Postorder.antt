@@ -1,4 +1,4 @@
--- The nodes of a tree in postorder, and the trees that nodes stand for.
+-- The nodes of a tree in postorder, and the trees that nodes stand for. Clauses of public calls stand on it.
 use Rattle.std.specs.Prelude.{ℕ, ◌+◌, ◌-◌, ◌==◌, List, [], ◌∷◌, ◌++◌, fold, sum_by, count_by}
 use Rattle.px_expr.specs.Tree.{Tree, leaf, join}
 use Rattle.px_expr.specs.Shapes.{shape_of, op_node, put, sides}

@@ -1,5 +1,5 @@
--- A node as it is read, and what it leaves of values that wait: for every walk over nodes.
-use Rattle.std.specs.Prelude.{ℕ, ◌≡◌, ◌<◌, ◌≤◌, List, [], ◌∷◌, refl}
+-- A node as it is read, and what it leaves of values that wait: for every walk over nodes. Clauses of public calls stand on it.
+use Rattle.std.specs.Prelude.{ℕ, ◌<◌, ◌≤◌, List, [], ◌∷◌}
 use Rattle.px_expr.specs.declared.node.Node.{Node}
 use Rattle.px_expr.specs.declared.node.Node.TheVariants as n
 use Rattle.px_expr.specs.declared.node.Op.{Op}
@@ -21,12 +21,6 @@ op_node o.Union left right = n.Union left right
 op_node o.Meet left right = n.Meet left right
 op_node o.Minus left right = n.Minus left right
 op_node o.Differ left right = n.Differ left right
-
-pub shape_of_op : (op : Op) (left right : ℕ) → shape_of (op_node op left right) ≡ p.Join op left right
-shape_of_op o.Union left right = refl
-shape_of_op o.Meet left right = refl
-shape_of_op o.Minus left right = refl
-shape_of_op o.Differ left right = refl
 
 -- the last two of the values that wait, the newest first, become one
 abbrev pub joined : {X : Type 0} → (Op → X → X → X) → Op → List X → List X

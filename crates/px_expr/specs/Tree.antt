@@ -1,4 +1,4 @@
--- Expressions over solids as they are written, and the limits of every expression.
+-- Expressions over solids as they are written, and the limits of every expression. Clauses of public calls stand on it.
 use Rattle.std.specs.Prelude.{ℕ, ◌+◌, ◌<◌, ◌≤◌, max}
 use Rattle.px_expr.specs.declared.node.Op.{Op}
 

@@ -1,4 +1,4 @@
--- How a tree is stored as a list of numbers, each operator after its sides: for models alone.
+-- How a tree is stored as a list of numbers, each operator after its sides. Only proofs and private functions stand on it.
 use Rattle.std.specs.Prelude.{ℕ, ◌≡◌, List, [], ◌∷◌, ◌++◌, fold, refl}
 use Rattle.std.specs.Coded.{Coded, code_by, coded_list, coded_ℕ}
 use Rattle.std.proofs.Common.{ap, ◌∙◌}

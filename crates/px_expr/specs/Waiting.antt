@@ -1,4 +1,4 @@
--- Trees that wait to be joined, the newest first.
+-- Trees that wait to be joined, the newest first. Clauses of public calls stand on it.
 use Rattle.std.specs.Prelude.{ℕ, ◌+◌, List, [], ◌∷◌}
 use Rattle.px_expr.specs.Tree.{Tree, leaf, leaf_count}
 

@@ -3,8 +3,8 @@ ghost use Rattle.std.specs.Prelude.{◌≡◌, ◌<◌, IfNone, IfSome, length, 
 ghost use Rattle.px_text.specs.Text.{words_of};
 ghost use Rattle.px_lines.specs.Parts.{are_end, is_end_line};
 
-use crate::cut::{before_comment, is_blank, is_word};
 use arrayvec::ArrayVec;
+use px_text::{before_comment, is_blank, is_word};
 
 /// Whether the one word of a line is `end` (docs/SCENES.md, "Lines and words").
 #[tactic(auto, unfolding(crate::specs::Parts::is_end_line))]

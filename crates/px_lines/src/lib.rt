@@ -1,14 +1,12 @@
 //! Input that is a scene part, and lines behind it.
 #![tactic(auto)]
 
-mod cut;
 mod end_line;
 mod law;
 mod part;
 mod reading;
 mod search;
 
-pub use cut::{before_comment, is_blank, is_word, without_last_feed};
 pub use law::laws_of_parts;
 pub use part::part_end;
 pub use reading::{Opening, read_part};

@@ -1,5 +1,4 @@
 pub use Rattle.px_text.specs.Word
-pub mod CellLaws
 pub mod Cells
 pub mod Scenes
 pub mod Solids

@@ -1,4 +1,4 @@
--- What a contract sees of a scene, and what every scene keeps.
+-- What a contract sees of a scene, and what every scene keeps. Clauses of public calls stand on it.
 use Rattle.std.specs.Prelude.{◌≡◌, ◌≢◌, ℕ, ◌≤◌, ◌<◌, ◌+◌, ◌^◌, ◌∷◌, ◌==◌, [], List, length, All, AllPairs, Bool, not, ⊤, sum_by, Option, Some, None}
 use Rattle.std.specs.List.{list_any, AllPass}
 use Rattle.px_model.specs.declared.solid.Colour.{Colour}

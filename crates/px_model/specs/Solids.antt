@@ -1,4 +1,4 @@
--- What a contract sees of a solid, and what every solid keeps.
+-- What a contract sees of a solid, and what every solid keeps. Clauses of public calls stand on it.
 use Rattle.std.specs.Prelude.{ℕ, ◌≤◌, ◌<◌, ◌+◌, ◌==◌, List, length, ◌^◌, All, AllPairs, map, find, Option, Some, None, if◌then◌else◌}
 use Rattle.std.specs.Option.{option_or}
 use Rattle.px_num.specs.declared.linear.Linear.{Linear}

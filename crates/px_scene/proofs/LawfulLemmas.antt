@@ -26,7 +26,8 @@ use Rattle.px_scene.specs.Lines.{numeric, numbers_of, limit_of, figures, two_pas
 use Rattle.px_scene.specs.Figures.{size_of, face_of, side_of}
 use Rattle.px_model.specs.Solids.{SolidView, faces_in, names_of}
 use Rattle.px_model.specs.Scenes.{IsNumberedFrom, faces_of}
-use Rattle.px_scene.specs.Drafts.{DraftView, IsLawfulDraft, with_last, with_front, with_back, with_side, and_side, with_line, with_picture, with_depth, fresh_solid, first_word, is_begun, is_ended, tally_of, IsGoodForm, CanBeTaken}
+use Rattle.px_scene.specs.Drafts.{DraftView, IsLawfulDraft, with_last, with_front, with_back, with_side, and_side, with_line, with_picture, with_depth, fresh_solid, is_begun, is_ended, tally_of, IsGoodForm, CanBeTaken}
+use Rattle.px_scene.specs.Reading.{first_word}
 use Rattle.px_scene.proofs.NumberLemmas.{numbered_front, numbered_back, numbered_push}
 use Rattle.px_scene.proofs.TakenLemmas.{numbered_last, faces_of-with_last, names_with_last, names_push, IsNewName, SolidRoom, size_within, fraction_within, none_first, none_second, numbered_fresh, face_room, solid_room, begun_front, begun_back, begun_side, begun_end, new_name, ended_end, last_can_take}
 

@@ -2,7 +2,8 @@
 use Rattle.std.proofs.Common.{◌≡◌, ℕ, ℤ, List, true, refl, ap, sym, ◌∙◌, Result, Ok, Err, [], ◌∷◌, ◌+◌, ◌++◌, Option, Some, None, subst}
 use Rattle.std.specs.Option.{option_or}
 use Rattle.px_model.specs.Solids.{names_of}
-use Rattle.px_text.specs.Text.{Words, now_of}
+use Rattle.px_text.specs.Text.{Words}
+use Rattle.px_text.specs.LentWords.{now_of}
 use Rattle.px_scene.specs.declared.version.Version.{Version}
 use Rattle.px_scene.specs.declared.line.Cause.{Cause}
 use Rattle.px_scene.specs.declared.line.Due.{Due}

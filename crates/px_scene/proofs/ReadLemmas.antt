@@ -9,12 +9,12 @@ use Rattle.px_scene.specs.Drafts.{DraftView, IsLawfulDraft, fault_in, taken, dra
 use Rattle.px_scene.specs.Reading.{first_bad, fault_behind, at_line, scene_of}
 use Rattle.px_expr.specs.Tree.{Tree, leaf}
 use Rattle.px_model.specs.Scenes.{SceneView}
-use Rattle.px_scene.specs.Refusals.{refusal_of, IsFirstBad, is_nothing}
+use Rattle.px_scene.specs.Refusals.{refusal_of, is_nothing}
 use Rattle.px_scene.specs.declared.read.SceneFault.{SceneFault}
 use Rattle.px_scene.specs.declared.read.SceneFault.TheVariants as fault
 use Rattle.px_scene.specs.declared.line.Cause.TheVariants as cause
 use Rattle.std.proofs.lemmas.Bool.Decides.{nat_tests}
-use Rattle.px_scene.specs.Tells.{Tells, IsDraftOf}
+use Rattle.px_scene.specs.Tells.{Tells, IsDraftOf, IsFirstBad}
 use Rattle.px_scene.proofs.TellsLemmas.{blank, tells_start, tells_taken, fault_told}
 
 -- no line is bad before this one

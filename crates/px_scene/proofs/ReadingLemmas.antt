@@ -14,8 +14,7 @@ use Rattle.px_model.specs.declared.solid.Colour.{Colour}
 use Rattle.px_model.specs.declared.solid.Face.{Face}
 use Rattle.px_text.specs.Text.{Words}
 use Rattle.px_model.specs.Solids.{SolidView}
-use Rattle.px_scene.specs.Drafts.{first_word}
-use Rattle.px_scene.specs.Reading.{begins, is_solid, is_front, is_back, is_side, due_from, due_behind, count_of, count_since, names_in, words_behind, Place, places, said, face_at, side_at, Head, solid_of, line_from, line_of}
+use Rattle.px_scene.specs.Reading.{begins, is_solid, is_front, is_back, is_side, due_from, due_behind, count_of, count_since, names_in, words_behind, Position, positions, said, face_at, side_at, Head, solid_of, line_from, line_of, first_word}
 
 due_from-append : (xs ys : List Words) (due : Due) → due_from due (xs ++ ys) ≡ due_from (due_from due xs) ys
 due_from-append [] ys due = refl
@@ -69,21 +68,21 @@ line_from-append kind (m ∷ ms) l found = line_from-append kind ms l (if begins
 pub line-push : (kind : Keyword → Bool) (ls : List Words) (l : Words) → line_of kind (ls ++ l ∷ []) ≡ (if begins kind l then l else line_of kind ls)
 line-push kind ls l = line_from-append kind ls l []
 
-places-push : (before ls : List Words) (l : Words) → places before (ls ++ l ∷ []) ≡ places before ls ++ record { before = before ++ ls; line = l } ∷ []
-places-push before [] l = ap (λ (b : List Words). record { before = b; line = l } ∷ []) (sym (append-nil before))
-places-push before (m ∷ ms) l =
-    ap (λ ps. record { before = before; line = m } ∷ ps) (places-push (before ++ m ∷ []) ms l
-    ∙ ap (λ (b : List Words). places (before ++ m ∷ []) ms ++ record { before = b; line = l } ∷ []) (append_assoc before (m ∷ []) ms))
+positions-push : (before ls : List Words) (l : Words) → positions before (ls ++ l ∷ []) ≡ positions before ls ++ record { before = before ++ ls; line = l } ∷ []
+positions-push before [] l = ap (λ (b : List Words). record { before = b; line = l } ∷ []) (sym (append-nil before))
+positions-push before (m ∷ ms) l =
+    ap (λ ps. record { before = before; line = m } ∷ ps) (positions-push (before ++ m ∷ []) ms l
+    ∙ ap (λ (b : List Words). positions (before ++ m ∷ []) ms ++ record { before = b; line = l } ∷ []) (append_assoc before (m ∷ []) ms))
 
 cons_option-nil : {X : Type 0} (o : Option X) → cons_option o [] ≡ option_to_list o
 cons_option-nil None = refl
 cons_option-nil (Some x) = refl
 
-pub said-push : {X : Type 0} (what : Place → Option X) (ls : List Words) (l : Words) → said what (ls ++ l ∷ []) ≡ said what ls ++ option_to_list (what (record { before = ls; line = l }))
-said-push what ls l = ap (filter_map what) (places-push [] ls l) ∙ filter_map-append what (places [] ls) _ ∙ ap (λ xs. said what ls ++ xs) (cons_option-nil (what (record { before = ls; line = l })))
+pub said-push : {X : Type 0} (what : Position → Option X) (ls : List Words) (l : Words) → said what (ls ++ l ∷ []) ≡ said what ls ++ option_to_list (what (record { before = ls; line = l }))
+said-push what ls l = ap (filter_map what) (positions-push [] ls l) ∙ filter_map-append what (positions [] ls) _ ∙ ap (λ xs. said what ls ++ xs) (cons_option-nil (what (record { before = ls; line = l })))
 
 -- nothing is said of a solid that no line has begun
-pub none_said : {X : Type 0} (what : Place → Option X) (solid : ℕ) → ((p : Place) → count_of is_solid p.before < solid → what p ≡ None) → (ls before : List Words) → count_of is_solid (before ++ ls) < solid → filter_map what (places before ls) ≡ []
+pub none_said : {X : Type 0} (what : Position → Option X) (solid : ℕ) → ((p : Position) → count_of is_solid p.before < solid → what p ≡ None) → (ls before : List Words) → count_of is_solid (before ++ ls) < solid → filter_map what (positions before ls) ≡ []
 none_said what solid none [] before below = refl
 none_said what solid none (l ∷ ls) before below =
     let whole : (before ++ l ∷ []) ++ ls ≡ before ++ (l ∷ ls) = append_assoc before (l ∷ []) ls
@@ -98,17 +97,17 @@ and_false true b e = e
 and_false false b e = refl
 
 -- a plane of another solid
-pub face_other : (kind : Keyword → Bool) (solid : ℕ) (colour : Colour) (p : Place) → count_of is_solid p.before ≢ solid → face_at kind solid colour p ≡ None
+pub face_other : (kind : Keyword → Bool) (solid : ℕ) (colour : Colour) (p : Position) → count_of is_solid p.before ≢ solid → face_at kind solid colour p ≡ None
 face_other kind solid colour p other = rw (and_false (begins kind p.line) _ (not_equal _ _ other)) refl
 
-pub side_other : (solid : ℕ) (p : Place) → count_of is_solid p.before ≢ solid → side_at solid p ≡ None
+pub side_other : (solid : ℕ) (p : Position) → count_of is_solid p.before ≢ solid → side_at solid p ≡ None
 side_other solid p other = rw (and_false (begins is_side p.line) _ (not_equal _ _ other)) refl
 
 -- a line that is no plane of the kind
-pub face_silent : (kind : Keyword → Bool) (solid : ℕ) (colour : Colour) (p : Place) → begins kind p.line ≡ false → face_at kind solid colour p ≡ None
+pub face_silent : (kind : Keyword → Bool) (solid : ℕ) (colour : Colour) (p : Position) → begins kind p.line ≡ false → face_at kind solid colour p ≡ None
 face_silent kind solid colour p silent = rw silent refl
 
-pub side_silent : (solid : ℕ) (p : Place) → begins is_side p.line ≡ false → side_at solid p ≡ None
+pub side_silent : (solid : ℕ) (p : Position) → begins is_side p.line ≡ false → side_at solid p ≡ None
 side_silent solid p silent = rw silent refl
 
 -- the solid with what one more line says of it

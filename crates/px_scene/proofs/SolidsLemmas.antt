@@ -7,18 +7,18 @@ use Rattle.px_model.specs.declared.solid.Face.{Face}
 use Rattle.px_text.specs.Text.{Words}
 use Rattle.px_scene.specs.Figures.{face_of, side_of}
 use Rattle.px_model.specs.Solids.{SolidView}
-use Rattle.px_scene.specs.Drafts.{first_word, with_last, with_front, with_back, with_side, and_front, and_back, and_side, fresh_solid}
-use Rattle.px_scene.specs.Reading.{begins, is_solid, is_front, is_back, is_side, is_numbered, count_of, figures_in, words_behind, Place, places, said, face_at, side_at, Head, head_at, head_colour, solid_of, solids_from, solids_of}
+use Rattle.px_scene.specs.Drafts.{with_last, with_front, with_back, with_side, and_front, and_back, and_side, fresh_solid}
+use Rattle.px_scene.specs.Reading.{begins, is_solid, is_front, is_back, is_side, is_numbered, count_of, figures_in, words_behind, Position, positions, said, face_at, side_at, Head, head_at, head_colour, solid_of, solids_from, solids_of, first_word}
 use Rattle.px_scene.proofs.ReadingLemmas.{said-push, solid-push, grown, grown-none, face_other, side_other, face_silent, side_silent, none_said, count-cons}
 
 head_counts : (b : Bool) (h : Head) (hs : List Head) → length (cons_option (if b then Some h else None) hs) ≡ (if b then 1 else 0) + length hs
 head_counts true h hs = omega arith
 head_counts false h hs = omega arith
 
-length-heads : (ls before : List Words) → length (filter_map head_at (places before ls)) ≡ count_of is_solid ls
+length-heads : (ls before : List Words) → length (filter_map head_at (positions before ls)) ≡ count_of is_solid ls
 length-heads [] before = refl
 length-heads (l ∷ ls) before =
-    head_counts (begins is_solid l) _ (filter_map head_at (places (before ++ l ∷ []) ls))
+    head_counts (begins is_solid l) _ (filter_map head_at (positions (before ++ l ∷ []) ls))
     ∙ ap (λ n. (if begins is_solid l then 1 else 0) + n) (length-heads ls (before ++ l ∷ []))
     ∙ sym (count-cons is_solid l ls)
 
@@ -110,7 +110,7 @@ solids-side ls l solid front back side some = last_by ls l _ solid some (λ h.
     (grown_side (solid_of ls (count_of is_solid ls) h) (side_of (figures_in l))))
 
 -- of a solid behind all of them nothing is said
-nothing_said : {X : Type 0} (ls : List Words) (n : ℕ) (what : Place → Option X) → count_of is_solid ls < n → ((p : Place) → count_of is_solid p.before ≢ n → what p ≡ None) → said what ls ≡ []
+nothing_said : {X : Type 0} (ls : List Words) (n : ℕ) (what : Position → Option X) → count_of is_solid ls < n → ((p : Position) → count_of is_solid p.before ≢ n → what p ≡ None) → said what ls ≡ []
 nothing_said ls n what below other = none_said what n (λ p before. other p (omega arith)) ls [] below
 
 pub solids-solid : (ls : List Words) (l : Words) → begins is_solid l ≡ true → begins is_front l ≡ false → begins is_back l ≡ false → begins is_side l ≡ false

@@ -18,7 +18,7 @@ use Rattle.px_scene.specs.declared.line.LineFault.{LineFault}
 use Rattle.px_scene.specs.Lines.{past, most, fraction_past, face_past, face_limit, is_due, form_of, is_header, keyword_of, cause_of, solid_form, are_numbers, numbers_of, figures}
 use Rattle.px_scene.specs.Faults.{is_among}
 use Rattle.px_scene.specs.Figures.{colour_of, size_of}
-use Rattle.px_scene.specs.Reading.{head_colour}
+use Rattle.px_scene.specs.Reading.{head_colour, first_word}
 use lib.IntN.{negsuc}
 use Rattle.px_text.specs.Word.{is_name, number_of}
 use Rattle.px_model.specs.declared.solid.Colour.{Colour}
@@ -27,7 +27,7 @@ use Rattle.std.specs.Cmp.Lexicographic.{other_text}
 use Rattle.px_model.specs.Solids.{SolidView, faces_in, names_of}
 use Rattle.px_model.specs.Scenes.{IsNumberedFrom, AreNumberedFrom, faces_of}
 use Rattle.px_scene.proofs.NumberLemmas.{faces_of-cons}
-use Rattle.px_scene.specs.Drafts.{CanTakeFace, is_begun, is_ended, first_word, new_solid, fresh_solid, with_last, IsGoodForm}
+use Rattle.px_scene.specs.Drafts.{CanTakeFace, is_begun, is_ended, new_solid, fresh_solid, with_last, IsGoodForm}
 use Rattle.std.proofs.lemmas.List.Elements.{All-push}
 use Rattle.std.proofs.lemmas.List.Quantifiers.{all_pairs_push}
 

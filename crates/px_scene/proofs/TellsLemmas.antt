@@ -22,8 +22,8 @@ use Rattle.px_scene.specs.Versions.{version_or_first}
 use Rattle.px_scene.specs.declared.version.Version.{Version}
 use Rattle.px_scene.specs.declared.version.Version.TheVariants as v
 use Rattle.px_model.specs.Solids.{SolidView, names_of}
-use Rattle.px_scene.specs.Drafts.{DraftView, IsLawfulDraft, IsGoodForm, with_front, with_back, with_side, and_front, and_back, and_side, with_picture, with_depth, with_last, with_line, in_last, tally_of, fault_in, taken, is_ended, fresh_solid, first_word}
-use Rattle.px_scene.specs.Reading.{begins, is_pxscene, is_picture, is_depth, is_solid, is_front, is_back, is_side, is_shown, is_numbered, count_of, count_since, tally_behind, names_in, due_behind, version_in, figures_in, line_of, words_behind, width_of, height_of, shown_in, solids_of, head_colour, fault_behind}
+use Rattle.px_scene.specs.Drafts.{DraftView, IsLawfulDraft, IsGoodForm, with_front, with_back, with_side, and_front, and_back, and_side, with_picture, with_depth, with_last, with_line, in_last, tally_of, fault_in, taken, is_ended, fresh_solid}
+use Rattle.px_scene.specs.Reading.{begins, is_pxscene, is_picture, is_depth, is_solid, is_front, is_back, is_side, is_shown, is_numbered, count_of, count_since, tally_behind, names_in, due_behind, version_in, figures_in, line_of, words_behind, width_of, height_of, shown_in, solids_of, head_colour, fault_behind, first_word}
 use Rattle.px_scene.specs.Tells.{Tells}
 use Rattle.px_scene.proofs.ReadingLemmas.{due-push, count-push, since-push, names-push, line-push}
 use Rattle.px_scene.proofs.SolidsLemmas.{IsSilent, solids-silent, solids-front, solids-back, solids-side, solids-solid}

@@ -7,7 +7,8 @@ use Rattle.px_expr.specs.declared.node.Op.TheVariants as o
 use Rattle.px_expr.specs.Tree.{Tree, leaf, join}
 use Rattle.px_expr.specs.Shapes.{op_node}
 use Rattle.px_expr.specs.Postorder.{size, nodes_behind}
-use Rattle.px_scene.specs.Versions.{is_differ, is_difference, has_difference}
+use Rattle.px_scene.specs.Versions.{is_differ, has_difference}
+use Rattle.px_scene.specs.Differences.{is_difference}
 
 difference_of_op : (op : Op) (l r : ℕ) → is_difference (op_node op l r) ≡ is_differ op
 difference_of_op o.Union l r = refl

@@ -1,4 +1,4 @@
--- What a contract sees of a draft.
+-- The view of a draft. Only proofs and private functions stand on it.
 use Rattle.px_scene.specs.declared.draft.Draft.{Draft}
 use Rattle.px_scene.specs.Drafts.{DraftView}
 

@@ -1,4 +1,4 @@
--- What the lines of a scene text have said so far.
+-- What the lines of a scene text have said so far. Only proofs and private functions stand on it.
 use Rattle.std.specs.Prelude.{◌≡◌, ◌≢◌, ℕ, ℤ, ◌+◌, ◌-◌, ◌<◌, ◌≤◌, List, [], ◌∷◌, ◌++◌, Bool, true, false, Option, Some, None, length, All, AllPairs, slice_get, IfSome, IsSomeAnd, unwrap_or}
 use Rattle.std.specs.List.{AllPass}
 use Rattle.std.specs.Option.{option_map_or}
@@ -13,6 +13,7 @@ use Rattle.px_text.specs.Text.{Words}
 use Rattle.px_expr.specs.Tree.{Tree, leaf, HasLeavesBelow}
 use Rattle.px_scene.specs.Show.{show_tree}
 use Rattle.px_scene.specs.Versions.{version_or_first}
+use Rattle.px_scene.specs.Reading.{first_word}
 use Rattle.px_scene.specs.declared.version.Version.{Version}
 use Rattle.px_text.specs.Word.{is_name}
 use Rattle.px_model.specs.Solids.{SolidView, names_of}
@@ -99,10 +100,6 @@ fresh_solid name number colour = record { name = name; colour = colour; near_num
 abbrev pub new_solid : List ℕ → ℕ → List ℤ → List SolidView
 new_solid name number (red ∷ green ∷ blue ∷ []) = fresh_solid name number (colour_of red green blue) ∷ []
 new_solid name number zs = []
-
-abbrev pub first_word : Words → List ℕ
-first_word [] = []
-first_word (w ∷ ws) = w
 
 -- what a good line adds: its first word, the words after it and its numbers
 abbrev pub with_line : Keyword → DraftView → Words → List ℤ → DraftView

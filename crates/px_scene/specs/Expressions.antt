@@ -1,5 +1,7 @@
--- Expressions over names: how they are written, and how they are read.
+-- Expressions over names: how they are written, and how they are read. Clauses of public calls stand on it.
 -- The two agree: what is written is read, and what is read was written (`expression_law` in src/show.rt).
+-- Clauses speak of what tokens are read to (`expression_of`), which keeps a stack of parts. It need not be believed: by that
+-- law it is the one way to have an expression of which `written` is the tokens, and `written` is what is to be believed.
 use Rattle.std.specs.Prelude.{◌≡◌, ℕ, ◌+◌, max, List, [], ◌∷◌, ◌++◌, true, Bool, ◌&&◌, if◌then◌else◌, Option, Some, None, fold}
 use Rattle.px_expr.specs.declared.node.Op.{Op}
 use Rattle.px_scene.specs.Tokens.{Token, name, opens, closes, sign, other}

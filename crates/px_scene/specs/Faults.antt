@@ -1,4 +1,4 @@
--- A fault of a line's form, or else of its limits; a name among others.
+-- A fault of a line's form, or else of its limits; a name among others. Clauses of public calls stand on it.
 use Rattle.std.specs.Prelude.{ℕ, List, Bool, Option, Some, None}
 use Rattle.std.specs.List.{list_any}
 use Rattle.std.specs.Str.{bytes_eq}

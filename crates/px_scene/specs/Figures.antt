@@ -1,4 +1,4 @@
--- What the numbers of a scene text's lines say: sizes, colours, planes and faces.
+-- What the numbers of a scene text's lines say: sizes, colours, planes and faces. Clauses of public calls stand on it.
 use Rattle.std.specs.Prelude.{ℕ, ℤ, pos, List, [], ◌∷◌, Option, Some, None}
 use lib.IntN.{negsuc}
 use Rattle.px_num.specs.declared.linear.Linear.{Linear}

@@ -1,4 +1,3 @@
-pub use Rattle.px_model.specs.CellLaws
 pub use Rattle.px_model.specs.Cells
 pub use Rattle.px_model.specs.Scenes
 pub use Rattle.px_model.specs.Solids
@@ -6,6 +5,7 @@ pub use Rattle.px_text.specs.Text
 pub use Rattle.px_text.specs.Word
 pub use Rattle.px_text.specs.Written
 pub mod Canonical
+pub mod Differences
 pub mod DraftViews
 pub mod Drafts
 pub mod Expressions

@@ -1,4 +1,4 @@
--- One line of a scene text: which lines are due, and why a line is bad.
+-- One line of a scene text: which lines are due, and why a line is bad. Clauses of public calls stand on it.
 use Rattle.std.specs.Prelude.{ℕ, ℤ, pos, ◌+◌, ◌-◌, min, ◌-ℤ◌, ◌^◌, ◌==◌, List, [], ◌∷◌, ◌&&◌, ◌||◌, not, Bool, true, false, if◌then◌else◌, Option, Some, None, map, length, codes, unwrap_or, is_some}
 use Rattle.std.specs.Option.{option_or}
 use Rattle.std.specs.Str.{bytes_eq}

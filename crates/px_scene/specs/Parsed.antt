@@ -1,13 +1,15 @@
 -- A parsed line, in the words of the rules: what begins it, the words that it keeps, and its numbers.
 -- Only proofs and private functions stand on it.
 use Rattle.std.specs.Prelude.{◌≡◌, ℕ, ℤ, List, [], ◌∷◌, ◌==◌, ◌||◌, length, ⊤, true, if◌then◌else◌, Option, Some, None, Result, Ok, Err}
-use Rattle.px_text.specs.Text.{Words, now_of}
+use Rattle.px_text.specs.Text.{Words}
+use Rattle.px_text.specs.LentWords.{now_of}
 use Rattle.px_text.specs.Word.{is_name, number_of}
 use Rattle.px_scene.specs.Versions.{version_word, version_of}
 use Rattle.px_scene.specs.Faults.{judged, is_among}
 use Rattle.px_scene.specs.Show.{show_cause, show_fault}
 use Rattle.px_scene.specs.Lines.{keyword_of, is_due, numeric, numbers_of, figures, form_of, cause_of, limit_of}
-use Rattle.px_scene.specs.Drafts.{DraftView, first_word, tally_of}
+use Rattle.px_scene.specs.Drafts.{DraftView, tally_of}
+use Rattle.px_scene.specs.Reading.{first_word}
 use Rattle.px_model.specs.Solids.{names_of}
 use Rattle.px_scene.specs.declared.version.Version.{Version}
 use Rattle.px_scene.specs.declared.line.Cause.{Cause}

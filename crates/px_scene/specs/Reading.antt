@@ -1,4 +1,4 @@
--- A scene text line by line: the first bad line, and the scene of a text that has none.
+-- A scene text line by line: the first bad line, and the scene of a text that has none. Clauses of public calls stand on it.
 -- Each line is judged by what is counted over the lines before it.
 use Rattle.std.specs.Prelude.{ℕ, ℤ, ◌+◌, ◌==◌, List, [], ◌∷◌, ◌++◌, length, map, filter, count_by, Bool, true, false, ◌&&◌, if◌then◌else◌, Option, Some, None, unwrap_or}
 use Rattle.std.specs.List.{after_last, filter_map}
@@ -20,7 +20,6 @@ use Rattle.px_model.specs.Scenes.{SceneView, black}
 use Rattle.px_scene.specs.Show.{show_tree}
 use Rattle.px_scene.specs.Versions.{version_or_first}
 use Rattle.px_scene.specs.declared.version.Version.{Version}
-use Rattle.px_scene.specs.Drafts.{first_word}
 
 abbrev pub is_pxscene : Keyword → Bool
 is_pxscene k.Pxscene = true
@@ -65,6 +64,10 @@ is_numbered keyword = false
 abbrev pub begins : (Keyword → Bool) → Words → Bool
 begins kind [] = false
 begins kind (w ∷ ws) = kind (keyword_of w)
+
+abbrev pub first_word : Words → List ℕ
+first_word [] = []
+first_word (w ∷ ws) = w
 
 abbrev pub words_behind : Words → Words
 words_behind [] = []
@@ -129,30 +132,30 @@ first_bad before [] = None
 first_bad before (l ∷ ls) = at_line (length before + 1) (fault_behind before l) (first_bad (before ++ l ∷ []) ls)
 
 -- a line, and the lines before it
-pub record Place : Type 0 where
+pub record Position : Type 0 where
   pub before : List Words
   pub line : Words
 
 -- each line with those before it
-abbrev pub places : List Words → List Words → List Place
-places before [] = []
-places before (l ∷ ls) = record { before = before; line = l } ∷ places (before ++ l ∷ []) ls
+abbrev pub positions : List Words → List Words → List Position
+positions before [] = []
+positions before (l ∷ ls) = record { before = before; line = l } ∷ positions (before ++ l ∷ []) ls
 
 -- what the lines say, where they say it
-abbrev pub said : {X : Type 0} → (Place → Option X) → List Words → List X
-said what lines = filter_map what (places [] lines)
+abbrev pub said : {X : Type 0} → (Position → Option X) → List Words → List X
+said what lines = filter_map what (positions [] lines)
 
 -- a front or a back of the solid of this number, counted from 1: of the last one before its line
-abbrev pub face_at : (Keyword → Bool) → ℕ → Colour → Place → Option Face
-face_at kind solid colour place =
-    if begins kind place.line && count_of is_solid place.before == solid
-    then face_of colour (count_of is_numbered place.before + 1) (figures_in place.line)
+abbrev pub face_at : (Keyword → Bool) → ℕ → Colour → Position → Option Face
+face_at kind solid colour position =
+    if begins kind position.line && count_of is_solid position.before == solid
+    then face_of colour (count_of is_numbered position.before + 1) (figures_in position.line)
     else None
 
-abbrev pub side_at : ℕ → Place → Option Linear
-side_at solid place =
-    if begins is_side place.line && count_of is_solid place.before == solid
-    then side_of (figures_in place.line)
+abbrev pub side_at : ℕ → Position → Option Linear
+side_at solid position =
+    if begins is_side position.line && count_of is_solid position.before == solid
+    then side_of (figures_in position.line)
     else None
 
 -- the line of a solid
@@ -165,10 +168,10 @@ abbrev pub head_colour : List ℤ → Colour
 head_colour (red ∷ green ∷ blue ∷ []) = colour_of red green blue
 head_colour zs = black
 
-abbrev pub head_at : Place → Option Head
-head_at place =
-    if begins is_solid place.line
-    then Some (record { name = first_word (words_behind place.line); colour = head_colour (figures_in place.line); number = count_of is_numbered place.before + 1 })
+abbrev pub head_at : Position → Option Head
+head_at position =
+    if begins is_solid position.line
+    then Some (record { name = first_word (words_behind position.line); colour = head_colour (figures_in position.line); number = count_of is_numbered position.before + 1 })
     else None
 
 -- the solid of this number, by its line

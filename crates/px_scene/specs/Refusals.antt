@@ -1,4 +1,4 @@
--- Why a text is no scene, where it is none.
+-- Why a text is no scene, where it is none. Clauses of public calls stand on it.
 use Rattle.std.specs.Prelude.{ℕ, ◌≡◌, pos, ◌^◌, List, [], length, Bool, true, false, if◌then◌else◌, nat_lt, Option, Some, None}
 use Rattle.px_scene.specs.declared.line.Due.{Due}
 use Rattle.px_scene.specs.declared.line.Due.TheVariants as d
@@ -30,7 +30,3 @@ abbrev pub refusal_of : List ℕ → Option SceneFault
 refusal_of text =
     if nat_lt (2 ^ 20) (length text) then Some (fault.Limit 0 kind.Text (pos 1048577))
     else refused (first_bad [] (worded text)) (is_nothing (due_behind (worded text))) (length (lines_of text))
-
--- the fault of the first bad line
-abbrev pub IsFirstBad : SceneFault → List Words → Type 0
-IsFirstBad found lines = (bad : ℕ × LineFault) × (first_bad [] lines ≡ Some bad) × (found ≡ fault_at bad.0 bad.1)

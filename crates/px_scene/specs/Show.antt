@@ -1,4 +1,4 @@
--- The expression of a `show` line, by the version and the words after the first.
+-- The expression of a `show` line, by the version and the words after the first. Clauses of public calls stand on it.
 use Rattle.std.specs.Prelude.{ℕ, ◌+◌, pos, nat_le, List, [], ◌∷◌, ◌&&◌, Bool, if◌then◌else◌, Option, Some, None}
 use Rattle.std.specs.Option.{option_map, option_or}
 use Rattle.std.specs.Str.{bytes_eq}

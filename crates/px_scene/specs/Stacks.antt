@@ -1,4 +1,4 @@
--- What a stack keeps of the parts of tokens: their kinds, and the steps that build their sides.
+-- What a stack keeps of the parts of tokens: their kinds, and the steps that build their sides. Only proofs and private functions stand on it.
 use Rattle.std.specs.Prelude.{◌≡◌, ℕ, ◌+◌, ◌-◌, ◌^◌, min, max, List, [], ◌∷◌, ◌++◌, Option, Some, None, Bool, true, false, nat_le, map, reverse}
 use Rattle.px_expr.specs.declared.node.Op.{Op}
 use Rattle.px_expr.specs.Tree.{Tree, leaf, join}

@@ -1,8 +1,11 @@
--- A draft that says what the lines of a text say.
-use Rattle.std.specs.Prelude.{◌≡◌, List, [], length, false, None}
+-- A draft that says what the lines of a text say, and the fault of the first that is bad. Only proofs and private functions stand on it.
+use Rattle.std.specs.Prelude.{◌≡◌, ℕ, List, [], length, false, Option, Some, None}
 use Rattle.px_text.specs.Text.{Words}
 use Rattle.px_model.specs.Solids.{names_of}
 use Rattle.px_scene.specs.Drafts.{DraftView, IsLawfulDraft, in_last, is_ended}
+use Rattle.px_scene.specs.declared.line.LineFault.{LineFault}
+use Rattle.px_scene.specs.declared.read.SceneFault.{SceneFault}
+use Rattle.px_scene.specs.Refusals.{fault_at}
 use Rattle.px_scene.specs.Figures.{depth_of, fraction_of}
 use Rattle.px_scene.specs.Reading.{is_picture, is_depth, is_solid, is_front, is_back, is_side, is_shown, is_numbered, count_of, count_since, names_in, due_behind, version_in, figures_in, line_of, width_of, height_of, shown_in, solids_of, first_bad}
 
@@ -28,3 +31,7 @@ pub record IsDraftOf (draft : DraftView) (lines : List Words) : Type 0 where
   pub good : first_bad [] lines ≡ None
   pub tells : Tells draft lines
   pub lawful : IsLawfulDraft draft
+
+-- the fault of the first bad line
+abbrev pub IsFirstBad : SceneFault → List Words → Type 0
+IsFirstBad found lines = (bad : ℕ × LineFault) × (first_bad [] lines ≡ Some bad) × (found ≡ fault_at bad.0 bad.1)

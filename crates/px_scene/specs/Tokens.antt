@@ -1,4 +1,4 @@
--- The tokens of an expression's words.
+-- The tokens of an expression's words. Clauses of public calls stand on it.
 use Rattle.std.specs.Prelude.{ℕ, ◌==◌, List, [], ◌∷◌, ◌&&◌, if◌then◌else◌}
 use Rattle.std.specs.List.{flat_map}
 use Rattle.px_expr.specs.declared.node.Op.{Op}

@@ -1,8 +1,6 @@
--- The versions of scene texts: the words that name them, and what each has.
+-- The versions of scene texts: the words that name them, and what each has. Clauses of public calls stand on it.
 use Rattle.std.specs.Prelude.{ℕ, List, [], ◌∷◌, codes, Bool, true, false, ◌||◌, if◌then◌else◌, Option, Some, None, unwrap_or}
 use Rattle.std.specs.Str.{bytes_eq}
-use Rattle.px_expr.specs.declared.node.Node.{Node}
-use Rattle.px_expr.specs.declared.node.Node.TheVariants as n
 use Rattle.px_expr.specs.declared.node.Op.{Op}
 use Rattle.px_expr.specs.declared.node.Op.TheVariants as o
 use Rattle.px_expr.specs.Tree.{Tree}
@@ -55,11 +53,6 @@ is_differ o.Union = false
 is_differ o.Meet = false
 is_differ o.Minus = false
 is_differ o.Differ = true
-
--- a node that is a `^`
-abbrev pub is_difference : Node → Bool
-is_difference (n.Differ left right) = true
-is_difference node = false
 
 -- whether a `^` stands in an expression
 abbrev pub has_difference : Tree → Bool

@@ -1,4 +1,4 @@
--- What every scene keeps, of which the canonical text is read as it.
+-- What every scene keeps, of which the canonical text is read as it. Clauses of public calls stand on it.
 use Rattle.std.specs.Prelude.{◌≡◌, ℕ, List, All, None}
 use Rattle.px_expr.specs.Tree.{IsLawful}
 use Rattle.px_text.specs.Text.{worded}

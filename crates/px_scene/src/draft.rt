@@ -2,7 +2,8 @@
 ghost use Rattle.std.specs.Prelude.{◌≡◌, false, ◌<◌, ◌≤◌, ◌+◌, ◌++◌, ◌∷◌, [], length, pos, None, Some, IfSome, IfOk, IfErr, vec_len, slice_get, ◌-◌, OnOk, OnErr, IsErrOf, All, true, is_some};
 ghost use Rattle.std.specs.Str.{bytes_eq};
 ghost use Rattle.std.specs.List.{list_any};
-ghost use Rattle.px_text.specs.Text.{words_of, now_of};
+ghost use Rattle.px_text.specs.Text.{words_of};
+ghost use Rattle.px_text.specs.LentWords.{now_of};
 ghost use Rattle.px_scene.specs.Refusals.{is_nothing};
 ghost use Rattle.px_scene.specs.Faults.{is_among};
 ghost use Rattle.px_scene.specs.Figures.{colour_of, size_of};
@@ -11,7 +12,8 @@ ghost use Rattle.px_scene.specs.Parsed.{keyword_in, name_in, words_in, numbers_i
 ghost use Rattle.px_scene.specs.Show.{show_fault, show_tree};
 ghost use Rattle.px_model.specs.Solids.{IsPlane, SolidView, faces_in, names_of};
 ghost use Rattle.px_model.specs.Scenes.{AreNumberedFrom, faces_of};
-ghost use Rattle.px_scene.specs.Drafts.{fresh_solid, first_word, with_line, with_depth, taken, with_last, in_last, with_front, with_back, with_side, CanTakeFace, CanBeTaken, IsLawfulDraft, tally_of, fault_in, drawn};
+ghost use Rattle.px_scene.specs.Drafts.{fresh_solid, with_line, with_depth, taken, with_last, in_last, with_front, with_back, with_side, CanTakeFace, CanBeTaken, IsLawfulDraft, tally_of, fault_in, drawn};
+ghost use Rattle.px_scene.specs.Reading.{first_word};
 ghost use Rattle.px_scene.specs.declared.line.Due.TheVariants as Due;
 ghost use Rattle.px_scene.specs.declared.version.Version.TheVariants as Version;
 ghost use Rattle.px_scene.specs.declared.line.LineFault.{LineFault};

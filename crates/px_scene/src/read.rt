@@ -2,7 +2,8 @@
 ghost use Rattle.std.specs.Prelude.{◌≡◌, ◌⊎◌, ◌+◌, ◌<◌, ◌≤◌, ◌^◌, [], ◌∷◌, map, length, OnOk, IfOk, IfErr, IsErrOf, None, Some, ℕ};
 ghost use Rattle.px_text.specs.Text.{lines_of, words_of, worded};
 ghost use Rattle.px_scene.specs.Reading.{first_bad, scene_of, due_behind};
-ghost use Rattle.px_scene.specs.Refusals.{refusal_of, fault_at, is_nothing, IsFirstBad};
+ghost use Rattle.px_scene.specs.Refusals.{refusal_of, fault_at, is_nothing};
+ghost use Rattle.px_scene.specs.Tells.{IsFirstBad, IsDraftOf};
 
 use crate::draft::Draft;
 use crate::line::{Cause, LimitKind, LineError, LineFault};
@@ -32,7 +33,6 @@ pub enum SceneFault {
     Memory,
 }
 
-ghost use Rattle.px_scene.specs.Tells.{IsDraftOf};
 ghost use Rattle.px_scene.specs.DraftViews.{view_of};
 
 impl From<Memory> for SceneFault {

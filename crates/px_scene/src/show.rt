@@ -2,7 +2,7 @@
 ghost use Rattle.std.specs.Prelude.{◌≡◌, ◌≤◌, None, Some, true, List, OnOk, IfOk, IfErr, IsErrOf, length};
 ghost use Rattle.px_scene.specs.declared.line.LineFault.{LineFault};
 ghost use Rattle.px_model.specs.Solids.{names_of};
-ghost use Rattle.px_text.specs.Text.{now_of};
+ghost use Rattle.px_text.specs.LentWords.{now_of};
 ghost use Rattle.px_expr.specs.Tree.{Tree, leaf_count, nesting, HasLeavesBelow, IsLawful};
 ghost use Rattle.px_text.specs.Text.{Words, words_of};
 ghost use Rattle.px_scene.specs.Tokens.{Token, tokens_of};

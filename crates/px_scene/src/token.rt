@@ -2,7 +2,7 @@
 ghost use Rattle.std.specs.Prelude.{◌≡◌, ◌<◌, ◌++◌, ◌∷◌, [], length, map, IfOk, OnOk, IfSome, IfNone};
 ghost use Rattle.std.specs.List.{take_while};
 ghost use Rattle.px_text.specs.Word.{is_name_byte};
-ghost use Rattle.px_text.specs.Text.{now_of};
+ghost use Rattle.px_text.specs.LentWords.{now_of};
 ghost use Rattle.px_scene.specs.Tokens.{mark, tokens_in, tokens_of};
 ghost use Rattle.px_scene.specs.Stacks.{token_of};
 

@@ -1,6 +1,6 @@
 //! The version of a scene text, which its header names (docs/SCENES.md, "Versions").
 ghost use Rattle.std.specs.Prelude.{◌≡◌};
-ghost use Rattle.px_text.specs.Text.{now_of};
+ghost use Rattle.px_text.specs.LentWords.{now_of};
 ghost use Rattle.px_scene.specs.Versions.{has_differ, version_named, version_of, version_word};
 
 /// What a scene text may say. Each version has all that the one before has.

@@ -3,7 +3,8 @@ ghost use Rattle.std.specs.Prelude.{◌≡◌, None, ◌++◌, ◌∷◌, [], co
 ghost use Rattle.px_expr.specs.Tree.{IsLawful};
 ghost use Rattle.px_model.specs.Solids.{IsLawfulSolid};
 ghost use Rattle.px_model.specs.Scenes.{SceneView};
-ghost use Rattle.px_scene.specs.Versions.{version_word, has_difference, is_difference};
+ghost use Rattle.px_scene.specs.Versions.{version_word, has_difference};
+ghost use Rattle.px_scene.specs.Differences.{is_difference};
 ghost use Rattle.px_scene.specs.Writable.{IsWritable, IsReadAs};
 ghost use Rattle.std.specs.Fmt.{signed_decimal};
 ghost use Rattle.std.specs.List.{list_any, flat_map};

@@ -1,3 +1,4 @@
 pub mod Text
 pub mod Word
 pub mod Written
+pub mod LentWords

@@ -2,15 +2,10 @@
 use Rattle.std.specs.Prelude.{ℕ, List, [], ◌∷◌, ◌==◌, ◌||◌, Bool, true, false, filter, map, length, ◌-◌, take, slice_get, if◌then◌else◌}
 use Rattle.std.specs.Option.{option_map_or}
 use Rattle.std.specs.List.{slice_split, before_first}
-use Rattle.std.specs.Borrow.{Bor}
 
 -- the words of one line
 abbrev pub Words : Type 0
 Words = List (List ℕ)
-
--- the words behind references
-abbrev pub now_of : List (Bor (List ℕ)) → Words
-now_of ws = map (λ w. w.now) ws
 
 abbrev pub is_blank : ℕ → Bool
 is_blank b = b == 32 || b == 9 || b == 13

@@ -1,10 +1,12 @@
 //! Texts of lines and words: how they are cut, which words are numbers and names, and how they are written.
 #![tactic(auto)]
 
+mod cut;
 mod text;
 mod word;
 mod written;
 
+pub use cut::{before_comment, is_blank, is_word, without_last_feed};
 pub use text::{lines_of, words_of};
 pub use word::{is_name, is_name_byte, number_of};
 pub use written::written_law;

@@ -1,8 +1,9 @@
 //! Lines and words of a text (docs/SCENES.md, "Lines and words").
-ghost use Rattle.std.specs.Prelude.{◌≡◌, ◌==◌, ◌||◌, ◌≤◌, ◌+◌, IfOk, map, length, vec_len};
-ghost use Rattle.std.specs.List.{slice_split, before_first};
-ghost use Rattle.px_text.specs.Text.{lines_of, ends_with_feed, words_of, is_blank, is_some_byte};
+ghost use Rattle.std.specs.Prelude.{◌≡◌, ◌==◌, ◌≤◌, ◌+◌, IfOk, map, length, vec_len};
+ghost use Rattle.std.specs.List.{slice_split};
+ghost use Rattle.px_text.specs.Text.{lines_of, words_of};
 
+use crate::cut::{before_comment, is_blank, is_word, without_last_feed};
 use px_num::Memory;
 use std::alloc::Global;
 
@@ -14,19 +15,8 @@ pub fn lines_of(alloc: Global, text: &[u8]) -> Result<Vec<&[u8]>, Memory>
 {
     if text.is_empty() {
         Ok(Vec::new(alloc))
-    } else if ends_with_feed(text) {
-        pieces_of(alloc, &text[..text.len() - 1])
     } else {
-        pieces_of(alloc, text)
-    }
-}
-
-fn ends_with_feed(text: &[u8]) -> bool
-    ensures { result ≡ ends_with_feed text.now }
-{
-    match text.last() {
-        Some(byte) => *byte == b'\n',
-        None => false,
+        pieces_of(alloc, without_last_feed(text))
     }
 }
 
@@ -55,30 +45,4 @@ pub fn words_of(alloc: Global, line: &[u8]) -> Result<Vec<&[u8]>, Memory>
         words.push(word)?;
     }
     Ok(words)
-}
-
-fn before_comment(line: &[u8]) -> &[u8]
-    ensures { result.now ≡ before_first (λ b. b == 35) line.now }
-{
-    for (i, b) in line.iter().enumerate() {
-        if *b == b'#' {
-            return &line[..i];
-        }
-    }
-    line
-}
-
-fn is_blank(b: u8) -> bool
-    ensures { result ≡ is_blank b }
-{
-    b == b' ' || b == b'\t' || b == b'\r'
-}
-
-fn is_word(piece: &[u8]) -> bool
-    ensures { result ≡ is_some_byte piece.now }
-{
-    match piece {
-        [] => false,
-        [_, ..] => true,
-    }
 }

@@ -1,5 +1,5 @@
 use Rattle.std.proofs.Common.{◌≡◌, map, take}
-use Rattle.px_text.specs.Text.{now_of}
+use Rattle.px_text.specs.LentWords.{now_of}
 use Rattle.px_scene.specs.Tokens.{tokens_of}
 use Rattle.px_scene.specs.Stacks.{token_of}
 use Rattle.px_scene.proofs.token.tokens_of.Given as goal

@@ -2,7 +2,7 @@ use Rattle.std.proofs.Common.{length, refl, ap, ◌∙◌, arith}
 use Rattle.std.proofs.lemmas.List.{length-reverse}
 use Rattle.px_expr.specs.Cells.{is_member, is_true, truth_of}
 use Rattle.px_expr.specs.Shapes.{put}
-use Rattle.px_expr.specs.Stack.{values_more, values_last, values_length, value_popped}
+use Rattle.px_expr.proofs.StackLaws.{values_more, values_last, values_length, value_popped}
 use Rattle.px_expr.specs.declared.node.Node.TheVariants as n
 use Rattle.px_expr.proofs.expr.Expr.holds.Goals as goal
 

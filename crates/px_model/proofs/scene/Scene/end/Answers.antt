@@ -1,5 +1,5 @@
 use Rattle.std.proofs.Common.{◌≡◌, ◌<◌, ◌-◌, ◌*◌, ◌%◌, ◌^◌, ℕ, arith, ap, refl, ◌∙◌, sym}
-use Rattle.px_model.specs.CellLaws.{end_is_within}
+use Rattle.px_model.proofs.CellLaws.{end_is_within}
 use Rattle.px_model.proofs.scene.Scene.end.Goals as goal
 
 whole : (n : ℕ) → n < 2 ^ 24 → n % 4294967296 ≡ n

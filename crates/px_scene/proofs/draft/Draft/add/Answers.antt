@@ -1,5 +1,5 @@
 use Rattle.std.proofs.Common.{sym, ◌∙◌}
-use Rattle.px_text.specs.Text.{now_of}
+use Rattle.px_text.specs.LentWords.{now_of}
 use Rattle.px_scene.specs.DraftViews.{view_of}
 use Rattle.px_scene.proofs.ParseLemmas.{lawful_with}
 use Rattle.px_scene.proofs.draft.Draft.add.Goals as goal

@@ -1,4 +1,4 @@
-//! How lines and words are cut out of bytes, for whoever goes over them without memory.
+//! How lines and words are cut out of bytes (docs/SCENES.md, "Lines and words").
 ghost use Rattle.std.specs.Prelude.{◌≡◌, ◌==◌};
 ghost use Rattle.std.specs.List.{before_first};
 ghost use Rattle.px_text.specs.Text.{ends_with_feed, is_blank, is_some_byte, without_last_feed};

@@ -2,7 +2,7 @@ use Rattle.std.proofs.Common.{◌≡◌, ◌==◌, ◌<◌, ◌≤◌, ℕ, List
 use Rattle.std.proofs.lemmas.List.{take_all}
 use Rattle.std.proofs.lemmas.List.Sums.{position_or_len_is}
 use Rattle.std.specs.List.{before_first}
-use Rattle.px_text.proofs.text.before_comment.Goals as goal
+use Rattle.px_text.proofs.cut.before_comment.Goals as goal
 
 front_is : (xs : List ℕ) (i : ℕ) → i ≤ length xs → ((k : ℕ) → k < i → (get_or xs k 0 == 35) ≡ false) → (i < length xs → (get_or xs i 0 == 35) ≡ true) → take i xs ≡ before_first (λ b. b == 35) xs
 front_is xs i le none here = rw (position_or_len_is (λ b. b == 35) xs i 0 le none here) refl
