@@ -32,6 +32,7 @@ use Rattle.px_control.specs.Program.{columns_of, program, rows_of, total}
 use Rattle.px_control.proofs.CostLemmas.{barred_costs, candidate_costs, candidate_more, candidate_weight, classify_costs, clocked, clocks_on, counted, covered_costs, drop_costs, drop_weight, five, flat_weight, layout_of_lengths, no_clearing, not_confirmed, number_few, one, ones, own_costs, own_more, plain_costs, some_clearing, turn_costs, turn_more, turn_weight}
 use Rattle.px_control.proofs.GridLemmas.{exponent_between}
 use Rattle.px_control.proofs.ProductLemmas.{literal_weight, literals_length, passes_weight, product_costs, solids_range}
+use Rattle.px_normal.specs.declared.product.TheConstants.{MAX_PRODUCTS}
 
 -- no more products are kept than there are
 kept_option : {A B : Type 0} (f : A → Option B) (xs : List A) → length (filter_map f xs) ≤ length xs
@@ -337,7 +338,7 @@ module _ (scene : SceneView) (lawful : IsLawfulScene scene) (each : All IsLawful
         lawful.solids,
       )
 
-  pub few_clocks : AreKnown → length (kept_of scene (sum_of_products scene.show)) ≤ 1024 → total scene < 2 ^ 43
+  pub few_clocks : AreKnown → length (kept_of scene (sum_of_products scene.show)) ≤ MAX_PRODUCTS → total scene < 2 ^ 43
   few_clocks known few =
       let lengths = lengths_of scene
       in let kept = kept_of scene (sum_of_products scene.show)

@@ -1,4 +1,4 @@
--- What operations cost: how many they are, and the clocks that they take.
+-- What operations cost: how many they are, and the clocks that they take. Only proofs and private functions stand on it.
 use Rattle.std.specs.Prelude.{ℕ, ◌+◌, ◌*◌, ◌≤◌, Bool, false, List, [], ◌∷◌, ◌++◌, length}
 use Rattle.std.specs.List.{flat_map, sum_by}
 use Rattle.px_asm.specs.Micros.{all_micros}

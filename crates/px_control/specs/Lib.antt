@@ -9,6 +9,7 @@ pub use Rattle.px_model.specs.Scenes
 pub mod ClockLaw
 pub mod Costs
 pub mod GridLaw
+pub mod Jobs
 pub mod PictureLaw
 pub mod Program
 pub mod ProgramLaws

@@ -1,4 +1,4 @@
--- The program of a scene: what is broadcast, clock by clock, and the array after so many clocks.
+-- The program of a scene: what is broadcast, clock by clock, and the array after so many clocks. Clauses of public calls stand on it.
 use Rattle.std.specs.Prelude.{◌≡◌, All, ℕ, zero, suc, ◌+◌, ◌-◌, ◌^◌, ◌≤◌, if◌then◌else◌, nat_le, nat_lt, List, [], ◌∷◌, filter, length, take}
 use Rattle.px_array.specs.declared.micro.Micro.{Micro}
 use Rattle.px_array.specs.Arrays.{Device, zero_state}
@@ -10,6 +10,7 @@ use Rattle.px_model.specs.Scenes.{IsLawfulScene, SceneView}
 use Rattle.px_model.specs.Solids.{IsLawfulSolid}
 use Rattle.px_sched.specs.Layouts.{layout_of, need_of}
 use Rattle.px_sched.specs.Passes.{passes}
+use Rattle.px_normal.specs.declared.product.TheConstants.{MAX_PRODUCTS}
 
 -- the first exponent from one on, of so many, whose power of 2 is at least the size
 abbrev pub exponent_from : (size from count : ℕ) → ℕ
@@ -74,7 +75,7 @@ array_after bits scene n = record {
 pub record CanRun (scene : SceneView) : Type 0 where
   pub lawful : IsLawfulScene scene
   pub solids : All IsLawfulSolid scene.solids
-  pub few : length (plan_of scene) ≤ 1024
+  pub few : length (plan_of scene) ≤ MAX_PRODUCTS
 
 -- an array whose pixels have bits enough is as the first n broadcasts of a scene leave it
 pub record IsAt (bits : ℕ) (scene : SceneView) (n : ℕ) (device : Device) : Type 0 where

@@ -10,7 +10,7 @@ pub enum JobFault {
         /// The bits that they need.
         need: u32,
     },
-    /// A list of live products that is wanted has more than 1024.
+    /// A list of live products that is wanted is too long (docs/SCENES.md, "Limits").
     #[error("{count} products")]
     Products {
         /// How many it has, at most `2^21`.

@@ -41,7 +41,8 @@ pub struct Job<'s> {
 }
 
 impl<'s> Model for Job<'s> {
-    ghost use Rattle.px_control.specs.Standing.{JobView, IsJob};
+    ghost use Rattle.px_control.specs.Standing.{JobView};
+    ghost use Rattle.px_control.specs.Jobs.{IsJob};
     ghost use Rattle.px_expr.specs.TreeCode.{tree_code};
     ghost use Rattle.std.specs.Coded.{codes};
 

@@ -41,7 +41,7 @@ pub(crate) struct Program<'s> {
 
 impl<'s> Model for Program<'s> {
     ghost use Rattle.px_model.specs.Scenes.{SceneView};
-    ghost use Rattle.px_control.specs.Standing.{IsProgram};
+    ghost use Rattle.px_control.specs.Jobs.{IsProgram};
     ghost use Rattle.px_expr.specs.TreeCode.{tree_code};
     ghost use Rattle.std.specs.Coded.{codes};
 

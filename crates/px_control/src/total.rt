@@ -22,19 +22,19 @@ ghost use Rattle.px_control.specs.Program.{total};
 use crate::costs::{Costs, Lengths};
 use crate::literal::share;
 use px_model::Scene;
-use px_normal::{Product, laws_of_normal_forms};
+use px_normal::{MAX_PRODUCTS, Product, laws_of_normal_forms};
 use px_prune::{Plan, laws_of_pruning};
 use px_sched::Layout;
 
 /// How many operations the passes of a scene have, and how many clocks they take
 /// (docs/PASSES.md, "Clocks").
 ///
-/// The plan is the scene's own, of at most 1024 products. No operation is walked:
+/// The plan is the scene's own, of at most `MAX_PRODUCTS` products. No operation is walked:
 /// the faces of a solid cost alike, so only the literals of the products are, each once. Takes no
 /// memory.
 pub fn cost(scene: &Scene, plan: &Plan, layout: &Layout) -> (u64, u64)
     requires products { plan.now.products.items ≡ plan_of scene.now }
-    requires few { length (plan_of scene.now) ≤ 1024 }
+    requires few { length (plan_of scene.now) ≤ MAX_PRODUCTS }
     requires layout { layout.now ≡ layout_of scene.now }
     ensures macros { result.0 ≡ length (passes scene.now) }
     ensures clocks { result.1 ≡ total scene.now }
@@ -46,7 +46,7 @@ pub fn cost(scene: &Scene, plan: &Plan, layout: &Layout) -> (u64, u64)
     (costs.operations, costs.clocks)
 }
 
-/// A scene of at most 1024 kept products takes less than `2^43` clocks, and every scene at least one for
+/// A scene of at most `MAX_PRODUCTS` kept products takes less than `2^43` clocks, and every scene at least one for
 /// each of its operations.
 pub fn law_of_clocks()
     ensures bound { ClockBound }
@@ -82,7 +82,7 @@ fn number_bits(layout: &Layout) -> u32
 fn products_cost(scene: &Scene, products: &[Product], lengths: &Lengths) -> Costs
     requires short { AreShort lengths.now }
     requires fraction { scene.now.fraction_bits ≡ lengths.now.fraction }
-    requires few { length products.now ≤ 1024 }
+    requires few { length products.now ≤ MAX_PRODUCTS }
     requires apart { All (λ product. is_void product ≡ false) products.now }
     requires known { All (HasSolidsBelow (length scene.now.solids)) products.now }
     ensures { result ≡ cost_of lengths.now

@@ -5,7 +5,7 @@ use Rattle.std.proofs.lemmas.Bool.{cases_lt}
 use Rattle.std.proofs.lemmas.Bool.Decides.{nat_tests}
 use Rattle.px_model.specs.Solids.{SolidView}
 use Rattle.px_model.specs.Cells.{Depths, cell_of, end_of, enters_at, is_inside, leaves_at, value_of}
-use Rattle.px_model.specs.CellLaws.{cell_is_first, cell_is_least, cells_end, cells_grow}
+use Rattle.px_model.proofs.CellLaws.{cell_is_first, cell_is_least, cells_end, cells_grow}
 use Rattle.px_face.specs.Covering.{HasCells, is_met}
 use Rattle.px_face.proofs.DepthLemmas.{cells_are, depths_are}
 

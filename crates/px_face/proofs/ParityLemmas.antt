@@ -9,7 +9,7 @@ use lib.Signed.{le_z, lt_z}
 use Rattle.px_num.specs.Forms.{value_at}
 use Rattle.px_model.specs.Solids.{SolidView}
 use Rattle.px_model.specs.Cells.{Depths, end_of, enters_at, is_inside_at, leaves_at, value_of}
-use Rattle.px_model.specs.CellLaws.{cell_is_first}
+use Rattle.px_model.proofs.CellLaws.{cell_is_first}
 use Rattle.px_face.specs.Covering.{IsCoveredOnce, IsInsideByParity, covering_back, covering_front, is_met, is_odd, is_passed, is_passed_at}
 use Rattle.px_face.specs.Edges.{covers, hold_at}
 use Rattle.px_face.specs.Faces.{face_count, plane_of}

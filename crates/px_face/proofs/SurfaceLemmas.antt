@@ -16,7 +16,7 @@ use Rattle.px_model.specs.declared.solid.Face.{Face}
 use Rattle.px_model.specs.Solids.{SolidView}
 use Rattle.px_model.specs.Scenes.{IsLawfulScene, SceneView}
 use Rattle.px_model.specs.Cells.{Depths, backs_at, cell_of, depths_of, end_of, enters_at, far_of, faces_at, fronts_at, greatest_fronts, is_inside, leaf_cell, leaves_at, no_cell, scene_cell, solid_cell, value_of}
-use Rattle.px_model.specs.CellLaws.{before_end, cell_is_least}
+use Rattle.px_model.proofs.CellLaws.{before_end, cell_is_least}
 use Rattle.px_face.specs.Covering.{is_met}
 use Rattle.px_face.specs.Surfaces.{NoMemberBehind, ScenesHaveSurfaces, scene_before, solid_before}
 use Rattle.px_face.proofs.CellLemmas.{has_cells}

@@ -10,7 +10,7 @@ use Rattle.px_num.specs.Forms.{value_at}
 use Rattle.px_model.specs.declared.solid.Face.{Face}
 use Rattle.px_model.specs.Solids.{SolidView}
 use Rattle.px_model.specs.Cells.{Depths, cell_of, depths, end_of, enters_at, faces_at, is_inside, is_inside_at, leaves_at}
-use Rattle.px_model.specs.CellLaws.{cell_whole, value_whole}
+use Rattle.px_model.proofs.CellLaws.{cell_whole, value_whole}
 use Rattle.px_face.specs.Covering.{is_met}
 use Rattle.px_face.specs.WholeLaws.{WholeBacks, WholeFronts}
 use Rattle.px_face.proofs.DepthLemmas.{all_max, all_min, cells_are, depths_are}

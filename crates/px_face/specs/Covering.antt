@@ -1,6 +1,6 @@
 -- The main theorem: where a solid is met at a pixel, exactly one of its fronts and one of its backs
 -- cover the pixel and bound its cells there, and elsewhere none covers; and a cell is inside where an
--- odd number of covering faces stands at or before it.
+-- odd number of covering faces stands at or before it. Clauses of public calls stand on it.
 use Rattle.std.specs.Prelude.{◌≡◌, ℕ, suc, ◌+◌, ◌%◌, ◌<◌, ◌≤◌, ◌==◌, ℤ, pos, neg_ℤ, ◌≤ℤ◌, ◌<ℤ◌, Bool, true, false, ◌&&◌, nat_le, nat_lt, List, [], ◌∷◌, length, map, count_by, if◌then◌else◌}
 use Rattle.std.specs.List.{list_all, range_with_len}
 use lib.Signed.{le_z, lt_z}

@@ -1,4 +1,4 @@
--- How many edges a face has, and how large its edges and its plane are.
+-- How many edges a face has, and how large its edges and its plane are. Clauses of public calls stand on it.
 use Rattle.std.specs.Prelude.{◌≡◌, ℕ, ◌^◌, ◌<◌, All, length}
 use Rattle.px_num.specs.Forms.{IsInTreeRange}
 use Rattle.px_model.specs.Solids.{IsLawfulSolid, IsPlane, SolidView}

@@ -1,4 +1,4 @@
--- The edges of a face: the forms that are at least 0 where the face bounds its solid.
+-- The edges of a face: the forms that are at least 0 where the face bounds its solid. Clauses of public calls stand on it.
 use Rattle.std.specs.Prelude.{ℕ, pos, ◌+◌, ◌-◌, Bool, List, ◌++◌, length, map, take, drop, get_or, if◌then◌else◌}
 use Rattle.std.specs.List.{list_all}
 use lib.Signed.{le_z}
@@ -42,17 +42,6 @@ abbrev pub back_edges : SolidView → (end i : ℕ) → List Linear
 back_edges s end i =
     let p = get_or (back_planes s.backs end) i (level 0)
     in s.sides ++ trails p (back_planes s.backs end) i ++ over p (front_planes s.fronts)
-
--- the edges of a front, or of a back, but for the sides
-abbrev pub front_orders : SolidView → (end i : ℕ) → List Linear
-front_orders s end i =
-    let p = get_or (front_planes s.fronts) i (level 0)
-    in leads p (front_planes s.fronts) i ++ under p (back_planes s.backs end)
-
-abbrev pub back_orders : SolidView → (end i : ℕ) → List Linear
-back_orders s end i =
-    let p = get_or (back_planes s.backs end) i (level 0)
-    in trails p (back_planes s.backs end) i ++ over p (front_planes s.fronts)
 
 -- a face is compared with each side, and with each of the other faces
 abbrev pub edge_count : SolidView → ℕ

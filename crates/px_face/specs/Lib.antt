@@ -5,5 +5,6 @@ pub mod Covering
 pub mod EdgeLaws
 pub mod Edges
 pub mod Faces
+pub mod Orders
 pub mod Surfaces
 pub mod WholeLaws

@@ -3,7 +3,8 @@ ghost use Rattle.std.specs.Prelude.{◌≡◌, ◌+◌, ◌<◌, ◌≤◌, All,
 ghost use Rattle.px_num.specs.Forms.{IsInTreeRange};
 ghost use Rattle.px_model.specs.Solids.{IsPlane};
 ghost use Rattle.px_face.specs.EdgeLaws.{EdgesAreCounted, EdgesAreInRange, PlanesAreInRange};
-ghost use Rattle.px_face.specs.Edges.{above, at_least, back_orders, edge_count, edges, front_orders};
+ghost use Rattle.px_face.specs.Edges.{above, at_least, edge_count, edges};
+ghost use Rattle.px_face.specs.Orders.{back_orders, front_orders};
 ghost use Rattle.px_face.specs.Faces.{face_count, level};
 
 use crate::face::{back_plane, front_plane};

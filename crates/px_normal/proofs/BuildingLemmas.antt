@@ -2,7 +2,8 @@
 use Rattle.std.proofs.Common.{ℕ, ◌≡◌, ◌+◌, ◌-◌, List, [], ◌∷◌, ◌++◌, length, refl, ap, sym, ◌∙◌, reverse, append_assoc, append-nil, fold, arith, Option, Some, None}
 use Rattle.std.proofs.lemmas.List.{reverse-append}
 use Rattle.px_expr.specs.Tree.{Tree, leaf, join}
-use Rattle.px_expr.specs.Shapes.{op_node, shape_of_op}
+use Rattle.px_expr.specs.Shapes.{op_node}
+use Rattle.px_expr.proofs.ShapeLaws.{shape_of_op}
 use Rattle.px_expr.specs.Postorder.{size, nodes_behind, nodes_of}
 use Rattle.px_expr.specs.declared.node.Node.{Node}
 use Rattle.px_expr.specs.declared.node.Op.{Op}

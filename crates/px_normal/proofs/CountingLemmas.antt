@@ -8,7 +8,8 @@ use Rattle.px_expr.specs.declared.node.Op.{Op}
 use Rattle.px_expr.specs.declared.node.Op.TheVariants as o
 use Rattle.px_normal.specs.declared.product.Product.{Product}
 use Rattle.px_normal.specs.Forms.{forms, both, crossed}
-use Rattle.px_normal.specs.Counting.{capped, counts_of, combined_counts}
+use Rattle.px_normal.specs.Counting.{capped}
+use Rattle.px_normal.specs.FormCounts.{counts_of, combined_counts}
 
 pub length-crossed : (ps qs : List Product) → length (crossed ps qs) ≡ length ps * length qs
 length-crossed [] qs = grind arith

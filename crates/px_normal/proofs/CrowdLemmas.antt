@@ -9,6 +9,7 @@ use Rattle.px_normal.specs.Forms.{Forms, combined}
 use Rattle.px_normal.specs.Live.{live}
 use Rattle.px_normal.specs.Crowd.{of_left, of_right, where_wanted, wanted_forms, first_past_limit}
 use Rattle.px_normal.proofs.LiveLemmas.{live_sides}
+use Rattle.px_normal.specs.declared.product.TheConstants.{MAX_PRODUCTS}
 
 abbrev blank : Wanted → Forms → Forms
 blank wanted x = record { products = where_wanted wanted.products x.products; complement = where_wanted wanted.complement x.complement }
@@ -41,8 +42,8 @@ module _ (boxes : ℕ → Option CellBox) where
 
 pub past_none : (xs ys : List (List Product)) → first_past_limit xs ≡ None → first_past_limit (xs ++ ys) ≡ first_past_limit ys
 past_none [] ys none = refl
-past_none (x ∷ xs) ys none = step (nat_lt 1024 (length x)) refl (past_none xs ys) where
-  step : (b : Bool) → nat_lt 1024 (length x) ≡ b → (first_past_limit xs ≡ None → first_past_limit (xs ++ ys) ≡ first_past_limit ys) → first_past_limit ((x ∷ xs) ++ ys) ≡ first_past_limit ys
+past_none (x ∷ xs) ys none = step (nat_lt MAX_PRODUCTS (length x)) refl (past_none xs ys) where
+  step : (b : Bool) → nat_lt MAX_PRODUCTS (length x) ≡ b → (first_past_limit xs ≡ None → first_past_limit (xs ++ ys) ≡ first_past_limit ys) → first_past_limit ((x ∷ xs) ++ ys) ≡ first_past_limit ys
   step true e rest = absurd (some_is_none (length x) (rw e at none)) where
     some_is_none : (n : ℕ) → Some n ≡ None → ⊥
     some_is_none n e = cc
@@ -50,7 +51,7 @@ past_none (x ∷ xs) ys none = step (nat_lt 1024 (length x)) refl (past_none xs 
 
 pub past_some : (xs ys : List (List Product)) (count : ℕ) → first_past_limit xs ≡ Some count → first_past_limit (xs ++ ys) ≡ Some count
 past_some [] ys count some = absurd cc
-past_some (x ∷ xs) ys count some = step (nat_lt 1024 (length x)) refl (past_some xs ys count) where
-  step : (b : Bool) → nat_lt 1024 (length x) ≡ b → (first_past_limit xs ≡ Some count → first_past_limit (xs ++ ys) ≡ Some count) → first_past_limit ((x ∷ xs) ++ ys) ≡ Some count
+past_some (x ∷ xs) ys count some = step (nat_lt MAX_PRODUCTS (length x)) refl (past_some xs ys count) where
+  step : (b : Bool) → nat_lt MAX_PRODUCTS (length x) ≡ b → (first_past_limit xs ≡ Some count → first_past_limit (xs ++ ys) ≡ Some count) → first_past_limit ((x ∷ xs) ++ ys) ≡ Some count
   step true e rest = rw e (rw e at some)
   step false e rest = rw e (rest (rw e at some))

@@ -15,6 +15,7 @@ use Rattle.px_normal.specs.Live.{is_live}
 use Rattle.px_normal.specs.Crowd.{both_lists, crowd, first_past_limit, of_left, of_right, of_root, wanted_forms, wanted_lists, where_wanted}
 use Rattle.px_normal.specs.CrowdLaw.{HasNoDiffer}
 use Rattle.px_normal.proofs.CountingLemmas.{at_least, length-crossed}
+use Rattle.px_normal.specs.declared.product.TheConstants.{MAX_PRODUCTS}
 
 left_appended : (n : ℕ) (ps qs : List Product) → length (ps ++ qs) ≤ n → length ps ≤ n
 left_appended n ps qs few = omega (arith, length-append ps qs)
@@ -116,10 +117,10 @@ module _ (boxes : ℕ → Option CellBox) (limit : ℕ) where
       (all_within (of_right op wanted) right none.2 (right_within limit x y some_x some_y op wanted none.0 is)))
       (own_within wanted (forms (join op left right)) is)
 
-none_past : (lists : List (List Product)) → All (IsShort 1024) lists → first_past_limit lists ≡ None
+none_past : (lists : List (List Product)) → All (IsShort MAX_PRODUCTS) lists → first_past_limit lists ≡ None
 none_past [] all = refl
-none_past (list ∷ lists) all = rw (within (length list) (All-head (IsShort 1024) list lists all)) (none_past lists (All-tail (IsShort 1024) list lists all)) where
-  within : (n : ℕ) → n ≤ 1024 → nat_lt 1024 n ≡ false
+none_past (list ∷ lists) all = rw (within (length list) (All-head (IsShort MAX_PRODUCTS) list lists all)) (none_past lists (All-tail (IsShort MAX_PRODUCTS) list lists all)) where
+  within : (n : ℕ) → n ≤ MAX_PRODUCTS → nat_lt MAX_PRODUCTS n ≡ false
   within n few = grind (arith, nat_tests)
 
 root_within : (limit : ℕ) (tree : Tree) → length (sum_of_products tree) ≤ limit → IsWithin limit of_root (forms tree)
@@ -130,5 +131,5 @@ root_within limit tree few = record { products = λ w. few; complement = λ w. a
 pub all_shorter : (boxes : ℕ → Option CellBox) (tree : Tree) → HasNoDiffer tree → All (λ list. length list ≤ length (sum_of_products tree)) (wanted_lists boxes of_root tree)
 all_shorter boxes tree none = all_within boxes (length (sum_of_products tree)) of_root tree none (root_within _ tree (omega arith))
 
-pub never_crowded : (boxes : ℕ → Option CellBox) (tree : Tree) → HasNoDiffer tree → length (sum_of_products tree) ≤ 1024 → crowd boxes tree ≡ None
-never_crowded boxes tree none few = none_past _ (all_within boxes 1024 of_root tree none (root_within 1024 tree few))
+pub never_crowded : (boxes : ℕ → Option CellBox) (tree : Tree) → HasNoDiffer tree → length (sum_of_products tree) ≤ MAX_PRODUCTS → crowd boxes tree ≡ None
+never_crowded boxes tree none few = none_past _ (all_within boxes MAX_PRODUCTS of_root tree none (root_within MAX_PRODUCTS tree few))

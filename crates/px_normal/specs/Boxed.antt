@@ -1,4 +1,4 @@
--- Products with the common part of their plain solids' boxes: for proofs alone.
+-- Products with the common part of their plain solids' boxes. Only proofs and private functions stand on it.
 use Rattle.std.specs.Prelude.{ℕ, ◌≡◌, List, Option, map}
 use Rattle.px_normal.specs.declared.cell_box.CellBox.{CellBox}
 use Rattle.px_normal.specs.declared.product.Product.{Product}

@@ -1,4 +1,4 @@
--- Boxes of cells, both ends included.
+-- Boxes of cells, both ends included. Clauses of public calls stand on it.
 use Rattle.std.specs.Prelude.{ℕ, ◌-◌, ◌^◌, Bool, false, ◌&&◌, nat_le, min, max, Option, Some, None}
 use Rattle.px_normal.specs.declared.cell_box.CellBox.{CellBox}
 

@@ -1,4 +1,4 @@
--- Steps that build the live lists of an expression: for proofs alone.
+-- Steps that build the live lists of an expression. Only proofs and private functions stand on it.
 use Rattle.std.specs.Prelude.{ℕ, ◌≤◌, List, [], ◌∷◌, ◌++◌, Option}
 use Rattle.px_expr.specs.Tree.{Tree, leaf, join}
 use Rattle.px_expr.specs.Shapes.{shape_of, joined}

@@ -1,4 +1,4 @@
--- The lists that are wanted for the live products of an expression, and the first past the limit.
+-- The lists that are wanted for the live products of an expression, and the first past the limit. Clauses of public calls stand on it.
 use Rattle.std.specs.Prelude.{ℕ, ◌||◌, Bool, true, false, List, [], ◌∷◌, ◌++◌, length, Option, Some, None, nat_lt, if◌then◌else◌}
 use Rattle.px_expr.specs.Tree.{Tree, leaf, join}
 use Rattle.px_expr.specs.declared.node.Op.{Op}
@@ -6,6 +6,7 @@ use Rattle.px_expr.specs.declared.node.Op.TheVariants as o
 use Rattle.px_normal.specs.declared.cell_box.CellBox.{CellBox}
 use Rattle.px_normal.specs.declared.product.Product.{Product}
 use Rattle.px_normal.specs.declared.step.Wanted.{Wanted}
+use Rattle.px_normal.specs.declared.product.TheConstants.{MAX_PRODUCTS}
 use Rattle.px_normal.specs.Forms.{Forms, forms}
 use Rattle.px_normal.specs.Live.{live}
 
@@ -53,11 +54,11 @@ wanted_lists boxes wanted (join op left right) =
     (wanted_lists boxes (of_left op wanted) left ++ wanted_lists boxes (of_right op wanted) right)
     ++ both_lists (wanted_forms boxes wanted (forms (join op left right)))
 
--- the length of the first list of more than 1024 products
+-- the length of the first list of too many products
 abbrev pub first_past_limit : List (List Product) → Option ℕ
 first_past_limit [] = None
 first_past_limit (list ∷ lists) =
-    if nat_lt 1024 (length list) then Some (length list) else first_past_limit lists
+    if nat_lt MAX_PRODUCTS (length list) then Some (length list) else first_past_limit lists
 
 abbrev pub crowd : (ℕ → Option CellBox) → Tree → Option ℕ
 crowd boxes tree = first_past_limit (wanted_lists boxes of_root tree)

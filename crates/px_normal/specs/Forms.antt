@@ -1,4 +1,4 @@
--- The sum of products of an expression, and that of its complement.
+-- The sum of products of an expression, and that of its complement. Clauses of public calls stand on it.
 use Rattle.std.specs.Prelude.{ℕ, ◌<◌, List, [], ◌∷◌, ◌++◌, map, length, flat_map}
 use Rattle.px_expr.specs.Tree.{Tree, leaf, join}
 use Rattle.px_expr.specs.declared.node.Op.{Op}
@@ -65,9 +65,6 @@ forms (join op left right) = combined op (forms left) (forms right)
 
 abbrev pub sum_of_products : Tree → List Product
 sum_of_products tree = (forms tree).products
-
-abbrev pub complement_products : Tree → List Product
-complement_products tree = (forms tree).complement
 
 abbrev pub HasPlain : Product → Type 0
 HasPlain product = 0 < length (solids product.plain)

@@ -8,5 +8,6 @@ pub mod LiveLaw
 pub mod Crowd
 pub mod CrowdLaw
 pub mod Counting
+pub mod FormCounts
 pub mod Boxed
 pub mod Building

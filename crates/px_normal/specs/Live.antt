@@ -1,4 +1,4 @@
--- The live products: those that can have a cell, by the boxes of their solids.
+-- The live products: those that can have a cell, by the boxes of their solids. Clauses of public calls stand on it.
 use Rattle.std.specs.Prelude.{ℕ, Bool, false, ◌&&◌, not, List, Option, Some, None, filter, fold, slice_index_or}
 use Rattle.std.specs.List.{list_any}
 use Rattle.px_expr.specs.Tree.{Tree}

@@ -1,5 +1,5 @@
 -- The live-product law: a live list is the live ones of what its clause makes of its sides' live
--- lists, and at a place in the boxes it has the members, and shows the faces, of the whole list.
+-- lists, and at a place in the boxes it has the members, and shows the faces, of the whole list. Clauses of public calls stand on it.
 use Rattle.std.specs.Prelude.{ℕ, ◌≡◌, ◌<◌, ◌^◌, true, List, Option, filter}
 use Rattle.px_expr.specs.Cells.{Cell}
 use Rattle.px_expr.specs.declared.node.Op.{Op}

@@ -1,5 +1,5 @@
 -- The normal-form law: at every cell the products hold where the expression has a member,
--- and show the faces that it shows.
+-- and show the faces that it shows. Clauses of public calls stand on it.
 use Rattle.std.specs.Prelude.{ℕ, ◌≡◌, Bool, ◌&&◌, ◌||◌, not, List}
 use Rattle.std.specs.List.{list_all, list_any}
 use Rattle.px_expr.specs.Cells.{Cell, has_face}

@@ -1,4 +1,4 @@
--- Sets of solids by their bits.
+-- Sets of solids by their bits. Clauses of public calls stand on it.
 use Rattle.std.specs.Prelude.{ℕ, ◌≡◌, ◌<◌, ◌/◌, ◌%◌, ◌^◌, Bool, true, ◌==◌, List, [], ◌∷◌, ◌++◌, filter, slice_index, slice_set, bit_or}
 use Rattle.std.specs.Int.{bit_at}
 use Prim.Native.Nat.{zero, suc}

@@ -2,7 +2,8 @@
 ghost use Rattle.std.specs.Prelude.{◌≡◌, ◌≤◌, ◌+◌, ◌*◌, length, reverse};
 ghost use Rattle.arrayvec.specs.ArrayVec.{array_vec_len};
 ghost use Rattle.px_expr.specs.Shapes.{joined, put, CanPlace};
-ghost use Rattle.px_normal.specs.Counting.{capped, leaf_counts, combined_counts};
+ghost use Rattle.px_normal.specs.Counting.{capped};
+ghost use Rattle.px_normal.specs.FormCounts.{leaf_counts, combined_counts};
 ghost use Rattle.px_normal.specs.Forms.{sum_of_products};
 
 use arrayvec::ArrayVec;

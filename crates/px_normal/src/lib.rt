@@ -15,5 +15,5 @@ pub use cell_box::CellBox;
 pub use count::count_products;
 pub use fault::NormalFault;
 pub use normal::{laws_of_live_products, laws_of_normal_forms, normalise};
-pub use product::{Product, Products};
+pub use product::{MAX_PRODUCTS, Product, Products};
 pub use set::{SolidSet, laws_of_sets};

@@ -1,5 +1,5 @@
 //! The products that can have a cell.
-ghost use Rattle.std.specs.Prelude.{◌≡◌, ◌≤◌, ◌∷◌, ◌++◌, [], ℕ, Option, None, filter, map, length, slice_index_or, All, OnOk, IfOk};
+ghost use Rattle.std.specs.Prelude.{◌≡◌, ◌≤◌, ◌*◌, ◌∷◌, ◌++◌, [], ℕ, Option, None, filter, map, length, slice_index_or, All, OnOk, IfOk};
 ghost use Rattle.px_normal.specs.declared.cell_box.CellBox.{CellBox as AnyBox};
 ghost use Rattle.px_normal.specs.Sets.{solids};
 ghost use Rattle.px_normal.specs.Forms.{both, crossed};
@@ -7,7 +7,7 @@ ghost use Rattle.px_normal.specs.Live.{boxes_in, box_of_all, has_some_cell, is_l
 ghost use Rattle.px_normal.specs.Boxed.{IsBoxed, products_in};
 
 use crate::cell_box::{EVERYTHING, narrowed};
-use crate::{CellBox, Product};
+use crate::{CellBox, MAX_PRODUCTS, Product};
 use std::alloc::{AllocError, Global};
 
 impl Product {
@@ -103,9 +103,9 @@ fn box_at(boxes: &[Option<CellBox>], solid: u8) -> Option<CellBox>
 
 /// How many products of a list are live.
 pub(crate) fn count_live(boxes: &[Option<CellBox>], products: &[Product]) -> u32
-    requires { length products.now ≤ 1024 }
+    requires { length products.now ≤ MAX_PRODUCTS }
     ensures count { result ≡ length (filter (is_live (boxes_in boxes.now)) products.now) }
-    ensures most { result ≤ 1024 }
+    ensures most { result ≤ MAX_PRODUCTS }
 {
     let mut count = 0;
     for product in products {
@@ -121,11 +121,11 @@ pub(crate) fn count_crossed(
     first: &[Product],
     second: &[Product],
 ) -> Result<u32, AllocError>
-    requires first { length first.now ≤ 1024 }
-    requires second { length second.now ≤ 1024 }
+    requires first { length first.now ≤ MAX_PRODUCTS }
+    requires second { length second.now ≤ MAX_PRODUCTS }
     ensures count { IfOk result (λ count.
         count ≡ length (filter (is_live (boxes_in boxes.now)) (crossed first.now second.now))) }
-    ensures most { IfOk result (λ count. count ≤ 1048576) }
+    ensures most { IfOk result (λ count. count ≤ MAX_PRODUCTS * MAX_PRODUCTS) }
 {
     let second = boxed_all(alloc, boxes, second)?;
     let mut count = 0;
@@ -137,12 +137,12 @@ pub(crate) fn count_crossed(
 
 /// How many products of a list are live together with one more.
 fn count_with(boxes: &[Option<CellBox>], p: &Boxed, second: &[Boxed]) -> u32
-    requires few { length second.now ≤ 1024 }
+    requires few { length second.now ≤ MAX_PRODUCTS }
     requires one { IsBoxed (boxes_in boxes.now) p.now }
     requires boxed { All (IsBoxed (boxes_in boxes.now)) second.now }
     ensures count { result ≡ length (filter (is_live (boxes_in boxes.now))
         (map (both p.now.product) (products_in second.now))) }
-    ensures most { result ≤ 1024 }
+    ensures most { result ≤ MAX_PRODUCTS }
 {
     let mut count = 0;
     for q in second {

@@ -12,7 +12,7 @@ ghost use Rattle.px_normal.specs.CrowdLaw.{CrowdLaw};
 
 use crate::step::steps;
 use crate::sums::{Sums, build};
-use crate::{CellBox, NormalFault, Product, Products};
+use crate::{CellBox, MAX_PRODUCTS, NormalFault, Product, Products};
 use px_expr::Expr;
 use std::alloc::Global;
 
@@ -20,7 +20,7 @@ use std::alloc::Global;
 /// (docs/PICTURE.md, "Live products").
 ///
 /// A solid has its box in `boxes` by its index; one past their end has none. `TooMany` comes where
-/// a list that is wanted has more than 1024 products, with the length of the first such list. A
+/// a list that is wanted has more than `MAX_PRODUCTS`, with the length of the first such list. A
 /// list is counted before it is kept, so the one that is refused takes no memory.
 pub fn normalise(
     alloc: Global,
@@ -29,7 +29,7 @@ pub fn normalise(
 ) -> Result<Products, NormalFault>
     ensures list { IfOk result (λ products.
         products ≡ live_products (boxes_in boxes.now) expr.now) }
-    ensures short { IfOk result (λ products. length products ≤ 1024) }
+    ensures short { IfOk result (λ products. length products ≤ MAX_PRODUCTS) }
     ensures few { IfOk result (λ products. crowd (boxes_in boxes.now) expr.now ≡ None) }
     ensures small { (count : ℕ) → result ≡ Err (NormalFault.TooMany count) → count ≤ 2 ^ 21 }
     ensures many { (count : ℕ) → result ≡ Err (NormalFault.TooMany count) →
@@ -55,7 +55,7 @@ fn products_of(
 ) -> Result<Vec<Product>, NormalFault>
     ensures list { IfOk result (λ products.
         products.items ≡ live_products (boxes_in boxes.now) expr.now) }
-    ensures short { IfOk result (λ products. length products.items ≤ 1024) }
+    ensures short { IfOk result (λ products. length products.items ≤ MAX_PRODUCTS) }
     ensures few { IfOk result (λ products. crowd (boxes_in boxes.now) expr.now ≡ None) }
     ensures small { (count : ℕ) → result ≡ Err (NormalFault.TooMany count) → count ≤ 2 ^ 21 }
     ensures many { (count : ℕ) → result ≡ Err (NormalFault.TooMany count) →

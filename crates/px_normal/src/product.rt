@@ -5,6 +5,9 @@ ghost use Rattle.px_normal.specs.Forms.{both, plain_one, barred_one};
 use crate::SolidSet;
 use std::marker::Model;
 
+/// A list of products that is kept has at most so many (docs/SCENES.md, "Limits").
+pub const MAX_PRODUCTS: u32 = 1024;
+
 /// The cells inside every plain solid and inside no barred one.
 #[derive(Clone, Copy, Debug, Default, PartialEq, Eq)]
 pub struct Product {

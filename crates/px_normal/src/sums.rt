@@ -8,15 +8,12 @@ ghost use Rattle.px_normal.specs.Building.{built, newest_lists, CanBuild};
 
 use crate::live::{count_crossed, count_live, is_live, push_crossed, push_live};
 use crate::step::{Step, Wanted};
-use crate::{CellBox, NormalFault, Product};
+use crate::{CellBox, MAX_PRODUCTS, NormalFault, Product};
 use px_expr::Op;
 use std::alloc::{AllocError, Global};
 use std::marker::Model;
 
-/// A list has at most so many products.
-const MAX_PRODUCTS: u32 = 1024;
-
-/// The live products of an expression and of its complement, each at most 1024. A list that is not
+/// The live products of an expression and of its complement, each at most `MAX_PRODUCTS`. A list that is not
 /// wanted is empty. Contracts see both lists.
 #[derive(Debug, Drop)]
 pub(crate) struct Sums {
@@ -27,6 +24,7 @@ pub(crate) struct Sums {
 impl Model for Sums {
     ghost use Rattle.std.specs.Prelude.{◌≤◌, length};
     ghost use Rattle.px_normal.specs.Forms.{Forms};
+    ghost use Rattle.px_normal.specs.declared.product.TheConstants.{MAX_PRODUCTS};
 
     ghost Value = { Forms };
 
@@ -34,7 +32,7 @@ impl Model for Sums {
         record { products = sums.products.items; complement = sums.complement.items } };
 
     ghost invariant = { λ sums.
-        (length sums.products.items ≤ 1024) × (length sums.complement.items ≤ 1024) };
+        (length sums.products.items ≤ MAX_PRODUCTS) × (length sums.complement.items ≤ MAX_PRODUCTS) };
 }
 
 /// Makes a step: the lists of a node in place of its sides'.
@@ -92,7 +90,7 @@ impl Sums {
     /// The products alone.
     pub(crate) fn into_products(self) -> Vec<Product>
         ensures list { result.items ≡ self.products }
-        ensures few { length result.items ≤ 1024 }
+        ensures few { length result.items ≤ MAX_PRODUCTS }
     {
         let Sums {
             products,
@@ -103,14 +101,14 @@ impl Sums {
 
     fn products(&self) -> &[Product]
         ensures list { result.now ≡ self.now.products }
-        ensures few { length result.now ≤ 1024 }
+        ensures few { length result.now ≤ MAX_PRODUCTS }
     {
         self.products.as_slice()
     }
 
     fn complement(&self) -> &[Product]
         ensures list { result.now ≡ self.now.complement }
-        ensures few { length result.now ≤ 1024 }
+        ensures few { length result.now ≤ MAX_PRODUCTS }
     {
         self.complement.as_slice()
     }
@@ -166,7 +164,7 @@ fn one_live(
 ) -> Result<Vec<Product>, AllocError>
     ensures list { IfOk result (λ list. list.items
         ≡ where_wanted wanted (filter (is_live (boxes_in boxes.now)) (product ∷ []))) }
-    ensures few { IfOk result (λ list. length list.items ≤ 1024) }
+    ensures few { IfOk result (λ list. length list.items ≤ MAX_PRODUCTS) }
 {
     let mut list = Vec::new(alloc);
     if wanted && is_live(boxes, &product) {
@@ -186,7 +184,7 @@ fn products_of(
 ) -> Result<Vec<Product>, NormalFault>
     ensures list { IfOk result (λ list. list.items ≡ where_wanted wanted
         (live (boxes_in boxes.now) (combined op left.now right.now)).products) }
-    ensures few { IfOk result (λ list. length list.items ≤ 1024) }
+    ensures few { IfOk result (λ list. length list.items ≤ MAX_PRODUCTS) }
     ensures small { (count : ℕ) → result ≡ Err (NormalFault.TooMany count) → count ≤ 2 ^ 21 }
     ensures many { (count : ℕ) → result ≡ Err (NormalFault.TooMany count) → first_past_limit
         (where_wanted wanted (live (boxes_in boxes.now) (combined op left.now right.now)).products
@@ -214,7 +212,7 @@ fn complement_of(
 ) -> Result<Vec<Product>, NormalFault>
     ensures list { IfOk result (λ list. list.items ≡ where_wanted wanted
         (live (boxes_in boxes.now) (combined op left.now right.now)).complement) }
-    ensures few { IfOk result (λ list. length list.items ≤ 1024) }
+    ensures few { IfOk result (λ list. length list.items ≤ MAX_PRODUCTS) }
     ensures small { (count : ℕ) → result ≡ Err (NormalFault.TooMany count) → count ≤ 2 ^ 21 }
     ensures many { (count : ℕ) → result ≡ Err (NormalFault.TooMany count) → first_past_limit
         (where_wanted wanted (live (boxes_in boxes.now) (combined op left.now right.now)).complement
@@ -238,11 +236,11 @@ fn either(
     first: &[Product],
     second: &[Product],
 ) -> Result<Vec<Product>, NormalFault>
-    requires first { length first.now ≤ 1024 }
-    requires second { length second.now ≤ 1024 }
+    requires first { length first.now ≤ MAX_PRODUCTS }
+    requires second { length second.now ≤ MAX_PRODUCTS }
     ensures list { IfOk result (λ list.
         list.items ≡ filter (is_live (boxes_in boxes.now)) (first.now ++ second.now)) }
-    ensures few { IfOk result (λ list. length list.items ≤ 1024) }
+    ensures few { IfOk result (λ list. length list.items ≤ MAX_PRODUCTS) }
     ensures small { (count : ℕ) → result ≡ Err (NormalFault.TooMany count) → count ≤ 2 ^ 21 }
     ensures many { (count : ℕ) → result ≡ Err (NormalFault.TooMany count) → first_past_limit
         (filter (is_live (boxes_in boxes.now)) (first.now ++ second.now) ∷ []) ≡ Some count }
@@ -261,11 +259,11 @@ fn both(
     first: &[Product],
     second: &[Product],
 ) -> Result<Vec<Product>, NormalFault>
-    requires first { length first.now ≤ 1024 }
-    requires second { length second.now ≤ 1024 }
+    requires first { length first.now ≤ MAX_PRODUCTS }
+    requires second { length second.now ≤ MAX_PRODUCTS }
     ensures list { IfOk result (λ list.
         list.items ≡ filter (is_live (boxes_in boxes.now)) (crossed first.now second.now)) }
-    ensures few { IfOk result (λ list. length list.items ≤ 1024) }
+    ensures few { IfOk result (λ list. length list.items ≤ MAX_PRODUCTS) }
     ensures small { (count : ℕ) → result ≡ Err (NormalFault.TooMany count) → count ≤ 2 ^ 21 }
     ensures many { (count : ℕ) → result ≡ Err (NormalFault.TooMany count) → first_past_limit
         (filter (is_live (boxes_in boxes.now)) (crossed first.now second.now) ∷ []) ≡ Some count }
@@ -285,11 +283,11 @@ fn either_way(
     first: &[Product],
     second: &[Product],
 ) -> Result<Vec<Product>, NormalFault>
-    requires first { length first.now ≤ 1024 }
-    requires second { length second.now ≤ 1024 }
+    requires first { length first.now ≤ MAX_PRODUCTS }
+    requires second { length second.now ≤ MAX_PRODUCTS }
     ensures list { IfOk result (λ list. list.items ≡ filter (is_live (boxes_in boxes.now))
         (crossed left.now.products first.now ++ crossed left.now.complement second.now)) }
-    ensures few { IfOk result (λ list. length list.items ≤ 1024) }
+    ensures few { IfOk result (λ list. length list.items ≤ MAX_PRODUCTS) }
     ensures small { (count : ℕ) → result ≡ Err (NormalFault.TooMany count) → count ≤ 2 ^ 21 }
     ensures many { (count : ℕ) → result ≡ Err (NormalFault.TooMany count) → first_past_limit
         (filter (is_live (boxes_in boxes.now))
@@ -308,8 +306,8 @@ fn either_way(
 /// Whether a list can have so many products.
 fn check_limit(count: u32) -> Result<(), NormalFault>
     requires { count ≤ 2 ^ 21 }
-    ensures ok { OnOk result (count ≤ 1024) }
-    ensures err { OnErr result (1024 < count) }
+    ensures ok { OnOk result (count ≤ MAX_PRODUCTS) }
+    ensures err { OnErr result (MAX_PRODUCTS < count) }
     ensures many { (n : ℕ) → result ≡ Err (NormalFault.TooMany n) → n ≡ count }
     ensures small { (n : ℕ) → result ≡ Err (NormalFault.TooMany n) → n ≤ 2 ^ 21 }
 {

@@ -4,7 +4,7 @@ use Rattle.std.specs.Int.{int_max, int_min}
 use Rattle.std.specs.List.{list_all}
 use Rattle.std.proofs.lemmas.Int.{ints}
 use Rattle.px_model.specs.Cells.{Depths, cell_of, depths}
-use Rattle.px_model.specs.CellLaws.{cell_is_first, cell_is_least, cells_end, cells_grow}
+use Rattle.px_model.proofs.CellLaws.{cell_is_first, cell_is_least, cells_end, cells_grow}
 use Rattle.std.proofs.Math.Nat.{mul-le-mul}
 use Rattle.std.proofs.Math.Pow.{pow_mono}
 use lib.Signed.{lt_z, le_z}

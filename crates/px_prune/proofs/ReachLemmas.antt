@@ -10,7 +10,8 @@ use Rattle.px_model.specs.Cells.{Depths, end_of, is_inside, value_of}
 use Rattle.px_prune.specs.declared.block.Block.{Block}
 use Rattle.px_normal.specs.declared.cell_box.CellBox.{CellBox}
 use Rattle.px_normal.specs.Boxes.{is_in, lies_in}
-use Rattle.px_prune.specs.Boxes.{hull, is_covered}
+use Rattle.px_prune.specs.Boxes.{hull}
+use Rattle.px_prune.specs.Covered.{is_covered}
 use Rattle.px_prune.specs.Blocks.{IsReachOf, greatest_in, has_pixel, in_block, is_pixel, least_in, with_block}
 use Rattle.px_prune.specs.Bounding.{IsBoxOf}
 use Rattle.px_prune.proofs.BlockLemmas.{greatest_at_pixel, greatest_bounds, least_at_pixel, least_bounds, one_column, one_row}

@@ -1,5 +1,5 @@
--- Boxes of cells, both ends included.
-use Rattle.std.specs.Prelude.{◌+◌, Bool, true, false, ◌&&◌, nat_le, min, max, Option, Some, None}
+-- Boxes of cells, both ends included. Clauses of public calls stand on it.
+use Rattle.std.specs.Prelude.{◌+◌, Bool, true, ◌&&◌, nat_le, min, max, Option, Some, None}
 use Rattle.px_normal.specs.declared.cell_box.CellBox.{CellBox}
 
 -- with the cells just behind its last ones
@@ -13,12 +13,6 @@ is_part (Some a) b =
     nat_le b.x0 a.x0 && nat_le a.x1 b.x1
     && nat_le b.y0 a.y0 && nat_le a.y1 b.y1
     && nat_le b.z0 a.z0 && nat_le a.z1 b.z1
-
--- the first box, where it is there, lies in the second, which then is there too
-abbrev pub is_covered : Option CellBox → Option CellBox → Bool
-is_covered None b = true
-is_covered (Some a) None = false
-is_covered (Some a) (Some b) = is_part (Some a) b
 
 -- the least box that has both as parts
 abbrev pub hull : Option CellBox → Option CellBox → Option CellBox

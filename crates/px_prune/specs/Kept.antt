@@ -1,4 +1,4 @@
--- The products that can show anything, by the bounding boxes of their solids.
+-- The products that can show anything, by the bounding boxes of their solids. Clauses of public calls stand on it.
 use Rattle.std.specs.Prelude.{ℕ, Bool, false, ◌&&◌, not, List, Option, Some, None, if◌then◌else◌, filter, fold}
 use Rattle.std.specs.List.{filter_map}
 use Rattle.px_normal.specs.declared.set.SolidSet.{SolidSet}
@@ -7,7 +7,7 @@ use Rattle.px_normal.specs.Sets.{empty, one, joined, solids}
 use Rattle.px_model.specs.Scenes.{SceneView}
 use Rattle.px_normal.specs.declared.cell_box.CellBox.{CellBox}
 use Rattle.px_normal.specs.Boxes.{common_part, has_cell}
-use Rattle.px_normal.specs.Live.{is_void, box_of_all, live_products}
+use Rattle.px_normal.specs.Live.{is_void, box_of_all}
 use Rattle.px_normal.specs.Crowd.{crowd}
 use Rattle.px_normal.specs.Forms.{sum_of_products}
 use Rattle.px_prune.specs.Boxes.{with_cells_behind}
@@ -43,10 +43,7 @@ kept_products boxes products = filter_map (pruned boxes) products
 abbrev pub kept_of : SceneView → List Product → List Product
 kept_of scene products = kept_products (bounding_box scene) products
 
--- the live products of a scene's expression, and the first wanted list past the limit
-abbrev pub live_of : SceneView → List Product
-live_of scene = live_products (bounding_box scene) scene.show
-
+-- the first list past the limit that is wanted for the live products of a scene's expression
 abbrev pub crowd_of : SceneView → Option ℕ
 crowd_of scene = crowd (bounding_box scene) scene.show
 

@@ -1,5 +1,5 @@
 -- The pruning law: at every cell of every pixel of the picture the kept products have the same
--- members, and show the same faces, as the whole list.
+-- members, and show the same faces, as the whole list. Clauses of public calls stand on it.
 use Rattle.std.specs.Prelude.{ℕ, ◌<◌, All, List}
 use Rattle.px_normal.specs.declared.product.Product.{Product}
 use Rattle.px_normal.specs.Forms.{HasPlain}

@@ -1,6 +1,7 @@
 //! The hull of boxes of cells, and whether one lies in another.
 ghost use Rattle.std.specs.Prelude.{◌≡◌, Option, Some, None};
-ghost use Rattle.px_prune.specs.Boxes.{hull, is_covered};
+ghost use Rattle.px_prune.specs.Boxes.{hull};
+ghost use Rattle.px_prune.specs.Covered.{is_covered};
 
 use px_normal::CellBox;
 

@@ -9,8 +9,8 @@ ghost use Rattle.px_prune.specs.PruningLaw.{PlainIsKept, PruningLaw};
 ghost use Rattle.px_normal.specs.declared.product.Product.{Product};
 ghost use Rattle.px_model.specs.Scenes.{SceneView, IsLawfulScene};
 
-use crate::CellBox;
 use crate::bounds::boxes_of;
+use crate::{CellBox, MAX_PRODUCTS};
 use px_model::Scene;
 use px_normal::{NormalFault, Product, Products, SolidSet, laws_of_sets, normalise};
 use px_num::Memory;
@@ -25,10 +25,10 @@ pub struct Plan {
 /// Keeps the products that can show anything, in their order (docs/PICTURE.md, "Boxes and
 /// pruning").
 ///
-/// At most 1024 products. Where they are the live ones of an expression, the same is kept as of the
+/// At most `MAX_PRODUCTS` products. Where they are the live ones of an expression, the same is kept as of the
 /// whole list.
 pub fn prune(alloc: Global, scene: &Scene, products: &Products) -> Result<Plan, Memory>
-    requires few { length products.now ≤ 1024 }
+    requires few { length products.now ≤ MAX_PRODUCTS }
     ensures kept { IfOk result (λ plan. plan.products.items ≡ kept_of scene.now products.now) }
     ensures fewer { IfOk result (λ plan. length plan.products.items ≤ length products.now) }
     ensures law { IfOk result (λ plan. PruningLaw scene.now products.now plan.products.items) }
@@ -45,7 +45,7 @@ pub fn prune(alloc: Global, scene: &Scene, products: &Products) -> Result<Plan, 
 /// long (docs/PICTURE.md, "Live products").
 pub fn plan_of(alloc: Global, scene: &Scene) -> Result<Plan, NormalFault>
     ensures kept { IfOk result (λ plan. plan.products.items ≡ plan_of scene.now) }
-    ensures few { IfOk result (λ plan. length plan.products.items ≤ 1024) }
+    ensures few { IfOk result (λ plan. length plan.products.items ≤ MAX_PRODUCTS) }
     ensures lawful { IfOk result (λ plan. crowd_of scene.now ≡ None) }
     ensures small { (count : ℕ) → result ≡ Err (NormalFault.TooMany count) → count ≤ 2 ^ 21 }
     ensures many { (count : ℕ) → result ≡ Err (NormalFault.TooMany count) →

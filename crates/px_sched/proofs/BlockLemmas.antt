@@ -18,7 +18,8 @@ use Rattle.px_normal.specs.declared.product.Product.{Product}
 use Rattle.px_sched.specs.declared.literal.Literal.{Literal}
 use Rattle.px_sched.specs.Passes.{candidate_faces, literals, others, solid_of}
 use Rattle.px_sched.specs.Numbers.{Keys, Numbers, KeyedPixel, after, all, candidate_on_numbers, classify_on_numbers, key, literal_on_numbers, load_best, merge_on_numbers, passes_on_numbers, residue, set_alive, cleared, confirm_on_numbers, where_fraction}
-use Rattle.px_sched.proofs.RunLemmas.{HasRoom, after-append, and_both, and_left, and_true, at, candidate_keys, classified, classify_keys, end_small, enters_depth, keys_in_range, leaves_depth, loaded, part_along, rounded, suits}
+use Rattle.px_sched.proofs.RunLemmas.{HasRoom, after-append, at, candidate_keys, classified, classify_keys, end_small, keys_in_range, loaded, part_along, rounded, suits}
+use Rattle.px_sched.proofs.CoverLaws.{and_both, and_left, and_true, enters_depth, leaves_depth}
 use Rattle.px_sched.proofs.FoldLemmas.{and_false, elsewhere, fold_none, fold_single, where_test}
 use Rattle.px_sched.proofs.ConfirmLemmas.{IsConfirmed, barred_test, confirmed, plain_test, test}
 

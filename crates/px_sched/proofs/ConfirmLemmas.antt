@@ -12,12 +12,13 @@ use Rattle.px_num.specs.Forms.{plus, value_at}
 use Rattle.px_num.proofs.FormLaws.{value_at-plus}
 use Rattle.px_model.specs.Solids.{SolidView}
 use Rattle.px_model.specs.Cells.{Depths, cell_of, end_of, enters_at, is_inside, is_inside_before, leaves_at, value_of}
-use Rattle.px_model.specs.CellLaws.{cell_is_first, cell_is_least}
+use Rattle.px_model.proofs.CellLaws.{cell_is_first, cell_is_least}
 use Rattle.px_face.specs.Covering.{CoveringLaw, covering_back, covering_front, is_met}
 use Rattle.px_face.specs.Edges.{covers, edges}
 use Rattle.px_face.specs.Faces.{plane_of}
 use Rattle.px_sched.specs.Numbers.{Keys, Numbers, Pass, KeyedPixel, after, all, confirm_on_numbers, drop_on_numbers, keep_at_most, keep_covered_on_numbers, keep_par, residue, set_alive, turn_on_numbers, where_fraction}
-use Rattle.px_sched.proofs.RunLemmas.{HasRoom, after-append, and_both, and_true, at, at_most_is, beq_true, end_room, end_small, ended, enters_depth, flip_step, flips, keys_in_range, keys_of, leaves_depth, more_at_most, same_place, signed, turn_keys}
+use Rattle.px_sched.proofs.RunLemmas.{HasRoom, after-append, at, beq_true, end_room, end_small, ended, flip_step, flips, keys_in_range, keys_of, more_at_most, signed, turn_keys}
+use Rattle.px_sched.proofs.CoverLaws.{and_both, and_true, at_most_is, enters_depth, leaves_depth, same_place}
 use Rattle.px_sched.proofs.FoldLemmas.{fold_single, where_test}
 
 -- a test that adds something where the place is the one

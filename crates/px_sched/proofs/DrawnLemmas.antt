@@ -15,7 +15,7 @@ use Rattle.px_prune.specs.Kept.{kept_of}
 use Rattle.px_prune.specs.PruningLaw.{PlainIsKept}
 use Rattle.px_model.specs.Scenes.{IsLawfulScene, SceneView}
 use Rattle.px_sched.specs.declared.literal.Literal.{Literal}
-use Rattle.px_sched.specs.Groups.{IsDrawn}
+use Rattle.px_sched.specs.Onward.{IsDrawn}
 use Rattle.px_sched.specs.Passes.{literals_of}
 
 abbrev is_known : ℕ → ℕ → Bool

@@ -23,6 +23,7 @@ use Rattle.px_model.specs.Solids.{IsLawfulSolid, SolidView}
 use Rattle.px_sched.specs.declared.literal.Literal.{Literal}
 use Rattle.px_sched.specs.Layouts.{LayoutView, deep_part, fraction_part, number_part}
 use Rattle.px_sched.specs.Passes.{candidate, candidate_faces, classify, confirm, drop_behind, where_fraction, keep_covered, literal_passes, literals, literals_of, merge, no_solid, others, passes_with, solid_of, turn}
+use Rattle.px_normal.specs.declared.product.TheConstants.{MAX_PRODUCTS}
 
 -- each number of a range
 pub range_all : (Q : ℕ → Type 0) (a n : ℕ) → ((i : ℕ) → a ≤ i → i < a + n → Q i) → All Q (range_with_len a n)
@@ -184,6 +185,6 @@ module _ (counted : EdgesAreCounted) (scene : SceneView) (l : LayoutView) (lawfu
   few_product p =
       omega (arith, few_flat (λ _. Unit {0}) (literal_passes scene l p) (2 ^ 22) (λ q _. few_literal p q) (literals p) (anything (literals p)), few_literals p)
 
-  pub few_passes : (products : List Product) → length products ≤ 1024 → length (passes_with scene l products) ≤ 2 ^ 43
+  pub few_passes : (products : List Product) → length products ≤ MAX_PRODUCTS → length (passes_with scene l products) ≤ 2 ^ 43
   few_passes products few =
       omega (arith, few_flat (λ _. Unit {0}) (λ product. flat_map (literal_passes scene l product) (literals product)) (2 ^ 31) (λ p _. few_product p) products (anything products), few)

@@ -20,7 +20,7 @@ use Rattle.px_macro.specs.declared.operation.Macro.{Macro}
 use Rattle.px_macro.specs.declared.operation.Macro.TheVariants as m
 use Rattle.px_normal.specs.declared.product.Product.{Product}
 use Rattle.px_model.specs.Cells.{Depths, depths_of, end_of}
-use Rattle.px_model.specs.CellLaws.{end_is_small}
+use Rattle.px_model.proofs.CellLaws.{end_is_small}
 use Rattle.px_model.specs.Scenes.{AreNumberedFrom, IsLawfulScene, IsNumberedFrom, SceneView, faces_of}
 use Rattle.px_model.specs.Solids.{IsLawfulSolid, IsPlane, SolidView, faces_in}
 use Rattle.px_model.specs.declared.solid.Face.{Face}

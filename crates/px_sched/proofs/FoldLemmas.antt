@@ -3,7 +3,7 @@ use Rattle.std.proofs.Common.{◌≡◌, ◌<◌, ◌≤◌, ◌+◌, ℕ, zero,
 use Rattle.std.specs.List.{fold, range_with_len}
 use Rattle.std.proofs.lemmas.Bool.{cases_eq, cond-false}
 use Rattle.std.proofs.lemmas.Bool.Decides.{nat_tests}
-use Rattle.px_sched.proofs.RunLemmas.{and_true}
+use Rattle.px_sched.proofs.CoverLaws.{and_true}
 
 pub and_false : (a : Bool) → a && false ≡ false
 and_false true = refl

@@ -6,10 +6,11 @@ use Rattle.px_model.specs.Scenes.{SceneView}
 use Rattle.px_sched.specs.declared.group.Group.{Group}
 use Rattle.px_sched.specs.declared.literal.Literal.{Literal}
 use Rattle.px_sched.specs.declared.step.Step.{Step}
-use Rattle.px_sched.specs.Groups.{IsDrawn, IsGroup, literal_of, no_product, others_of, product_at}
+use Rattle.px_sched.specs.Groups.{IsGroup, literal_of, no_product, others_of, product_at}
 use Rattle.px_sched.specs.Layouts.{LayoutView}
 use Rattle.px_sched.specs.Passes.{literals}
-use Rattle.px_sched.specs.Steps.{AreKnown, IsStep, IsStepOf, behind_step, from_step_if_any}
+use Rattle.px_sched.specs.Steps.{IsStep, IsStepOf, behind_step}
+use Rattle.px_sched.specs.Onward.{AreKnown, from_step_if_any, IsDrawn}
 
 -- the literal of a group and the others, as they were found
 pub others_are : (products : List Product) (g : Group) (q : Literal) (rs all : List Literal) → all ≡ literals (product_at products g.product) → q ≡ literal_of products g

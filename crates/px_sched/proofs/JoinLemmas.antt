@@ -12,7 +12,8 @@ use Rattle.px_normal.specs.NormalLaw.{holds, shows, some_shows}
 use Rattle.px_sched.specs.declared.literal.Literal.{Literal}
 use Rattle.px_sched.specs.Numbers.{KeyedPixel, key}
 use Rattle.px_sched.specs.Passes.{literals, no_solid, others, solid_of}
-use Rattle.px_sched.proofs.RunLemmas.{and_left, and_right, suits}
+use Rattle.px_sched.proofs.RunLemmas.{suits}
+use Rattle.px_sched.proofs.CoverLaws.{and_left, and_right}
 use Rattle.px_sched.proofs.BlockLemmas.{all_found, cell_found, is_covered, is_found, keys_found, lt_false, lt_holds, lt_true, number_found, suited}
 use Rattle.px_sched.proofs.FoldLemmas.{and_false}
 use Rattle.px_sched.proofs.MemberLemmas.{In, all_kept, all_of, any_in, any_out, in_filter, in_flat, in_where, min_below, min_reached, min_start, one_of, out_flat}

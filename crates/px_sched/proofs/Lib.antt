@@ -1,5 +1,6 @@
 pub mod BlockLemmas
 pub mod BridgeLemmas
+pub mod CoverLaws
 pub mod DrawnLemmas
 pub mod ConfirmLemmas
 pub mod FewLemmas

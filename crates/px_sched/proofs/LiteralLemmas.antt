@@ -15,7 +15,7 @@ use Rattle.px_model.specs.Solids.{IsLawfulSolid, SolidView, faces_in}
 use Rattle.px_model.specs.Cells.{Depths, backs_at, cell_of, end_of, enters_at, faces_at, fronts_at, greatest_fronts, is_inside_before, leaves_at}
 use Rattle.px_face.specs.Covering.{CoveringLaw, covering_back, covering_front}
 use Rattle.px_face.specs.Faces.{back_planes, front_planes, is_front, level, number_of, numbers_of, plane_of, planes_of}
-use Rattle.px_sched.proofs.RunLemmas.{and_left, and_right}
+use Rattle.px_sched.proofs.CoverLaws.{and_left, and_right}
 use Rattle.px_sched.proofs.BlockLemmas.{lt_false, lt_fails, lt_holds, lt_true}
 use Rattle.px_sched.proofs.MemberLemmas.{In, all_in, in_either, in_right, out_filter, out_map}
 

@@ -4,7 +4,7 @@ use Rattle.std.specs.List.{All, filter, flat_map, fold, list_all, list_any}
 use Rattle.std.proofs.lemmas.Bool.{cases_Bool}
 use Rattle.std.proofs.lemmas.Bool.Decides.{nat_tests}
 use Rattle.px_expr.specs.Cells.{has_face}
-use Rattle.px_sched.proofs.RunLemmas.{and_left, and_right}
+use Rattle.px_sched.proofs.CoverLaws.{and_left, and_right}
 
 abbrev pub In : {X : Type 0} → X → List X → Type 0
 In x [] = ⊥

@@ -19,7 +19,8 @@ use Rattle.px_prune.specs.Kept.{kept_of}
 use Rattle.px_prune.specs.PruningLaw.{PruningLaw}
 use Rattle.px_sched.specs.Numbers.{KeyedPixel, after, key}
 use Rattle.px_sched.specs.NumbersLaw.{IsKeyOf, IsPixelOf, NumbersShowThePicture}
-use Rattle.px_sched.proofs.RunLemmas.{HasRoom, and_left, and_right}
+use Rattle.px_sched.proofs.RunLemmas.{HasRoom}
+use Rattle.px_sched.proofs.CoverLaws.{and_left, and_right}
 use Rattle.px_sched.proofs.BlockLemmas.{all_found, passes_best}
 use Rattle.px_sched.proofs.MemberLemmas.{In, all_in, face_in, in_face}
 use Rattle.px_sched.proofs.ProductLemmas.{IsFit, fit}

@@ -18,7 +18,7 @@ use Rattle.px_normal.specs.Live.{is_void}
 use Rattle.px_sched.specs.declared.literal.Literal.{Literal}
 use Rattle.px_sched.specs.Numbers.{KeyedPixel}
 use Rattle.px_sched.specs.Passes.{literals, literals_of, no_solid, solid_of}
-use Rattle.px_sched.proofs.RunLemmas.{and_left, and_right}
+use Rattle.px_sched.proofs.CoverLaws.{and_left, and_right}
 use Rattle.px_sched.proofs.BlockLemmas.{suited}
 use Rattle.px_sched.proofs.MemberLemmas.{From, In, all_of, any_in, any_out, face_in, in_either, in_face, in_left, in_map, in_right, one_of, out_filter, out_map}
 

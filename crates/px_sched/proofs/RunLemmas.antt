@@ -1,24 +1,24 @@
 -- What lists of passes leave of the keys.
-use Rattle.std.proofs.Common.{◌≡◌, ◌<◌, ◌≤◌, ◌≤ℤ◌, ◌+◌, ◌+ℤ◌, ◌-◌, ◌*◌, ◌/◌, ◌%◌, ◌==◌, ◌^◌, ℕ, zero, suc, ℤ, pos, negsuc, Bool, true, false, ◌&&◌, not, nat_le, List, [], ◌∷◌, ◌++◌, map, count_by, eqb, refl, ap, sym, ◌∙◌, arith, inl, inr, if◌then◌else◌}
+use Rattle.std.proofs.Common.{◌≡◌, ◌<◌, ◌≤◌, ◌+◌, ◌+ℤ◌, ◌-◌, ◌*◌, ◌/◌, ◌==◌, ◌^◌, ℕ, zero, suc, ℤ, pos, Bool, true, false, ◌&&◌, not, nat_le, List, [], ◌∷◌, ◌++◌, map, count_by, refl, ap, sym, ◌∙◌, arith, inl, inr, if◌then◌else◌}
 use Rattle.std.specs.Bool.{beq}
 use Rattle.std.specs.Int.{is_negative}
 use Rattle.std.specs.List.{fold, flat_map, range_with_len}
 use Rattle.std.proofs.lemmas.Bool.{cases_Bool}
 use Rattle.std.proofs.lemmas.Bool.Decides.{nat_tests}
-use Rattle.std.proofs.lemmas.Int.{ints}
-use Rattle.std.proofs.lemmas.Nat.{mod-mul-add, pow-add, pow_pos}
+use Rattle.std.proofs.lemmas.Nat.{pow-add, pow_pos}
 use Rattle.std.proofs.Math.Nat.{mul-le-mul}
 use lib.Signed.{le_z}
 use Rattle.px_num.specs.Bits.{modulo}
 use Rattle.px_num.specs.Forms.{plus, value_at}
 use Rattle.px_num.specs.declared.linear.Linear.{Linear}
 use Rattle.px_model.specs.Solids.{SolidView}
-use Rattle.px_model.specs.Cells.{Depths, cell_of, end_of, enters_at, is_inside_at, leaves_at, value_of}
-use Rattle.px_face.specs.Covering.{CoveringLaw, ValueParityLaw, covering_back, covering_front, is_met, is_odd, is_passed_at}
+use Rattle.px_model.specs.Cells.{Depths, cell_of, end_of, is_inside_at, value_of}
+use Rattle.px_face.specs.Covering.{CoveringLaw, ValueParityLaw, is_odd, is_passed_at}
 use Rattle.px_face.specs.Edges.{covers, edges, hold_at}
-use Rattle.px_face.specs.Faces.{face_count, is_front, number_of, plane_of}
+use Rattle.px_face.specs.Faces.{face_count, number_of, plane_of}
 use Rattle.px_face.proofs.ParityLaws.{turned_is_odd, turned_where}
 use Rattle.px_sched.specs.Numbers.{Keys, Numbers, Pass, KeyedPixel, after, all, candidate_on_numbers, classify_on_numbers, keep_at_most, keep_covered_on_numbers, keep_par, keep_sign, load_deep, clear_fraction, cleared, load_number, meaning, residue, set_alive, toggle_par, turn_on_numbers, where_fraction}
+use Rattle.px_sched.proofs.CoverLaws.{and_true, and_both, and_same, not_negative, IsDepth, mod_small, le_same, at_most_is, covering_value}
 
 abbrev pub at : Bool → Keys → Numbers
 at e k = record { enable = e; keys = k }
@@ -26,32 +26,6 @@ at e k = record { enable = e; keys = k }
 pub after-append : (l : KeyedPixel) (ms ns : List Pass) (p : Numbers) → after l (ms ++ ns) p ≡ after l ns (after l ms p)
 after-append l [] ns p = refl
 after-append l (m ∷ ms) ns p = after-append l ms ns (meaning l m p)
-
-pub and_true : (a : Bool) → a && true ≡ a
-and_true true = refl
-and_true false = refl
-
-pub and_both : (a b c : Bool) → (a && b) && c ≡ a && (b && c)
-and_both true b c = refl
-and_both false b c = refl
-
-pub and_left : (a b : Bool) → a && b ≡ true → a ≡ true
-and_left true b e = refl
-and_left false b e = e
-
-pub and_right : (a b : Bool) → a && b ≡ true → b ≡ true
-and_right true b e = e
-and_right false b e = cc
-
-and_same : (c a b : Bool) → (c ≡ true → a ≡ b) → (c && a) ≡ (c && b)
-and_same true a b h = h refl
-and_same false a b h = refl
-
-pub same_place : (i k : ℕ) → eqb i k ≡ true → i ≡ k
-same_place i k h = grind (arith, nat_tests)
-
-not_negative : (v : ℤ) → not (is_negative v) ≡ le_z (pos 0) v
-not_negative v = grind (arith, ints)
 
 pub beq_true : (a : Bool) → beq a true ≡ a
 beq_true true = refl
@@ -85,29 +59,6 @@ keys_in_range l f g a (suc n) same p =
     ap (λ (q : Numbers). q.keys) (after-append l (f a) (flat_map f (range_with_len (a + 1) n)) p)
     ∙ keys_in_range l f g (a + 1) n (λ i low high. same i (omega arith) (omega arith)) (after l (f a) p)
     ∙ ap (λ k. fold g k (range_with_len (a + 1) n)) (same a (omega arith) (omega arith) p.enable p.keys)
-
--- a value that is a depth
-pub record IsDepth (v : ℤ) (end : ℕ) : Type 0 where
-  pub depth : ℕ
-  pub is : v ≡ pos depth
-  pub below : depth ≤ end
-
-depth_of : (v : ℤ) (end : ℕ) → pos 0 ≤ℤ v → v ≤ℤ pos end → IsDepth v end
-depth_of (pos n) end low high = record { depth = n; is = refl; below = omega (arith, ints) }
-depth_of (negsuc n) end low high = absurd (omega (arith, ints))
-
-mod_small : (n m : ℕ) → n < m → n % m ≡ n
-mod_small n m h = let e : 0 * m + n ≡ n = omega arith in ap (λ k. k % m) (sym e) ∙ mod-mul-add 0 m n h
-
--- and is kept as itself
-pub modulo_is : (v : ℤ) (end bits : ℕ) → end < 2 ^ bits → (d : IsDepth v end) → modulo v bits ≡ d.depth
-modulo_is v end bits big d = let small : d.depth < 2 ^ bits = omega (arith, d.below) in rw d.is (mod_small d.depth (2 ^ bits) small)
-
-pub le_same : (m n : ℕ) → nat_le m n ≡ le_z (pos m) (pos n)
-le_same m n = grind (arith, nat_tests, ints)
-
-pub at_most_is : (v : ℤ) (end bits z : ℕ) → end < 2 ^ bits → IsDepth v end → nat_le (modulo v bits) z ≡ le_z v (pos z)
-at_most_is v end bits z big d = rw (modulo_is v end bits big d, d.is) (le_same d.depth z)
 
 -- the bits of a place are enough for the values of the depths
 pub record HasRoom (l : KeyedPixel) (d : Depths) : Type 0 where
@@ -231,48 +182,6 @@ ended b d n false true true = refl
 ended b d n false true false = refl
 ended b d n false false true = refl
 ended b d n false false false = refl
-
-module _ (covering : CoveringLaw) (end : ℕ) (s : SolidView) (x y : ℕ) where
-  pub enters_depth : is_met s end x y ≡ true → IsDepth (enters_at s x y) end
-  enters_depth met =
-      let d = (covering s end x y).depths met in
-      depth_of (enters_at s x y) end d.0 (omega (arith, ints, d.1, d.2))
-
-  pub leaves_depth : is_met s end x y ≡ true → IsDepth (leaves_at s end x y) end
-  leaves_depth met =
-      let d = (covering s end x y).depths met in
-      depth_of (leaves_at s end x y) end (omega (arith, ints, d.0, d.1)) d.2
-
-  front_value : (i : ℕ) → (is_met s end x y && eqb i (covering_front s x y)) ≡ true
-      → IsDepth (value_at (plane_of s end i) x y) end
-  front_value i e =
-      let one = enters_depth (and_left (is_met s end x y) (eqb i (covering_front s x y)) e) in
-      let same = same_place i (covering_front s x y) (and_right (is_met s end x y) (eqb i (covering_front s x y)) e) in
-      record {
-        depth = one.depth;
-        is = ap (λ j. value_at (plane_of s end j) x y) same
-            ∙ (covering s end x y).front_value ∙ one.is;
-        below = one.below;
-      }
-
-  back_value : (i : ℕ) → (is_met s end x y && eqb i (covering_back s end x y)) ≡ true
-      → IsDepth (value_at (plane_of s end i) x y) end
-  back_value i e =
-      let one = leaves_depth (and_left (is_met s end x y) (eqb i (covering_back s end x y)) e) in
-      let same = same_place i (covering_back s end x y) (and_right (is_met s end x y) (eqb i (covering_back s end x y)) e) in
-      record {
-        depth = one.depth;
-        is = ap (λ j. value_at (plane_of s end j) x y) same
-            ∙ (covering s end x y).back_value ∙ one.is;
-        below = one.below;
-      }
-
-  -- the value of a face that covers is a depth
-  covering_value : (i : ℕ) → i < face_count s → covers s end i x y ≡ true → IsDepth (value_at (plane_of s end i) x y) end
-  covering_value i there c = elim (cases_Bool (is_front s i)) [
-    | inl front ↦ front_value i (sym ((covering s end x y).fronts i front) ∙ c)
-    | inr back ↦ back_value i (sym ((covering s end x y).backs i there back) ∙ c)
-  ]
 
 -- what a face turns where a form is not above the candidate
 pub turn_keys : (l : KeyedPixel) (end : ℕ) (s : SolidView) (i : ℕ) (form : Linear) (e : Bool) (k : Keys)

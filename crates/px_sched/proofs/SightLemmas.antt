@@ -10,7 +10,7 @@ use Rattle.px_macro.specs.Macros.{PixelBits, after_macros}
 use Rattle.px_model.specs.Scenes.{IsLawfulScene, SceneView, faces_of}
 use Rattle.px_model.specs.Solids.{IsLawfulSolid}
 use Rattle.px_model.specs.Cells.{picture}
-use Rattle.px_model.specs.CellLaws.{end_is_small}
+use Rattle.px_model.proofs.CellLaws.{end_is_small}
 use Rattle.px_normal.specs.Forms.{sum_of_products}
 use Rattle.px_prune.specs.Kept.{kept_of}
 use Rattle.px_sched.specs.Layouts.{bit_length, layout_with}

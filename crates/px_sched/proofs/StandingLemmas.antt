@@ -14,7 +14,8 @@ use Rattle.px_sched.specs.declared.group.Stage.TheVariants.{At, End, Start}
 use Rattle.px_sched.specs.declared.step.Step.{Step}
 use Rattle.px_sched.specs.declared.step.Step.TheVariants.{Begin, Candidate, Clear, Close, Confirm, Drop, Front, Merge, Open, Turn}
 use Rattle.px_sched.specs.Cursors.{IsWithinStage, StandsIn}
-use Rattle.px_sched.specs.Groups.{IsStage, behind_stage, from_stage, stage_operations}
+use Rattle.px_sched.specs.Groups.{IsStage, behind_stage, stage_operations}
+use Rattle.px_sched.specs.Onward.{from_stage}
 use Rattle.px_sched.specs.Layouts.{LayoutView}
 use Rattle.px_sched.specs.Passes.{passes_with}
 use Rattle.px_sched.specs.Steps.{step_operations}

@@ -17,7 +17,8 @@ use Rattle.px_sched.specs.declared.literal.Literal.{Literal}
 use Rattle.px_sched.specs.declared.step.Step.TheVariants.{Open, Begin, Candidate, Clear, Close, Confirm, Drop, Front, Merge, Turn}
 use Rattle.px_sched.specs.Layouts.{LayoutView, deep_part}
 use Rattle.px_sched.specs.Passes.{candidate, candidate_faces, classify, confirm, drop_behind, keep_covered, literal_passes, merge, others, solid_of, turn, where_fraction}
-use Rattle.px_sched.specs.Steps.{first_candidate, confirmed_from, drops_from, face_turn, front_turn, fronts_from, candidates_end, candidates_from, from_face, from_step, judged_from, literal_at, no_literal, step_operations, turns_from}
+use Rattle.px_sched.specs.Steps.{first_candidate, confirmed_from, drops_from, face_turn, front_turn, fronts_from, candidates_end, candidates_from, from_face, judged_from, literal_at, no_literal, step_operations, turns_from}
+use Rattle.px_sched.specs.Onward.{from_step}
 
 -- one list more, in front of the faces behind
 face_more : (f : ℕ → List Macro) (face last : ℕ) → face < last → from_face f face last ≡ f face ++ from_face f (face + 1) last

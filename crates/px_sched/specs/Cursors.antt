@@ -1,4 +1,4 @@
--- Where a cursor stands in the passes of a scene.
+-- Where a cursor stands in the passes of a scene. Clauses of public calls stand on it.
 use Rattle.std.specs.Prelude.{◌≡◌, ℕ, ◌^◌, ◌<◌, ◌≤◌, ⊤, List, ◌++◌, drop, length}
 use Rattle.px_normal.specs.declared.product.Product.{Product}
 use Rattle.px_prune.specs.Kept.{plan_of}

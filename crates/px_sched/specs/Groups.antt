@@ -1,4 +1,4 @@
--- The passes of a scene as a start and groups, a group for each step of each literal of each product.
+-- The passes of a scene as a start and groups, a group for each step of each literal of each product. Clauses of public calls stand on it.
 use Rattle.std.specs.Prelude.{ℕ, ◌+◌, ◌*◌, ◌^◌, ◌<◌, ⊤, List, [], ◌∷◌, ◌++◌, drop, length, get_or}
 use Rattle.std.specs.List.{flat_map}
 use Rattle.px_macro.specs.declared.operation.Macro.{Macro}
@@ -12,7 +12,7 @@ use Rattle.px_sched.specs.declared.group.Stage.TheVariants.{At, End, Start}
 use Rattle.px_sched.specs.declared.literal.Literal.{Literal}
 use Rattle.px_sched.specs.Layouts.{LayoutView}
 use Rattle.px_sched.specs.Passes.{literal_passes, literals, others}
-use Rattle.px_sched.specs.Steps.{AreKnown, IsStepOf, IsStep, behind_step, literal_at, step_operations}
+use Rattle.px_sched.specs.Steps.{IsStepOf, IsStep, behind_step, literal_at, step_operations}
 
 abbrev pub no_product : Product
 no_product = record { plain = record { words = [] }; barred = record { words = [] } }
@@ -49,9 +49,6 @@ behind_stage scene l products (At g) =
     ++ literals_from scene l products g.product (g.literal + 1)
 behind_stage scene l products End = []
 
-abbrev pub from_stage : SceneView → LayoutView → List Product → Stage → List Macro
-from_stage scene l products stage = stage_operations scene l stage ++ behind_stage scene l products stage
-
 -- a group of the passes
 pub record IsGroup (scene : SceneView) (products : List Product) (g : Group) : Type 0 where
   pub product : g.product < length products
@@ -63,8 +60,3 @@ abbrev pub IsStage : SceneView → List Product → Stage → Type 0
 IsStage scene products Start = ⊤
 IsStage scene products (At g) = IsGroup scene products g
 IsStage scene products End = ⊤
-
--- a product has a literal, and its literals are of solids of the scene
-pub record IsDrawn (scene : SceneView) (product : Product) : Type 0 where
-  pub some : 0 < length (literals product)
-  pub known : AreKnown scene (literals product)

@@ -1,4 +1,4 @@
--- Where the passes keep their numbers in the memory of a pixel.
+-- Where the passes keep their numbers in the memory of a pixel. Clauses of public calls stand on it.
 use Rattle.std.specs.Prelude.{◌≡◌, ℕ, ◌+◌, ◌*◌, ◌^◌, ◌≤◌, nat_le, count_by}
 use Rattle.std.specs.List.{range_with_len}
 use Rattle.px_macro.specs.declared.field.Field.{Field}

@@ -1,7 +1,6 @@
 pub use Rattle.px_macro.specs.Fields
 pub use Rattle.px_macro.specs.Macros
 pub use Rattle.px_model.specs.Cells
-pub use Rattle.px_model.specs.CellLaws
 pub use Rattle.px_model.specs.Scenes
 pub use Rattle.px_model.specs.Solids
 pub mod Cursors
@@ -9,6 +8,7 @@ pub mod Groups
 pub mod Layouts
 pub mod Numbers
 pub mod NumbersLaw
+pub mod Onward
 pub mod Passes
 pub mod PassesFacts
 pub mod PassesLaw

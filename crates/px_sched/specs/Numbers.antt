@@ -1,4 +1,5 @@
 -- The passes on numbers: what each does to the keys of a pixel, apart from where the memory keeps them.
+-- Only proofs and private functions stand on it.
 use Rattle.std.specs.Prelude.{ℕ, ◌+◌, ◌-◌, ◌*◌, ◌/◌, ◌^◌, ◌==◌, Bool, true, false, ◌&&◌, not, nat_le, nat_lt, List, [], ◌∷◌, ◌++◌, length, map, if◌then◌else◌}
 use Rattle.std.specs.Bool.{beq}
 use Rattle.std.specs.Int.{is_negative}

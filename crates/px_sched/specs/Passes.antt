@@ -1,4 +1,4 @@
--- The passes: the operations that draw a scene, in their order.
+-- The passes: the operations that draw a scene, in their order. Clauses of public calls stand on it.
 use Rattle.std.specs.Prelude.{ℕ, ◌+◌, ◌-◌, ◌*◌, ◌^◌, ◌==◌, Bool, true, false, not, List, [], ◌∷◌, ◌++◌, length, map, filter, get_or, if◌then◌else◌}
 use Rattle.std.specs.List.{flat_map, range_with_len}
 use Rattle.px_macro.specs.declared.operation.Macro.{Macro}

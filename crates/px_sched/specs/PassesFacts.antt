@@ -1,4 +1,4 @@
--- What holds of the passes of every scene: that they are lawful, and how many there can be.
+-- What holds of the passes of every scene: that they are lawful, and how many there can be. Clauses of public calls stand on it.
 use Rattle.std.specs.Prelude.{◌^◌, ◌≤◌, All, length}
 use Rattle.px_macro.specs.Macros.{IsLawful}
 use Rattle.px_prune.specs.Kept.{plan_of}
@@ -6,6 +6,7 @@ use Rattle.px_model.specs.Scenes.{IsLawfulScene, SceneView}
 use Rattle.px_model.specs.Solids.{IsLawfulSolid}
 use Rattle.px_sched.specs.Layouts.{IsLayout, layout_of, need_of}
 use Rattle.px_sched.specs.Passes.{passes}
+use Rattle.px_normal.specs.declared.product.TheConstants.{MAX_PRODUCTS}
 
 abbrev pub LayoutsAreLawful : Type 0
 LayoutsAreLawful = (scene : SceneView) → IsLawfulScene scene → IsLayout (layout_of scene)
@@ -17,4 +18,4 @@ PassesAreLawful = (scene : SceneView) → IsLawfulScene scene → All IsLawfulSo
 
 abbrev pub PassesAreFew : Type 0
 PassesAreFew = (scene : SceneView) → All IsLawfulSolid scene.solids →
-    length (plan_of scene) ≤ 1024 → length (passes scene) ≤ 2 ^ 43
+    length (plan_of scene) ≤ MAX_PRODUCTS → length (passes scene) ≤ 2 ^ 43

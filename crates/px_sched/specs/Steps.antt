@@ -1,5 +1,5 @@
--- The passes of a literal step by step. A step is a few operations that begin with "all".
-use Rattle.std.specs.Prelude.{◌≡◌, ℕ, ◌+◌, ◌-◌, ◌^◌, ◌<◌, ⊤, All, Bool, false, not, List, [], ◌∷◌, ◌++◌, drop, length, get_or, Option, Some, None, if◌then◌else◌}
+-- The passes of a literal step by step. A step is a few operations that begin with "all". Clauses of public calls stand on it.
+use Rattle.std.specs.Prelude.{◌≡◌, ℕ, ◌+◌, ◌-◌, ◌^◌, ◌<◌, ⊤, All, Bool, false, not, List, [], ◌∷◌, ◌++◌, drop, length, get_or, if◌then◌else◌}
 use Rattle.std.specs.List.{flat_map, range_with_len}
 use Rattle.px_macro.specs.declared.operation.Macro.{Macro}
 use Rattle.px_macro.specs.declared.operation.Macro.TheVariants as m
@@ -102,13 +102,6 @@ behind_step scene l q rs (Turn other solid face) = turns_from scene l rs other (
 behind_step scene l q rs (Close other plain) = judged_from scene l rs (other + 1)
 behind_step scene l q rs Merge = []
 
-abbrev pub from_step : SceneView → LayoutView → (q : Literal) → (rs : List Literal) → Step → List Macro
-from_step scene l q rs step = step_operations scene l step ++ behind_step scene l q rs step
-
-abbrev pub from_step_if_any : SceneView → LayoutView → (q : Literal) → (rs : List Literal) → Option Step → List Macro
-from_step_if_any scene l q rs None = []
-from_step_if_any scene l q rs (Some step) = from_step scene l q rs step
-
 -- a face of a solid of the scene
 pub record IsFace (scene : SceneView) (solid face : ℕ) : Type 0 where
   pub known : solid < length scene.solids
@@ -140,7 +133,3 @@ IsStepOf scene q rs (Begin other) = other < length rs
 IsStepOf scene q rs (Turn other solid face) = (other < length rs) × (solid ≡ (literal_at rs other).solid)
 IsStepOf scene q rs (Close other plain) = other < length rs
 IsStepOf scene q rs Merge = ⊤
-
--- each of these literals is of a solid of the scene
-abbrev pub AreKnown : SceneView → List Literal → Type 0
-AreKnown scene rs = All (λ r. r.solid < length scene.solids) rs

@@ -14,7 +14,8 @@ ghost use Rattle.std.specs.Prelude.{
 ghost use Rattle.px_prune.specs.Kept.{plan_of};
 ghost use Rattle.px_model.specs.Scenes.{SceneView};
 ghost use Rattle.px_sched.specs.Cursors.{Stands, StandsIn};
-ghost use Rattle.px_sched.specs.Groups.{IsDrawn, IsStage, stage_operations};
+ghost use Rattle.px_sched.specs.Groups.{IsStage, stage_operations};
+ghost use Rattle.px_sched.specs.Onward.{IsDrawn};
 ghost use Rattle.px_sched.specs.Layouts.{LayoutView, layout_of};
 ghost use Rattle.px_sched.specs.Passes.{passes, passes_with};
 

@@ -4,11 +4,9 @@ ghost use Rattle.std.specs.Prelude.{◌≡◌, ◌≢◌, ◌+◌, ◌*◌, ◌^
 ghost use Rattle.px_macro.specs.declared.operation.Macro.TheVariants as m;
 ghost use Rattle.px_model.specs.Cells.{depths_of, end_of};
 ghost use Rattle.px_sched.specs.Groups.{
-  IsDrawn,
   IsGroup,
   IsStage,
   behind_stage,
-  from_stage,
   literal_of,
   literals_from,
   others_of,
@@ -16,9 +14,10 @@ ghost use Rattle.px_sched.specs.Groups.{
   products_from,
   stage_operations,
 };
+ghost use Rattle.px_sched.specs.Onward.{IsDrawn, from_stage, from_step_if_any};
 ghost use Rattle.px_sched.specs.Layouts.{LayoutView};
 ghost use Rattle.px_sched.specs.Passes.{literals};
-ghost use Rattle.px_sched.specs.Steps.{behind_step, from_step_if_any};
+ghost use Rattle.px_sched.specs.Steps.{behind_step};
 ghost use Rattle.px_sched.specs.declared.group.Stage.TheVariants as s;
 
 use crate::layout::Layout;

@@ -9,7 +9,6 @@ ghost use Rattle.px_sched.specs.declared.literal.Literal.{Literal};
 ghost use Rattle.px_sched.specs.Layouts.{LayoutView};
 ghost use Rattle.px_sched.specs.Passes.{candidate, drop_behind, keep_covered, solid_of, turn};
 ghost use Rattle.px_sched.specs.Steps.{
-  AreKnown,
   IsFace,
   IsStep,
   IsStepOf,
@@ -22,13 +21,12 @@ ghost use Rattle.px_sched.specs.Steps.{
   front_turn,
   fronts_from,
   first_candidate,
-  from_step,
-  from_step_if_any,
   judged_from,
   literal_at,
   step_operations,
   turns_from,
 };
+ghost use Rattle.px_sched.specs.Onward.{AreKnown, from_step, from_step_if_any};
 
 use crate::layout::Layout;
 use crate::literal::Literal;

@@ -1,7 +1,7 @@
 use Rattle.std.proofs.Common.{◌-◌, ◌+◌, List, arith, ap, ◌∙◌, get_or, length}
 use Rattle.px_num.specs.declared.linear.Linear.{Linear}
 use Rattle.px_model.specs.declared.solid.Face.{Face}
-use Rattle.px_face.specs.Edges.{back_orders, front_orders}
+use Rattle.px_face.specs.Orders.{back_orders, front_orders}
 use Rattle.px_face.specs.Faces.{level}
 use Rattle.px_face.proofs.EdgeLemmas.{back_form, edge_range, front_form}
 use Rattle.px_face.proofs.edge.edge_at.Goals as goal

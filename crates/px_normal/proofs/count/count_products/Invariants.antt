@@ -1,6 +1,6 @@
 use Rattle.std.proofs.Common.{◌≡◌, map, reverse, take}
 use Rattle.px_expr.specs.Postorder.{trees_after}
-use Rattle.px_normal.specs.Counting.{counts_of}
+use Rattle.px_normal.specs.FormCounts.{counts_of}
 use Rattle.px_normal.proofs.count.count_products.Given as goal
 
 abbrev pub invariant-loop-node : goal.invariant-loop-node

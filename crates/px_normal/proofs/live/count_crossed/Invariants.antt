@@ -4,9 +4,10 @@ use Rattle.px_normal.specs.Forms.{crossed}
 use Rattle.px_normal.specs.Live.{boxes_in, is_live}
 use Rattle.px_normal.specs.Boxed.{products_in}
 use Rattle.px_normal.proofs.live.count_crossed.Given as goal
+use Rattle.px_normal.specs.declared.product.TheConstants.{MAX_PRODUCTS}
 
 abbrev pub invariant-loop-p : goal.invariant-loop-p
 invariant-loop-p l = record {
   count : l.count ≡ length (filter (is_live (boxes_in l.boxes)) (crossed (take l.p-index l.first) (products_in l.second.items)));
-  most : l.count ≤ 1024 * l.p-index;
+  most : l.count ≤ MAX_PRODUCTS * l.p-index;
 }

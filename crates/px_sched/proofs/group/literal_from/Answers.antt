@@ -2,7 +2,8 @@ use Rattle.std.proofs.Common.{◌+◌, ◌<◌, ◌++◌, ◌∙◌, arith, ap, 
 use Rattle.std.specs.List.{flat_map}
 use Rattle.px_sched.specs.Passes.{literal_passes, literals, others}
 use Rattle.px_sched.specs.Groups.{product_at, products_from}
-use Rattle.px_sched.specs.Steps.{from_step, literal_at, no_literal}
+use Rattle.px_sched.specs.Steps.{literal_at, no_literal}
+use Rattle.px_sched.specs.Onward.{from_step}
 use Rattle.px_sched.specs.declared.step.Step.TheVariants.{Open}
 use Rattle.px_sched.proofs.StepLemmas.{elements_more, opens}
 use Rattle.px_sched.proofs.group.literal_from.Goals as goal

@@ -1,0 +1,106 @@
+-- The value of a face that covers a pixel: it is a depth, and the bits of one keep it.
+use Rattle.std.proofs.Common.{◌≡◌, ◌<◌, ◌≤◌, ◌≤ℤ◌, ◌+◌, ◌-◌, ◌*◌, ◌%◌, ◌^◌, ℕ, ℤ, pos, negsuc, Bool, true, false, ◌&&◌, not, nat_le, eqb, refl, ap, sym, ◌∙◌, arith, inl, inr}
+use Rattle.std.specs.Int.{is_negative}
+use Rattle.std.proofs.lemmas.Bool.{cases_Bool}
+use Rattle.std.proofs.lemmas.Bool.Decides.{nat_tests}
+use Rattle.std.proofs.lemmas.Int.{ints}
+use Rattle.std.proofs.lemmas.Nat.{mod-mul-add}
+use lib.Signed.{le_z}
+use Rattle.px_num.specs.Bits.{modulo}
+use Rattle.px_num.specs.Forms.{value_at}
+use Rattle.px_model.specs.Solids.{SolidView}
+use Rattle.px_model.specs.Cells.{enters_at, leaves_at}
+use Rattle.px_face.specs.Covering.{CoveringLaw, covering_back, covering_front, is_met}
+use Rattle.px_face.specs.Edges.{covers}
+use Rattle.px_face.specs.Faces.{face_count, is_front, plane_of}
+
+pub and_true : (a : Bool) → a && true ≡ a
+and_true true = refl
+and_true false = refl
+
+pub and_both : (a b c : Bool) → (a && b) && c ≡ a && (b && c)
+and_both true b c = refl
+and_both false b c = refl
+
+pub and_left : (a b : Bool) → a && b ≡ true → a ≡ true
+and_left true b e = refl
+and_left false b e = e
+
+pub and_right : (a b : Bool) → a && b ≡ true → b ≡ true
+and_right true b e = e
+and_right false b e = cc
+
+pub and_same : (c a b : Bool) → (c ≡ true → a ≡ b) → (c && a) ≡ (c && b)
+and_same true a b h = h refl
+and_same false a b h = refl
+
+pub same_place : (i k : ℕ) → eqb i k ≡ true → i ≡ k
+same_place i k h = grind (arith, nat_tests)
+
+pub not_negative : (v : ℤ) → not (is_negative v) ≡ le_z (pos 0) v
+not_negative v = grind (arith, ints)
+
+-- a value that is a depth
+pub record IsDepth (v : ℤ) (end : ℕ) : Type 0 where
+  pub depth : ℕ
+  pub is : v ≡ pos depth
+  pub below : depth ≤ end
+
+depth_of : (v : ℤ) (end : ℕ) → pos 0 ≤ℤ v → v ≤ℤ pos end → IsDepth v end
+depth_of (pos n) end low high = record { depth = n; is = refl; below = omega (arith, ints) }
+depth_of (negsuc n) end low high = absurd (omega (arith, ints))
+
+pub mod_small : (n m : ℕ) → n < m → n % m ≡ n
+mod_small n m h = let e : 0 * m + n ≡ n = omega arith in ap (λ k. k % m) (sym e) ∙ mod-mul-add 0 m n h
+
+-- and is kept as itself
+pub modulo_is : (v : ℤ) (end bits : ℕ) → end < 2 ^ bits → (d : IsDepth v end) → modulo v bits ≡ d.depth
+modulo_is v end bits big d = let small : d.depth < 2 ^ bits = omega (arith, d.below) in rw d.is (mod_small d.depth (2 ^ bits) small)
+
+pub le_same : (m n : ℕ) → nat_le m n ≡ le_z (pos m) (pos n)
+le_same m n = grind (arith, nat_tests, ints)
+
+pub at_most_is : (v : ℤ) (end bits z : ℕ) → end < 2 ^ bits → IsDepth v end → nat_le (modulo v bits) z ≡ le_z v (pos z)
+at_most_is v end bits z big d = rw (modulo_is v end bits big d, d.is) (le_same d.depth z)
+
+module _ (covering : CoveringLaw) (end : ℕ) (s : SolidView) (x y : ℕ) where
+  pub enters_depth : is_met s end x y ≡ true → IsDepth (enters_at s x y) end
+  enters_depth met =
+      let d = (covering s end x y).depths met in
+      depth_of (enters_at s x y) end d.0 (omega (arith, ints, d.1, d.2))
+
+  pub leaves_depth : is_met s end x y ≡ true → IsDepth (leaves_at s end x y) end
+  leaves_depth met =
+      let d = (covering s end x y).depths met in
+      depth_of (leaves_at s end x y) end (omega (arith, ints, d.0, d.1)) d.2
+
+  front_value : (i : ℕ) → (is_met s end x y && eqb i (covering_front s x y)) ≡ true
+      → IsDepth (value_at (plane_of s end i) x y) end
+  front_value i e =
+      let one = enters_depth (and_left (is_met s end x y) (eqb i (covering_front s x y)) e) in
+      let same = same_place i (covering_front s x y) (and_right (is_met s end x y) (eqb i (covering_front s x y)) e) in
+      record {
+        depth = one.depth;
+        is = ap (λ j. value_at (plane_of s end j) x y) same
+            ∙ (covering s end x y).front_value ∙ one.is;
+        below = one.below;
+      }
+
+  back_value : (i : ℕ) → (is_met s end x y && eqb i (covering_back s end x y)) ≡ true
+      → IsDepth (value_at (plane_of s end i) x y) end
+  back_value i e =
+      let one = leaves_depth (and_left (is_met s end x y) (eqb i (covering_back s end x y)) e) in
+      let same = same_place i (covering_back s end x y) (and_right (is_met s end x y) (eqb i (covering_back s end x y)) e) in
+      record {
+        depth = one.depth;
+        is = ap (λ j. value_at (plane_of s end j) x y) same
+            ∙ (covering s end x y).back_value ∙ one.is;
+        below = one.below;
+      }
+
+  -- the value of a face that covers is a depth
+  pub covering_value : (i : ℕ) → i < face_count s → covers s end i x y ≡ true → IsDepth (value_at (plane_of s end i) x y) end
+  covering_value i there c = elim (cases_Bool (is_front s i)) [
+    | inl front ↦ front_value i (sym ((covering s end x y).fronts i front) ∙ c)
+    | inr back ↦ back_value i (sym ((covering s end x y).backs i there back) ∙ c)
+  ]
