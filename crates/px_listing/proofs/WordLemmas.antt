@@ -1,12 +1,13 @@
 -- The words of a line, and the numbers that they write.
 use Prim.Native.Nat.{zero, suc}
-use Rattle.std.proofs.Common.{All, ◌-◌, true, false, min, ◌==◌, if◌then◌else◌, ◌≡◌, ℕ, ℤ, pos, ◌+◌, ◌<◌, ◌≤◌, ◌^◌, ◌∷◌, [], ◌++◌, ◌&&◌, List, Bool, Option, Some, None, length, map, take, get_or, is_some, unwrap_or, refl, ap, ◌∙◌, arith, Bor}
+use Rattle.std.proofs.Common.{All, ◌-◌, true, false, min, ◌==◌, if◌then◌else◌, ◌≡◌, ℕ, ℤ, pos, ◌+◌, ◌<◌, ◌^◌, ◌∷◌, [], ◌++◌, ◌&&◌, List, Bool, Option, Some, None, length, map, take, get_or, is_some, unwrap_or, refl, ap, ◌∙◌, arith, Bor}
 use Rattle.std.specs.Int.Digits.{number_from_digits}
 use Rattle.std.specs.List.{list_all}
 use Rattle.std.proofs.lemmas.Int.{ints}
 use Rattle.std.proofs.lemmas.List.{get_or-map, length-map, take_more}
 use Rattle.px_num.specs.Forms.{IsWithin}
-use Rattle.px_text.specs.Text.{Words, is_some_byte, now_of}
+use Rattle.px_text.specs.Text.{Words, is_some_byte}
+use Rattle.px_text.specs.LentWords.{now_of}
 use Rattle.px_text.specs.Word.{is_digit, negative, number_of, positive, size_of}
 use Rattle.px_listing.specs.Lines.{are_numbers, numbers_of}
 

@@ -9,7 +9,8 @@ ghost use Rattle.px_listing.specs.declared.keyword.Keyword.TheVariants as Keywor
 ghost use Rattle.px_tree.specs.Nodes.{IsGrid};
 ghost use Rattle.px_listing.specs.declared.limit.LineFault.{LineFault};
 ghost use Rattle.px_macro.specs.Macros.{IsLawful};
-ghost use Rattle.px_text.specs.Text.{now_of, words_of};
+ghost use Rattle.px_text.specs.Text.{words_of};
+ghost use Rattle.px_text.specs.LentWords.{now_of};
 
 use crate::judge::{cause_of, numbers_of};
 use crate::keyword::{Due, Keyword, due_after, keyword_of};

@@ -2,7 +2,7 @@
 ghost use Rattle.std.specs.Prelude.{◌≡◌, ◌≤◌, ◌^◌, All, is_some, length, pos, unwrap_or};
 ghost use Rattle.std.specs.List.{list_all};
 ghost use Rattle.px_num.specs.Forms.{IsWithin};
-ghost use Rattle.px_text.specs.Text.{now_of};
+ghost use Rattle.px_text.specs.LentWords.{now_of};
 ghost use Rattle.px_text.specs.Word.{number_of};
 ghost use Rattle.px_listing.specs.Keywords.{keyword_of};
 ghost use Rattle.px_listing.specs.Lines.{are_numbers, cause_of, form_of, numbers_of};

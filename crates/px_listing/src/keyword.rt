@@ -1,6 +1,6 @@
 //! The first word of a line, and which lines are due.
 ghost use Rattle.std.specs.Prelude.{◌≡◌, ◌≤◌};
-ghost use Rattle.px_text.specs.Text.{now_of};
+ghost use Rattle.px_text.specs.LentWords.{now_of};
 ghost use Rattle.px_listing.specs.Keywords.{count_of, due_after, is_due, is_header, is_one, keyword_of};
 
 /// What the first word of a line begins.

@@ -4,7 +4,6 @@ ghost use Rattle.px_array.specs.Arrays.{HasPixel, IsOpen, pixel_of};
 ghost use Rattle.px_asm.specs.Microprograms.{bits_of};
 ghost use Rattle.px_io.specs.Counts.{HasCause};
 ghost use Rattle.px_io.specs.Told.{TakesAll, TakesFront};
-ghost use Rattle.px_tree.specs.Nodes.{IsGrid};
 ghost use Rattle.px_listing.specs.Memories.{digit as digit_of, digits_of, memory_text, pixel_line, row_lines};
 ghost use Rattle.px_listing.specs.Pieces.{Puts};
 
@@ -22,7 +21,6 @@ use px_num::power;
 pub fn write_memory<A: Array, O: Sink>(array: &A, out: &mut O) -> Result<(), Failed>
     requires is_open { IsOpen (A.device array.now) }
     requires few { A.BITS ≤ 256 }
-    requires grid { IsGrid (A.device array.now).state.tree.nx (A.device array.now).state.tree.ny }
     ensures ok { OnOk result (TakesAll (O.written out.old) (O.written out.new)
         (O.finished out.old) (O.finished out.new)
         (memory_text A.BITS (A.device array.now).state)) }

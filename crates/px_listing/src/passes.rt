@@ -16,12 +16,12 @@ use crate::write::{macro_line, put_end, put_first_lines};
 use px_io::{Failed, Sink};
 use px_macro::laws_of_operations;
 use px_model::{Scene, laws_of_scenes};
-use px_prune::Plan;
+use px_prune::{MAX_PRODUCTS, Plan};
 use px_sched::{Cursor, Layout, laws_of_passes};
 
 /// Writes the canonical text of a scene's grid and passes (docs/LISTINGS.md, "Canonical text").
 ///
-/// The plan is the one that `plan_of` gives for the scene, of at most 1024 products, and the layout
+/// The plan is the one that `plan_of` gives for the scene, of at most `MAX_PRODUCTS` products, and the layout
 /// that of `Layout::of`. After `Failed` a front of the text was written. The sink is not finished.
 pub fn write_passes<O: Sink>(
     scene: &Scene,
@@ -30,7 +30,7 @@ pub fn write_passes<O: Sink>(
     out: &mut O,
 ) -> Result<(), Failed>
     requires products { plan.now.products.items ≡ plan_of scene.now }
-    requires few { length (plan_of scene.now) ≤ 1024 }
+    requires few { length (plan_of scene.now) ≤ MAX_PRODUCTS }
     requires layout { layout.now ≡ layout_of scene.now }
     ensures ok { OnOk result (TakesAll (O.written out.old) (O.written out.new)
         (O.finished out.old) (O.finished out.new) (canonical_text (passes_listing scene.now))) }

@@ -1,5 +1,5 @@
 -- What is seen of the finer scene at a pixel that both scenes have.
-use Rattle.std.proofs.Common.{◌≡◌, ℕ, zero, suc, ◌+◌, ◌*◌, ◌^◌, ◌<◌, ◌≤◌, ℤ, pos, ◌*ℤ◌, List, [], ◌∷◌, ◌++◌, map, filter, nat_le, nat_lt, ◌==◌, ◌&&◌, Bool, true, false, Option, Some, None, refl, ap, sym, ◌∙◌, arith, slice_get, if◌then◌else◌}
+use Rattle.std.proofs.Common.{◌≡◌, ℕ, zero, suc, ◌+◌, ◌*◌, ◌^◌, ◌<◌, ◌≤◌, ℤ, pos, ◌*ℤ◌, List, [], ◌∷◌, map, filter, nat_le, nat_lt, Bool, true, false, Option, Some, None, refl, ap, sym, ◌∙◌, arith, slice_get, if◌then◌else◌}
 use Rattle.std.proofs.Math.Path.{fun_ext}
 use Rattle.std.proofs.lemmas.Nat.{pow-add, pow_pos}
 use Rattle.std.proofs.lemmas.Option.{slice_get-map}
@@ -15,8 +15,8 @@ use Rattle.px_expr.specs.Cells.{Cell, cell}
 use Rattle.px_model.specs.declared.solid.Face.{Face}
 use Rattle.px_model.specs.Solids.{SolidView}
 use Rattle.px_model.specs.Scenes.{SceneView}
-use Rattle.px_model.specs.Cells.{Depths, Sight, backs_at, cell_of, depths, depths_of, end_of, enters_at, faces_at, far_of, first, first_cell, fronts_at, greatest_fronts, is_inside, is_inside_at, is_inside_before, is_member_at, leaf_cell, least, leaves_at, no_cell, picture, scene_cell, sight_at, solid_cell, value_of}
-use Rattle.px_model.specs.CellLaws.{cell_is_first}
+use Rattle.px_model.specs.Cells.{Depths, backs_at, cell_of, depths, end_of, enters_at, faces_at, far_of, first, first_cell, fronts_at, is_inside, is_inside_before, leaf_cell, least, leaves_at, no_cell, scene_cell, sight_at, solid_cell, value_of}
+use Rattle.px_model.proofs.CellLaws.{cell_is_first}
 use Rattle.px_refine.specs.Finer.{fine_face, fine_plane, fine_scene, fine_solid}
 use Rattle.px_refine.specs.FinerLaw.{CommonPixelsAgree}
 use Rattle.px_refine.proofs.ScaleLemmas.{eq_times, le_times, lt_times, max_times, min_times, nat_lt_times, value_scaled}

@@ -32,6 +32,7 @@ use Rattle.px_shadow.specs.ShadowPasses.{light_bit, need_with, shadow_passes}
 use Rattle.px_shadow.specs.Stored.{StoresTheLights, stored_mask, stored_masks}
 use Rattle.px_shadow.proofs.DeviceLemmas.{columns_stay, rows_stay}
 use Rattle.px_shadow.proofs.SolidLemmas.{same_numbers}
+use Rattle.px_normal.specs.declared.product.TheConstants.{MAX_PRODUCTS}
 
 place_below : (nx ny x y : ℕ) → x < 2 ^ nx → y < 2 ^ ny → x * 2 ^ ny + y < 2 ^ (nx + ny)
 place_below nx ny x y column row = rw (pow-add 2 nx ny) (grind (arith, column, row))
@@ -110,7 +111,7 @@ clocks_at bits scene n = refl
 -- the array that stores the picture can carry the shadow passes out
 pub can_shade : LayoutsAreLawful → IsLawfulInMore → ShadowPassesAreLawful → ShadowPassesAreFew → ClockBound → SizeLaw →
     (bits : ℕ) (scene : SceneView) (lights : List SolidSet) (device : Device) → IsLawfulScene scene → All IsLawfulSolid scene.solids →
-    length (plan_of scene) ≤ 1024 → IsAt bits scene (total scene) device → All (IsBelow (length scene.solids)) lights →
+    length (plan_of scene) ≤ MAX_PRODUCTS → IsAt bits scene (total scene) device → All (IsBelow (length scene.solids)) lights →
     need_with (layout_of scene) (length lights) ≤ bits → length lights ≤ 8 →
     CanCarryOut bits (shadow_passes scene (layout_of scene) lights) device
 can_shade layouts more passes_lawful few bound sizes bits scene lights device lawful solids products at known enough most =

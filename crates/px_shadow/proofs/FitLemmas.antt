@@ -1,12 +1,9 @@
 -- The shadow passes are lawful in as many memory bits as they need, and few.
-use Rattle.std.proofs.Common.{◌≡◌, ◌<◌, ◌≤◌, ◌+◌, ◌*◌, ◌^◌, ◌∙◌, ℕ, ℤ, false, true, lit≤, List, [], ◌∷◌, ◌++◌, length, map, filter, get_or, ap, sym, subst, arith, length-append}
+use Rattle.std.proofs.Common.{◌<◌, ◌≤◌, ◌+◌, ◌^◌, ℕ, ℤ, false, true, lit≤, List, [], ◌∷◌, ◌++◌, length, map, sym, subst, arith}
 use Prim.Native.Nat.{zero, suc}
 use Rattle.std.specs.Prelude.{All}
 use Rattle.std.specs.List.{flat_map, range_with_len}
-use Rattle.std.proofs.lemmas.Bool.{cases_Bool}
-use Rattle.std.proofs.lemmas.List.{length-map}
-use Rattle.std.proofs.lemmas.List.FromFn.{length-map-range_with_len, length-range_with_len}
-use Rattle.std.proofs.lemmas.List.Elements.{All-append, All-cons, All-head, All-map, All-nil, All-tail, All-from_get_or, All-weaker}
+use Rattle.std.proofs.lemmas.List.Elements.{All-append, All-cons, All-head, All-map, All-nil, All-tail}
 use Rattle.std.proofs.lemmas.Int.{ints}
 use Rattle.px_num.specs.declared.linear.Linear.{Linear}
 use Rattle.px_num.specs.Forms.{IsInTreeRange, IsWithin}
@@ -19,13 +16,13 @@ use Rattle.px_normal.specs.Sets.{IsBelow, solids}
 use Rattle.px_model.specs.Scenes.{IsLawfulScene, SceneView}
 use Rattle.px_model.specs.Solids.{IsLawfulSolid, IsPlane, SolidView}
 use Rattle.px_model.specs.Cells.{depths_of, end_of}
-use Rattle.px_model.specs.CellLaws.{end_is_within}
+use Rattle.px_model.proofs.CellLaws.{end_is_within}
 use Rattle.px_face.specs.EdgeLaws.{EdgesAreCounted, EdgesAreInRange, PlanesAreInRange}
 use Rattle.px_face.specs.Edges.{edges}
 use Rattle.px_face.specs.Faces.{face_count, plane_of}
-use Rattle.px_sched.specs.Layouts.{IsLayout, LayoutView, deep_part, layout_of, layout_with, need_of, number_part}
+use Rattle.px_sched.specs.Layouts.{IsLayout, LayoutView, deep_part, layout_with, need_of, number_part}
 use Rattle.px_sched.specs.Passes.{keep_covered, no_solid, solid_of}
-use Rattle.px_shadow.specs.ShadowPasses.{background_passes, light_bit, light_passes, need_with, passes_from, shadow_passes, solid_passes, stored_turn}
+use Rattle.px_shadow.specs.ShadowPasses.{background_passes, light_bit, light_passes, passes_from, solid_passes, stored_turn}
 use Rattle.px_shadow.proofs.StepLemmas.{all_known}
 
 -- what the operations need of a layout in so many memory bits

@@ -1,32 +1,26 @@
 -- What the passes of a light leave in the memory of a pixel, and those of all lights.
-use Rattle.std.proofs.Common.{◌≡◌, ◌≢◌, ◌<◌, ◌≤◌, ◌+◌, ◌*◌, ◌^◌, ◌==◌, ◌∙◌, ℕ, Bool, true, false, ◌&&◌, not, List, [], ◌∷◌, ◌++◌, length, map, slice_set, if◌then◌else◌, All, Option, Some, None, refl, ap, sym, subst, arith, get_or-set_same, get_or, length-set}
+use Rattle.std.proofs.Common.{◌≡◌, ◌≢◌, ◌<◌, ◌≤◌, ◌+◌, ◌^◌, ◌==◌, ◌∙◌, ℕ, Bool, true, false, ◌&&◌, not, List, [], ◌∷◌, ◌++◌, length, map, slice_set, if◌then◌else◌, refl, ap, sym, arith, get_or-set_same, length-set}
 use Prim.Native.Nat.{zero, suc}
 use Rattle.std.specs.Bool.{beq}
 use Rattle.std.specs.List.{flat_map, list_all, range_with_len}
 use Rattle.std.proofs.lemmas.Bool.Decides.{nat_tests}
 use Rattle.std.proofs.lemmas.List.Folds.{list_all-append}
 use Rattle.px_num.proofs.BitLaws.{pow_above}
-use Rattle.px_macro.specs.declared.operation.Macro.{Macro}
 use Rattle.px_macro.specs.declared.operation.Macro.TheVariants as m
 use Rattle.px_macro.specs.Fields.{number_in, number_of}
 use Rattle.px_num.specs.Bits.{bit_at}
-use Rattle.px_macro.specs.FieldLaws.{NumberOfParts}
 use Rattle.px_macro.specs.Macros.{PixelBits, after_macros}
 use Rattle.px_normal.specs.declared.set.SolidSet.{SolidSet}
 use Rattle.px_normal.specs.Sets.{solids}
-use Rattle.px_model.specs.Scenes.{SceneView, IsLawfulScene}
-use Rattle.px_model.specs.Solids.{IsLawfulSolid, SolidView}
-use Rattle.px_model.specs.Cells.{depths_of, end_of, first_cell, is_inside, is_inside_at, picture, value_of}
-use Rattle.px_model.specs.CellLaws.{end_is_small}
-use Rattle.px_face.specs.Surfaces.{PicturesShowBackground, ShowsBackground}
-use Rattle.px_sched.specs.Layouts.{LayoutView, deep_part, depth_part, fraction_part, layout_of, need_of, number_part}
+use Rattle.px_model.specs.Scenes.{SceneView}
+use Rattle.px_model.specs.Cells.{depths_of, end_of, is_inside_at}
+use Rattle.px_sched.specs.Layouts.{LayoutView, deep_part, number_part}
 use Rattle.px_sched.specs.Passes.{solid_of}
-use Rattle.px_sched.specs.PassesLaw.{HasSight}
-use Rattle.px_shadow.specs.Lights.{is_lit, is_lit_at, is_outside, light_at}
-use Rattle.px_shadow.specs.ShadowLaws.{ShadowLaw}
-use Rattle.px_shadow.specs.ShadowPasses.{background_passes, light_bit, light_passes, need_with, passes_from, shadow_passes, solid_passes}
+use Rattle.px_shadow.specs.Lights.{light_at}
+use Rattle.px_shadow.specs.ShadowPasses.{background_passes, light_bit, light_passes, passes_from, solid_passes}
 use Rattle.px_shadow.proofs.TurnLemmas.{Below, pixel}
 use Rattle.px_shadow.proofs.SolidLemmas.{GoesOut, Keeps, keeps_all, keeps_bit, keeps_both, keeps_if, number_kept, out_bit, solid_goes_out}
+use Rattle.px_sched.proofs.CoverLaws.{and_true, and_both}
 
 range_more : (a n : ℕ) → range_with_len a (suc n) ≡ range_with_len a n ++ ((a + n) ∷ [])
 range_more a zero = let e : a + 0 ≡ a = omega arith in rw e refl
@@ -47,14 +41,6 @@ is_zero bit (suc n) =
     last : (b : Bool) (low high : ℕ) → 0 < high → ((low == 0) && (beq b false && true)) ≡ (low + (if b then high else 0) == 0)
     last true low high some = grind (arith, nat_tests)
     last false low high some = grind (arith, nat_tests)
-
-and_true : (a : Bool) → (a && true) ≡ a
-and_true true = refl
-and_true false = refl
-
-and_both : (a b c : Bool) → ((a && b) && c) ≡ (a && (b && c))
-and_both true b c = refl
-and_both false b c = refl
 
 -- the pixels at which all of these bits are 0 stay enabled
 bits_kept : (at : ℕ) (ts : List ℕ) (x y : ℕ) (memory : List Bool) (e : Bool)

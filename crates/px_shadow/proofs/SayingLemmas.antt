@@ -14,14 +14,10 @@ use Rattle.px_model.specs.Solids.{SolidView}
 use Rattle.px_prune.specs.Kept.{set_of}
 use Rattle.px_scene.specs.declared.line.Cause.{Cause}
 use Rattle.px_scene.specs.declared.line.Cause.TheVariants.{BadName, Unexpected, UnknownName, WordCount}
-use Rattle.px_shadow.specs.declared.light.Said.{Said}
 use Rattle.px_shadow.specs.declared.light.Said.TheVariants as s
 use Rattle.px_shadow.specs.LightLines.{as_light, is_solid, light_of, named, solid_named}
 use Rattle.px_shadow.specs.Saying.{are_some, said_behind, said_of, with_solid}
-
-and_true : (a : Bool) → (a && true) ≡ a
-and_true true = refl
-and_true false = refl
+use Rattle.px_sched.proofs.CoverLaws.{and_true}
 
 some_more : (ws : Words) (w : List ℕ) → are_some (ws ++ w ∷ []) ≡ true
 some_more [] w = refl

@@ -1,32 +1,26 @@
 -- Where a pixel stores what it shows, the stored key says by which lights it is lit.
-use Rattle.std.proofs.Common.{◌≡◌, ◌≢◌, ◌<◌, ◌≤◌, ◌+◌, ◌*◌, ◌^◌, ◌==◌, ◌∙◌, ℕ, Bool, true, false, ◌&&◌, not, List, length, All, Option, Some, None, refl, ap, sym, arith}
-use Prim.Native.Nat.{zero, suc}
+use Rattle.std.proofs.Common.{◌≡◌, ◌+◌, ◌==◌, ◌∙◌, ℕ, Bool, true, false, ◌&&◌, not, List, Option, Some, None, refl, ap, sym, arith}
 use Rattle.std.proofs.lemmas.Bool.Decides.{nat_tests}
 use Rattle.px_macro.specs.Fields.{number_in}
-use Rattle.px_num.specs.Bits.{bit_at}
 use Rattle.px_macro.specs.FieldLaws.{NumberOfParts}
-use Rattle.px_macro.specs.Macros.{PixelBits, after_macros}
 use Rattle.px_normal.specs.declared.set.SolidSet.{SolidSet}
 use Rattle.px_normal.specs.Sets.{solids}
-use Rattle.px_model.specs.Scenes.{SceneView, IsLawfulScene}
+use Rattle.px_model.specs.Scenes.{SceneView}
 use Rattle.px_model.specs.Cells.{depths_of, end_of, first_cell, picture, sight_at, value_of}
-use Rattle.px_model.specs.CellLaws.{end_is_small}
+use Rattle.px_model.proofs.CellLaws.{end_is_small}
 use Rattle.px_face.specs.Surfaces.{PicturesShowBackground, ShowsBackground}
 use Rattle.px_sched.specs.Layouts.{deep_part, layout_of, number_part}
 use Rattle.px_sched.specs.PassesLaw.{HasSight}
 use Rattle.px_shadow.specs.Lights.{is_lit, is_lit_at, light_at}
 use Rattle.px_shadow.specs.ShadowLaws.{ShadowLaw}
-use Rattle.px_shadow.specs.ShadowPasses.{light_bit, shadow_passes}
+use Rattle.px_shadow.specs.ShadowPasses.{light_bit}
 use Rattle.px_shadow.proofs.TurnLemmas.{Below}
 use Rattle.px_shadow.proofs.LightLemmas.{IsReady, are_lit, lit, outside}
+use Rattle.px_sched.proofs.CoverLaws.{and_true}
 
 and_false : (a : Bool) → (a && false) ≡ false
 and_false true = refl
 and_false false = refl
-
-and_true : (a : Bool) → (a && true) ≡ a
-and_true true = refl
-and_true false = refl
 
 -- a layout is ready for the lights
 ready : (scene : SceneView) → IsReady (layout_of scene) (end_of (depths_of scene))

@@ -19,11 +19,10 @@ ghost use Rattle.px_shadow.specs.LightLines.{
 
 use crate::passes::MOST_LIGHTS;
 use arrayvec::ArrayVec;
-use px_lines::{before_comment, is_blank, is_word, without_last_feed};
 use px_model::{Scene, laws_of_scenes};
 use px_normal::{SolidSet, laws_of_sets};
 use px_scene::Cause;
-use px_text::is_name;
+use px_text::{before_comment, is_blank, is_name, is_word, without_last_feed};
 use thiserror::Error;
 
 /// A line of lights is bad (docs/SHADOWS.md, "Light lines").

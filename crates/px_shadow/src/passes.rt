@@ -30,7 +30,7 @@ use px_control::{law_of_clocks, law_of_sizes};
 use px_face::{edge_at, edge_count, face_count, laws_of_edges, plane_of};
 use px_macro::{Macro, laws_of_operations};
 use px_model::{Scene, Solid, laws_of_scenes};
-use px_normal::{SolidSet, laws_of_sets};
+use px_normal::{MAX_PRODUCTS, SolidSet, laws_of_sets};
 use px_sched::{Layout, laws_of_passes};
 
 /// How many lights there can be.
@@ -58,7 +58,7 @@ pub fn shade<A: Array>(
     array: &mut A,
 )
     requires layout { layout.now ≡ layout_of scene.now }
-    requires products { length (plan_of scene.now) ≤ 1024 }
+    requires products { length (plan_of scene.now) ≤ MAX_PRODUCTS }
     requires at { IsAt A.BITS scene.now (total scene.now) (A.device array.old) }
     requires need { need_with layout.now (length lights.now.items) ≤ A.BITS }
     requires known { All (IsBelow (length scene.now.solids)) lights.now.items }

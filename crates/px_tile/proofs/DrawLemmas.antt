@@ -14,10 +14,10 @@ use Rattle.px_control.specs.declared.fault.JobFault.TheVariants as job
 use Rattle.px_tile.specs.declared.fault.WideFault.{WideFault}
 use Rattle.px_tile.specs.declared.fault.WideFault.TheVariants as wide
 use Rattle.px_tile.specs.Coefficients.{coefficient_past}
-use Rattle.px_tile.specs.Drawn.{HasTiles, IsLeft, tile_at}
+use Rattle.px_tile.specs.Drawn.{HasTiles, IsLeft, tile_at, crowd_of_tile}
 use Rattle.px_tile.specs.Found.{IsFound, IsInTile, PutsTile, number_at, number_of}
 use Rattle.px_tile.specs.Pictures.{IsLastDrawn, LeavesOnWideRefusal}
-use Rattle.px_tile.specs.Refusals.{bits_short, crowd_of_tile, first_coefficient, first_crowd, many_tiles, refusal_of, wide_refusal}
+use Rattle.px_tile.specs.Refusals.{bits_short, first_coefficient, first_crowd, many_tiles, refusal_of, wide_refusal}
 use Rattle.px_tile.specs.TilesLaw.{TilesLaw}
 use Rattle.px_tile.specs.Tilings.{IsWideSize, column_of, row_of, scene_of_tile, tile_count, tiles_across}
 use Rattle.px_tile.proofs.FirstLemmas.{none_each}

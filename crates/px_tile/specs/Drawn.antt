@@ -1,11 +1,12 @@
--- Where the drawing of a wide picture stands after so many tiles. Only proofs and private functions stand on it.
-use Rattle.std.specs.Prelude.{◌≡◌, ℕ, ◌+◌, ◌*◌, ◌/◌, ◌<◌, ◌⊎◌, List, length}
+-- Where the drawing of a wide picture stands after so many tiles, and what is asked of one tile. Only proofs and private functions stand on it.
+use Rattle.std.specs.Prelude.{◌≡◌, ℕ, ◌+◌, ◌*◌, ◌/◌, ◌<◌, ◌⊎◌, List, length, Option}
 use Rattle.px_array.specs.Arrays.{Device}
 use Rattle.px_model.specs.Scenes.{SceneView}
 use Rattle.px_model.specs.Cells.{picture}
 use Rattle.px_tile.specs.Found.{number_at, number_of}
 use Rattle.px_tile.specs.Pictures.{IsTileDrawn}
-use Rattle.px_tile.specs.Tilings.{tile_count, tiles_across}
+use Rattle.px_tile.specs.Tilings.{scene_of_tile, tile_count, tiles_across}
+use Rattle.px_prune.specs.Kept.{crowd_of}
 
 -- the number of the tile that a pixel of the wide picture is in
 abbrev pub tile_at : SceneView → (width x y : ℕ) → ℕ
@@ -21,3 +22,7 @@ pub record HasTiles (scene : SceneView) (width height count : ℕ) (found : List
 abbrev pub IsLeft : (bits : ℕ) → SceneView → (width height count : ℕ) → (before now : Device) → Type 0
 IsLeft bits scene width height count before now = ((count ≡ 0) × (now ≡ before))
     ⊎ ((last : ℕ) × (count ≡ last + 1) × (last < tile_count scene width height) × IsTileDrawn bits scene width height last now)
+
+-- the length of the first wanted list past the limit of a tile
+abbrev pub crowd_of_tile : SceneView → (width height tile : ℕ) → Option ℕ
+crowd_of_tile scene width height tile = crowd_of (scene_of_tile scene width height tile)

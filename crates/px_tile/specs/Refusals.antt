@@ -9,6 +9,7 @@ use Rattle.px_control.specs.declared.fault.JobFault.{JobFault}
 use Rattle.px_control.specs.declared.fault.JobFault.TheVariants as job
 use Rattle.px_tile.specs.declared.fault.WideFault.{WideFault}
 use Rattle.px_tile.specs.declared.fault.WideFault.TheVariants as wide
+use Rattle.px_tile.specs.declared.draw.TheConstants.{MAX_TILES}
 use Rattle.px_tile.specs.Coefficients.{coefficient_past, first_some}
 use Rattle.px_tile.specs.Tilings.{scene_of_tile, tile_count}
 
@@ -21,16 +22,13 @@ first_of_tiles found scene width height =
 abbrev pub first_coefficient : SceneView → (width height : ℕ) → Option ℤ
 first_coefficient scene width height = first_of_tiles (λ tile. coefficient_past tile.solids) scene width height
 
--- the length of the first wanted list past the limit of a tile, and of the first tile that has one
-abbrev pub crowd_of_tile : SceneView → (width height tile : ℕ) → Option ℕ
-crowd_of_tile scene width height tile = crowd_of (scene_of_tile scene width height tile)
-
+-- the length of the first wanted list past the limit, of the first tile that has one
 abbrev pub first_crowd : SceneView → (width height : ℕ) → Option ℕ
 first_crowd scene width height = first_of_tiles crowd_of scene width height
 
 -- so many tiles are past the limit
 abbrev pub many_tiles : ℕ → Option WideFault
-many_tiles count = if nat_lt 1024 count then Some (wide.Tiles count) else None
+many_tiles count = if nat_lt MAX_TILES count then Some (wide.Tiles count) else None
 
 -- the passes of a scene need more memory bits than these
 abbrev pub bits_short : {X : Type 0} → (ℕ → X) → SceneView → (bits : ℕ) → Option X

@@ -1,18 +1,13 @@
 //! Drawing a wide picture tile by tile on one array.
-ghost use Rattle.std.specs.Prelude.{◌≡◌, ◌*◌, ◌<◌, ◌≤◌, ◌⊎◌, nat_lt, IfErr, IfOk, None, OnErr, OnOk, Some, length, vec_len};
+ghost use Rattle.std.specs.Prelude.{◌≡◌, ◌*◌, ◌^◌, ◌<◌, ◌≤◌, ◌⊎◌, ℕ, nat_lt, Err, IfErr, IfOk, None, OnErr, OnOk, Some, length, vec_len};
 ghost use Rattle.std.specs.Option.{option_map};
 ghost use Rattle.px_array.specs.Arrays.{closed};
 ghost use Rattle.px_sched.specs.Layouts.{layout_of, need_of};
 ghost use Rattle.px_tile.specs.Coefficients.{coefficient_past};
 ghost use Rattle.px_tile.specs.Found.{IsFound, PutsTile};
 ghost use Rattle.px_tile.specs.Pictures.{IsLastDrawn, IsTileDrawn, LeavesOnWideRefusal};
-ghost use Rattle.px_tile.specs.Refusals.{
-  crowd_of_tile,
-  first_coefficient,
-  first_crowd,
-  refusal_of,
-  wide_refusal,
-};
+ghost use Rattle.px_tile.specs.Refusals.{first_coefficient, first_crowd, refusal_of, wide_refusal};
+ghost use Rattle.px_tile.specs.Drawn.{crowd_of_tile};
 ghost use Rattle.px_tile.specs.Tilings.{
   IsWideSize,
   column_of,
@@ -35,8 +30,8 @@ use px_prune::plan_of;
 use px_sched::{Layout, NeedBits, laws_of_passes};
 use std::alloc::Global;
 
-/// No picture has more tiles.
-const MOST_TILES: u32 = 1024;
+/// A picture that is drawn has at most so many tiles.
+pub const MAX_TILES: u32 = 1024;
 
 /// No scene needs more bits of memory in a pixel.
 const MOST_BITS: usize = 74;
@@ -55,9 +50,10 @@ pub fn check_tiles(
     ensures ok { OnOk result (wide_refusal scene.now width height bits ≡ None) }
     ensures err { IfErr result (λ fault.
         (wide_refusal scene.now width height bits ≡ Some fault) ⊎ (fault ≡ WideFault.Memory)) }
+    ensures small { (count : ℕ) → result ≡ Err (WideFault.Products count) → count ≤ 2 ^ 21 }
 {
     let count = tile_count(scene, width, height);
-    if count > MOST_TILES {
+    if count > MAX_TILES {
         return Err(WideFault::Tiles { found: count });
     }
     if let Some(found) = first_coefficient(scene, width, height) {
@@ -101,6 +97,7 @@ fn check_products(alloc: Global, scene: &Scene, width: u32, height: u32) -> Resu
     ensures err { IfErr result (λ fault.
         (option_map WideFault.Products (first_crowd scene.now width height) ≡ Some fault)
         ⊎ (fault ≡ WideFault.Memory)) }
+    ensures small { (count : ℕ) → result ≡ Err (WideFault.Products count) → count ≤ 2 ^ 21 }
 {
     for tile in 0..tile_count(scene, width, height) {
         if let Err(fault) = check_products_of_tile(alloc, scene, width, height, tile) {
@@ -125,6 +122,7 @@ fn check_products_of_tile(
     ensures err { IfErr result (λ fault.
         (option_map WideFault.Products (crowd_of_tile scene.now width height tile) ≡ Some fault)
         ⊎ (fault ≡ WideFault.Memory)) }
+    ensures small { (count : ℕ) → result ≡ Err (WideFault.Products count) → count ≤ 2 ^ 21 }
 {
     let Ok(tile) = scene_of_tile(alloc, scene, width, height, tile) else {
         return Err(WideFault::Memory);
@@ -172,6 +170,7 @@ pub fn render_tiles<A: Array>(
         (IsLastDrawn A.BITS scene.now width height (A.device array.new)) }
     ensures err { IfErr result (λ fault.
         (wide_refusal scene.now width height A.BITS ≡ Some fault) ⊎ (fault ≡ WideFault.Memory)) }
+    ensures small { (count : ℕ) → result ≡ Err (WideFault.Products count) → count ≤ 2 ^ 21 }
     ensures array { IfErr result (λ fault. LeavesOnWideRefusal fault A.BITS scene.now width height
         (A.device array.old) (A.device array.new)) }
 {

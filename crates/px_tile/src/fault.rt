@@ -19,7 +19,7 @@ pub enum TileFault {
 /// Why a picture is not drawn tile by tile, in the order in which it is asked.
 #[derive(Clone, Copy, Debug, PartialEq, Eq, Error)]
 pub enum WideFault {
-    /// There are more than 1024 tiles.
+    /// There are more than `MAX_TILES` tiles.
     #[error("{found} tiles, of at most 1024")]
     Tiles {
         /// How many there are.
@@ -37,7 +37,7 @@ pub enum WideFault {
         /// The bits that they need.
         need: u32,
     },
-    /// A list of live products that is wanted has more than 1024.
+    /// A list of live products that is wanted is too long (docs/SCENES.md, "Limits").
     #[error("{count} products")]
     Products {
         /// How many the first such list of the first such tile has, at most `2^21`.

@@ -10,7 +10,7 @@ mod render;
 mod tile;
 mod tiling;
 
-pub use draw::{check_tiles, render_tiles};
+pub use draw::{MAX_TILES, check_tiles, render_tiles};
 pub use fault::{TileFault, WideFault};
 pub use image::write_wide;
 pub use law::laws_of_tiles;

@@ -1,6 +1,5 @@
-use Rattle.std.proofs.Common.{◌≡◌, ◌^◌, All, take}
-use Rattle.px_num.specs.Forms.{IsWithin}
-use Rattle.px_text.specs.Text.{now_of}
+use Rattle.std.proofs.Common.{◌≡◌, take}
+use Rattle.px_text.specs.LentWords.{now_of}
 use Rattle.px_listing.specs.Lines.{numbers_of}
 use Rattle.px_listing.proofs.judge.numbers_of.Given as goal
 

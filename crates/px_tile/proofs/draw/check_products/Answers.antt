@@ -1,7 +1,7 @@
 use Rattle.std.proofs.Common.{◌<◌, arith, inl, inr}
 use Rattle.px_tile.specs.declared.fault.WideFault.TheVariants as wide
 use Rattle.px_tile.specs.Coefficients.{coefficient_past}
-use Rattle.px_tile.specs.Refusals.{crowd_of_tile}
+use Rattle.px_tile.specs.Drawn.{crowd_of_tile}
 use Rattle.px_tile.specs.Tilings.{scene_of_tile, tile_count}
 use Rattle.px_tile.proofs.FirstLemmas.{made_first, none_each, none_more}
 use Rattle.px_tile.proofs.draw.check_products.Goals as goal

@@ -1,5 +1,5 @@
 use Rattle.std.proofs.Common.{◌≡◌, None}
-use Rattle.px_tile.specs.Refusals.{crowd_of_tile}
+use Rattle.px_tile.specs.Drawn.{crowd_of_tile}
 use Rattle.px_tile.proofs.FirstLemmas.{found_from}
 use Rattle.px_tile.proofs.draw.check_products.Given as goal
 

@@ -1,5 +1,5 @@
 use Rattle.std.proofs.Common.{◌≡◌, ◌∙◌, None, sym}
-use Rattle.px_text.specs.Text.{now_of}
+use Rattle.px_text.specs.LentWords.{now_of}
 use Rattle.px_listing.specs.Drafts.{view_of}
 use Rattle.px_listing.specs.Limits.{limit_of}
 use Rattle.px_listing.specs.Lines.{numbers_of}
