@@ -1,9 +1,12 @@
 pub mod DebugLemmas
 pub mod ErrLemmas
 pub mod ImageLemmas
+pub mod ListedLemmas
 pub mod MeanLemmas
 pub mod OpenLemmas
 pub mod PartLemmas
+pub mod PlayLemmas
 pub mod RunLemmas
 pub mod SampleLemmas
+pub mod ShadowLemmas
 pub mod WorkLemmas

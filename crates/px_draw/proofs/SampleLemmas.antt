@@ -15,6 +15,7 @@ use Rattle.px_draw.specs.declared.command.Command.TheVariants as c
 use Rattle.px_draw.specs.declared.refusal.Refusal.TheVariants as r
 use Rattle.px_draw.specs.declared.sample.Shown.{Shown}
 use Rattle.px_draw.specs.declared.status.Status.{Status}
+use Rattle.px_draw.specs.declared.status.Status.TheVariants as status
 use Rattle.px_draw.specs.declared.stop.Stop.{Stop}
 use Rattle.px_draw.specs.declared.stop.Stop.TheVariants as s
 use Rattle.px_draw.specs.Arrays.{Draws}
@@ -22,12 +23,22 @@ use Rattle.px_draw.specs.Countings.{IsAtMost, shown_at, shown_in, shown_in_row, 
 use Rattle.px_draw.specs.Outcomes.{Outcome, done, unless_refused}
 use Rattle.px_draw.specs.Refusals.{text_refusal}
 use Rattle.px_draw.specs.Samples.{measured, one_at, row_sum, sample_scene, sampled, shown_depth_at, text_measured}
-use Rattle.px_draw.specs.Stops.{HasCauses, IsSceneStop, IsTextStop, Meets, Performs, Serves, StopsAt, Writes, status_in, status_of}
+use Rattle.px_draw.specs.Stops.{HasCauses, IsSceneStop, IsTextStop, Meets, Performs, Serves, Writes, status_in, status_of}
 use Rattle.px_draw.proofs.WorkLemmas.{bytes_of, is_input, keeps_same, line_meets, status_meets, wrote}
 
 consumes_none : (known : Option (List ℕ)) → Consumes known known []
 consumes_none None = tt
 consumes_none (Some bytes) = refl
+
+-- what reads nothing has no status of a read fault
+no_read_fault : (result : Result (Unit {0}) Stop) → result ≢ Err s.ReadFault → status_in result ≢ status.ReadFault
+no_read_fault (Ok u) reads = λ e. cc
+no_read_fault (Err s.Usage) reads = λ e. cc
+no_read_fault (Err (s.Refused (r.Malformed line cause))) reads = λ e. cc
+no_read_fault (Err (s.Refused (r.Limit line kind found))) reads = λ e. cc
+no_read_fault (Err s.ReadFault) reads = absurd (reads refl)
+no_read_fault (Err s.WriteFault) reads = λ e. cc
+no_read_fault (Err s.Memory) reads = λ e. cc
 
 sample_performs : (result : Result (Unit {0}) Stop) (n bits : ℕ) (known : Option (List ℕ))
     (a b : Option (List ℕ)) (p q : Option Bool) (k l : ℕ) (before now : Device) → Serves result (sampled n bits) a b p q k l
@@ -39,7 +50,11 @@ sample_performs result n bits known a b p q k l before now serves array = record
   consumed = consumes_none known;
   status = status_meets result (sampled n bits) serves.meets;
   line = line_meets result (sampled n bits) serves.meets;
-  leaves = record { wrote = wrote result (sampled n bits) a b p q serves.writes; array = array };
+  leaves = record {
+    reads = no_read_fault result serves.reads;
+    wrote = wrote result (sampled n bits) a b p q serves.writes;
+    array = array;
+  };
 }
 
 -- what is done for the outcome of the sample is what the command does
@@ -64,28 +79,28 @@ unfolding sample_scene
 sample_draws found n bits text before now is draws = subst (λ t. Draws found bits (scene_of (worded t)) before now) is draws
 
 -- a stop that neither a write nor a read fault made
-stop_causes : (stop : Stop) (k m : ℕ) → IsSceneStop stop → HasCauses (Err stop) k k m m
+pub stop_causes : (stop : Stop) (k m : ℕ) → IsSceneStop stop → HasCauses (Err stop) k k m m
 stop_causes (s.Refused reason) k m is = record { read = λ e. cc; write = λ e. cc; input = λ e. refl; out = λ e. refl }
 stop_causes s.Memory k m is = record { read = λ e. cc; write = λ e. cc; input = λ e. refl; out = λ e. refl }
 stop_causes s.Usage k m is = absurd is
 stop_causes s.ReadFault k m is = absurd is
 stop_causes s.WriteFault k m is = absurd is
 
-stop_writes : (stop : Stop) (o : Outcome) (a : Option (List ℕ)) (p : Option Bool) → IsSceneStop stop → Writes (Err stop) o a a p p
+pub stop_writes : (stop : Stop) (o : Outcome) (a : Option (List ℕ)) (p : Option Bool) → IsSceneStop stop → Writes (Err stop) o a a p p
 stop_writes (s.Refused reason) o a p is = (keeps_same a, refl)
 stop_writes s.Memory o a p is = (keeps_same a, refl)
 stop_writes s.Usage o a p is = absurd is
 stop_writes s.ReadFault o a p is = absurd is
 stop_writes s.WriteFault o a p is = absurd is
 
-not_usage : (result : Result (Unit {0}) Stop) (stop : Stop) → result ≡ Err stop → IsSceneStop stop → result ≢ Err s.Usage
+pub not_usage : (result : Result (Unit {0}) Stop) (stop : Stop) → result ≡ Err stop → IsSceneStop stop → result ≢ Err s.Usage
 not_usage result s.Usage at is = absurd is
 not_usage result (s.Refused reason) at is = λ e. cc
 not_usage result s.Memory at is = λ e. cc
 not_usage result s.ReadFault at is = absurd is
 not_usage result s.WriteFault at is = absurd is
 
-not_read : (result : Result (Unit {0}) Stop) (stop : Stop) → result ≡ Err stop → IsSceneStop stop → result ≢ Err s.ReadFault
+pub not_read : (result : Result (Unit {0}) Stop) (stop : Stop) → result ≡ Err stop → IsSceneStop stop → result ≢ Err s.ReadFault
 not_read result s.ReadFault at is = absurd is
 not_read result (s.Refused reason) at is = λ e. cc
 not_read result s.Memory at is = λ e. cc
@@ -105,7 +120,7 @@ pub stop_array : (result : Result (Unit {0}) Stop) (stop : Stop) (bits : ℕ) (s
     → IsSceneStop stop → Draws (status_in result) bits scene device device
 stop_array result stop bits scene device at is = rw at (stop_draws stop bits scene device is)
 
-text_scene : (stop : Stop) (text : List ℕ) → IsTextStop stop text → IsSceneStop stop
+pub text_scene : (stop : Stop) (text : List ℕ) → IsTextStop stop text → IsSceneStop stop
 text_scene (s.Refused reason) text is = tt
 text_scene s.Memory text is = tt
 text_scene s.Usage text is = absurd is

@@ -1,5 +1,5 @@
 -- What was made of a text that was read, it was made of the input.
-use Rattle.std.proofs.Common.{ℕ, ◌≡◌, ◌≢◌, ◌≤◌, ◌^◌, ◌++◌, inl, inr, List, [], length, take, drop, true, nat_lt, Bool, Option, Some, None, Result, Ok, Err, refl, ap, sym, ◌∙◌, arith, length-take}
+use Rattle.std.proofs.Common.{ℕ, ◌≡◌, ◌≤◌, ◌^◌, ◌++◌, inl, inr, List, [], length, take, drop, true, nat_lt, Bool, Option, Some, None, Result, Ok, Err, refl, ap, sym, ◌∙◌, arith, length-take}
 use Rattle.std.proofs.lemmas.Bool.{cases_lt}
 use Rattle.std.proofs.lemmas.Bool.Decides.{nat_tests}
 use Rattle.std.proofs.lemmas.List.{take_all, take-append-drop, append_cancel_left}
@@ -13,6 +13,7 @@ use Rattle.px_scene.specs.Reading.{scene_of}
 use Rattle.px_refine.specs.Finer.{fine_scene}
 use Rattle.px_draw.specs.Refining.{doublings}
 use Rattle.px_draw.specs.declared.command.Command.TheVariants as c
+use Rattle.px_draw.specs.declared.command.Size.{Size}
 use Rattle.px_draw.specs.declared.command.Work.{Work}
 use Rattle.px_draw.specs.declared.command.Work.TheVariants as w
 use Rattle.px_draw.specs.declared.refusal.Refusal.{Refusal}
@@ -20,10 +21,11 @@ use Rattle.px_draw.specs.declared.refusal.Refusal.TheVariants as r
 use Rattle.px_draw.specs.declared.stop.Stop.{Stop}
 use Rattle.px_draw.specs.declared.stop.Stop.TheVariants as s
 use Rattle.px_draw.specs.Arrays.{Draws, LeavesArray}
-use Rattle.px_draw.specs.Outcomes.{Outcome, done, output, refused}
+use Rattle.px_draw.specs.Outcomes.{Outcome, done, output}
 use Rattle.px_draw.specs.Refusals.{text_refusal}
 use Rattle.px_draw.specs.Runs.{IsInput, IsRestBehind, IsStatusOf, Wrote}
 use Rattle.px_draw.specs.Stops.{IsLineOf, IsReadStop, IsTextStop, Meets, Performs, Serves, WorksOn, Writes, status_in, status_of}
+use Rattle.px_draw.specs.Tiling.{DrawsTiles}
 use Rattle.px_draw.specs.Works.{made, worked_out}
 
 long : (text : List ℕ) → 1048577 ≤ length text → nat_lt (2 ^ 20) (length text) ≡ true
@@ -52,49 +54,16 @@ work_front work bytes bits = by_refusal (text_refusal (take 1048577 bytes)) refl
     by_refusal None good = ap (λ text. worked_out work text bits) (whole_text bytes good)
     by_refusal (Some reason) bad = rw (bad, sym (refusal_front bytes) ∙ bad) refl
 
--- what a status leaves of the array that neither is `Done` nor a write fault's does not speak of the scene
-draws_any : (stop : Stop) (bits : ℕ) (one other : SceneView) (before now : Device) → stop ≢ s.WriteFault
-    → Draws (status_of stop) bits one before now → Draws (status_of stop) bits other before now
-draws_any s.Usage bits one other before now not_written is = is
-draws_any (s.Refused (r.Malformed line cause)) bits one other before now not_written is = is
-draws_any (s.Refused (r.Limit line kind found)) bits one other before now not_written is = is
-draws_any s.ReadFault bits one other before now not_written is = is
-draws_any s.WriteFault bits one other before now not_written is = absurd (not_written refl)
-draws_any s.Memory bits one other before now not_written is = is
-
-array_any : (work : Work) (stop : Stop) (bits : ℕ) (one other : SceneView) (before now : Device) → stop ≢ s.WriteFault
-    → LeavesArray work (status_of stop) bits one before now → LeavesArray work (status_of stop) bits other before now
-array_any w.Render stop bits one other before now not_written is = draws_any stop bits one other before now not_written is
-array_any w.Colour stop bits one other before now not_written is = draws_any stop bits one other before now not_written is
-array_any (w.Refine fineness) stop bits one other before now not_written is =
-    draws_any stop bits (fine_scene (doublings fineness) one) (fine_scene (doublings fineness) other) before now not_written is
-array_any w.Tidy stop bits one other before now not_written is = is
-array_any w.Plan stop bits one other before now not_written is = is
-array_any w.Cost stop bits one other before now not_written is = is
-
--- a refused text has no result but its stop
-array_refused : (work : Work) (result : Result (Unit {0}) Stop) (bits : ℕ) (one other : SceneView) (before now : Device) (reason : Refusal)
-    → Meets result (refused reason) → LeavesArray work (status_in result) bits one before now → LeavesArray work (status_in result) bits other before now
-array_refused work (Ok u) bits one other before now reason meets is = cc
-array_refused work (Err s.WriteFault) bits one other before now reason meets is = cc
-array_refused work (Err s.Usage) bits one other before now reason meets is = cc
-array_refused work (Err (s.Refused refusal)) bits one other before now reason meets is =
-    array_any work (s.Refused refusal) bits one other before now (λ e. cc) is
-array_refused work (Err s.ReadFault) bits one other before now reason meets is =
-    array_any work s.ReadFault bits one other before now (λ e. cc) is
-array_refused work (Err s.Memory) bits one other before now reason meets is =
-    array_any work s.Memory bits one other before now (λ e. cc) is
-
-array_front : (work : Work) (result : Result (Unit {0}) Stop) (bytes : List ℕ) (bits : ℕ) (before now : Device)
-    → Meets result (worked_out work (take 1048577 bytes) bits)
-    → LeavesArray work (status_in result) bits (scene_of (worded (take 1048577 bytes))) before now
+array_front : (work : Work) (result : Result (Unit {0}) Stop) (bytes : List ℕ) (bits : ℕ)
+    (a b : Option (List ℕ)) (p q : Option Bool) (before now : Device)
+    → WorksOn result work (take 1048577 bytes) bits a b p q before now
     → LeavesArray work (status_in result) bits (scene_of (worded bytes)) before now
-array_front work result bytes bits before now meets is = by_refusal (text_refusal (take 1048577 bytes)) refl
+array_front work result bytes bits a b p q before now works = by_refusal (text_refusal (take 1048577 bytes)) refl
   where
     by_refusal : (reason : Option Refusal) → text_refusal (take 1048577 bytes) ≡ reason
         → LeavesArray work (status_in result) bits (scene_of (worded bytes)) before now
-    by_refusal None good = rw (← whole_text bytes good) is
-    by_refusal (Some reason) bad = array_refused work result bits _ _ before now reason (rw bad at meets) is
+    by_refusal None good = rw (← whole_text bytes good) works.array
+    by_refusal (Some reason) bad = works.refused reason bad (scene_of (worded bytes))
 
 -- what is made of the front of a text is made of the text
 works_front : (result : Result (Unit {0}) Stop) (work : Work) (bytes : List ℕ) (bits : ℕ)
@@ -103,7 +72,8 @@ works_front : (result : Result (Unit {0}) Stop) (work : Work) (bytes : List ℕ)
 works_front result work bytes bits a b p q before now works = record {
   meets = rw (← work_front work bytes bits) works.meets;
   writes = rw (← work_front work bytes bits) works.writes;
-  array = array_front work result bytes bits before now works.meets works.array;
+  array = array_front work result bytes bits a b p q before now works;
+  refused = λ reason bad scene. works.refused reason (refusal_front bytes ∙ bad) scene;
 }
 
 pub status_meets : (result : Result (Unit {0}) Stop) (o : Outcome) → Meets result o → IsStatusOf (status_in result) o
@@ -174,9 +144,12 @@ read_array w.Colour bits scene device s.ReadFault m n is = refl
 read_array w.Colour bits scene device s.Memory m n is = inl refl
 read_array (w.Refine fineness) bits scene device s.ReadFault m n is = refl
 read_array (w.Refine fineness) bits scene device s.Memory m n is = inl refl
+read_array (w.Tile size) bits scene device s.ReadFault m n is = refl
+read_array (w.Tile size) bits scene device s.Memory m n is = inl refl
 read_array w.Tidy bits scene device stop m n is = refl
 read_array w.Plan bits scene device stop m n is = refl
 read_array w.Cost bits scene device stop m n is = refl
+read_array w.List bits scene device stop m n is = refl
 read_array w.Render bits scene device s.Usage m n is = absurd is
 read_array w.Render bits scene device (s.Refused reason) m n is = absurd is
 read_array w.Render bits scene device s.WriteFault m n is = absurd is
@@ -186,14 +159,27 @@ read_array w.Colour bits scene device s.WriteFault m n is = absurd is
 read_array (w.Refine fineness) bits scene device s.Usage m n is = absurd is
 read_array (w.Refine fineness) bits scene device (s.Refused reason) m n is = absurd is
 read_array (w.Refine fineness) bits scene device s.WriteFault m n is = absurd is
+read_array (w.Tile size) bits scene device s.Usage m n is = absurd is
+read_array (w.Tile size) bits scene device (s.Refused reason) m n is = absurd is
+read_array (w.Tile size) bits scene device s.WriteFault m n is = absurd is
 
 -- a stop at a read is one for all texts
 read_works : (work : Work) (bytes : List ℕ) (bits : ℕ) (stop : Stop) (a : Option (List ℕ)) (p : Option Bool) (device : Device) (m n : ℕ)
     → IsReadStop stop m n → WorksOn (Err stop) work bytes bits a a p p device device
 read_works work bytes bits s.ReadFault a p device m n read =
-    record { meets = tt; writes = (keeps_same a, refl); array = read_array work bits _ device s.ReadFault m n read }
+    record {
+      meets = tt;
+      writes = (keeps_same a, refl);
+      array = read_array work bits _ device s.ReadFault m n read;
+      refused = λ reason bad scene. read_array work bits scene device s.ReadFault m n read;
+    }
 read_works work bytes bits s.Memory a p device m n read =
-    record { meets = tt; writes = (keeps_same a, refl); array = read_array work bits _ device s.Memory m n read }
+    record {
+      meets = tt;
+      writes = (keeps_same a, refl);
+      array = read_array work bits _ device s.Memory m n read;
+      refused = λ reason bad scene. read_array work bits scene device s.Memory m n read;
+    }
 read_works work bytes bits s.Usage a p device m n read = absurd read
 read_works work bytes bits (s.Refused reason) a p device m n read = absurd read
 read_works work bytes bits s.WriteFault a p device m n read = absurd read
@@ -240,15 +226,26 @@ text_draws bytes bits scene device s.Usage is = absurd is
 text_draws bytes bits scene device s.ReadFault is = absurd is
 text_draws bytes bits scene device s.WriteFault is = absurd is
 
+text_tiles : (bytes : List ℕ) (bits : ℕ) (size : Size) (scene : SceneView) (device : Device) (stop : Stop) → IsTextStop stop bytes
+    → DrawsTiles (status_of stop) bits size scene device device
+text_tiles bytes bits size scene device (s.Refused (r.Malformed line cause)) is = refl
+text_tiles bytes bits size scene device (s.Refused (r.Limit line kind found)) is = refl
+text_tiles bytes bits size scene device s.Memory is = inl refl
+text_tiles bytes bits size scene device s.Usage is = absurd is
+text_tiles bytes bits size scene device s.ReadFault is = absurd is
+text_tiles bytes bits size scene device s.WriteFault is = absurd is
+
 text_array : (work : Work) (bytes : List ℕ) (bits : ℕ) (scene : SceneView) (device : Device) (stop : Stop) → IsTextStop stop bytes
     → LeavesArray work (status_of stop) bits scene device device
 text_array w.Render bytes bits scene device stop is = text_draws bytes bits scene device stop is
 text_array w.Colour bytes bits scene device stop is = text_draws bytes bits scene device stop is
 text_array (w.Refine fineness) bytes bits scene device stop is =
     text_draws bytes bits (fine_scene (doublings fineness) scene) device stop is
+text_array (w.Tile size) bytes bits scene device stop is = text_tiles bytes bits size scene device stop is
 text_array w.Tidy bytes bits scene device stop is = refl
 text_array w.Plan bytes bits scene device stop is = refl
 text_array w.Cost bytes bits scene device stop is = refl
+text_array w.List bytes bits scene device stop is = refl
 
 -- the work stops at its text
 pub works_text : (result : Result (Unit {0}) Stop) (work : Work) (bytes lent : List ℕ) (bits : ℕ) (stop : Stop) (a : Option (List ℕ)) (p : Option Bool) (device : Device)
@@ -259,6 +256,7 @@ works_text result work bytes lent bits stop a p device at same is =
       meets = text_meets work bytes bits stop here;
       writes = text_writes stop bytes _ a p here;
       array = text_array work bytes bits _ device stop here;
+      refused = λ reason bad scene. text_array work bytes bits scene device stop here;
     })
 
 -- something is made of the scene of a text
@@ -272,6 +270,7 @@ works_scene result work bytes lent bits scene a b p q before now same good is me
       meets = rw here meets;
       writes = rw here writes;
       array = rw (← same, ← is) array;
+      refused = λ reason bad other. (let two : None ≡ Some reason = sym good ∙ ap text_refusal same ∙ bad in cc);
     }
 
 -- a whole output

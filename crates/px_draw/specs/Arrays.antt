@@ -9,6 +9,7 @@ use Rattle.px_sched.specs.Layouts.{layout_of}
 use Rattle.px_sched.specs.PassesLaw.{ShowsThePicture}
 use Rattle.px_refine.specs.Finer.{fine_scene}
 use Rattle.px_draw.specs.Refining.{doublings}
+use Rattle.px_draw.specs.Tiling.{DrawsTiles}
 use Rattle.px_draw.specs.declared.command.Work.{Work}
 use Rattle.px_draw.specs.declared.command.Work.TheVariants as w
 use Rattle.px_draw.specs.declared.status.Status.{Status}
@@ -42,4 +43,5 @@ abbrev pub LeavesArray : Work → Status → (bits : ℕ) → SceneView → (bef
 LeavesArray w.Render status bits scene before now = Draws status bits scene before now
 LeavesArray w.Colour status bits scene before now = Draws status bits scene before now
 LeavesArray (w.Refine fineness) status bits scene before now = Draws status bits (fine_scene (doublings fineness) scene) before now
+LeavesArray (w.Tile size) status bits scene before now = DrawsTiles status bits size scene before now
 LeavesArray work status bits scene before now = now ≡ before

@@ -1,5 +1,5 @@
 -- The words of the command line. Clauses of public calls stand on it.
-use Rattle.std.specs.Prelude.{ℕ, ◌+◌, ◌-◌, ◌*◌, ◌==◌, ◌≤◌, ⊤, List, [], ◌∷◌, Bool, false, ◌&&◌, not, nat_le, Option, Some, None, if◌then◌else◌, codes}
+use Rattle.std.specs.Prelude.{ℕ, ◌+◌, ◌-◌, ◌*◌, ◌==◌, List, [], ◌∷◌, Bool, false, true, ◌&&◌, not, nat_le, Option, Some, None, if◌then◌else◌, codes}
 use Rattle.std.specs.List.{list_all}
 use Rattle.std.specs.Str.{bytes_eq}
 use Rattle.px_draw.specs.declared.command.Command.{Command}
@@ -15,7 +15,10 @@ of_one word =
     else if bytes_eq word (codes "tidy") then Some (c.Make w.Tidy)
     else if bytes_eq word (codes "plan") then Some (c.Make w.Plan)
     else if bytes_eq word (codes "cost") then Some (c.Make w.Cost)
+    else if bytes_eq word (codes "shadow") then Some c.Shadow
     else if bytes_eq word (codes "debug") then Some c.Debug
+    else if bytes_eq word (codes "list") then Some (c.Make w.List)
+    else if bytes_eq word (codes "play") then Some c.Play
     else None
 
 abbrev pub is_digit : ℕ → Bool
@@ -26,13 +29,15 @@ abbrev pub is_count : List ℕ → Bool
 is_count [] = false
 is_count (b ∷ bs) = not (b == 48) && list_all is_digit (b ∷ bs)
 
--- the number that one to three digits write
+-- the number that one to four digits write
 abbrev pub count_in : (digits : List ℕ) → Option ℕ
 count_in [] = None
 count_in (one ∷ []) = Some (one - 48)
 count_in (ten ∷ one ∷ []) = Some (10 * (ten - 48) + (one - 48))
 count_in (hundred ∷ ten ∷ one ∷ []) = Some (100 * (hundred - 48) + 10 * (ten - 48) + (one - 48))
-count_in (first ∷ hundred ∷ ten ∷ one ∷ more) = None
+count_in (thousand ∷ hundred ∷ ten ∷ one ∷ []) =
+    Some (1000 * (thousand - 48) + 100 * (hundred - 48) + 10 * (ten - 48) + (one - 48))
+count_in (first ∷ thousand ∷ hundred ∷ ten ∷ one ∷ more) = None
 
 -- a sample has 1 to 200 blocks
 abbrev pub sample_of : Option ℕ → Option Command
@@ -57,13 +62,34 @@ of_two word argument =
     else if bytes_eq word (codes "refine") then refining (fineness_of argument)
     else None
 
-abbrev pub HasBlocks : Command → Type 0
-HasBlocks (c.Sample n) = (1 ≤ n) × (n ≤ 200)
-HasBlocks command = ⊤
+-- a side of a wide picture has 1 to 4096 pixels
+abbrev pub side_of : Option ℕ → Option ℕ
+side_of None = None
+side_of (Some n) = if nat_le 1 n && nat_le n 4096 then Some n else None
 
--- no words, the one word of a command, or a command and its argument
+abbrev pub side_in : List ℕ → Option ℕ
+side_in word = if is_count word then side_of (count_in word) else None
+
+-- the tiling of a picture so wide and high
+abbrev pub tiling : (width height : Option ℕ) → Option Command
+tiling None height = None
+tiling (Some width) None = None
+tiling (Some width) (Some height) = Some (c.Make (w.Tile (record { width = width; height = height })))
+
+-- a command and its two arguments
+abbrev pub of_three : (word first second : List ℕ) → Option Command
+of_three word first second =
+    if bytes_eq word (codes "tile") then tiling (side_in first) (side_in second) else None
+
+-- no words, the one word of a command, or a command and its arguments
 abbrev pub command_of : List (List ℕ) → Option Command
 command_of [] = Some (c.Make w.Render)
 command_of (word ∷ []) = of_one word
 command_of (word ∷ argument ∷ []) = of_two word argument
-command_of (word ∷ first ∷ second ∷ more) = None
+command_of (word ∷ first ∷ second ∷ []) = of_three word first second
+command_of (word ∷ first ∷ second ∷ third ∷ more) = None
+
+-- shadows are found on pixels of 80 bits, and all else is drawn on pixels of 72
+abbrev pub needs_wide_pixels : Option Command → Bool
+needs_wide_pixels (Some c.Shadow) = true
+needs_wide_pixels command = false

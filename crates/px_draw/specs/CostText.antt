@@ -1,4 +1,4 @@
--- The lines of the command `cost`.
+-- The lines of the command `cost`. Clauses of public calls stand on them.
 use Rattle.std.specs.Prelude.{ℕ, List, ◌++◌, codes, decimal}
 
 -- how many operations the passes have, and how many clocks they take

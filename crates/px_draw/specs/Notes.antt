@@ -5,6 +5,8 @@ use Rattle.px_scene.specs.declared.line.Cause.{Cause}
 use Rattle.px_scene.specs.declared.line.Cause.TheVariants as c
 use Rattle.px_scene.specs.declared.line.LimitKind.{LimitKind}
 use Rattle.px_scene.specs.declared.line.LimitKind.TheVariants as k
+use Rattle.px_listing.specs.declared.limit.ListKind.{ListKind}
+use Rattle.px_listing.specs.declared.limit.ListKind.TheVariants as l
 use Rattle.px_draw.specs.declared.refusal.Kind.{Kind}
 use Rattle.px_draw.specs.declared.refusal.Kind.TheVariants as kinds
 use Rattle.px_draw.specs.declared.refusal.Refusal.{Refusal}
@@ -42,8 +44,19 @@ scene_word k.Fraction = codes "fraction"
 scene_word k.PixelMemory = codes "pixel-memory"
 scene_word k.Products = codes "products"
 
+abbrev pub list_word : ListKind → List ℕ
+list_word l.Grid = codes "grid"
+list_word l.Coefficient = codes "coefficient"
+list_word l.Length = codes "length"
+list_word l.Place = codes "place"
+list_word l.Value = codes "value"
+list_word l.Overlap = codes "overlap"
+
 abbrev pub kind_word : Kind → List ℕ
 kind_word (kinds.Scene kind) = scene_word kind
+kind_word kinds.Lights = codes "lights"
+kind_word kinds.Tiles = codes "tiles"
+kind_word (kinds.List kind) = list_word kind
 
 unfoldable pub malformed_line : ℕ → Cause → List ℕ
 malformed_line line cause = codes "malformed line " ++ decimal line ++ codes ": " ++ cause_word cause ++ codes "\n"
@@ -52,7 +65,7 @@ unfoldable pub limit_line : ℕ → Kind → ℤ → List ℕ
 limit_line line kind found = codes "limit line " ++ decimal line ++ codes ": " ++ kind_word kind ++ codes " " ++ signed_decimal found ++ codes "\n"
 
 abbrev pub usage_line : List ℕ
-usage_line = codes "usage: pxplanes [render|colour|tidy|plan|cost|debug|sample N|refine K]\n"
+usage_line = codes "usage: pxplanes [render|colour|tidy|plan|cost|debug|sample N|shadow|tile W H|refine K|list|play]\n"
 
 abbrev pub read_fault_line : List ℕ
 read_fault_line = codes "read fault\n"

@@ -1,4 +1,4 @@
--- The lines of the command `plan`.
+-- The lines of the command `plan`. Clauses of public calls stand on them.
 use Rattle.std.specs.Prelude.{ℕ, List, [], ◌∷◌, ◌++◌, length, codes, decimal, slice_get, unwrap_or}
 use Rattle.std.specs.List.{flat_map}
 use Rattle.px_normal.specs.declared.product.Product.{Product}

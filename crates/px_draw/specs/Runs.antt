@@ -1,5 +1,5 @@
 -- What a run answers, writes and leaves. Clauses of public calls stand on it.
-use Rattle.std.specs.Prelude.{ℕ, ℤ, ◌≡◌, ◌⊎◌, List, Bool, true, ⊤, Option, Some, None, drop}
+use Rattle.std.specs.Prelude.{ℕ, ℤ, ◌≡◌, ◌≢◌, ◌⊎◌, List, Bool, true, ⊤, Option, Some, None, drop}
 use Rattle.std.specs.Io.KnownBytes.{Appends, Keeps}
 use Rattle.px_io.specs.Counts.{Rose, Still}
 use Rattle.px_io.specs.Told.{ConsumesAtMost, TakesFront, Tells}
@@ -19,7 +19,9 @@ use Rattle.px_draw.specs.Commands.{command_of}
 use Rattle.px_draw.specs.Outcomes.{Outcome, usage, refused, cut, done, output, refusal}
 use Rattle.px_draw.specs.Notes.{note}
 use Rattle.px_draw.specs.Debugs.{LeavesSession, debugged}
+use Rattle.px_draw.specs.Listings.{Plays, listing_written, played_out}
 use Rattle.px_draw.specs.Samples.{sample_scene, sampled}
+use Rattle.px_draw.specs.Shadows.{Shades, shadowed}
 use Rattle.px_draw.specs.Untouched.{IsUntouched}
 use Rattle.px_draw.specs.Works.{worked_out}
 
@@ -28,7 +30,9 @@ abbrev pub commanded : Option Command → (bytes : List ℕ) → (bits : ℕ) �
 commanded None bytes bits = usage
 commanded (Some (c.Make work)) bytes bits = worked_out work bytes bits
 commanded (Some c.Debug) bytes bits = debugged bytes bits
+commanded (Some c.Shadow) bytes bits = shadowed bytes bits
 commanded (Some (c.Sample n)) bytes bits = sampled n bits
+commanded (Some c.Play) bytes bits = played_out bytes bits
 
 -- what these words answer
 abbrev pub outcome : (words : List (List ℕ)) → (bytes : List ℕ) → (bits : ℕ) → Outcome
@@ -74,11 +78,24 @@ pub record LeavesWork (work : Work) (found : Status) (bits : ℕ) (bytes : List 
   pub wrote : Wrote found (output (worked_out work bytes bits)) written_old written_new finished_old finished_new
   pub array : LeavesArray work found bits (scene_of (worded bytes)) before now
 
--- what is written, and what is left of the array, where the sample of so many blocks is drawn
+-- what is written, and what is left of the array, where the sample of so many blocks is drawn; no read fault can end it
 pub record LeavesSample (n : ℕ) (found : Status) (bits : ℕ)
     (written_old written_new : Option (List ℕ)) (finished_old finished_new : Option Bool) (before now : Device) : Type 0 where
+  pub reads : found ≢ status.ReadFault
   pub wrote : Wrote found (output (sampled n bits)) written_old written_new finished_old finished_new
   pub array : Draws found bits (sample_scene n) before now
+
+-- what is written, and what is left of the array, where shadows are found
+pub record LeavesShadows (found : Status) (bits : ℕ) (bytes : List ℕ)
+    (written_old written_new : Option (List ℕ)) (finished_old finished_new : Option Bool) (before now : Device) : Type 0 where
+  pub wrote : Wrote found (output (shadowed bytes bits)) written_old written_new finished_old finished_new
+  pub array : Shades found bits bytes before now
+
+-- what is written, and what is left of the array, where the listing that these bytes write is played
+pub record LeavesPlay (found : Status) (bits : ℕ) (bytes : List ℕ)
+    (written_old written_new : Option (List ℕ)) (finished_old finished_new : Option Bool) (before now : Device) : Type 0 where
+  pub wrote : Wrote found (output (played_out bytes bits)) written_old written_new finished_old finished_new
+  pub array : Plays found bits (listing_written bytes) before now
 
 -- what is written, and what is left of the array, by the command, where these are the bytes of the input, and of them those taken
 abbrev pub Leaves : Option Command → (found : Status) → (bits : ℕ) → (bytes taken : List ℕ)
@@ -89,8 +106,12 @@ Leaves (Some (c.Make work)) found bits bytes taken written_old written_new finis
     LeavesWork work found bits bytes written_old written_new finished_old finished_new before now
 Leaves (Some c.Debug) found bits bytes taken written_old written_new finished_old finished_new before now =
     LeavesSession found bits bytes taken written_old written_new finished_old finished_new before now
+Leaves (Some c.Shadow) found bits bytes taken written_old written_new finished_old finished_new before now =
+    LeavesShadows found bits bytes written_old written_new finished_old finished_new before now
 Leaves (Some (c.Sample n)) found bits bytes taken written_old written_new finished_old finished_new before now =
     LeavesSample n found bits written_old written_new finished_old finished_new before now
+Leaves (Some c.Play) found bits bytes taken written_old written_new finished_old finished_new before now =
+    LeavesPlay found bits bytes written_old written_new finished_old finished_new before now
 
 -- a line was written whole, and then the notes were finished
 abbrev pub IsWhole : List ℕ → (written_old written_new : Option (List ℕ)) (finished_new : Option Bool) → Type 0
@@ -150,4 +171,6 @@ abbrev pub Took : Option Command → Status → Option (List ℕ) → Option (Li
 Took None found old new = new ≡ old
 Took (Some (c.Make work)) found old new = TookText found old new
 Took (Some c.Debug) found old new = ConsumesAtMost old new 1048577
+Took (Some c.Shadow) found old new = TookText found old new
 Took (Some (c.Sample n)) found old new = new ≡ old
+Took (Some c.Play) found old new = TookText found old new

@@ -1,4 +1,4 @@
--- The codes of the statuses.
+-- The codes of the statuses. Clauses of public calls stand on them.
 use Rattle.std.specs.Prelude.{ℕ}
 use Rattle.px_draw.specs.declared.status.Status.{Status}
 use Rattle.px_draw.specs.declared.status.Status.TheVariants as s

@@ -1,19 +1,22 @@
 -- What a piece of the work says by its result. Only proofs and private functions stand on it.
-use Rattle.std.specs.Prelude.{ℕ, ◌≡◌, ◌≢◌, List, Bool, true, ⊤, Option, Some, Result, Ok, Err}
+use Rattle.std.specs.Prelude.{ℕ, ◌≡◌, ◌≢◌, List, Bool, true, ⊤, Option, Some, None, Result, Ok, Err}
 use Rattle.std.specs.Io.KnownBytes.{Appends, Consumes, Keeps}
 use Rattle.px_io.specs.Counts.{Rose}
 use Rattle.px_io.specs.Told.{TakesFront, Tells}
 use Rattle.px_array.specs.Arrays.{Device}
 use Rattle.px_scene.specs.Text.{worded}
 use Rattle.px_scene.specs.Reading.{scene_of}
+use Rattle.px_scene.specs.Scenes.{SceneView}
 use Rattle.px_draw.specs.declared.command.Command.{Command}
 use Rattle.px_draw.specs.declared.command.Work.{Work}
+use Rattle.px_draw.specs.declared.refusal.Refusal.{Refusal}
 use Rattle.px_draw.specs.declared.refusal.Refusal.TheVariants as r
 use Rattle.px_draw.specs.declared.stop.Stop.{Stop}
 use Rattle.px_draw.specs.declared.stop.Stop.TheVariants as s
 use Rattle.px_draw.specs.declared.status.Status.{Status}
 use Rattle.px_draw.specs.declared.status.Status.TheVariants as status
 use Rattle.px_draw.specs.Arrays.{LeavesArray}
+use Rattle.px_draw.specs.Listings.{Plays, list_refusal, listing_written, played_out}
 use Rattle.px_draw.specs.Notes.{memory_line, note, read_fault_line, refusal_line, usage_line, write_fault_line}
 use Rattle.px_draw.specs.Outcomes.{Outcome, usage, refused, done, output}
 use Rattle.px_draw.specs.Refusals.{text_refusal}
@@ -27,6 +30,11 @@ status_of (s.Refused (r.Limit line kind found)) = status.Limit
 status_of s.ReadFault = status.ReadFault
 status_of s.WriteFault = status.WriteFault
 status_of s.Memory = status.Memory
+
+-- a refusal, or the want of memory where there is none
+abbrev pub stop_at : Option Refusal → Stop
+stop_at (Some reason) = s.Refused reason
+stop_at None = s.Memory
 
 -- the status of a result
 abbrev pub status_in : Result (Unit {0}) Stop → Status
@@ -91,12 +99,14 @@ pub record Serves (result : Result (Unit {0}) Stop) (o : Outcome)
   pub worded : result ≢ Err s.Usage
   pub reads : result ≢ Err s.ReadFault
 
--- what is made of a scene, where these bytes were read
+-- what is made of a scene, where these bytes were read; a refused text leaves what it would of any scene
 pub record WorksOn (result : Result (Unit {0}) Stop) (work : Work) (bytes : List ℕ) (bits : ℕ)
     (written_old written_new : Option (List ℕ)) (finished_old finished_new : Option Bool) (before now : Device) : Type 0 where
   pub meets : Meets result (worked_out work bytes bits)
   pub writes : Writes result (worked_out work bytes bits) written_old written_new finished_old finished_new
   pub array : LeavesArray work (status_in result) bits (scene_of (worded bytes)) before now
+  pub refused : (reason : Refusal) → text_refusal bytes ≡ Some reason → (scene : SceneView)
+      → LeavesArray work (status_in result) bits scene before now
 
 -- why a text was not read
 abbrev pub IsReadStop : Stop → ℕ → ℕ → Type 0
@@ -120,3 +130,16 @@ IsSceneStop stop = ⊥
 pub record StopsAt (limits : Outcome → Outcome) (stop : Stop) : Type 0 where
   pub scene : IsSceneStop stop
   pub meets : (o : Outcome) → Meets (Err stop) (limits o)
+
+-- why a text is no listing
+abbrev pub IsListStop : Stop → (bits : ℕ) → List ℕ → Type 0
+IsListStop (s.Refused reason) bits text = list_refusal bits text ≡ Some reason
+IsListStop s.Memory bits text = ⊤
+IsListStop stop bits text = ⊥
+
+-- a listing is played, where these bytes were read
+pub record PlaysOn (result : Result (Unit {0}) Stop) (bytes : List ℕ) (bits : ℕ)
+    (written_old written_new : Option (List ℕ)) (finished_old finished_new : Option Bool) (before now : Device) : Type 0 where
+  pub meets : Meets result (played_out bytes bits)
+  pub writes : Writes result (played_out bytes bits) written_old written_new finished_old finished_new
+  pub array : Plays (status_in result) bits (listing_written bytes) before now

@@ -17,10 +17,12 @@ use Rattle.px_frame.specs.declared.plane.Plane.TheVariants as p
 use Rattle.px_draw.specs.declared.command.Work.{Work}
 use Rattle.px_draw.specs.declared.command.Work.TheVariants as w
 use Rattle.px_draw.specs.CostText.{cost_text}
+use Rattle.px_draw.specs.Listings.{listed}
 use Rattle.px_draw.specs.Outcomes.{Outcome, done, drawable, unless_refused, within_products}
 use Rattle.px_draw.specs.Plans.{plan_text}
 use Rattle.px_draw.specs.Refining.{doublings, refined}
 use Rattle.px_draw.specs.Refusals.{text_refusal}
+use Rattle.px_draw.specs.Tiling.{tiled}
 
 -- images of a scene, one after another
 abbrev pub images : SceneView → List Plane → List ℕ
@@ -43,6 +45,8 @@ made w.Tidy scene bits = tidied scene
 made w.Plan scene bits = planned scene
 made w.Cost scene bits = drawable bits scene (done (cost_text (length (passes scene)) (total scene)))
 made (w.Refine fineness) scene bits = refined (doublings fineness) scene bits
+made (w.Tile size) scene bits = tiled size scene bits
+made w.List scene bits = listed scene bits
 
 -- the refusal of the text, or else what comes of its scene
 abbrev pub worked_out : Work → List ℕ → (bits : ℕ) → Outcome

@@ -119,7 +119,7 @@ fn commands(text: &[u8], length: usize) -> &[u8]
     behind(&text[..text.len().min(READ_LIMIT - 1)], length)
 }
 
-fn behind(bytes: &[u8], count: usize) -> &[u8]
+pub(crate) fn behind(bytes: &[u8], count: usize) -> &[u8]
     requires { count ≤ length bytes.now }
     ensures { result.now ≡ drop count bytes.now }
 {

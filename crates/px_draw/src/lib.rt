@@ -5,6 +5,8 @@
 mod command;
 mod cost;
 mod debug;
+mod law;
+mod listing;
 mod make;
 mod note;
 mod plan;
@@ -13,9 +15,13 @@ mod refusal;
 mod render;
 mod running;
 mod sample;
+mod shadow;
 mod status;
 mod stop;
+mod tile;
 
+pub use command::needs_wide_pixels;
+pub use law::laws_of_listed_scenes;
 pub use render::deliver;
 pub use running::run;
 pub use status::Status;

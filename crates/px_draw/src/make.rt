@@ -6,11 +6,13 @@ ghost use Rattle.px_io.specs.Told.{ConsumesAtMost, IsFrontOf, TakesFront, Tells}
 ghost use Rattle.px_scene.specs.Reading.{scene_of};
 ghost use Rattle.px_scene.specs.Text.{worded};
 ghost use Rattle.px_prune.specs.Kept.{crowd_of, plan_of};
+ghost use Rattle.px_sched.specs.Layouts.{layout_of};
 ghost use Rattle.px_control.specs.Program.{IsAt};
 ghost use Rattle.px_draw.specs.declared.command.Command.{Command};
 ghost use Rattle.px_draw.specs.declared.command.Work.{Work};
 ghost use Rattle.px_draw.specs.declared.stop.Stop.{Stop};
 ghost use Rattle.px_draw.specs.Arrays.{Draws, LeavesArray};
+ghost use Rattle.px_draw.specs.Numbers.{HasSize};
 ghost use Rattle.px_draw.specs.Outcomes.{Outcome, done, drawable, within_products};
 ghost use Rattle.px_draw.specs.Refusals.{text_refusal};
 ghost use Rattle.px_draw.specs.Runs.{IsRestBehind, Took};
@@ -20,11 +22,13 @@ ghost use Rattle.px_draw.specs.Works.{images, made, planned, tidied};
 
 use crate::command::Work;
 use crate::cost::cost_text;
+use crate::listing::make_list;
 use crate::plan::plan_text;
 use crate::refine::make_refined;
 use crate::refusal::{Kind, Refusal, short_of_bits, too_many};
 use crate::render::deliver_images;
 use crate::stop::Stop;
+use crate::tile::make_tiled;
 use arrayvec::ArrayString;
 use px_array::Array;
 use px_control::{Job, JobFault, cost};
@@ -48,6 +52,7 @@ pub(crate) fn make_of_input<S: Source, O: Sink, A: Array>(
     array: &mut A,
 ) -> Result<(), Stop>
     requires bits { A.BITS ≤ 256 }
+    requires size { HasSize work }
     ensures performs { Performs result (Some (Command.Make work)) A.BITS
         (S.rest input.old) (S.rest input.new) (O.written out.old) (O.written out.new)
         (O.finished out.old) (O.finished out.new) (A.device array.old) (A.device array.new) }
@@ -107,6 +112,7 @@ fn make<O: Sink, A: Array>(
     array: &mut A,
 ) -> Result<(), Stop>
     requires bits { A.BITS ≤ 256 }
+    requires size { HasSize work }
     ensures serves { Serves result (made work scene.now A.BITS)
         (O.written out.old) (O.written out.new) (O.finished out.old) (O.finished out.new)
         (O.faults out.old) (O.faults out.new) }
@@ -120,6 +126,8 @@ fn make<O: Sink, A: Array>(
         Work::Plan => make_plan(alloc, scene, out),
         Work::Cost => make_cost(alloc, scene, A::BITS as u32, out),
         Work::Refine(fineness) => make_refined(alloc, scene, fineness, out, array),
+        Work::Tile(size) => make_tiled(alloc, scene, size, out, array),
+        Work::List => make_list(alloc, scene, A::BITS as u32, out),
     }
 }
 
@@ -203,17 +211,30 @@ fn cost_of(alloc: Global, scene: &Scene, bits: u32) -> Result<ArrayString<128>, 
     ensures ok { IfOk result (λ text. made Work.Cost scene.now bits ≡ done text.bytes) }
     ensures err { IfErr result (λ stop. StopsAt (drawable bits scene.now) stop) }
 {
+    let (layout, plan) = drawing_of(alloc, scene, bits)?;
+    let (operations, clocks) = cost(scene, &plan, &layout);
+    Ok(cost_text(operations, clocks))
+}
+
+/// Where the passes of a scene keep their numbers, and the products that they draw, where pixels of
+/// so many bits can hold them.
+pub(crate) fn drawing_of(alloc: Global, scene: &Scene, bits: u32) -> Result<(Layout, Plan), Stop>
+    ensures layout { IfOk result (λ found. found.0 ≡ layout_of scene.now) }
+    ensures kept { IfOk result (λ found. found.1.products.items ≡ plan_of scene.now) }
+    ensures few { OnOk result (length (plan_of scene.now) ≤ 1024) }
+    ensures fits { OnOk result ((o : Outcome) → drawable bits scene.now o ≡ o) }
+    ensures err { IfErr result (λ stop. StopsAt (drawable bits scene.now) stop) }
+{
     let layout = match Layout::of(scene, bits) {
         Ok(layout) => layout,
         Err(NeedBits { need }) => return Err(Stop::Refused(short_of_bits(need))),
     };
     let plan = kept_of(alloc, scene)?;
-    let (operations, clocks) = cost(scene, &plan, &layout);
-    Ok(cost_text(operations, clocks))
+    Ok((layout, plan))
 }
 
 /// The products that can show anything, where no wanted list is past the limit.
-pub(crate) fn kept_of(alloc: Global, scene: &Scene) -> Result<Plan, Stop>
+fn kept_of(alloc: Global, scene: &Scene) -> Result<Plan, Stop>
     ensures kept { IfOk result (λ plan. plan.products.items ≡ plan_of scene.now) }
     ensures few { IfOk result (λ plan. length plan.products.items ≤ 1024) }
     ensures fits { OnOk result (crowd_of scene.now ≡ None) }

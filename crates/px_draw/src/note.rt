@@ -1,6 +1,6 @@
 //! The line that tells why a run did not do its work.
 ghost use Rattle.std.specs.Prelude.{◌≡◌, ◌≤◌, length};
-ghost use Rattle.px_draw.specs.Notes.{cause_word, kind_word, limit_line, malformed_line, scene_word};
+ghost use Rattle.px_draw.specs.Notes.{cause_word, kind_word, limit_line, list_word, malformed_line, scene_word};
 ghost use Rattle.px_draw.specs.Runs.{IsTold};
 ghost use Rattle.px_draw.specs.Stops.{note_of};
 
@@ -9,6 +9,7 @@ use crate::stop::Stop;
 use arrayvec::ArrayString;
 use itoa::Buffer;
 use px_io::{Sink, write_whole};
+use px_listing::ListKind;
 use px_scene::{Cause, LimitKind};
 
 /// Writes a line and finishes, whatever comes of it.
@@ -27,7 +28,7 @@ pub(crate) fn line_of(stop: Stop) -> ArrayString<128>
 {
     match stop {
         Stop::Usage => plain(
-            "usage: pxplanes [render|colour|tidy|plan|cost|debug|sample N|refine K]\n",
+            "usage: pxplanes [render|colour|tidy|plan|cost|debug|sample N|shadow|tile W H|refine K|list|play]\n",
         ),
         Stop::Refused(Refusal::Malformed { line, cause }) => malformed_line(line, cause),
         Stop::Refused(Refusal::Limit { line, kind, found }) => limit_line(line, kind, found),
@@ -100,6 +101,9 @@ fn kind_word(kind: Kind) -> &'static str
 {
     match kind {
         Kind::Scene(kind) => scene_word(kind),
+        Kind::Lights => "lights",
+        Kind::Tiles => "tiles",
+        Kind::List(kind) => list_word(kind),
     }
 }
 
@@ -123,5 +127,19 @@ fn scene_word(kind: LimitKind) -> &'static str
         LimitKind::Fraction => "fraction",
         LimitKind::PixelMemory => "pixel-memory",
         LimitKind::Products => "products",
+    }
+}
+
+fn list_word(kind: ListKind) -> &'static str
+    ensures word { result.now ≡ list_word kind }
+    ensures short { length result.now ≤ 12 }
+{
+    match kind {
+        ListKind::Grid => "grid",
+        ListKind::Coefficient => "coefficient",
+        ListKind::Length => "length",
+        ListKind::Place => "place",
+        ListKind::Value => "value",
+        ListKind::Overlap => "overlap",
     }
 }

@@ -2,6 +2,7 @@
 ghost use Rattle.std.specs.Prelude.{◌≡◌, ◌≤◌, ◌^◌, pos};
 ghost use Rattle.px_draw.specs.Refusals.{short_of_bits, too_long, too_many};
 
+use px_listing::ListKind;
 use px_scene::{Cause, LimitKind};
 
 /// Why a text is refused (docs/SCENES.md, "Refusals").
@@ -18,6 +19,12 @@ pub(crate) enum Refusal {
 pub(crate) enum Kind {
     /// One of those of scenes.
     Scene(LimitKind),
+    /// The lights of a scene.
+    Lights,
+    /// The tiles of a wide picture.
+    Tiles,
+    /// One of those of listings.
+    List(ListKind),
 }
 
 /// The refusal of a scene one of whose lists of products is too long.

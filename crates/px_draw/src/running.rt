@@ -9,9 +9,11 @@ ghost use Rattle.px_draw.specs.Stops.{HasCauses, Performs, status_in};
 
 use crate::command::{Command, command_of};
 use crate::debug::debug;
+use crate::listing::play_input;
 use crate::make::make_of_input;
 use crate::note::{line_of, tell};
 use crate::sample::sample;
+use crate::shadow::shadow;
 use crate::status::Status;
 use crate::stop::Stop;
 use px_array::Array;
@@ -76,8 +78,10 @@ fn perform<S: Source, O: Sink, A: Array>(
 {
     match command_of(words) {
         Some(Command::Make(work)) => make_of_input(work, alloc, input, out, array),
+        Some(Command::Shadow) => shadow(alloc, input, out, array),
         Some(Command::Debug) => debug(alloc, input, out, array),
         Some(Command::Sample(n)) => sample(n, alloc, out, array),
+        Some(Command::Play) => play_input(alloc, input, out, array),
         None => Err(Stop::Usage),
     }
 }

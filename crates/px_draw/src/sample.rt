@@ -15,8 +15,7 @@ ghost use Rattle.px_draw.specs.Outcomes.{drawable};
 ghost use Rattle.px_draw.specs.Samples.{four_lines, measured, measures, sample_scene, sampled, text_measured, where_shown};
 ghost use Rattle.px_draw.specs.Stops.{Serves, StopsAt, status_in};
 
-use crate::make::{kept_of, open_job, scene_in, write_finished};
-use crate::refusal::short_of_bits;
+use crate::make::{drawing_of, open_job, scene_in, write_finished};
 use crate::render::draw;
 use crate::stop::Stop;
 use arrayvec::ArrayString;
@@ -26,7 +25,7 @@ use px_control::{Job, law_of_grids};
 use px_frame::stored;
 use px_io::{Failed, Sink};
 use px_scene::{Scene, laws_of_scenes, sample_text};
-use px_sched::{Layout, NeedBits};
+use px_sched::Layout;
 use std::alloc::Global;
 
 /// The pixels of a picture that show a face.
@@ -128,10 +127,7 @@ fn count_kept(alloc: Global, scene: &Scene, bits: u32) -> Result<u64, Stop>
     ensures ok { IfOk result (λ count. count ≡ length (plan_of scene.now)) }
     ensures err { IfErr result (λ stop. StopsAt (drawable bits scene.now) stop) }
 {
-    if let Err(NeedBits { need }) = Layout::of(scene, bits) {
-        return Err(Stop::Refused(short_of_bits(need)));
-    }
-    let plan = kept_of(alloc, scene)?;
+    let (_, plan) = drawing_of(alloc, scene, bits)?;
     Ok(plan.products.len() as u64)
 }
 

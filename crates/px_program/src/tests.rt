@@ -1,13 +1,13 @@
 //! Runs over sources and sinks in memory, whose calls fail at a place.
-ghost use Rattle.px_control.specs.Program.{IsAt};
+ghost use Rattle.std.specs.Prelude.{◌<◌};
 
-use crate::{Status, run};
+use crate::{Status, run, words_of};
 use px_array::{Array, PixelArray};
-use px_control::Job;
 use px_io::{MemSink, MemSource};
 use px_planes::PlaneArray;
-use px_scene::read_scene;
-use std::process::Abort;
+use std::alloc::{AllocError, Global};
+use std::io;
+use std::io::ErrorKind;
 use std::test::Fail;
 
 const ONE_SOLID: &[u8] = b"pxscene 1\npicture 1 1\ndepth 4\nsolid a 200 100 50\nfront 0 0 5\n\
@@ -15,98 +15,83 @@ back 0 0 9\nshow a\nend\n";
 
 const TWO_MAPS: &[u8] = b"P6\n1 1\n255\n\0\0\x05P6\n1 1\n255\n\0\0\x02";
 
+/// What a run left.
+#[derive(Drop)]
+struct Left {
+    status: Status,
+    output: Vec<u8>,
+    finished: bool,
+    notes: Vec<u8>,
+    clocks: u64,
+}
+
+/// Draws what the input has, with so much room for the output and for the notes.
+fn draw(alloc: Global, mut input: MemSource, room: usize, notes: usize) -> Result<Left, Fail> {
+    let mut out = MemSink::new(alloc, room, 5, Vec::new(alloc))?;
+    let mut notes = MemSink::new(alloc, notes, 5, Vec::new(alloc))?;
+    let mut array = PixelArray::<72>::new(alloc);
+    let status = run(alloc, &[], &mut input, &mut out, &mut notes, &mut array);
+    Ok(Left {
+        status,
+        output: out.written().to_vec(alloc)?,
+        finished: out.finished(),
+        notes: notes.written().to_vec(alloc)?,
+        clocks: array.clocks(),
+    })
+}
+
+/// One solid in pieces, of which one call fails; none does where it is 0.
+fn one_solid(alloc: Global, piece: usize, failing: u64) -> Result<MemSource, AllocError>
+    requires { 0 < piece }
+{
+    let calls = Vec::from_slice(alloc, &[failing])?;
+    Ok(MemSource::new(ONE_SOLID.to_vec(alloc)?, piece, calls))
+}
+
 /// One read fails at each place, up to the read that finds the end; the one behind it is not made.
 #[test]
 fn a_failing_read_ends_the_run(rt: HostRuntime) -> Result<(), Fail> {
-    let alloc = rt.alloc();
-    for call in 1..15 {
-        let mut input = MemSource::new(ONE_SOLID.to_vec(alloc)?, 7, vec![in alloc; call]?);
-        let mut out = MemSink::new(alloc, 100, 9, Vec::new(alloc))
-            .ok()
-            .ok_or("out")?;
-        let mut notes = MemSink::new(alloc, 100, 9, Vec::new(alloc))
-            .ok()
-            .ok_or("notes")?;
-        let words: Vec<String> = Vec::new(alloc);
-        let mut array = PixelArray::<72>::new(alloc);
-        let status = run(
-            alloc,
-            words.as_slice(),
-            &mut input,
-            &mut out,
-            &mut notes,
-            &mut array,
-        );
-        let (want, output, note, clocks) = if call < 14 {
-            (
-                Status::ReadFault,
-                b"".as_slice(),
-                b"read fault\n".as_slice(),
-                0,
-            )
-        } else {
-            (Status::Done, TWO_MAPS, b"".as_slice(), 317)
-        };
-        assert_eq!(rt; status, want, "call {call}");
-        assert_eq!(rt; out.written(), output);
-        assert_eq!(rt; notes.written(), note);
-        assert_eq!(rt; array.clocks(), clocks);
+    for call in 1..14 {
+        let left = draw(rt.alloc(), one_solid(rt.alloc(), 7, call)?, 100, 100)?;
+        assert_eq!(rt; left.status, Status::ReadFault, "call {call}");
+        assert!(rt; left.output.is_empty() && left.clocks == 0);
+        assert_eq!(rt; left.notes.as_slice(), b"read fault\n".as_slice());
     }
+    let left = draw(rt.alloc(), one_solid(rt.alloc(), 7, 14)?, 100, 100)?;
+    assert_eq!(rt; left.status, Status::Done);
+    assert_eq!(rt; left.output.as_slice(), TWO_MAPS);
+    assert!(rt; left.notes.is_empty() && left.clocks == 317);
     Ok(())
 }
 
 /// One write stops at each place, and what was written is a front of the two maps; the array
-/// has made every broadcast whatever became of them.
+/// has made every broadcast whatever became of them. The notes have room for three bytes.
 #[test]
 fn a_failing_write_leaves_a_front(rt: HostRuntime) -> Result<(), Fail> {
-    let alloc = rt.alloc();
-    for room in 0..29 {
-        let mut input = MemSource::new(ONE_SOLID.to_vec(alloc)?, 10, Vec::new(alloc));
-        let mut out = MemSink::new(alloc, room, 5, Vec::new(alloc))
-            .ok()
-            .ok_or("out")?;
-        let mut notes = MemSink::new(alloc, 3, 5, Vec::new(alloc))
-            .ok()
-            .ok_or("notes")?;
-        let words: Vec<String> = Vec::new(alloc);
-        let mut array = PixelArray::<72>::new(alloc);
-        let status = run(
-            alloc,
-            words.as_slice(),
-            &mut input,
-            &mut out,
-            &mut notes,
-            &mut array,
-        );
-        let want = if room < 28 {
-            Status::WriteFault
-        } else {
-            Status::Done
-        };
-        assert_eq!(rt; status, want, "room {room}");
-        assert_eq!(rt; out.written(), &TWO_MAPS[..room.min(28)]);
-        assert_eq!(rt; out.finished(), room == 28);
-        assert_eq!(rt; array.clocks(), 317);
+    for room in 0..28 {
+        let left = draw(rt.alloc(), one_solid(rt.alloc(), 10, 0)?, room, 3)?;
+        assert_eq!(rt; left.status, Status::WriteFault, "room {room}");
+        assert_eq!(rt; left.output.as_slice(), &TWO_MAPS[..room]);
+        assert_eq!(rt; left.notes.as_slice(), b"wri".as_slice());
+        assert!(rt; !left.finished && left.clocks == 317);
     }
+    let left = draw(rt.alloc(), one_solid(rt.alloc(), 10, 0)?, 28, 3)?;
+    assert_eq!(rt; left.status, Status::Done);
+    assert_eq!(rt; left.output.as_slice(), TWO_MAPS);
+    assert!(rt; left.finished && left.notes.is_empty());
     Ok(())
 }
 
 /// Four pixels whose keys are depth 5 over face 2: bit 0 is 0 in all of them, and bit 1 is 1.
 #[test]
 fn rows_of_one_solid(rt: HostRuntime) -> Result<(), Fail> {
-    let alloc = rt.alloc();
-    let mut input = MemSource::new(ONE_SOLID.to_vec(alloc)?, 100, Vec::new(alloc));
-    let mut out = MemSink::new(alloc, 100, 100, Vec::new(alloc))
-        .ok()
-        .ok_or("out")?;
-    let mut notes = MemSink::new(alloc, 100, 100, Vec::new(alloc))
-        .ok()
-        .ok_or("notes")?;
-    let words: Vec<String> = Vec::new(alloc);
-    let mut array = PlaneArray::<72>::new(alloc);
+    let mut input = one_solid(rt.alloc(), 100, 0)?;
+    let mut out = MemSink::new(rt.alloc(), 100, 100, Vec::new(rt.alloc()))?;
+    let mut notes = MemSink::new(rt.alloc(), 100, 100, Vec::new(rt.alloc()))?;
+    let mut array = PlaneArray::<72>::new(rt.alloc());
     let status = run(
-        alloc,
-        words.as_slice(),
+        rt.alloc(),
+        &[],
         &mut input,
         &mut out,
         &mut notes,
@@ -114,60 +99,18 @@ fn rows_of_one_solid(rt: HostRuntime) -> Result<(), Fail> {
     );
     assert_eq!(rt; status, Status::Done);
     assert_eq!(rt; out.written(), TWO_MAPS);
-    assert_eq!(rt; array.clocks(), 317);
     assert!(rt; array.size() == (1, 1));
     assert_eq!(rt; array.row(0), [0].as_slice());
     assert_eq!(rt; array.row(1), [15].as_slice());
     Ok(())
 }
 
-/// Both arrays make the broadcasts of a scene, and are the same after each.
+/// Arguments that want memory are no words, and those that are no text are one empty word.
 #[test]
-fn both_arrays_agree_at_each_clock(rt: HostRuntime) -> Result<(), Fail> {
-    let alloc = rt.alloc();
-    let scene = read_scene(alloc, ONE_SOLID).ok().ok_or("scene")?;
-    let mut pixels = PixelArray::<72>::new(alloc);
-    let mut planes = PlaneArray::<72>::new(alloc);
-    let Ok(mut job) = Job::open(alloc, &scene, &mut pixels) else {
-        return Err(Fail::from("job"));
-    };
-    let Ok(mut twin) = Job::open(alloc, &scene, &mut planes) else {
-        return Err(Fail::from("twin"));
-    };
-    agree(&rt, &mut job, &mut twin, &mut pixels, &mut planes);
+fn words_that_cannot_be_had(rt: HostRuntime) -> Result<(), Fail> {
+    let no_memory = io::Error::from(ErrorKind::OutOfMemory);
+    assert!(rt; words_of(rt.alloc(), Err(no_memory)).is_err());
+    let words = words_of(rt.alloc(), Err(io::Error::from(ErrorKind::InvalidData)))?;
+    assert!(rt; words.len() == 1 && words[0].is_empty());
     Ok(())
-}
-
-fn agree(
-    rt: &impl Abort,
-    job: &mut Job<'_>,
-    twin: &mut Job<'_>,
-    pixels: &mut PixelArray<72>,
-    planes: &mut PlaneArray<72>,
-)
-    requires pixels { IsAt 72 job.old.scene job.old.place.clock pixels.old.device }
-    requires planes { IsAt 72 twin.old.scene twin.old.place.clock planes.old.device }
-{
-    for _ in 0..317 {
-        assert_eq!(rt; job.advance(pixels, 1), 1);
-        assert_eq!(rt; twin.advance(planes, 1), 1);
-        compare(rt, pixels, planes);
-    }
-    assert_eq!(rt; job.advance(pixels, 1), 0);
-}
-
-/// Every bit, register, leaf and node of two arrays of four pixels is the same.
-fn compare(rt: &impl Abort, pixels: &PixelArray<72>, planes: &PlaneArray<72>) {
-    assert!(rt; pixels.size() == (1, 1) && planes.size() == (1, 1));
-    assert_eq!(rt; pixels.clocks(), planes.clocks());
-    for (x, y) in [(0, 0), (1, 0), (0, 1), (1, 1)] {
-        assert_eq!(rt; pixels.registers(x, y), planes.registers(x, y));
-        assert_eq!(rt; pixels.tree_bit(x, y), planes.tree_bit(x, y));
-        assert_eq!(rt; pixels.node(2, 2 * x + y), planes.node(2, 2 * x + y));
-        for at in 0..72 {
-            assert_eq!(rt; pixels.bit(x, y, at), planes.bit(x, y, at), "bit {at}");
-        }
-    }
-    assert_eq!(rt; pixels.node(1, 0), planes.node(1, 0));
-    assert_eq!(rt; pixels.node(1, 1), planes.node(1, 1));
 }

@@ -1,0 +1,175 @@
+-- What is found of the shadows of a text that was read is found of the input, and what stops it.
+use Rattle.std.proofs.Common.{ℕ, ◌≡◌, ◌<◌, ◌≤◌, inl, inr, List, length, take, drop, unwrap_or, Bool, Option, Some, None, Result, Ok, Err, refl, ap, sym, subst, ◌∙◌, arith, length-take}
+use Rattle.std.proofs.lemmas.Bool.{cases_lt}
+use Rattle.std.proofs.lemmas.List.{take_all}
+use Rattle.std.specs.Io.KnownBytes.{Consumes}
+use Rattle.px_io.specs.Told.{ConsumesAtMost, IsFrontOf}
+use Rattle.px_array.specs.Arrays.{Device, State}
+use Rattle.px_scene.specs.Scenes.{SceneView}
+use Rattle.px_normal.specs.declared.set.SolidSet.{SolidSet}
+use Rattle.px_lines.specs.Parts.{behind_part, part_end, scene_part}
+use Rattle.px_sched.specs.Layouts.{LayoutView}
+use Rattle.px_shadow.specs.Lights.{mask_image}
+use Rattle.px_shadow.specs.ShadowLaws.{MaskLaw}
+use Rattle.px_shadow.specs.Stored.{StoresTheLights, stored_masks}
+use Rattle.px_draw.specs.declared.command.Command.TheVariants as c
+use Rattle.px_draw.specs.declared.refusal.Refusal.{Refusal}
+use Rattle.px_draw.specs.declared.refusal.Refusal.TheVariants as r
+use Rattle.px_draw.specs.declared.stop.Stop.{Stop}
+use Rattle.px_draw.specs.declared.stop.Stop.TheVariants as s
+use Rattle.px_draw.specs.Outcomes.{Outcome, done, refused}
+use Rattle.px_draw.specs.Refusals.{too_long}
+use Rattle.px_draw.specs.Runs.{IsInput}
+use Rattle.px_draw.specs.Shadows.{Shades, lit, lit_drawable, parts_lit, shadowed}
+use Rattle.px_draw.specs.Stops.{IsReadStop, IsSceneStop, Meets, Performs, Serves, status_in}
+use Rattle.px_draw.proofs.DebugLemmas.{long_is, short_is}
+use Rattle.px_draw.proofs.SampleLemmas.{not_read, not_usage, stop_causes, stop_writes}
+use Rattle.px_draw.proofs.WorkLemmas.{bytes_of, is_input, keeps_same, line_meets, status_meets, wrote}
+
+-- a text past its limit, and one within it
+pub long_shadowed : (bytes : List ℕ) (bits : ℕ) → 1048577 ≤ length bytes → shadowed bytes bits ≡ refused too_long
+unfolding shadowed
+long_shadowed bytes bits long = rw (long_is bytes long) refl
+
+pub short_shadowed : (bytes : List ℕ) (bits : ℕ) → length bytes < 1048577
+    → shadowed bytes bits ≡ parts_lit bits (scene_part bytes) (behind_part bytes)
+unfolding shadowed
+short_shadowed bytes bits short = rw (short_is bytes short) refl
+
+-- what is left where a refusal is due does not speak of the scene
+shades_refused : (result : Result (Unit {0}) Stop) (bits : ℕ) (one other : List ℕ) (before now : Device) (reason : Refusal)
+    → Meets result (refused reason) → Shades (status_in result) bits one before now → Shades (status_in result) bits other before now
+shades_refused (Ok u) bits one other before now reason meets is = cc
+shades_refused (Err s.WriteFault) bits one other before now reason meets is = cc
+shades_refused (Err s.Usage) bits one other before now reason meets is = is
+shades_refused (Err (s.Refused (r.Malformed line cause))) bits one other before now reason meets is = is
+shades_refused (Err (s.Refused (r.Limit line kind found))) bits one other before now reason meets is = is
+shades_refused (Err s.ReadFault) bits one other before now reason meets is = is
+shades_refused (Err s.Memory) bits one other before now reason meets is = is
+
+-- the shadows of a text are found
+pub record ShadesText (result : Result (Unit {0}) Stop) (bits : ℕ) (text : List ℕ) (a b : Option (List ℕ)) (p q : Option Bool)
+    (m n : ℕ) (before now : Device) : Type 0 where
+  pub serves : Serves result (shadowed text bits) a b p q m n
+  pub array : Shades (status_in result) bits text before now
+
+-- a text's front answers for it
+shades_front : (result : Result (Unit {0}) Stop) (bits : ℕ) (bytes : List ℕ) (a b : Option (List ℕ)) (p q : Option Bool) (m n : ℕ)
+    (before now : Device) → ShadesText result bits (take 1048577 bytes) a b p q m n before now
+    → ShadesText result bits bytes a b p q m n before now
+shades_front result bits bytes a b p q m n before now shades = elim (cases_lt (length bytes) 1048577) [
+  | inl short ↦ subst (λ text. ShadesText result bits text a b p q m n before now) (take_all 1048577 bytes (omega arith)) shades
+  | inr past ↦
+      let here : shadowed (take 1048577 bytes) bits ≡ refused too_long =
+      long_shadowed (take 1048577 bytes) bits (omega (arith, length-take 1048577 bytes)) in
+      let there : shadowed bytes bits ≡ refused too_long = long_shadowed bytes bits past in
+      record {
+        serves = subst (λ o. Serves result o a b p q m n) (here ∙ sym there) shades.serves;
+        array = shades_refused result bits (take 1048577 bytes) bytes before now too_long
+            (subst (λ o. Meets result o) here shades.serves.meets) shades.array;
+      }
+]
+
+performs : (result : Result (Unit {0}) Stop) (bytes taken : List ℕ) (bits : ℕ) (known rest : Option (List ℕ))
+    (a b : Option (List ℕ)) (p q : Option Bool) (m n : ℕ) (before now : Device) → IsInput known bytes → Consumes known rest taken
+    → ShadesText result bits bytes a b p q m n before now → Performs result (Some c.Shadow) bits known rest a b p q before now
+performs result bytes taken bits known rest a b p q m n before now input consumed shades = record {
+  bytes = bytes;
+  taken = taken;
+  input = input;
+  consumed = consumed;
+  status = status_meets result (shadowed bytes bits) shades.serves.meets;
+  line = line_meets result (shadowed bytes bits) shades.serves.meets;
+  leaves = record {
+    wrote = wrote result (shadowed bytes bits) a b p q shades.serves.writes;
+    array = shades.array;
+  };
+}
+
+-- a text that was read answers for the input
+performs_text : (result : Result (Unit {0}) Stop) (text : List ℕ) (bits : ℕ) (known rest : Option (List ℕ))
+    (a b : Option (List ℕ)) (p q : Option Bool) (m n : ℕ) (before now : Device) → IsFrontOf known 1048577 text → Consumes known rest text
+    → ShadesText result bits text a b p q m n before now → Performs result (Some c.Shadow) bits known rest a b p q before now
+performs_text result text bits None rest a b p q m n before now front consumed shades =
+    performs result text text bits None rest a b p q m n before now tt consumed shades
+performs_text result text bits (Some bytes) rest a b p q m n before now front consumed shades =
+    performs result bytes text bits (Some bytes) rest a b p q m n before now refl consumed
+    (shades_front result bits bytes a b p q m n before now
+    (subst (λ t. ShadesText result bits t a b p q m n before now) front shades))
+
+pub performs_shades : (result : Result (Unit {0}) Stop) (text lent : List ℕ) (bits : ℕ) (known rest : Option (List ℕ))
+    (a b : Option (List ℕ)) (p q : Option Bool) (m n : ℕ) (before now : Device) → IsFrontOf known 1048577 text → Consumes known rest text
+    → lent ≡ text → Serves result (shadowed lent bits) a b p q m n → Shades (status_in result) bits lent before now
+    → Performs result (Some c.Shadow) bits known rest a b p q before now
+performs_shades result text lent bits known rest a b p q m n before now front consumed same serves array =
+    performs_text result text bits known rest a b p q m n before now front consumed
+    (subst (λ t. ShadesText result bits t a b p q m n before now) same (record { serves = serves; array = array }))
+
+read_performs : (stop : Stop) (bits : ℕ) (known rest : Option (List ℕ)) (a : Option (List ℕ)) (p : Option Bool) (device : Device) (m n : ℕ)
+    → IsReadStop stop m n → ConsumesAtMost known rest 1048577 → Performs (Err stop) (Some c.Shadow) bits known rest a a p p device device
+read_performs s.ReadFault bits known rest a p device m n is (taken, consumed, few) = record {
+  bytes = bytes_of known;
+  taken = taken;
+  input = is_input known;
+  consumed = consumed;
+  status = tt;
+  line = refl;
+  leaves = record { wrote = (keeps_same a, refl); array = refl };
+}
+read_performs s.Memory bits known rest a p device m n is (taken, consumed, few) = record {
+  bytes = bytes_of known;
+  taken = taken;
+  input = is_input known;
+  consumed = consumed;
+  status = tt;
+  line = refl;
+  leaves = record { wrote = (keeps_same a, refl); array = inl refl };
+}
+read_performs s.Usage bits known rest a p device m n is consumed = absurd is
+read_performs (s.Refused reason) bits known rest a p device m n is consumed = absurd is
+read_performs s.WriteFault bits known rest a p device m n is consumed = absurd is
+
+-- the work stops at a read
+pub performs_unread : (result : Result (Unit {0}) Stop) (stop : Stop) (bits : ℕ) (known rest : Option (List ℕ)) (a : Option (List ℕ))
+    (p : Option Bool) (device : Device) (m n : ℕ) → result ≡ Err stop → IsReadStop stop m n → ConsumesAtMost known rest 1048577
+    → Performs result (Some c.Shadow) bits known rest a a p p device device
+performs_unread result stop bits known rest a p device m n at is most =
+    subst (λ (r : Result (Unit {0}) Stop). Performs r (Some c.Shadow) bits known rest a a p p device device) (sym at)
+    (read_performs stop bits known rest a p device m n is most)
+
+-- a stop that comes for want of memory or by what the input is
+pub serves_stop : (result : Result (Unit {0}) Stop) (stop : Stop) (o : Outcome) (a : Option (List ℕ)) (p : Option Bool) (m : ℕ)
+    → result ≡ Err stop → IsSceneStop stop → Meets (Err stop) o → Serves result o a a p p m m
+serves_stop result stop o a p m at here meets = rw at (record {
+  meets = meets;
+  writes = stop_writes stop o a p here;
+  causes = λ k. stop_causes stop k m here;
+  worded = not_usage _ stop refl here;
+  reads = not_read _ stop refl here;
+})
+
+pub serves_refused : (reason : Refusal) (o : Outcome) (a : Option (List ℕ)) (p : Option Bool) (m : ℕ) → o ≡ refused reason
+    → Serves (Err (s.Refused reason)) o a a p p m m
+serves_refused reason o a p m is = serves_stop (Err (s.Refused reason)) (s.Refused reason) o a p m refl tt is
+
+-- what comes of the parts of a text within its limit comes of it
+pub parts_serve : (result : Result (Unit {0}) Stop) (text part behind : List ℕ) (n bits : ℕ) (a b : Option (List ℕ)) (p q : Option Bool)
+    (k l : ℕ) → length text < 1048577 → n ≡ unwrap_or (part_end text) (length text) → part ≡ take n text → behind ≡ drop n text
+    → Serves result (parts_lit bits part behind) a b p q k l → Serves result (shadowed text bits) a b p q k l
+parts_serve result text part behind n bits a b p q k l short count front rest serves =
+    let one : part ≡ scene_part text = front ∙ ap (λ i. take i text) count in
+    let two : behind ≡ behind_part text = rest ∙ ap (λ i. drop i text) count in
+    subst (λ o. Serves result o a b p q k l) (sym (short_shadowed text bits short))
+    (subst (λ t. Serves result (parts_lit bits t (behind_part text)) a b p q k l) one
+    (subst (λ t. Serves result (parts_lit bits part t) a b p q k l) two serves))
+
+-- an array that can find the shadows does
+pub lit_is : (bits : ℕ) (scene : SceneView) (lights : List SolidSet) (n : ℕ) → n ≡ length lights
+    → ((o : Outcome) → lit_drawable bits scene n o ≡ o) → lit bits scene lights ≡ done (mask_image scene lights)
+lit_is bits scene lights n same fits =
+    ap (λ k. lit_drawable bits scene k (done (mask_image scene lights))) (sym same) ∙ fits (done (mask_image scene lights))
+
+-- and the image of what it stores is that of the lights
+pub masks_are : MaskLaw → (scene : SceneView) (l : LayoutView) (lights : List SolidSet) (n : ℕ) (state : State) → n ≡ length lights
+    → StoresTheLights scene l lights state → stored_masks scene l n state ≡ mask_image scene lights
+masks_are law scene l lights n state same stores = ap (λ k. stored_masks scene l k state) same ∙ law scene l lights state stores

@@ -1,0 +1,158 @@
+//! The commands `list` and `play`: the passes of a scene as a listing, and a listing on the array.
+ghost use Rattle.std.specs.Prelude.{◌≡◌, ◌≢◌, ◌≤◌, All, Err, IfErr, IfOk, None, OnErr, OnOk, Some, length, true};
+ghost use Rattle.std.specs.Io.KnownBytes.{Appends};
+ghost use Rattle.px_array.specs.Arrays.{IsOpen};
+ghost use Rattle.px_io.specs.Counts.{HasCause};
+ghost use Rattle.px_io.specs.Told.{TakesFront, Tells};
+ghost use Rattle.px_macro.specs.Macros.{IsLawful};
+ghost use Rattle.px_prune.specs.Kept.{plan_of};
+ghost use Rattle.px_sched.specs.Layouts.{layout_of};
+ghost use Rattle.px_listing.specs.Listings.{canonical_text};
+ghost use Rattle.px_listing.specs.Memories.{memory_text, played_text};
+ghost use Rattle.px_listing.specs.PassesText.{passes_listing};
+ghost use Rattle.px_draw.specs.declared.command.Command.{Command};
+ghost use Rattle.px_draw.specs.declared.stop.Stop.{Stop};
+ghost use Rattle.px_draw.specs.Listings.{Plays, list_refusal, listed, listing_written};
+ghost use Rattle.px_draw.specs.Outcomes.{done};
+ghost use Rattle.px_draw.specs.Runs.{Took};
+ghost use Rattle.px_draw.specs.Stops.{HasCauses, IsListStop, Performs, Serves, status_in};
+
+use crate::make::{READ_LIMIT, drawing_of, read_text};
+use crate::refusal::{Kind, Refusal, too_long};
+use crate::stop::Stop;
+use px_array::Array;
+use px_io::{Failed, Sink, Source};
+use px_listing::{
+    ListFault, Listing, laws_of_listings, play, read_listing, write_memory, write_passes,
+};
+use px_prune::Plan;
+use px_scene::Scene;
+use px_sched::Layout;
+use std::alloc::Global;
+
+/// Writes the passes of a scene as a listing (docs/LISTINGS.md, "Canonical text").
+pub(crate) fn make_list<O: Sink>(
+    alloc: Global,
+    scene: &Scene,
+    bits: u32,
+    out: &mut O,
+) -> Result<(), Stop>
+    ensures serves { Serves result (listed scene.now bits)
+        (O.written out.old) (O.written out.new) (O.finished out.old) (O.finished out.new)
+        (O.faults out.old) (O.faults out.new) }
+{
+    let (layout, plan) = drawing_of(alloc, scene, bits)?;
+    match deliver_passes(scene, &plan, &layout, out) {
+        Ok(()) => Ok(()),
+        Err(_) => Err(Stop::WriteFault),
+    }
+}
+
+/// Writes the text of a scene's passes, and finishes.
+fn deliver_passes<O: Sink>(
+    scene: &Scene,
+    plan: &Plan,
+    layout: &Layout,
+    out: &mut O,
+) -> Result<(), Failed>
+    requires products { plan.now.products.items ≡ plan_of scene.now }
+    requires few { length (plan_of scene.now) ≤ 1024 }
+    requires layout { layout.now ≡ layout_of scene.now }
+    ensures ok { OnOk result (Appends (O.written out.old) (O.written out.new)
+        (canonical_text (passes_listing scene.now))) }
+    ensures end { OnOk result (Tells (O.finished out.new) true) }
+    ensures err { OnErr result (TakesFront (O.written out.old) (O.written out.new)
+        (O.finished out.old) (O.finished out.new) (canonical_text (passes_listing scene.now))) }
+    ensures cause { HasCause (O.faults out.old) (O.faults out.new) result }
+{
+    write_passes(scene, plan, layout, out)?;
+    out.finish()
+}
+
+/// Reads the input to its end, plays the listing that it writes, and prints every pixel's memory
+/// (docs/LISTINGS.md, "Playing").
+pub(crate) fn play_input<S: Source, O: Sink, A: Array>(
+    alloc: Global,
+    input: &mut S,
+    out: &mut O,
+    array: &mut A,
+) -> Result<(), Stop>
+    requires bits { A.BITS ≤ 256 }
+    ensures performs { Performs result (Some Command.Play) A.BITS
+        (S.rest input.old) (S.rest input.new) (O.written out.old) (O.written out.new)
+        (O.finished out.old) (O.finished out.new) (A.device array.old) (A.device array.new) }
+    ensures causes { HasCauses result (S.faults input.old) (S.faults input.new) (O.faults out.old)
+        (O.faults out.new) }
+    ensures took { Took (Some Command.Play) (status_in result)
+        (S.rest input.old) (S.rest input.new) }
+    ensures worded { result ≢ Err Stop.Usage }
+{
+    let text = read_text(alloc, input)?;
+    let listing = listing_in(alloc, text.as_slice(), A::BITS as u32)?;
+    play_listing(&listing, out, array)
+}
+
+/// The listing that a text writes, for pixels of so many memory bits.
+#[tactic(auto, unfolding(crate::specs::Listings::list_refusal, crate::specs::Listings::listing_written))]
+fn listing_in(alloc: Global, text: &[u8], bits: u32) -> Result<Listing, Stop>
+    requires bits { bits ≤ 256 }
+    ensures ok { IfOk result (λ listing.
+        (list_refusal bits text.now ≡ None) × (listing ≡ listing_written text.now)) }
+    ensures lawful { IfOk result (λ listing. All (λ m. IsLawful m bits) listing.macros) }
+    ensures err { IfErr result (λ stop. IsListStop stop bits text.now) }
+{
+    if text.len() >= READ_LIMIT {
+        return Err(Stop::Refused(too_long()));
+    }
+    match read_listing(alloc, text, bits) {
+        Ok(listing) => Ok(listing),
+        Err(ListFault::Malformed { line, cause }) => {
+            Err(Stop::Refused(Refusal::Malformed { line, cause }))
+        }
+        Err(ListFault::Limit { line, kind, found }) => {
+            let kind = Kind::List(kind);
+            Err(Stop::Refused(Refusal::Limit { line, kind, found }))
+        }
+        Err(ListFault::Memory) => Err(Stop::Memory),
+    }
+}
+
+/// Plays a listing on the array, and prints every pixel's memory.
+fn play_listing<O: Sink, A: Array>(
+    listing: &Listing,
+    out: &mut O,
+    array: &mut A,
+) -> Result<(), Stop>
+    requires bits { A.BITS ≤ 256 }
+    requires lawful { All (λ m. IsLawful m A.BITS) listing.now.macros }
+    ensures serves { Serves result (done (played_text A.BITS listing.now))
+        (O.written out.old) (O.written out.new) (O.finished out.old) (O.finished out.new)
+        (O.faults out.old) (O.faults out.new) }
+    ensures array { Plays (status_in result) A.BITS listing.now (A.device array.old)
+        (A.device array.new) }
+{
+    let Ok(()) = play(listing, array) else {
+        return Err(Stop::Memory);
+    };
+    laws_of_listings();
+    match deliver_memory(array, out) {
+        Ok(()) => Ok(()),
+        Err(_) => Err(Stop::WriteFault),
+    }
+}
+
+/// Prints the memory of every pixel of an array, and finishes.
+fn deliver_memory<A: Array, O: Sink>(array: &A, out: &mut O) -> Result<(), Failed>
+    requires is_open { IsOpen (A.device array.now) }
+    requires bits { A.BITS ≤ 256 }
+    ensures ok { OnOk result (Appends (O.written out.old) (O.written out.new)
+        (memory_text A.BITS (A.device array.now).state)) }
+    ensures end { OnOk result (Tells (O.finished out.new) true) }
+    ensures err { OnErr result (TakesFront (O.written out.old) (O.written out.new)
+        (O.finished out.old) (O.finished out.new)
+        (memory_text A.BITS (A.device array.now).state)) }
+    ensures cause { HasCause (O.faults out.old) (O.faults out.new) result }
+{
+    write_memory(array, out)?;
+    out.finish()
+}

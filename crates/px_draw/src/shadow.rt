@@ -1,0 +1,299 @@
+//! The command `shadow`: the image of the lights that the lines behind a scene name.
+ghost use Rattle.std.specs.Prelude.{◌≡◌, ◌≢◌, ◌+◌, ◌<◌, ◌≤◌, ◌==◌, All, IfErr, IfOk, OnErr, OnOk, Err, Some, None, count_by, length, true, unwrap_or};
+ghost use Rattle.std.specs.Io.KnownBytes.{Appends};
+ghost use Rattle.px_io.specs.Counts.{HasCause};
+ghost use Rattle.px_io.specs.Told.{TakesAll, TakesFront, Tells};
+ghost use Rattle.px_control.specs.GridLaw.{CoversThePicture};
+ghost use Rattle.px_control.specs.Program.{IsAt};
+ghost use Rattle.px_lines.specs.Parts.{behind_part, part_end, scene_part};
+ghost use Rattle.px_normal.specs.Sets.{IsBelow};
+ghost use Rattle.px_sched.specs.Layouts.{layout_of};
+ghost use Rattle.px_shadow.specs.Lights.{mask_image};
+ghost use Rattle.px_shadow.specs.Shaded.{IsShaded};
+ghost use Rattle.px_shadow.specs.ShadowPasses.{need_with};
+ghost use Rattle.px_shadow.specs.Stored.{StoresTheLights};
+ghost use Rattle.px_draw.specs.declared.command.Command.{Command};
+ghost use Rattle.px_draw.specs.declared.stop.Stop.{Stop};
+ghost use Rattle.px_draw.specs.Arrays.{Draws};
+ghost use Rattle.px_draw.specs.Outcomes.{Outcome, unless_refused};
+ghost use Rattle.px_draw.specs.Runs.{Took};
+ghost use Rattle.px_draw.specs.Shadows.{
+  Shades,
+  ShadesBy,
+  ShadesParts,
+  light_refusal,
+  lights_in,
+  lights_refusal,
+  line_behind,
+  lit,
+  lit_drawable,
+  parts_lit,
+  shadowed,
+};
+ghost use Rattle.px_draw.specs.Stops.{HasCauses, Performs, Serves, StopsAt, status_in, status_of};
+
+use crate::debug::behind;
+use crate::make::{READ_LIMIT, open_job, read_text, scene_in};
+use crate::refusal::{Kind, Refusal, short_of_bits, too_long};
+use crate::render::draw;
+use crate::stop::Stop;
+use arrayvec::ArrayVec;
+use px_array::Array;
+use px_control::Job;
+use px_io::{Failed, Sink, Source};
+use px_lines::{laws_of_parts, part_end};
+use px_normal::SolidSet;
+use px_scene::{Scene, laws_of_scenes};
+use px_sched::{Layout, NeedBits, laws_of_passes};
+use px_shadow::{LightFault, laws_of_shadows, need, read_lights, shade, write_masks};
+use std::alloc::Global;
+
+/// Reads the input to its end, and draws the image of the lights that the lines behind its scene
+/// part name.
+pub(crate) fn shadow<S: Source, O: Sink, A: Array>(
+    alloc: Global,
+    input: &mut S,
+    out: &mut O,
+    array: &mut A,
+) -> Result<(), Stop>
+    requires bits { A.BITS ≤ 256 }
+    ensures performs { Performs result (Some Command.Shadow) A.BITS
+        (S.rest input.old) (S.rest input.new) (O.written out.old) (O.written out.new)
+        (O.finished out.old) (O.finished out.new) (A.device array.old) (A.device array.new) }
+    ensures causes { HasCauses result (S.faults input.old) (S.faults input.new) (O.faults out.old)
+        (O.faults out.new) }
+    ensures took { Took (Some Command.Shadow) (status_in result)
+        (S.rest input.old) (S.rest input.new) }
+    ensures worded { result ≢ Err Stop.Usage }
+{
+    let text = read_text(alloc, input)?;
+    shade_text(alloc, text.as_slice(), out, array)
+}
+
+/// Draws the lights of a text.
+fn shade_text<O: Sink, A: Array>(
+    alloc: Global,
+    text: &[u8],
+    out: &mut O,
+    array: &mut A,
+) -> Result<(), Stop>
+    requires bits { A.BITS ≤ 256 }
+    ensures serves { Serves result (shadowed text.now A.BITS)
+        (O.written out.old) (O.written out.new) (O.finished out.old) (O.finished out.new)
+        (O.faults out.old) (O.faults out.new) }
+    ensures array { Shades (status_in result) A.BITS text.now (A.device array.old)
+        (A.device array.new) }
+{
+    if text.len() >= READ_LIMIT {
+        return Err(Stop::Refused(too_long()));
+    }
+    let length = part_length(text);
+    shade_parts(alloc, &text[..length], behind(text, length), out, array)
+}
+
+/// How many bytes the scene part of a text has.
+fn part_length(text: &[u8]) -> usize
+    ensures value { result ≡ unwrap_or (part_end text.now) (length text.now) }
+    ensures within { result ≤ length text.now }
+{
+    laws_of_parts();
+    match part_end(text) {
+        Some(length) => length,
+        None => text.len(),
+    }
+}
+
+/// Draws the lights of a scene part and the lines behind it.
+fn shade_parts<O: Sink, A: Array>(
+    alloc: Global,
+    part: &[u8],
+    behind: &[u8],
+    out: &mut O,
+    array: &mut A,
+) -> Result<(), Stop>
+    requires bits { A.BITS ≤ 256 }
+    requires part { length part.now ≤ 1048576 }
+    requires behind { length behind.now ≤ 1048576 }
+    ensures serves { Serves result (parts_lit A.BITS part.now behind.now)
+        (O.written out.old) (O.written out.new) (O.finished out.old) (O.finished out.new)
+        (O.faults out.old) (O.faults out.new) }
+    ensures array { ShadesParts (status_in result) A.BITS part.now behind.now
+        (A.device array.old) (A.device array.new) }
+{
+    let scene = scene_in(alloc, part)?;
+    let lights = lights_in(&scene, behind, line_behind(part))?;
+    shade_scene(alloc, &scene, &lights, out, array)
+}
+
+/// The number of the line behind a part of whole lines.
+fn line_behind(part: &[u8]) -> u32
+    requires { length part.now ≤ 1048576 }
+    ensures value { result ≡ line_behind part.now }
+    ensures most { result ≤ 1048577 }
+{
+    part.iter().filter(|b| **b == b'\n').count() as u32 + 1
+}
+
+/// The lights that lines name, of which the first has this number.
+fn lights_in(scene: &Scene, text: &[u8], first: u32) -> Result<ArrayVec<SolidSet, 8>, Stop>
+    requires first { first ≤ 1048577 }
+    requires text { length text.now ≤ 1048576 }
+    ensures ok { IfOk result (λ lights. (lights_refusal scene.now first text.now ≡ None)
+        × (lights.items ≡ lights_in scene.now text.now)) }
+    ensures known { IfOk result (λ lights.
+        All (IsBelow (length scene.now.solids)) lights.items) }
+    ensures err { IfErr result (λ stop.
+        StopsAt (unless_refused (lights_refusal scene.now first text.now)) stop) }
+{
+    match read_lights(scene, text, first) {
+        Ok(lights) => Ok(lights),
+        Err(fault) => Err(Stop::Refused(light_refusal(fault))),
+    }
+}
+
+/// The refusal of a bad light line.
+fn light_refusal(fault: LightFault) -> Refusal
+    ensures { result ≡ light_refusal fault }
+{
+    match fault {
+        LightFault::Malformed { line, cause } => Refusal::Malformed { line, cause },
+        LightFault::Limit { line, found } => Refusal::Limit {
+            line,
+            kind: Kind::Lights,
+            found: i64::from(found),
+        },
+    }
+}
+
+/// Draws a scene on the array and makes its shadow passes, and writes the image of its lights.
+fn shade_scene<O: Sink, A: Array>(
+    alloc: Global,
+    scene: &Scene,
+    lights: &ArrayVec<SolidSet, 8>,
+    out: &mut O,
+    array: &mut A,
+) -> Result<(), Stop>
+    requires bits { A.BITS ≤ 256 }
+    requires known { All (IsBelow (length scene.now.solids)) lights.now.items }
+    ensures serves { Serves result (lit A.BITS scene.now lights.now.items)
+        (O.written out.old) (O.written out.new) (O.finished out.old) (O.finished out.new)
+        (O.faults out.old) (O.faults out.new) }
+    ensures array { ShadesBy (status_in result) A.BITS scene.now lights.now.items
+        (A.device array.old) (A.device array.new) }
+{
+    let mut job = open_lit(alloc, scene, lights.len(), array)?;
+    match deliver_masks(&mut job, scene, lights, array, out) {
+        Ok(()) => Ok(()),
+        Err(_) => Err(Stop::WriteFault),
+    }
+}
+
+/// Opens the array for a scene and so many lights.
+fn open_lit<'s, A: Array>(
+    alloc: Global,
+    scene: &'s Scene,
+    lights: usize,
+    array: &mut A,
+) -> Result<Job<'s>, Stop>
+    requires bits { A.BITS ≤ 256 }
+    requires few { lights ≤ 8 }
+    ensures job { IfOk result (λ job. (job.scene ≡ scene.now) × (job.place.clock ≡ 0)) }
+    ensures at { OnOk result (IsAt A.BITS scene.now 0 (A.device array.new)) }
+    ensures need { OnOk result (need_with (layout_of scene.now) lights ≤ A.BITS) }
+    ensures fits { OnOk result ((o : Outcome) → lit_drawable A.BITS scene.now lights o ≡ o) }
+    ensures err { IfErr result (λ stop. StopsAt (lit_drawable A.BITS scene.now lights) stop) }
+    ensures array { IfErr result (λ stop. Draws (status_of stop) A.BITS scene.now
+        (A.device array.old) (A.device array.new)) }
+{
+    let need = bits_needed(scene, lights, A::BITS as u32);
+    if need as usize > A::BITS {
+        return Err(Stop::Refused(short_of_bits(need)));
+    }
+    open_job(alloc, scene, array)
+}
+
+/// How many bits of a pixel a scene and so many lights need, where a pixel has so many.
+fn bits_needed(scene: &Scene, lights: usize, bits: u32) -> u32
+    requires few { lights ≤ 8 }
+    ensures { result ≡ need_with (layout_of scene.now) lights }
+{
+    laws_of_scenes(scene);
+    laws_of_passes();
+    match Layout::of(scene, bits) {
+        Ok(layout) => need(&layout, lights),
+        Err(NeedBits { need }) => need + lights as u32,
+    }
+}
+
+/// Makes the clocks that are left of a job and the shadow passes, writes the image of the lights
+/// that the array then stores, and finishes.
+fn deliver_masks<A: Array, O: Sink>(
+    job: &mut Job<'_>,
+    scene: &Scene,
+    lights: &ArrayVec<SolidSet, 8>,
+    array: &mut A,
+    out: &mut O,
+) -> Result<(), Failed>
+    requires scene { scene.now ≡ job.old.scene }
+    requires at { IsAt A.BITS scene.now job.old.place.clock (A.device array.old) }
+    requires need { need_with (layout_of scene.now) (length lights.now.items) ≤ A.BITS }
+    requires known { All (IsBelow (length scene.now.solids)) lights.now.items }
+    ensures ok { OnOk result (Appends (O.written out.old) (O.written out.new)
+        (mask_image scene.now lights.now.items)) }
+    ensures end { OnOk result (Tells (O.finished out.new) true) }
+    ensures err { OnErr result (TakesFront (O.written out.old) (O.written out.new)
+        (O.finished out.old) (O.finished out.new) (mask_image scene.now lights.now.items)) }
+    ensures cause { HasCause (O.faults out.old) (O.faults out.new) result }
+    ensures shaded { IsShaded A.BITS scene.now lights.now.items (A.device array.new) }
+{
+    let layout = draw_lit(job, scene, lights, array);
+    write_lights(array, &layout, scene, lights, out)?;
+    out.finish()
+}
+
+/// Makes the clocks that are left of a job and then the shadow passes, and answers where the
+/// picture stands in a pixel's memory.
+fn draw_lit<A: Array>(
+    job: &mut Job<'_>,
+    scene: &Scene,
+    lights: &ArrayVec<SolidSet, 8>,
+    array: &mut A,
+) -> Layout
+    requires scene { scene.now ≡ job.old.scene }
+    requires at { IsAt A.BITS scene.now job.old.place.clock (A.device array.old) }
+    requires need { need_with (layout_of scene.now) (length lights.now.items) ≤ A.BITS }
+    requires known { All (IsBelow (length scene.now.solids)) lights.now.items }
+    ensures layout { result ≡ layout_of scene.now }
+    ensures shaded { IsShaded A.BITS scene.now lights.now.items (A.device array.new) }
+    ensures lights { StoresTheLights scene.now result lights.now.items
+        (A.device array.new).state }
+    ensures grid { CoversThePicture scene.now (A.device array.new) }
+{
+    let _now = job.now();
+    let layout = draw(job, scene, array);
+    shade(scene, &layout, lights, array);
+    layout
+}
+
+/// Writes the image of the lights that an array stores.
+fn write_lights<A: Array, O: Sink>(
+    array: &A,
+    layout: &Layout,
+    scene: &Scene,
+    lights: &ArrayVec<SolidSet, 8>,
+    out: &mut O,
+) -> Result<(), Failed>
+    requires need { need_with layout.now (length lights.now.items) ≤ A.BITS }
+    requires lights { StoresTheLights scene.now layout.now lights.now.items
+        (A.device array.now).state }
+    requires grid { CoversThePicture scene.now (A.device array.now) }
+    ensures ok { OnOk result (TakesAll (O.written out.old) (O.written out.new)
+        (O.finished out.old) (O.finished out.new) (mask_image scene.now lights.now.items)) }
+    ensures err { OnErr result (TakesFront (O.written out.old) (O.written out.new)
+        (O.finished out.old) (O.finished out.new) (mask_image scene.now lights.now.items)) }
+    ensures cause { HasCause (O.faults out.old) (O.faults out.new) result }
+{
+    laws_of_scenes(scene);
+    laws_of_shadows();
+    write_masks(array, layout, scene, lights.len(), out)
+}
