@@ -1,0 +1,9 @@
+//! The texts of the errors that calls answer.
+#![tactic(auto)]
+
+#[cfg(test)]
+mod pictures;
+#[cfg(test)]
+mod readers;
+#[cfg(test)]
+mod written;

@@ -1,0 +1,184 @@
+//! Pictures wider than the array: what is clocked tile by tile, and a block over four large tiles.
+use arrayvec::ArrayVec;
+use px_array::{Array, Micro, PixelArray, Registers};
+use px_draw::{Status, run};
+use px_io::{CalmSink, CalmSource};
+use px_num::Memory;
+use px_planes::PlaneArray;
+use px_scene::read_scene;
+use px_tile::render_tiles;
+use std::alloc::Global;
+use std::test::Fail;
+
+/// Two slopes that meet at the third column, at depth 4.
+const SLOPES: &[u8] = b"pxscene 1\npicture 2 1\ndepth 6\nsolid a 0 0 0\n\
+    front 2 0 0\nfront -2 0 8\nshow a\nend\n";
+
+/// How an array was opened, and the clocks that it then made.
+#[derive(Clone, Copy, Debug, Default, PartialEq, Eq)]
+struct Opening {
+    columns: u32,
+    rows: u32,
+    clocks: u64,
+}
+
+/// An array that keeps each of its openings.
+#[derive(Drop)]
+struct Watched {
+    array: PixelArray<72>,
+    openings: ArrayVec<Opening, 8>,
+}
+
+impl Watched {
+    fn new(alloc: Global) -> Watched {
+        Watched {
+            array: PixelArray::new(alloc),
+            openings: ArrayVec::new(),
+        }
+    }
+
+    /// Keeps the clocks that were made since the last opening.
+    fn count(&mut self) {
+        if let Some(last) = self.openings.last_mut() {
+            last.clocks = self.array.clocks();
+        }
+    }
+}
+
+impl Array for Watched {
+    const BITS: usize = 72;
+
+    ghost BITS = { 72 };
+
+    ghost device = { λ a. a.array.device };
+
+    ghost slots = { λ a. a.array.slots };
+
+    ghost work = { λ a. a.array.work };
+
+    fn open(&mut self, nx: u32, ny: u32) -> Result<(), Memory> {
+        self.count();
+        let opening = Opening {
+            columns: nx,
+            rows: ny,
+            clocks: 0,
+        };
+        // A ninth opening is not kept.
+        let _ = self.openings.try_push(opening);
+        self.array.open(nx, ny)
+    }
+
+    fn clock(&mut self, m: Micro) {
+        self.array.clock(m);
+    }
+
+    fn size(&self) -> (u32, u32) {
+        self.array.size()
+    }
+
+    fn bit(&self, x: u32, y: u32, at: u32) -> bool {
+        self.array.bit(x, y, at)
+    }
+
+    fn registers(&self, x: u32, y: u32) -> Registers {
+        self.array.registers(x, y)
+    }
+
+    fn tree_bit(&self, x: u32, y: u32) -> bool {
+        self.array.tree_bit(x, y)
+    }
+
+    fn node(&self, level: u32, index: u32) -> (bool, bool) {
+        self.array.node(level, index)
+    }
+
+    fn clocks(&self) -> u64 {
+        self.array.clocks()
+    }
+
+    fn save(&mut self, slot: u32) {
+        self.array.save(slot);
+    }
+
+    fn restore(&mut self, slot: u32) {
+        self.array.restore(slot);
+    }
+
+    fn work(&self) -> u64 {
+        self.array.work()
+    }
+}
+
+/// Each tile's 29 operations take 473 clocks on 2 by 2 pixels.
+const ONE_TILE: Opening = Opening {
+    columns: 1,
+    rows: 1,
+    clocks: 473,
+};
+
+#[test]
+fn each_tile_is_opened_and_clocked(rt: HostRuntime) -> Result<(), Fail> {
+    let mut array = Watched::new(rt.alloc());
+    assert_eq!(rt; tile(rt.alloc(), &mut array)?, Status::Done);
+    array.count();
+    assert_eq!(rt; array.openings.as_slice(), [ONE_TILE; 3].as_slice());
+    Ok(())
+}
+
+/// A run of `tile 5 1` over the slopes.
+fn tile(alloc: Global, array: &mut Watched) -> Result<Status, Fail> {
+    let mut words = Vec::new(alloc);
+    for word in ["tile", "5", "1"] {
+        words.push(String::from_str(alloc, word)?)?;
+    }
+    let mut input = CalmSource::new(Vec::from_slice(alloc, SLOPES)?);
+    let (mut out, mut notes) = (CalmSink::new(), CalmSink::new());
+    Ok(run(
+        alloc,
+        words.as_slice(),
+        &mut input,
+        &mut out,
+        &mut notes,
+        array,
+    ))
+}
+
+/// A block from depth 100 on, with a hole through it, from which all before depth 10x is cut. Its
+/// front is face 2, and the back of the cut face 6.
+const BLOCK: &[u8] = b"pxscene 1\npicture 512 512\ndepth 12\nsolid block 200 180 160\n\
+    side 1 0 -8\nside -1 0 55\nside 0 1 -8\nside 0 -1 39\nfront 0 0 100\nback 0 0 900\n\
+    solid hole 90 90 90\nside 1 0 -24\nside -1 0 39\nside 0 1 -16\nside 0 -1 31\n\
+    solid cut 40 60 200\nback 10 0 0\nshow ((block - hole) - cut)\nend\n";
+
+/// Columns, rows, depths and faces, worked out by the planes.
+const SPOTS: [(usize, usize, u64, u64); 16] = [
+    (0, 0, 4095, 0),
+    (7, 8, 4095, 0),
+    (8, 7, 4095, 0),
+    (8, 8, 100, 2),
+    (10, 20, 100, 2),
+    (11, 20, 110, 6),
+    (23, 20, 230, 6),
+    (24, 15, 240, 6),
+    (24, 16, 4095, 0),
+    (39, 31, 4095, 0),
+    (40, 31, 400, 6),
+    (30, 32, 300, 6),
+    (55, 39, 550, 6),
+    (56, 39, 4095, 0),
+    (520, 20, 4095, 0),
+    (1023, 1023, 4095, 0),
+];
+
+#[test]
+fn a_block_over_four_tiles(rt: HostRuntime) -> Result<(), Fail> {
+    let scene = read_scene(rt.alloc(), BLOCK)?;
+    let mut array = PlaneArray::<72>::new(rt.alloc());
+    let found = render_tiles(rt.alloc(), &scene, 1024, 1024, &mut array)?;
+    for (x, y, depth, face) in SPOTS {
+        let place = 1024 * (y % 1024) + x % 1024;
+        let number = (depth % 4096) << 32 | face;
+        assert_eq!(rt; found.get(place).copied(), Some(number), "{x} {y}");
+    }
+    Ok(())
+}
