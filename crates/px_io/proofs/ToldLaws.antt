@@ -1,5 +1,6 @@
 -- The laws of told bytes over several calls in a row.
-use Rattle.std.proofs.Common.{◌≡◌, ℕ, ◌+◌, ◌-◌, Bool, List, [], ◌++◌, take, drop, length, Option, Some, None, append_assoc, refl, sym, arith, length-append, length-drop}
+use Rattle.std.proofs.Common.{◌≡◌, ℕ, ◌+◌, ◌-◌, Bool, List, [], ◌++◌, take, drop, length, Option, Some, None}
+use Rattle.std.proofs.Common.{append_assoc, refl, sym, arith, length-append, length-drop}
 use Prim.Native.Nat.{zero, suc}
 use Rattle.std.proofs.Math.Seq.{take-add, take-append-add}
 use Rattle.std.proofs.lemmas.List.{take_all, take-append-le as take_within}

@@ -1,5 +1,7 @@
 -- The end of the scene part, byte by byte.
-use Rattle.std.proofs.Common.{◌≡◌, ℕ, ◌+◌, ◌-◌, ◌<◌, ◌≤◌, ◌==◌, ◌≢◌, Bool, true, false, List, [], ◌∷◌, ◌++◌, Option, Some, None, length, take, drop, get_or, refl, sym, ap, ◌∙◌, arith, length-drop, length-take, if◌then◌else◌}
+use Rattle.std.proofs.Common.{◌≡◌, ℕ, ◌+◌, ◌-◌, ◌<◌, ◌≤◌, ◌==◌, ◌≢◌, Bool, true, false, List, [], ◌∷◌, ◌++◌, Option}
+use Rattle.std.proofs.Common.{Some, None, length, take, drop, get_or, refl, sym, ap, ◌∙◌, arith, length-drop}
+use Rattle.std.proofs.Common.{length-take, if◌then◌else◌}
 use Rattle.std.proofs.lemmas.Bool.Decides.{nat_tests}
 use Rattle.std.proofs.lemmas.List.{get_or-drop, take_more, take-append-drop}
 use Rattle.px_lines.specs.Lines.{left}
@@ -16,7 +18,8 @@ pub end_on : (line : List ℕ) (n : ℕ) (xs ys : List ℕ) → end_after line n
 end_on line n [] ys none = same_count line n (n + 0) ys (omega arith)
 end_on line n (b ∷ xs) ys none =
     let Ends : (t e : Bool) (zs : List ℕ) → Option ℕ =
-    λ t e zs. (if t then (if e then Some (n + 1) else end_after [] (n + 1) zs) else end_after (line ++ b ∷ []) (n + 1) zs) in
+    λ t e zs. (if t then (if e then Some (n + 1) else end_after [] (n + 1) zs) else end_after (line ++ b ∷ [])
+    (n + 1) zs) in
     let P : (t e : Bool) → Type 0 = λ t e. Ends t e xs ≡ None
     → Ends t e (xs ++ ys) ≡ end_after (if t then left [] xs else left (line ++ b ∷ []) xs) (n + length (b ∷ xs)) ys in
     (elim (b == 10) as (λ t. P t (is_end_line line)) [
@@ -24,15 +27,18 @@ end_on line n (b ∷ xs) ys none =
         | true ↦ λ none. cc
         | false ↦ λ none. end_on [] (n + 1) xs ys none ∙ same_count (left [] xs) _ _ ys (omega arith)
       ]
-      | false ↦ λ none. end_on (line ++ b ∷ []) (n + 1) xs ys none ∙ same_count (left (line ++ b ∷ []) xs) _ _ ys (omega arith)
+      | false ↦ λ none. end_on (line ++ b ∷ []) (n + 1) xs ys none
+          ∙ same_count (left (line ++ b ∷ []) xs) _ _ ys (omega arith)
     ]) none
 
 -- where it ends in some bytes, it ends there in more
-pub end_kept : (line : List ℕ) (n k : ℕ) (xs ys : List ℕ) → end_after line n xs ≡ Some k → end_after line n (xs ++ ys) ≡ Some k
+pub end_kept : (line : List ℕ) (n k : ℕ) (xs ys : List ℕ) → end_after line n xs ≡ Some k → end_after line n (xs ++ ys)
+    ≡ Some k
 end_kept line n k [] ys some = cc
 end_kept line n k (b ∷ xs) ys some =
     let Ends : (t e : Bool) (zs : List ℕ) → Option ℕ =
-    λ t e zs. (if t then (if e then Some (n + 1) else end_after [] (n + 1) zs) else end_after (line ++ b ∷ []) (n + 1) zs) in
+    λ t e zs. (if t then (if e then Some (n + 1) else end_after [] (n + 1) zs) else end_after (line ++ b ∷ [])
+    (n + 1) zs) in
     let P : (t e : Bool) → Type 0 = λ t e. Ends t e xs ≡ Some k → Ends t e (xs ++ ys) ≡ Some k in
     (elim (b == 10) as (λ t. P t (is_end_line line)) [
       | true ↦ elim (is_end_line line) as (λ e. P true e) [
@@ -46,7 +52,8 @@ end_kept line n k (b ∷ xs) ys some =
 pub left_byte : (line xs : List ℕ) (b : ℕ) → (b == 10) ≡ false → left line (xs ++ b ∷ []) ≡ left line xs ++ b ∷ []
 left_byte line [] b other = rw other refl
 left_byte line (x ∷ xs) b other =
-    elim (x == 10) as (λ t. (if t then left [] (xs ++ b ∷ []) else left (line ++ x ∷ []) (xs ++ b ∷ [])) ≡ (if t then left [] xs else left (line ++ x ∷ []) xs) ++ b ∷ [])
+    elim (x == 10) as (λ t. (if t then left [] (xs ++ b ∷ []) else left (line ++ x ∷ []) (xs ++ b ∷ []))
+    ≡ (if t then left [] xs else left (line ++ x ∷ []) xs) ++ b ∷ [])
     [ true ↦ left_byte [] xs b other | false ↦ left_byte (line ++ x ∷ []) xs b other ]
 
 -- a line feed
@@ -89,7 +96,8 @@ seen_byte s text seen more other =
 
 -- a line that is over leaves the next
 pub seen_feed : (s : Search) (text : List ℕ) → HasSeen s text → s.at < length text → (get_or text s.at 0 == 10) ≡ true
-    → is_end_line (take (s.at - s.line) (drop s.line text)) ≡ false → HasSeen (record { line = s.at + 1; at = s.at + 1 }) text
+    → is_end_line (take (s.at - s.line) (drop s.line text)) ≡ false
+    → HasSeen (record { line = s.at + 1; at = s.at + 1 }) text
 seen_feed s text seen more feed other =
     let b = get_or text s.at 0 in
     let shorter : take (s.at + 1) text ≡ take s.at text ++ b ∷ [] = take_more text s.at 0 more in
@@ -119,7 +127,8 @@ pub end_within : (line : List ℕ) (n k : ℕ) (xs : List ℕ) → end_after lin
 end_within line n k [] some = cc
 end_within line n k (b ∷ xs) some =
     let Ends : (t e : Bool) → Option ℕ =
-    λ t e. (if t then (if e then Some (n + 1) else end_after [] (n + 1) xs) else end_after (line ++ b ∷ []) (n + 1) xs) in
+    λ t e. (if t then (if e then Some (n + 1) else end_after [] (n + 1) xs) else end_after (line ++ b ∷ [])
+    (n + 1) xs) in
     let P : (t e : Bool) → Type 0 = λ t e. Ends t e ≡ Some k → k ≤ n + length (b ∷ xs) in
     (elim (b == 10) as (λ t. P t (is_end_line line)) [
       | true ↦ elim (is_end_line line) as (λ e. P true e) [

@@ -1,13 +1,16 @@
 -- What holds of every operation.
-use Rattle.std.proofs.Common.{◌≡◌, ℕ, ◌≤◌, Bool, true, false, if◌then◌else◌, List, [], ◌∷◌, length, slice_set, refl, arith, length-set}
+use Rattle.std.proofs.Common.{◌≡◌, ℕ, ◌≤◌, Bool, true, false, if◌then◌else◌, List, [], ◌∷◌, length, slice_set, refl}
+use Rattle.std.proofs.Common.{arith, length-set}
 use Rattle.px_num.proofs.ListLaws.{length-tabulate}
 use Rattle.px_macro.specs.Fields.{with_number}
 use Rattle.px_macro.specs.Macros.{AreOfOneLength, IsField, IsLawfulInMore, MeaningsJoin, MemoryStaysLong, after_macro}
 use Rattle.px_macro.specs.declared.field.Field.{Field}
-use Rattle.px_macro.specs.declared.operation.Macro.TheVariants.{All, KeepSign, KeepBit, LoadLinear, KeepAtMost, AddLinear, LoadConst, SetBit, Toggle, Copy, KeepLess}
+use Rattle.px_macro.specs.declared.operation.Macro.TheVariants.{All, KeepSign, KeepBit, LoadLinear, KeepAtMost}
+use Rattle.px_macro.specs.declared.operation.Macro.TheVariants.{AddLinear, LoadConst, SetBit, Toggle, Copy, KeepLess}
 
 field_in_more : (f : Field) (bits more : ℕ) → bits ≤ more → IsField f bits → IsField f more
-field_in_more f bits more order h = record { from_one = h.from_one; to_forty = h.to_forty; within = omega (arith, h.within) }
+field_in_more f bits more order h =
+    record { from_one = h.from_one; to_forty = h.to_forty; within = omega (arith, h.within) }
 
 fields_in_more : (f g : Field) (bits more : ℕ) → bits ≤ more → AreOfOneLength f g bits → AreOfOneLength f g more
 fields_in_more f g bits more order h = record {
@@ -28,11 +31,13 @@ is_lawful_in_more (Toggle at) bits more order h = omega arith
 is_lawful_in_more (Copy f g) bits more order h = (fields_in_more f g bits more order h.0, h.1)
 is_lawful_in_more (KeepLess f g) bits more order h = fields_in_more f g bits more order h
 
-length_put : (enable : Bool) (f : Field) (n : ℕ) (memory : List Bool) → length (if enable then with_number f n memory else memory) ≡ length memory
+length_put : (enable : Bool) (f : Field) (n : ℕ) (memory : List Bool)
+    → length (if enable then with_number f n memory else memory) ≡ length memory
 length_put true f n memory = length-tabulate (length memory) _
 length_put false f n memory = refl
 
-length_put_bit : (enable v : Bool) (at : ℕ) (memory : List Bool) → length (if enable then slice_set memory at v else memory) ≡ length memory
+length_put_bit : (enable v : Bool) (at : ℕ) (memory : List Bool)
+    → length (if enable then slice_set memory at v else memory) ≡ length memory
 length_put_bit true v at memory = length-set memory at v
 length_put_bit false v at memory = refl
 

@@ -1,5 +1,7 @@
 -- Numbers by their bits, and fields that take them.
-use Rattle.std.proofs.Common.{◌≡◌, ◌≢◌, ℕ, zero, suc, ◌+◌, ◌-◌, ◌*◌, ◌/◌, ◌%◌, ◌^◌, ◌<◌, ◌≤◌, ◌==◌, Bool, true, false, if◌then◌else◌, length, ◌⊎◌, inl, inr, refl, ap, sym, ◌∙◌, arith, get_or-set_other, slice_set}
+use Rattle.std.proofs.Common.{◌≡◌, ◌≢◌, ℕ, zero, suc, ◌+◌, ◌-◌, ◌*◌, ◌/◌, ◌%◌, ◌^◌, ◌<◌, ◌≤◌, ◌==◌, Bool, true, false}
+use Rattle.std.proofs.Common.{if◌then◌else◌, length, ◌⊎◌, inl, inr, refl, ap, sym, ◌∙◌, arith, get_or-set_other}
+use Rattle.std.proofs.Common.{slice_set}
 use Rattle.std.proofs.lemmas.Bool.{cases_lt}
 use Rattle.std.proofs.lemmas.Bool.Decides.{nat_tests}
 use Rattle.std.proofs.lemmas.Nat.{pow-add}
@@ -10,7 +12,8 @@ use Rattle.px_num.proofs.AdderLaws.{number}
 use Rattle.px_num.proofs.BitLaws.{pow_above}
 use Rattle.px_num.specs.Bits.{bit_at, nat_bit}
 use Rattle.px_num.proofs.ListLaws.{get_or-tabulate}
-use Rattle.px_macro.specs.FieldLaws.{BitBesideIsKept, BitsOfNumber, NumberBesideIsKept, NumberIsBelow, NumberIsKept, NumberIsRead, NumberOfParts, PlacesAreWritten}
+use Rattle.px_macro.specs.FieldLaws.{BitBesideIsKept, BitsOfNumber, NumberBesideIsKept, NumberIsBelow, NumberIsKept}
+use Rattle.px_macro.specs.FieldLaws.{NumberIsRead, NumberOfParts, PlacesAreWritten}
 use Rattle.px_macro.specs.Fields.{is_in, number_of, with_number}
 use Rattle.px_macro.specs.declared.field.Field.{Field}
 
@@ -33,11 +36,13 @@ if_times : (b : Bool) (p q : ℕ) → (if b then p * q else 0) ≡ p * (if b the
 if_times true p q = refl
 if_times false p q = omega arith
 
-number_of_parts : (bit : ℕ → Bool) (low high : ℕ) → number_of bit (low + high) ≡ number_of bit low + 2 ^ low * number_of (λ t. bit (low + t)) high
+number_of_parts : (bit : ℕ → Bool) (low high : ℕ) → number_of bit (low + high) ≡ number_of bit low + 2 ^ low
+    * number_of (λ t. bit (low + t)) high
 number_of_parts bit low zero = let e : low + 0 ≡ low = omega arith in rw e (omega arith)
 number_of_parts bit low (suc high) =
     let e : low + suc high ≡ suc (low + high) = omega arith in
-    let top : (if bit (low + high) then 2 ^ (low + high) else 0) ≡ 2 ^ low * (if bit (low + high) then 2 ^ high else 0) =
+    let top : (if bit (low + high) then 2 ^ (low + high) else 0) ≡ 2 ^ low
+    * (if bit (low + high) then 2 ^ high else 0) =
     rw (pow-add 2 low high) (if_times (bit (low + high)) (2 ^ low) (2 ^ high)) in
     rw e (omega (arith, number_of_parts bit low high, top))
 
@@ -55,11 +60,13 @@ pub number_bit : (bit : ℕ → Bool) (n t : ℕ) → t < n → nat_bit (number_
 number_bit bit zero t low = absurd (omega arith)
 number_bit bit (suc n) t low =
     rw (high_bit (bit n) (number_of bit n) (2 ^ n)) (elim (cases_lt t n) [
-      | inl below ↦ ap (λ b. b == 1) (bit_at_cat_low (number (bit n)) n (number_of bit n) t below) ∙ number_bit bit n t below
+      | inl below ↦ ap (λ b. b == 1) (bit_at_cat_low (number (bit n)) n (number_of bit n) t below)
+          ∙ number_bit bit n t below
       | inr past ↦
           let top : t ≡ n = omega arith in
           let none : n - n ≡ 0 = omega arith in
-          rw top (ap (λ b. b == 1) (bit_at_cat_high (number (bit n)) n (number_of bit n) n (number_below bit n) (omega arith))
+          rw top (ap (λ b. b == 1) (bit_at_cat_high (number (bit n)) n (number_of bit n) n (number_below bit n)
+          (omega arith))
           ∙ rw none (only_bit (bit n)))
     ])
 
@@ -91,7 +98,8 @@ places_are_written field number memory place inside =
 is_in_field : (field : Field) (t : ℕ) → t < field.len → is_in field (field.at + t) ≡ true
 is_in_field field t low = grind (arith, nat_tests)
 
-is_in_other : (field other : Field) (t : ℕ) → t < other.len → (field.at + field.len ≤ other.at) ⊎ (other.at + other.len ≤ field.at) → is_in field (other.at + t) ≡ false
+is_in_other : (field other : Field) (t : ℕ) → t < other.len → (field.at + field.len ≤ other.at)
+    ⊎ (other.at + other.len ≤ field.at) → is_in field (other.at + t) ≡ false
 is_in_other field other t low (inl before) = grind (arith, nat_tests)
 is_in_other field other t low (inr after) = grind (arith, nat_tests)
 
@@ -105,7 +113,8 @@ number_is_read field number memory within =
 
 pub number_is_kept : NumberIsKept
 number_is_kept field other number memory within apart =
-    number_same (λ t. bit_at (with_number field number memory) (other.at + t)) (λ t. bit_at memory (other.at + t)) other.len (λ t low.
+    number_same (λ t. bit_at (with_number field number memory) (other.at + t)) (λ t. bit_at memory (other.at + t))
+    other.len (λ t low.
     places_are_written field number memory (other.at + t) (omega arith)
     ∙ rw (is_in_other field other t low apart) refl)
 
@@ -118,11 +127,13 @@ beside_each field place t low beside = grind (arith, nat_tests)
 
 pub number_beside_is_kept : NumberBesideIsKept
 number_beside_is_kept field memory place v beside =
-    number_same (λ t. bit_at (slice_set memory place v) (field.at + t)) (λ t. bit_at memory (field.at + t)) field.len (λ t low.
+    number_same (λ t. bit_at (slice_set memory place v) (field.at + t)) (λ t. bit_at memory (field.at + t)) field.len
+    (λ t low.
     get_or-set_other memory place (field.at + t) v false (beside_each field place t low beside))
 
 pub number_of_two_parts : NumberOfParts
 number_of_two_parts at low high memory =
     number_of_parts (λ t. bit_at memory (at + t)) low high
-    ∙ ap (λ n. number_of (λ t. bit_at memory (at + t)) low + 2 ^ low * n) (number_same (λ t. bit_at memory (at + (low + t))) (λ t. bit_at memory (at + low + t)) high (λ t below.
+    ∙ ap (λ n. number_of (λ t. bit_at memory (at + t)) low + 2 ^ low * n)
+    (number_same (λ t. bit_at memory (at + (low + t))) (λ t. bit_at memory (at + low + t)) high (λ t below.
     let e : at + (low + t) ≡ at + low + t = omega arith in ap (bit_at memory) e))

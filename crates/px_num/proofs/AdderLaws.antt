@@ -1,5 +1,6 @@
 -- Laws of sums of integers, bit by bit from the lowest.
-use Rattle.std.proofs.Common.{◌≡◌, ℕ, zero, suc, ◌+◌, ◌-◌, ◌*◌, ◌/◌, ◌%◌, ◌^◌, ◌<◌, ◌==◌, ℤ, pos, negsuc, ◌+ℤ◌, Bool, true, false, nat_le, not, refl, ap, ◌∙◌, arith}
+use Rattle.std.proofs.Common.{◌≡◌, ℕ, zero, suc, ◌+◌, ◌-◌, ◌*◌, ◌/◌, ◌%◌, ◌^◌, ◌<◌, ◌==◌, ℤ, pos, negsuc, ◌+ℤ◌, Bool}
+use Rattle.std.proofs.Common.{true, false, nat_le, not, refl, ap, ◌∙◌, arith}
 use Rattle.std.proofs.lemmas.Int.{ints}
 use Rattle.std.proofs.lemmas.Bool.Decides.{nat_tests}
 use Rattle.std.proofs.lemmas.Nat.Bits.{bit_at-suc}
@@ -81,7 +82,8 @@ add_bits false true false = refl
 add_bits false false true = refl
 add_bits false false false = refl
 
-pub carry_from-half : (first : Bool) (u v : ℤ) (t : ℕ) → carry_from first u v (suc t) ≡ carry_from (majority (bit_of u 0) (bit_of v 0) first) (half u) (half v) t
+pub carry_from-half : (first : Bool) (u v : ℤ) (t : ℕ) → carry_from first u v (suc t)
+    ≡ carry_from (majority (bit_of u 0) (bit_of v 0) first) (half u) (half v) t
 carry_from-half first u v zero = refl
 carry_from-half first u v (suc t) = rw (bit_of-half u t, bit_of-half v t, carry_from-half first u v t) refl
 
@@ -97,8 +99,10 @@ bit_of-sum first u v z (suc t) e =
     let carried = majority (bit_of u 0) (bit_of v 0) first in
     let bits = add_bits (bit_of u 0) (bit_of v 0) first in
     let rest = (half u +ℤ half v) +ℤ pos (number carried) in
-    let high = half_is z rest (xor (bit_of u 0) (xor (bit_of v 0) first)) (omega (arith, ints, e, whole u, whole v, bits)) in
-    rw (bit_of-half z t, bit_of-half u t, bit_of-half v t, carry_from-half first u v t) (bit_of-sum carried (half u) (half v) (half z) t high)
+    let high = half_is z rest (xor (bit_of u 0) (xor (bit_of v 0) first))
+    (omega (arith, ints, e, whole u, whole v, bits)) in
+    rw (bit_of-half z t, bit_of-half u t, bit_of-half v t, carry_from-half first u v t)
+    (bit_of-sum carried (half u) (half v) (half z) t high)
 
 pub sum_bit : (u v : ℤ) (t : ℕ) → bit_of (u +ℤ v) t ≡ xor (bit_of u t) (xor (bit_of v t) (carry_from false u v t))
 sum_bit u v t = bit_of-sum false u v (u +ℤ v) t (omega (arith, ints))
@@ -134,7 +138,14 @@ modulo-half (pos n) width =
     rest_half n width ∙ omega (arith, low)
 modulo-half (negsuc n) width =
     let low : number (bit_of (pos n) 0) ≡ n % 2 = lowest_number n in
-    omega (arith, rest_half n width, low, number_turned (bit_of (pos n) 0), modulo_below (pos (n / 2)) width, double_pow width)
+    omega (
+      arith,
+      rest_half n width,
+      low,
+      number_turned (bit_of (pos n) 0),
+      modulo_below (pos (n / 2)) width,
+      double_pow width,
+    )
 
 number_le : (first : Bool) (m : ℕ) → m ≡ number first → first ≡ nat_le 1 m
 number_le true m e = grind (arith, nat_tests)

@@ -1,5 +1,6 @@
 -- Laws of single bits.
-use Rattle.std.specs.Prelude.{◌≡◌, ℕ, zero, suc, ◌+◌, ◌-◌, ◌*◌, ◌/◌, ◌%◌, ◌^◌, ◌<◌, ◌≤◌, ◌==◌, ℤ, pos, negsuc, ◌≤ℤ◌, ◌<ℤ◌, neg_ℤ, false, not}
+use Rattle.std.specs.Prelude.{◌≡◌, ℕ, zero, suc, ◌+◌, ◌-◌, ◌*◌, ◌/◌, ◌%◌, ◌^◌, ◌<◌, ◌≤◌, ◌==◌, ℤ, pos, negsuc, ◌≤ℤ◌}
+use Rattle.std.specs.Prelude.{◌<ℤ◌, neg_ℤ, false, not}
 use Rattle.std.specs.Int.{is_negative}
 use Rattle.std.proofs.Common.{sym, ap, ◌∙◌, arith}
 use Rattle.std.proofs.Math.Nat.{one-le-pow}
@@ -29,7 +30,8 @@ sign_bit (negsuc n) t low high =
 -- the low bits of a number are those of its rest
 nat_bit_rest : (n width t : ℕ) → t < width → nat_bit n t ≡ nat_bit (n % 2 ^ width) t
 nat_bit_rest n width t low =
-    ap (λ m. nat_bit m t) (sym (shr_split n width)) ∙ ap (λ b. b == 1) (bit_at_cat_low (n / 2 ^ width) width (n % 2 ^ width) t low)
+    ap (λ m. nat_bit m t) (sym (shr_split n width))
+    ∙ ap (λ b. b == 1) (bit_at_cat_low (n / 2 ^ width) width (n % 2 ^ width) t low)
 
 turned : (p q : ℕ) → p < 2 → q < 2 → p + q ≡ 1 → not (p == 1) ≡ (q == 1)
 turned p q below_p below_q sum = grind (arith, nat_tests)

@@ -7,6 +7,10 @@ use Rattle.std.proofs.lemmas.Int.{ints}
 use Rattle.px_num.specs.declared.linear.Linear.{Linear}
 use Rattle.px_num.specs.Forms.{IsInHalfRange, IsInTreeRange, IsWithin, less_one, minus, plus, value_at}
 
+-- a greater range
+pub wider : (m n : ℕ) (v : ℤ) → m ≤ n → IsWithin m v → IsWithin n v
+wider m n v le (low, high) = (omega (arith, ints), omega (arith, ints))
+
 -- one place further
 pub *ℤ-suc : (z : ℤ) (x : ℕ) → z *ℤ pos (suc x) ≡ (z *ℤ pos x) +ℤ z
 *ℤ-suc (pos n) x = omega (arith, ints)
@@ -47,7 +51,8 @@ times_within (negsuc n) x m k within below =
     (omega (arith, ints, product), omega (arith, ints))
 
 -- the values on a screen
-pub value_within : (form : Linear) (x y : ℕ) → IsInTreeRange form → x ≤ 511 → y ≤ 511 → IsWithin (2 ^ 39 - 1) (value_at form x y)
+pub value_within : (form : Linear) (x y : ℕ) → IsInTreeRange form → x ≤ 511 → y ≤ 511
+    → IsWithin (2 ^ 39 - 1) (value_at form x y)
 value_within form x y range at_x at_y =
     let a = times_within form.a x (2 ^ 27) 511 range.a at_x in
     let b = times_within form.b y (2 ^ 27) 511 range.b at_y in (

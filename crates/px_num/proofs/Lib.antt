@@ -2,3 +2,4 @@ pub mod AdderLaws
 pub mod BitLaws
 pub mod FormLaws
 pub mod ListLaws
+pub mod RangeLaws

@@ -1,5 +1,6 @@
 -- The bits of words that are joined, turned over, moved and cut.
-use Rattle.std.proofs.Common.{◌≡◌, ℕ, suc, ◌+◌, ◌-◌, ◌*◌, ◌/◌, ◌%◌, ◌^◌, ◌==◌, ◌<◌, false, not, ◌&&◌, ◌||◌, min, max, refl, ap, ◌∙◌, arith, inl, inr, ◌⊎◌, w64, bit_and, bit_or, bit_xor}
+use Rattle.std.proofs.Common.{◌≡◌, ℕ, suc, ◌+◌, ◌-◌, ◌*◌, ◌/◌, ◌%◌, ◌^◌, ◌==◌, ◌<◌, false, not, ◌&&◌, ◌||◌, min, max}
+use Rattle.std.proofs.Common.{refl, ap, ◌∙◌, arith, inl, inr, ◌⊎◌, w64, bit_and, bit_or, bit_xor}
 use Rattle.std.proofs.lemmas.Bool.{agree_below_at}
 use Rattle.std.proofs.lemmas.Nat.{pow-add, shr_split, shr-shr, field_of}
 use Rattle.std.proofs.lemmas.Nat.Bits.{bit_at_and, bit_at_or, bit_at_xor, bit_at_not, bit_at-zero}
@@ -18,17 +19,20 @@ two_bits P a b c d x y hx hy =
 pub bit-and : (a b i : ℕ) → nat_bit (bit_and a b) i ≡ (nat_bit a i && nat_bit b i)
 bit-and a b i =
     ap (λ n. n == 1) (bit_at_and a b i)
-    ∙ two_bits (λ x y. (min x y == 1) ≡ ((x == 1) && (y == 1))) refl refl refl refl (a / 2 ^ i % 2) (b / 2 ^ i % 2) (omega arith) (omega arith)
+    ∙ two_bits (λ x y. (min x y == 1) ≡ ((x == 1) && (y == 1))) refl refl refl refl (a / 2 ^ i % 2) (b / 2 ^ i % 2)
+    (omega arith) (omega arith)
 
 pub bit-or : (a b i : ℕ) → nat_bit (bit_or a b) i ≡ (nat_bit a i || nat_bit b i)
 bit-or a b i =
     ap (λ n. n == 1) (bit_at_or a b i)
-    ∙ two_bits (λ x y. (max x y == 1) ≡ ((x == 1) || (y == 1))) refl refl refl refl (a / 2 ^ i % 2) (b / 2 ^ i % 2) (omega arith) (omega arith)
+    ∙ two_bits (λ x y. (max x y == 1) ≡ ((x == 1) || (y == 1))) refl refl refl refl (a / 2 ^ i % 2) (b / 2 ^ i % 2)
+    (omega arith) (omega arith)
 
 pub bit-xor : (a b i : ℕ) → nat_bit (bit_xor a b) i ≡ xor (nat_bit a i) (nat_bit b i)
 bit-xor a b i =
     ap (λ n. n == 1) (bit_at_xor a b i)
-    ∙ two_bits (λ x y. ((x + y) % 2 == 1) ≡ xor (x == 1) (y == 1)) refl refl refl refl (a / 2 ^ i % 2) (b / 2 ^ i % 2) (omega arith) (omega arith)
+    ∙ two_bits (λ x y. ((x + y) % 2 == 1) ≡ xor (x == 1) (y == 1)) refl refl refl refl (a / 2 ^ i % 2) (b / 2 ^ i % 2)
+    (omega arith) (omega arith)
 
 pub bit-not : (n i : ℕ) → n < 2 ^ 64 → i < 64 → nat_bit (2 ^ 64 - 1 - n) i ≡ not (nat_bit n i)
 bit-not n i fits below =

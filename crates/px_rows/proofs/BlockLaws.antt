@@ -7,15 +7,18 @@ use Rattle.px_rows.specs.Words.{IsBlock, IsWritten}
 pub written_law : (at : ℕ) (row words : List ℕ) → at + 8 ≤ length row → length words ≡ 8
     → IsWritten (λ k word. (i : ℕ) → k ≡ at + i → word ≡ get_or words i 0) at row (put_chunk at row words)
 written_law at row words within long = record {
-  inside = λ k low high i e. ap (λ n. get_or (put_chunk at row words) n 0) e ∙ get_or-put_chunk_at at row words i 0 (omega (arith, long)) (omega (arith, long));
+  inside = λ k low high i e. ap (λ n. get_or (put_chunk at row words) n 0) e
+      ∙ get_or-put_chunk_at at row words i 0 (omega (arith, long)) (omega (arith, long));
   before = λ k low. get_or-put_chunk_below at row words k 0 low;
   after = λ k high. get_or-put_chunk_above at row words k 0 (omega (arith, long));
 }
 
 -- the words that are written, and those that were read
-pub word_written : (at k : ℕ) (old new words : List ℕ) → IsWritten (λ k word. (i : ℕ) → k ≡ at + i → word ≡ get_or words i 0) at old new → at ≤ k → k < at + 8
+pub word_written : (at k : ℕ) (old new words : List ℕ) → IsWritten (λ k word. (i : ℕ) → k ≡ at + i
+    → word ≡ get_or words i 0) at old new → at ≤ k → k < at + 8
     → get_or new k 0 ≡ get_or words (k - at) 0
 word_written at k old new words w low high = w.inside k low high (k - at) (omega arith)
 
-pub word_read : (at k : ℕ) (row words : List ℕ) → IsBlock at row words → at ≤ k → k < at + 8 → get_or words (k - at) 0 ≡ get_or row k 0
+pub word_read : (at k : ℕ) (row words : List ℕ) → IsBlock at row words → at ≤ k → k < at + 8 → get_or words (k - at) 0
+    ≡ get_or row k 0
 word_read at k row words b low high = b.each (k - at) (omega arith) ∙ ap (λ n. get_or row n 0) (omega arith)

@@ -1,5 +1,6 @@
 -- The bits of what the calls on rows make of words, and of the words in vectors.
-use Rattle.std.proofs.Common.{◌≡◌, ℕ, ◌-◌, ◌^◌, ◌==◌, ◌<◌, Bool, true, false, cond, ◌&&◌, List, length, get_or, replicate, refl, sym, ap, ◌∙◌, arith, bit_and, bit_xor}
+use Rattle.std.proofs.Common.{◌≡◌, ℕ, ◌-◌, ◌^◌, ◌==◌, ◌<◌, Bool, true, false, cond, ◌&&◌, List, length, get_or}
+use Rattle.std.proofs.Common.{replicate, refl, sym, ap, ◌∙◌, arith, bit_and, bit_xor}
 use Rattle.std.proofs.lemmas.Nat.Bits.{bit_at_ones}
 use Rattle.std.proofs.lemmas.Simd.{get_or-replicate, get_or-zip2, length-replicate, length-zip2}
 use Rattle.std.specs.Simd.Lanes.{zip2}
@@ -28,11 +29,13 @@ chosen false true false = refl
 chosen false false true = refl
 chosen false false false = refl
 
-pub chosen_law : (target value mask : ℕ) → IsChosen (bit_xor target (bit_and (bit_xor target value) mask)) target value mask
+pub chosen_law : (target value mask : ℕ) → IsChosen (bit_xor target (bit_and (bit_xor target value) mask)) target
+    value mask
 chosen_law target value mask = record {
   each = λ i in_word.
       bit-xor target (bit_and (bit_xor target value) mask) i
-      ∙ rw (bit-and (bit_xor target value) mask i, bit-xor target value i) (chosen (nat_bit target i) (nat_bit value i) (nat_bit mask i));
+      ∙ rw (bit-and (bit_xor target value) mask i, bit-xor target value i)
+      (chosen (nat_bit target i) (nat_bit value i) (nat_bit mask i));
 }
 
 outvoted : (a b c : Bool) → xor a (xor a b && xor a c) ≡ majority a b c
@@ -45,11 +48,18 @@ outvoted false true false = refl
 outvoted false false true = refl
 outvoted false false false = refl
 
-pub majority_law : (carry other value turn : ℕ) → IsMajority (bit_xor carry (bit_and (bit_xor carry other) (bit_xor carry (bit_xor value turn)))) carry other value turn
+pub majority_law : (carry other value turn : ℕ)
+    → IsMajority (bit_xor carry (bit_and (bit_xor carry other) (bit_xor carry (bit_xor value turn)))) carry other
+    value turn
 majority_law carry other value turn = record {
   each = λ i in_word.
       bit-xor carry (bit_and (bit_xor carry other) (bit_xor carry (bit_xor value turn))) i
-      ∙ rw (bit-and (bit_xor carry other) (bit_xor carry (bit_xor value turn)) i, bit-xor carry other i, bit-xor carry (bit_xor value turn) i, bit-xor value turn i)
+      ∙ rw (
+        bit-and (bit_xor carry other) (bit_xor carry (bit_xor value turn)) i,
+        bit-xor carry other i,
+        bit-xor carry (bit_xor value turn) i,
+        bit-xor value turn i,
+      )
       (outvoted (nat_bit carry i) (nat_bit other i) (xor (nat_bit value i) (nat_bit turn i)));
 }
 
@@ -71,11 +81,13 @@ added false false true false = refl
 added false false false true = refl
 added false false false false = refl
 
-pub added_law : (target carry value mask : ℕ) → IsAdded (bit_xor target (bit_and (bit_xor value carry) mask)) target carry value mask
+pub added_law : (target carry value mask : ℕ) → IsAdded (bit_xor target (bit_and (bit_xor value carry) mask)) target
+    carry value mask
 added_law target carry value mask = record {
   each = λ i in_word.
       bit-xor target (bit_and (bit_xor value carry) mask) i
-      ∙ rw (bit-and (bit_xor value carry) mask i, bit-xor value carry i) (added (nat_bit target i) (nat_bit carry i) (nat_bit value i) (nat_bit mask i));
+      ∙ rw (bit-and (bit_xor value carry) mask i, bit-xor value carry i) (added (nat_bit target i) (nat_bit carry i)
+      (nat_bit value i) (nat_bit mask i));
 }
 
 carried : (t k v : Bool) → xor k (xor v k && xor k t) ≡ majority v t k
@@ -88,11 +100,13 @@ carried false true false = refl
 carried false false true = refl
 carried false false false = refl
 
-pub carried_law : (target carry value : ℕ) → IsCarried (bit_xor carry (bit_and (bit_xor value carry) (bit_xor carry target))) target carry value
+pub carried_law : (target carry value : ℕ)
+    → IsCarried (bit_xor carry (bit_and (bit_xor value carry) (bit_xor carry target))) target carry value
 carried_law target carry value = record {
   each = λ i in_word.
       bit-xor carry (bit_and (bit_xor value carry) (bit_xor carry target)) i
-      ∙ rw (bit-and (bit_xor value carry) (bit_xor carry target) i, bit-xor value carry i, bit-xor carry target i) (carried (nat_bit target i) (nat_bit carry i) (nat_bit value i));
+      ∙ rw (bit-and (bit_xor value carry) (bit_xor carry target) i, bit-xor value carry i, bit-xor carry target i)
+      (carried (nat_bit target i) (nat_bit carry i) (nat_bit value i));
 }
 
 -- ---- vectors of n lanes
@@ -101,35 +115,49 @@ module _ (n : ℕ) where
   long : (f : ℕ → ℕ → ℕ) (xs ys : List ℕ) → length xs ≡ n → length ys ≡ n → length (zip2 f xs ys) ≡ n
   long f xs ys hx hy = length-zip2 f xs ys (hx ∙ sym hy) ∙ hx
 
-  lane : (f : ℕ → ℕ → ℕ) (xs ys : List ℕ) (i : ℕ) → length xs ≡ n → length ys ≡ n → i < n → get_or (zip2 f xs ys) i 0 ≡ f (get_or xs i 0) (get_or ys i 0)
+  lane : (f : ℕ → ℕ → ℕ) (xs ys : List ℕ) (i : ℕ) → length xs ≡ n → length ys ≡ n → i < n → get_or (zip2 f xs ys) i 0
+      ≡ f (get_or xs i 0) (get_or ys i 0)
   lane f xs ys i hx hy h = get_or-zip2 f xs ys i 0 0 0 (omega arith) (omega arith)
 
-  module _ (a b c d : List ℕ) (ha : length a ≡ n) (hb : length b ≡ n) (hc : length c ≡ n) (hd : length d ≡ n) (i : ℕ) (h : i < n) where
+  module _ (a b c d : List ℕ) (ha : length a ≡ n) (hb : length b ≡ n) (hc : length c ≡ n) (hd : length d ≡ n) (i : ℕ)
+      (h : i < n) where
     -- a & (b ^ t)
-    pub kept_lane : (t : ℕ) → IsKept (get_or (zip2 bit_and a (zip2 bit_xor b (replicate n t))) i 0) (get_or a i 0) (get_or b i 0) t
+    pub kept_lane : (t : ℕ) → IsKept (get_or (zip2 bit_and a (zip2 bit_xor b (replicate n t))) i 0) (get_or a i 0)
+        (get_or b i 0) t
     kept_lane t =
         let ht = length-replicate n t in
-        rw (lane bit_and a (zip2 bit_xor b (replicate n t)) i ha (long bit_xor b (replicate n t) hb ht) h, lane bit_xor b (replicate n t) i hb ht h, get_or-replicate n i t 0 h) (kept_law (get_or a i 0) (get_or b i 0) t)
+        rw (
+          lane bit_and a (zip2 bit_xor b (replicate n t)) i ha (long bit_xor b (replicate n t) hb ht) h,
+          lane bit_xor b (replicate n t) i hb ht h,
+          get_or-replicate n i t 0 h,
+        )
+        (kept_law (get_or a i 0) (get_or b i 0) t)
 
     -- a ^ ((a ^ b) & c)
-    pub chosen_lane : IsChosen (get_or (zip2 bit_xor a (zip2 bit_and (zip2 bit_xor a b) c)) i 0) (get_or a i 0) (get_or b i 0) (get_or c i 0)
+    pub chosen_lane : IsChosen (get_or (zip2 bit_xor a (zip2 bit_and (zip2 bit_xor a b) c)) i 0) (get_or a i 0)
+        (get_or b i 0) (get_or c i 0)
     chosen_lane =
         rw (
-          lane bit_xor a (zip2 bit_and (zip2 bit_xor a b) c) i ha (long bit_and (zip2 bit_xor a b) c (long bit_xor a b ha hb) hc) h,
+          lane bit_xor a (zip2 bit_and (zip2 bit_xor a b) c) i ha
+              (long bit_and (zip2 bit_xor a b) c (long bit_xor a b ha hb) hc) h,
           lane bit_and (zip2 bit_xor a b) c i (long bit_xor a b ha hb) hc h,
           lane bit_xor a b i ha hb h,
         )
         (chosen_law (get_or a i 0) (get_or b i 0) (get_or c i 0))
 
     -- a ^ ((a ^ b) & (a ^ (c ^ t)))
-    pub majority_lane : (t : ℕ) → IsMajority (get_or (zip2 bit_xor a (zip2 bit_and (zip2 bit_xor a b) (zip2 bit_xor a (zip2 bit_xor c (replicate n t))))) i 0) (get_or a i 0) (get_or b i 0) (get_or c i 0) t
+    pub majority_lane : (t : ℕ)
+        → IsMajority
+        (get_or (zip2 bit_xor a (zip2 bit_and (zip2 bit_xor a b)
+        (zip2 bit_xor a (zip2 bit_xor c (replicate n t))))) i 0) (get_or a i 0) (get_or b i 0) (get_or c i 0) t
     majority_lane t =
         let ht = length-replicate n t in
         let hct = long bit_xor c (replicate n t) hc ht in
         let hab = long bit_xor a b ha hb in
         let hact = long bit_xor a (zip2 bit_xor c (replicate n t)) ha hct in
         rw (
-          lane bit_xor a (zip2 bit_and (zip2 bit_xor a b) (zip2 bit_xor a (zip2 bit_xor c (replicate n t)))) i ha (long bit_and (zip2 bit_xor a b) (zip2 bit_xor a (zip2 bit_xor c (replicate n t))) hab hact) h,
+          lane bit_xor a (zip2 bit_and (zip2 bit_xor a b) (zip2 bit_xor a (zip2 bit_xor c (replicate n t)))) i ha
+              (long bit_and (zip2 bit_xor a b) (zip2 bit_xor a (zip2 bit_xor c (replicate n t))) hab hact) h,
           lane bit_and (zip2 bit_xor a b) (zip2 bit_xor a (zip2 bit_xor c (replicate n t))) i hab hact h,
           lane bit_xor a b i ha hb h,
           lane bit_xor a (zip2 bit_xor c (replicate n t)) i ha hct h,
@@ -139,22 +167,26 @@ module _ (n : ℕ) where
         (majority_law (get_or a i 0) (get_or b i 0) (get_or c i 0) t)
 
     -- a ^ ((c ^ b) & d)
-    pub added_lane : IsAdded (get_or (zip2 bit_xor a (zip2 bit_and (zip2 bit_xor c b) d)) i 0) (get_or a i 0) (get_or b i 0) (get_or c i 0) (get_or d i 0)
+    pub added_lane : IsAdded (get_or (zip2 bit_xor a (zip2 bit_and (zip2 bit_xor c b) d)) i 0) (get_or a i 0)
+        (get_or b i 0) (get_or c i 0) (get_or d i 0)
     added_lane =
         rw (
-          lane bit_xor a (zip2 bit_and (zip2 bit_xor c b) d) i ha (long bit_and (zip2 bit_xor c b) d (long bit_xor c b hc hb) hd) h,
+          lane bit_xor a (zip2 bit_and (zip2 bit_xor c b) d) i ha
+              (long bit_and (zip2 bit_xor c b) d (long bit_xor c b hc hb) hd) h,
           lane bit_and (zip2 bit_xor c b) d i (long bit_xor c b hc hb) hd h,
           lane bit_xor c b i hc hb h,
         )
         (added_law (get_or a i 0) (get_or b i 0) (get_or c i 0) (get_or d i 0))
 
     -- b ^ ((c ^ b) & (b ^ a))
-    pub carried_lane : IsCarried (get_or (zip2 bit_xor b (zip2 bit_and (zip2 bit_xor c b) (zip2 bit_xor b a))) i 0) (get_or a i 0) (get_or b i 0) (get_or c i 0)
+    pub carried_lane : IsCarried (get_or (zip2 bit_xor b (zip2 bit_and (zip2 bit_xor c b) (zip2 bit_xor b a))) i 0)
+        (get_or a i 0) (get_or b i 0) (get_or c i 0)
     carried_lane =
         let hcb = long bit_xor c b hc hb in
         let hba = long bit_xor b a hb ha in
         rw (
-          lane bit_xor b (zip2 bit_and (zip2 bit_xor c b) (zip2 bit_xor b a)) i hb (long bit_and (zip2 bit_xor c b) (zip2 bit_xor b a) hcb hba) h,
+          lane bit_xor b (zip2 bit_and (zip2 bit_xor c b) (zip2 bit_xor b a)) i hb
+              (long bit_and (zip2 bit_xor c b) (zip2 bit_xor b a) hcb hba) h,
           lane bit_and (zip2 bit_xor c b) (zip2 bit_xor b a) i hcb hba h,
           lane bit_xor c b i hc hb h,
           lane bit_xor b a i hb ha h,

@@ -11,7 +11,8 @@ returns-then-is_full-clause-many c =
     let turn = YieldsList-turn
     (YieldsList-at c.into_iter-word-iterator.ensures.into_iter_gives
     (YieldsList-from_filter _ is_some_byte
-    (YieldsList-from_slice_split _ is_blank (before_first (λ b. b == 35) c.args.line.now) (cc) (cc) (grind arith) (λ x b q k. search rules))
+    (YieldsList-from_slice_split _ is_blank (before_first (λ b. b == 35) c.args.line.now) (cc) (cc) (grind arith)
+    (λ x b q k. search rules))
     c.filter-word-items.ensures.closure (λ x b q k. search rules)))
     c.loop-word.yielded _ c.loop-word.yielded_by _ _ _ c.in-Some.is c.next.ensures.steps in
     let full : length c.loop-word.words.items ≡ 1 = grind (arith, nat_tests) in
@@ -23,6 +24,7 @@ returns-clause-few c =
     (YieldsList-end
     (YieldsList-at c.into_iter-word-iterator.ensures.into_iter_gives
     (YieldsList-from_filter _ is_some_byte
-    (YieldsList-from_slice_split _ is_blank (before_first (λ b. b == 35) c.args.line.now) (cc) (cc) (grind arith) (λ x b q k. search rules))
+    (YieldsList-from_slice_split _ is_blank (before_first (λ b. b == 35) c.args.line.now) (cc) (cc) (grind arith)
+    (λ x b q k. search rules))
     c.filter-word-items.ensures.closure (λ x b q k. search rules)))
     c.loop-word.yielded _ c.loop-word.yielded_by _ _ c.in-None.is c.next.ensures.steps).0

@@ -6,7 +6,11 @@ pub returns : goal.returns
 returns c = record {
   inside = λ k low high.
       let at = c.args.at in
-      rw (word_written at k _ _ _ c.write.ensures low high, ← word_read at k _ _ c.read.ensures low high, ← word_read at k _ _ c.read-2.ensures low high) (c.kept_lanes-kept.ensures (k - at) (omega arith));
+      rw (
+        word_written at k _ _ _ c.write.ensures low high,
+        ← word_read at k _ _ c.read.ensures low high,
+        ← word_read at k _ _ c.read-2.ensures low high,
+      ) (c.kept_lanes-kept.ensures (k - at) (omega arith));
   before = c.write.ensures.before;
   after = c.write.ensures.after;
 }

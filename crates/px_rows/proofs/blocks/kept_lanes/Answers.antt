@@ -2,4 +2,5 @@ use Rattle.px_rows.proofs.WordLaws.{kept_lane}
 use Rattle.px_rows.proofs.blocks.kept_lanes.Goals as goal
 
 pub returns : goal.returns
-returns c = λ i h. kept_lane 8 c.args.mask c.args.other c.args.other c.args.other c.fits-mask.0 c.fits-other.0 c.fits-other.0 c.fits-other.0 i h c.args.turn
+returns c = λ i h. kept_lane 8 c.args.mask c.args.other c.args.other c.args.other c.fits-mask.0 c.fits-other.0
+    c.fits-other.0 c.fits-other.0 i h c.args.turn

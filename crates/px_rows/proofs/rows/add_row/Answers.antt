@@ -15,8 +15,12 @@ loop-at-preserved c =
     let t = c.loop-at.invariant.rest at (omega arith) in
     let k = c.loop-at.invariant.rest_carry at (omega arith) in
     record {
-      added = write_more (λ j r. IsAdded r (get_or target j 0) (get_or carry j 0) (get_or value j 0) (get_or mask j 0)) c.loop-at.target at c.added_word.result in_target c.loop-at.invariant.added (rw (← t, ← k) c.added_word.ensures);
-      carried = write_more (λ j r. IsCarried r (get_or target j 0) (get_or carry j 0) (get_or value j 0)) c.loop-at.carry at c.carried_word.result in_carry c.loop-at.invariant.carried (rw (← t, ← k) c.carried_word.ensures);
+      added = write_more (λ j r. IsAdded r (get_or target j 0) (get_or carry j 0) (get_or value j 0)
+          (get_or mask j 0)) c.loop-at.target at c.added_word.result in_target c.loop-at.invariant.added
+          (rw (← t, ← k) c.added_word.ensures);
+      carried = write_more (λ j r. IsCarried r (get_or target j 0) (get_or carry j 0) (get_or value j 0))
+          c.loop-at.carry at c.carried_word.result in_carry c.loop-at.invariant.carried
+          (rw (← t, ← k) c.carried_word.ensures);
       rest = write_rest c.loop-at.target target at c.added_word.result c.loop-at.invariant.rest;
       rest_carry = write_rest c.loop-at.carry carry at c.carried_word.result c.loop-at.invariant.rest_carry;
       within = omega (arith, length-set c.loop-at.target at c.added_word.result);

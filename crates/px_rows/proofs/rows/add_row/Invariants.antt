@@ -4,8 +4,10 @@ use Rattle.px_rows.proofs.rows.add_row.Given as goal
 
 abbrev pub invariant-loop-target : goal.invariant-loop-target
 invariant-loop-target l = record {
-  added : (k : ℕ) → k < l.at → IsAdded (get_or l.target k 0) (get_or l.fn.target k 0) (get_or l.fn.carry k 0) (get_or l.value k 0) (get_or l.mask k 0);
-  carried : (k : ℕ) → k < l.at → IsCarried (get_or l.carry k 0) (get_or l.fn.target k 0) (get_or l.fn.carry k 0) (get_or l.value k 0);
+  added : (k : ℕ) → k < l.at → IsAdded (get_or l.target k 0) (get_or l.fn.target k 0) (get_or l.fn.carry k 0)
+      (get_or l.value k 0) (get_or l.mask k 0);
+  carried : (k : ℕ) → k < l.at → IsCarried (get_or l.carry k 0) (get_or l.fn.target k 0) (get_or l.fn.carry k 0)
+      (get_or l.value k 0);
   rest : (k : ℕ) → l.at ≤ k → get_or l.target k 0 ≡ get_or l.fn.target k 0;
   rest_carry : (k : ℕ) → l.at ≤ k → get_or l.carry k 0 ≡ get_or l.fn.carry k 0;
   within : l.at ≤ length l.target;
@@ -16,8 +18,10 @@ decreases-loop-target l = length l.initial.target - l.at
 
 abbrev pub invariant-loop-at : goal.invariant-loop-at
 invariant-loop-at l = record {
-  added : (k : ℕ) → k < l.at → IsAdded (get_or l.target k 0) (get_or l.fn.target k 0) (get_or l.fn.carry k 0) (get_or l.value k 0) (get_or l.mask k 0);
-  carried : (k : ℕ) → k < l.at → IsCarried (get_or l.carry k 0) (get_or l.fn.target k 0) (get_or l.fn.carry k 0) (get_or l.value k 0);
+  added : (k : ℕ) → k < l.at → IsAdded (get_or l.target k 0) (get_or l.fn.target k 0) (get_or l.fn.carry k 0)
+      (get_or l.value k 0) (get_or l.mask k 0);
+  carried : (k : ℕ) → k < l.at → IsCarried (get_or l.carry k 0) (get_or l.fn.target k 0) (get_or l.fn.carry k 0)
+      (get_or l.value k 0);
   rest : (k : ℕ) → l.at ≤ k → get_or l.target k 0 ≡ get_or l.fn.target k 0;
   rest_carry : (k : ℕ) → l.at ≤ k → get_or l.carry k 0 ≡ get_or l.fn.carry k 0;
   within : l.at ≤ length l.target;

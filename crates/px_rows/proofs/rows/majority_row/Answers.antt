@@ -9,7 +9,9 @@ loop-at-preserved c =
     let within : at < length c.loop-at.carry = omega arith in
     let here = c.loop-at.invariant.rest at (omega arith) in
     record {
-      done = write_more (λ j r. IsMajority r (get_or c.args.carry.now j 0) (get_or c.args.other.now j 0) (get_or c.args.value.now j 0) c.all_of-turn.result) c.loop-at.carry at c.majority_word.result within c.loop-at.invariant.done (rw (← here) c.majority_word.ensures);
+      done = write_more (λ j r. IsMajority r (get_or c.args.carry.now j 0) (get_or c.args.other.now j 0)
+          (get_or c.args.value.now j 0) c.all_of-turn.result) c.loop-at.carry at c.majority_word.result within
+          c.loop-at.invariant.done (rw (← here) c.majority_word.ensures);
       rest = write_rest c.loop-at.carry c.args.carry.now at c.majority_word.result c.loop-at.invariant.rest;
       within = omega (arith, length-set c.loop-at.carry at c.majority_word.result);
     }

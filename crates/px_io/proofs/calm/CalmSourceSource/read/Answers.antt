@@ -1,4 +1,5 @@
-use Rattle.std.proofs.Common.{◌≡◌, ◌+◌, ◌-◌, ◌<◌, ◌≤◌, ◌++◌, ℕ, List, [], length, take, drop, min, arith, length-drop, length-take, sym, ap}
+use Rattle.std.proofs.Common.{◌≡◌, ◌+◌, ◌-◌, ◌<◌, ◌≤◌, ◌++◌, ℕ, List, [], length, take, drop, min, arith, length-drop}
+use Rattle.std.proofs.Common.{length-take, sym, ap}
 use Rattle.std.proofs.lemmas.List.{take-append-drop, drop-drop, drop_all}
 use Rattle.std.proofs.Math.Seq.{take-append_seam}
 use Rattle.px_io.proofs.calm.CalmSourceSource.read.Goals as goal
@@ -19,6 +20,7 @@ none_left bytes at n room has_room is zero = drop_all (at + n) bytes (omega arit
 
 pub returns-clause-bytes : goal.returns-clause-bytes
 returns-clause-bytes c = (
-  copied _ c.self.inside.bytes.items _ _ _ _ _ c.self.view_is (omega arith) (rw c.deref.ensures.value at c.copy_from_slice.ensures.after) (omega arith),
+  copied _ c.self.inside.bytes.items _ _ _ _ _ c.self.view_is (omega arith)
+      (rw c.deref.ensures.value at c.copy_from_slice.ensures.after) (omega arith),
   λ zero has_room. none_left c.self.inside.bytes.items _ _ (length c.args.buf.now) c.requires (omega arith) zero,
 )

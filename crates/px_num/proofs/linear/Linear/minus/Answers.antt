@@ -12,6 +12,7 @@ returns c =
     let form = each c.args.self.now c.args.other.now _ (search rules) (search rules) (search rules) in
     record {
       form = form;
-      range = subst IsInTreeRange (sym form) (IsInTreeRange-minus c.args.self.now c.args.other.now c.requires.range c.requires.other);
+      range = subst IsInTreeRange (sym form) (IsInTreeRange-minus c.args.self.now c.args.other.now c.requires.range
+          c.requires.other);
       value = λ x y. ap (λ p. value_at p x y) form ∙ value_at-minus c.args.self.now c.args.other.now x y;
     }
