@@ -1,15 +1,18 @@
 -- What a clock does to one pixel, and what a run of clocks keeps.
-use Rattle.std.specs.Prelude.{◌≡◌, ℕ, ◌+◌, ◌^◌, ◌<◌, Bool, true, false, List, [], ◌∷◌, ◌++◌, length, slice_set, if◌then◌else◌}
-use Rattle.std.proofs.Common.{refl, ap, ◌∙◌, arith, length-set}
+use Rattle.std.specs.Prelude.{◌≡◌, ℕ, ◌+◌, ◌^◌, ◌<◌, Bool, true, false, List, [], ◌∷◌, ◌++◌, length, slice_set}
+use Rattle.std.specs.Prelude.{if◌then◌else◌}
+use Rattle.std.proofs.Common.{refl, ap, ◌∙◌, arith, length-append, length-set}
 use Rattle.std.proofs.lemmas.List.{length-replicate, get_or-replicate}
 use Rattle.px_num.proofs.ListLaws.{get_or-tabulate, length-tabulate}
 use Rattle.px_pixel.specs.Acts.{after_act}
 use Rattle.px_pixel.specs.Pixels.{PixelState, zero_pixel}
 use Rattle.px_pixel.specs.declared.act.Act.{Act}
-use Rattle.px_pixel.specs.declared.act.Act.TheVariants.{Nop, EnableAll, EnableCarry, EnableTree, EnableBit, SetCarry, Fetch, StoreTree, StoreLatch, StoreConst, Toggle, CarryTree, CarryLatch, AddTree}
+use Rattle.px_pixel.specs.declared.act.Act.TheVariants.{Nop, EnableAll, EnableCarry, EnableTree, EnableBit, SetCarry}
+use Rattle.px_pixel.specs.declared.act.Act.TheVariants.{Fetch, StoreTree, StoreLatch, StoreConst, Toggle, CarryTree}
+use Rattle.px_pixel.specs.declared.act.Act.TheVariants.{CarryLatch, AddTree}
 use Rattle.px_tree.specs.Nodes.{TreeState, leaf_output}
-use Rattle.px_array.specs.Arrays.{HasGrid, State, no_pixel, pixel_at, zero_state}
-use Rattle.px_array.specs.Clocks.{after_clock, after_clocks, after_tree_op}
+use Rattle.px_array.specs.Arrays.{Device, HasGrid, State, no_pixel, pixel_at, zero_state}
+use Rattle.px_array.specs.Clocks.{after_clock, after_clocks, after_tree_op, all_clocked}
 use Rattle.px_array.specs.declared.micro.Micro.{Micro}
 use Rattle.px_array.specs.declared.micro.TreeOp.{TreeOp}
 use Rattle.px_array.specs.declared.micro.TreeOp.TheVariants.{Hold, Clear, Feed}
@@ -22,9 +25,17 @@ pixel_at-after_clock m s place in_grid =
     get_or-tabulate (2 ^ (s.tree.nx + s.tree.ny)) alone place no_pixel in_grid
 
 -- a run in two parts
-pub after_clocks-append : (ms ns : List Micro) (s : State) → after_clocks (ms ++ ns) s ≡ after_clocks ns (after_clocks ms s)
+pub after_clocks-append : (ms ns : List Micro) (s : State) → after_clocks (ms ++ ns) s
+    ≡ after_clocks ns (after_clocks ms s)
 after_clocks-append [] ns s = refl
 after_clocks-append (m ∷ ms) ns s = after_clocks-append ms ns (after_clock m s)
+
+pub all_clocked-append : (ms ns : List Micro) (d : Device) → all_clocked (ms ++ ns) d
+    ≡ all_clocked ns (all_clocked ms d)
+all_clocked-append ms ns d =
+    let count : d.clocks + length (ms ++ ns) ≡ d.clocks + length ms + length ns = omega (arith, length-append ms ns) in
+    ap (λ (s : State). record { state = s; clocks = d.clocks + length (ms ++ ns) }) (after_clocks-append ms ns d.state)
+    ∙ ap (λ n. record { state = (all_clocked ns (all_clocked ms d)).state; clocks = n }) count
 
 -- an operation keeps the size of the tree
 pub nx-after_tree_op : (op : TreeOp) (tree : TreeState) → (after_tree_op op tree).nx ≡ tree.nx
@@ -36,6 +47,15 @@ pub ny-after_tree_op : (op : TreeOp) (tree : TreeState) → (after_tree_op op tr
 ny-after_tree_op Hold tree = refl
 ny-after_tree_op Clear tree = refl
 ny-after_tree_op (Feed a b c) tree = refl
+
+-- and so does a run
+pub nx-after_clocks : (ms : List Micro) (s : State) → (after_clocks ms s).tree.nx ≡ s.tree.nx
+nx-after_clocks [] s = refl
+nx-after_clocks (m ∷ ms) s = nx-after_clocks ms (after_clock m s) ∙ nx-after_tree_op m.tree s.tree
+
+pub ny-after_clocks : (ms : List Micro) (s : State) → (after_clocks ms s).tree.ny ≡ s.tree.ny
+ny-after_clocks [] s = refl
+ny-after_clocks (m ∷ ms) s = ny-after_clocks ms (after_clock m s) ∙ ny-after_tree_op m.tree s.tree
 
 -- an act keeps the number of memory bits
 length-stored : (enable v : Bool) (memory : List Bool) (at : ℕ)

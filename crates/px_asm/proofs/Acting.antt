@@ -25,7 +25,8 @@ pub after_acts-same : (act other : ℕ → Act) (tree seen : ℕ → Bool) (n : 
 after_acts-same act other tree seen zero p acts bits = refl
 after_acts-same act other tree seen (suc n) p acts bits =
     rw (acts n (omega arith), bits n (omega arith))
-    (ap (after_act (other n) (seen n)) (after_acts-same act other tree seen n p (λ i low. acts i (omega arith)) (λ i low. bits i (omega arith))))
+    (ap (after_act (other n) (seen n)) (after_acts-same act other tree seen n p (λ i low. acts i (omega arith))
+    (λ i low. bits i (omega arith))))
 
 -- acts that do nothing
 pub after_nops : (act : ℕ → Act) (tree : ℕ → Bool) (n : ℕ) (p : PixelState) → ((i : ℕ) → i < n → act i ≡ Nop)

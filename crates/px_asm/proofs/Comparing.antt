@@ -1,5 +1,6 @@
 -- What is left of one pixel by acts that compare two numbers, bit by bit.
-use Rattle.std.proofs.Common.{◌≡◌, ℕ, zero, suc, ◌+◌, ◌-◌, ◌*◌, ◌/◌, ◌%◌, ◌^◌, ◌<◌, ◌≤◌, ◌==◌, ℤ, pos, Bool, true, false, nat_le, nat_lt, refl, ap, ◌∙◌, arith}
+use Rattle.std.proofs.Common.{◌≡◌, ℕ, zero, suc, ◌+◌, ◌-◌, ◌*◌, ◌/◌, ◌%◌, ◌^◌, ◌<◌, ◌≤◌, ◌==◌, ℤ, pos, Bool, true}
+use Rattle.std.proofs.Common.{false, nat_le, nat_lt, refl, ap, ◌∙◌, arith}
 use Rattle.std.specs.Bool.{beq}
 use Rattle.std.proofs.Math.Nat.{mod-eq_of_lt}
 use Rattle.std.proofs.lemmas.Bool.Decides.{nat_tests}
@@ -38,9 +39,11 @@ pub record HasCompared (u : ℤ) (number n : ℕ) (p q : PixelState) : Type 0 wh
   pub enable : q.enable ≡ p.enable
   pub carry : q.carry ≡ carry_from true (flipped u) (pos number) n
 
-pub kept_by_carry : (u : ℤ) (number w : ℕ) (p q : PixelState) (v test : Bool) → number < 2 ^ w → HasCompared u number w p q
+pub kept_by_carry : (u : ℤ) (number w : ℕ) (p q : PixelState) (v test : Bool) → number < 2 ^ w
+    → HasCompared u number w p q
     → beq (nat_le (modulo u w) number) v ≡ test → bits_of (kept (beq q.carry v) q) ≡ keep test (bits_of p)
-kept_by_carry u number w p q v test below h says = rw (h.memory, h.enable, h.carry, carry_is_at_most u number w below, says) refl
+kept_by_carry u number w p q v test below h says =
+    rw (h.memory, h.enable, h.carry, carry_is_at_most u number w below, says) refl
 
 fetch_place : (f g : Field) (n : ℕ) → n < f.len → less_act f g (suc (2 * n)) ≡ act.Fetch (g.at + n)
 fetch_place f g n low =
@@ -70,8 +73,10 @@ last_place f g = rw (not_first (2 * f.len), is_last (2 * f.len)) refl
     is_last : (n : ℕ) → (suc n == 1 + n) ≡ true
     is_last n = grind (arith, nat_tests)
 
-pub compared_by_latch : BitsOfNumber → (f g : Field) (tree : ℕ → Bool) (n : ℕ) (p : PixelState) → n ≤ f.len → f.len ≡ g.len
-    → HasCompared (pos (number_in g p.memory)) (number_in f p.memory) n p (after_acts (less_act f g) tree (suc (2 * n)) p)
+pub compared_by_latch : BitsOfNumber → (f g : Field) (tree : ℕ → Bool) (n : ℕ) (p : PixelState) → n ≤ f.len
+    → f.len ≡ g.len
+    → HasCompared (pos (number_in g p.memory)) (number_in f p.memory) n p
+    (after_acts (less_act f g) tree (suc (2 * n)) p)
 compared_by_latch bits f g tree zero p low same = record { memory = refl; enable = refl; carry = refl }
 compared_by_latch bits f g tree (suc n) p low same =
     let q = after_acts (less_act f g) tree (suc (2 * n)) p in
@@ -89,14 +94,17 @@ less_by_carry : (m n : ℕ) → beq (nat_le m n) false ≡ nat_lt n m
 less_by_carry m n = grind (arith, nat_tests)
 
 pub kept_if_less : BitsOfNumber → NumberIsBelow → (f g : Field) (tree : ℕ → Bool) (p : PixelState) → f.len ≡ g.len
-    → bits_of (after_acts (less_act f g) tree (2 + 2 * f.len) p) ≡ keep (nat_lt (number_in f p.memory) (number_in g p.memory)) (bits_of p)
+    → bits_of (after_acts (less_act f g) tree (2 + 2 * f.len) p)
+    ≡ keep (nat_lt (number_in f p.memory) (number_in g p.memory)) (bits_of p)
 kept_if_less bits below f g tree p same =
     let q = after_acts (less_act f g) tree (suc (2 * f.len)) p in
     let count : 2 + 2 * f.len ≡ suc (suc (2 * f.len)) = omega arith in
     let compared = compared_by_latch bits f g tree f.len p (omega arith) same in
     let second : number_in g p.memory < 2 ^ f.len = rw same (below g p.memory) in
-    let less : beq (nat_le (modulo (pos (number_in g p.memory)) f.len) (number_in f p.memory)) false ≡ nat_lt (number_in f p.memory) (number_in g p.memory) =
-    rw (rest_of_small (number_in g p.memory) f.len second) (less_by_carry (number_in g p.memory) (number_in f p.memory)) in
+    let less : beq (nat_le (modulo (pos (number_in g p.memory)) f.len) (number_in f p.memory)) false
+    ≡ nat_lt (number_in f p.memory) (number_in g p.memory) =
+    rw (rest_of_small (number_in g p.memory) f.len second)
+    (less_by_carry (number_in g p.memory) (number_in f p.memory)) in
     ap (λ i. bits_of (after_acts (less_act f g) tree i p)) count
     ∙ rw (last_place f g) (kept_by_carry (pos (number_in g p.memory)) (number_in f p.memory) f.len p q false
     (nat_lt (number_in f p.memory) (number_in g p.memory)) (below f p.memory) compared less)

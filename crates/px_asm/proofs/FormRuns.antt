@@ -1,5 +1,6 @@
 -- What the acts of the operations on a form leave of one pixel, to which the tree brings the bits of its value.
-use Rattle.std.proofs.Common.{◌≡◌, ℕ, zero, suc, ◌+◌, ◌-◌, ◌<◌, ◌≤◌, ◌==◌, ℤ, pos, ◌+ℤ◌, Bool, true, false, not, length, if◌then◌else◌, nat_le, nat_lt, inr, refl, sym, ap, ◌∙◌, arith}
+use Rattle.std.proofs.Common.{◌≡◌, ℕ, zero, suc, ◌+◌, ◌-◌, ◌<◌, ◌≤◌, ◌==◌, ℤ, pos, ◌+ℤ◌, Bool, true, false, not}
+use Rattle.std.proofs.Common.{length, if◌then◌else◌, nat_le, nat_lt, inr, refl, sym, ap, ◌∙◌, arith}
 use Rattle.std.specs.Bool.{beq}
 use Rattle.std.specs.Int.{is_negative}
 use Rattle.std.proofs.lemmas.Bool.Decides.{nat_tests}
@@ -23,7 +24,8 @@ use Rattle.px_asm.proofs.Steps.{not_first}
 use Rattle.px_asm.proofs.Storing.{put_by_stores, same_bits}
 use Rattle.px_asm.proofs.Written.{IsWritten, none_written, one_written, whole_written}
 
-waiting_act : (levels : ℕ) (first : Act) (each : ℕ → Act) (i : ℕ) → suc i ≤ levels → act_at levels first each (suc i) ≡ act.Nop
+waiting_act : (levels : ℕ) (first : Act) (each : ℕ → Act) (i : ℕ) → suc i ≤ levels → act_at levels first each (suc i)
+    ≡ act.Nop
 waiting_act levels first each i low = rw (not_first i, not_past levels (suc i) low) refl
   where
     not_past : (levels i : ℕ) → i ≤ levels → nat_lt levels i ≡ false
@@ -46,7 +48,8 @@ waiting levels first each tree (suc n) p low =
     rw (waiting_act levels first each n low) (waiting levels first each tree n p (omega arith))
 
 -- the first act, and then one for each bit of the value
-pub after_bits : (levels count len : ℕ) (first : Act) (each : ℕ → Act) (tree : ℕ → Bool) (v : ℤ) (p : PixelState) → count ≡ 1 + levels + len
+pub after_bits : (levels count len : ℕ) (first : Act) (each : ℕ → Act) (tree : ℕ → Bool) (v : ℤ) (p : PixelState)
+    → count ≡ 1 + levels + len
     → ((t : ℕ) → t < len → tree (suc (t + levels)) ≡ bit_of v t)
     → after_acts (act_at levels first each) tree count p ≡ after_acts each (bit_of v) len (after_act first (tree 0) p)
 after_bits levels count len first each tree v p total bits =
@@ -54,18 +57,23 @@ after_bits levels count len first each tree v p total bits =
     let q = after_act first (tree 0) p in
     ap (λ i. after_acts (act_at levels first each) tree i p) whole
     ∙ (after_acts-parts (act_at levels first each) tree (suc levels) len p
-    ∙ (ap (λ r. after_acts (λ i. act_at levels first each (suc levels + i)) (λ i. tree (suc levels + i)) len r) (waiting levels first each tree levels p (omega arith))
-    ∙ after_acts-same (λ i. act_at levels first each (suc levels + i)) each (λ i. tree (suc levels + i)) (bit_of v) len q (λ t low. bit_act levels first each t) (λ t low.
+    ∙ (ap (λ r. after_acts (λ i. act_at levels first each (suc levels + i)) (λ i. tree (suc levels + i)) len r)
+    (waiting levels first each tree levels p (omega arith))
+    ∙ after_acts-same (λ i. act_at levels first each (suc levels + i)) each (λ i. tree (suc levels + i)) (bit_of v)
+    len q (λ t low. bit_act levels first each t) (λ t low.
     let place : suc levels + t ≡ suc (t + levels) = omega arith in
     ap tree place ∙ bits t low)))
 
 -- loading
-pub put_by_load : (levels count : ℕ) (f : Field) (tree : ℕ → Bool) (v : ℤ) (p : PixelState) → count ≡ 1 + levels + f.len → f.at + f.len ≤ length p.memory
+pub put_by_load : (levels count : ℕ) (f : Field) (tree : ℕ → Bool) (v : ℤ) (p : PixelState) → count ≡ 1 + levels
+    + f.len → f.at + f.len ≤ length p.memory
     → ((t : ℕ) → t < f.len → tree (suc (t + levels)) ≡ bit_of v t)
-    → bits_of (after_acts (act_at levels act.Nop (λ t. act.StoreTree (f.at + t))) tree count p) ≡ put f (modulo v f.len) (bits_of p)
+    → bits_of (after_acts (act_at levels act.Nop (λ t. act.StoreTree (f.at + t))) tree count p)
+    ≡ put f (modulo v f.len) (bits_of p)
 put_by_load levels count f tree v p total room bits =
     ap bits_of (after_bits levels count f.len act.Nop (λ t. act.StoreTree (f.at + t)) tree v p total bits)
-    ∙ put_by_stores f (modulo v f.len) (bit_of v) (λ t. act.StoreTree (f.at + t)) (bit_of v) p room (λ t low. modulo_bit v f.len t low) (λ t q low. refl)
+    ∙ put_by_stores f (modulo v f.len) (bit_of v) (λ t. act.StoreTree (f.at + t)) (bit_of v) p room
+    (λ t low. modulo_bit v f.len t low) (λ t q low. refl)
 
 -- adding: each act leaves a bit of the sum, and the carry into the next
 pub record HasAdded (v : ℤ) (f : Field) (number n : ℕ) (p q : PixelState) : Type 0 where
@@ -76,7 +84,8 @@ pub record HasAdded (v : ℤ) (f : Field) (number n : ℕ) (p q : PixelState) : 
 abbrev pub add_act : Field → ℕ → Act
 add_act f t = act.AddTree (f.at + t)
 
-pub added : BitsOfNumber → (f : Field) (v : ℤ) (n : ℕ) (p : PixelState) → n ≤ f.len → f.at + f.len ≤ length p.memory → p.carry ≡ false
+pub added : BitsOfNumber → (f : Field) (v : ℤ) (n : ℕ) (p : PixelState) → n ≤ f.len → f.at + f.len ≤ length p.memory
+    → p.carry ≡ false
     → HasAdded v f (number_in f p.memory) n p (after_acts (add_act f) (bit_of v) n p)
 added bits f v zero p low room none = record {
   enable = refl;
@@ -87,7 +96,8 @@ added bits f v (suc n) p low room none =
     let q = after_acts (add_act f) (bit_of v) n p in
     let number = number_in f p.memory in
     let before = added bits f v n p (omega arith) room none in
-    let here : bit_at q.memory (f.at + n) ≡ nat_bit number n = before.written.others (f.at + n) (inr (omega arith)) ∙ sym (bits f p.memory n (omega arith)) in
+    let here : bit_at q.memory (f.at + n) ≡ nat_bit number n = before.written.others (f.at + n) (inr (omega arith))
+    ∙ sym (bits f p.memory n (omega arith)) in
     record {
       enable = before.enable;
       carry = rw (here, before.carry) refl;
@@ -95,7 +105,8 @@ added bits f v (suc n) p low room none =
           (one_written f.at n (bit_of (v +ℤ pos number)) p.enable p.memory q.memory (omega arith) before.written);
     }
 
-pub put_by_add : BitsOfNumber → (levels count : ℕ) (f : Field) (tree : ℕ → Bool) (v : ℤ) (p : PixelState) → count ≡ 1 + levels + f.len → f.at + f.len ≤ length p.memory
+pub put_by_add : BitsOfNumber → (levels count : ℕ) (f : Field) (tree : ℕ → Bool) (v : ℤ) (p : PixelState)
+    → count ≡ 1 + levels + f.len → f.at + f.len ≤ length p.memory
     → ((t : ℕ) → t < f.len → tree (suc (t + levels)) ≡ bit_of v t)
     → bits_of (after_acts (act_at levels (act.SetCarry false) (add_act f)) tree count p)
     ≡ put f (modulo (pos (number_in f p.memory) +ℤ v) f.len) (bits_of p)
@@ -127,7 +138,8 @@ compared_by_tree bits f v (suc n) p low set =
     }
 
 abbrev pub at_most_act : (levels : ℕ) → Field → ℕ → Act
-at_most_act levels f i = if i == 1 + levels + f.len then act.EnableCarry true else act_at levels (act.SetCarry true) (compare_act f) i
+at_most_act levels f i =
+    if i == 1 + levels + f.len then act.EnableCarry true else act_at levels (act.SetCarry true) (compare_act f) i
 
 same_as_true : (b : Bool) → beq b true ≡ b
 same_as_true true = refl
@@ -139,9 +151,11 @@ is_last n = grind (arith, nat_tests)
 pub not_last : (i n : ℕ) → i < n → (i == n) ≡ false
 not_last i n low = grind (arith, nat_tests)
 
-pub kept_if_at_most : BitsOfNumber → NumberIsBelow → (levels count : ℕ) (f : Field) (tree : ℕ → Bool) (v : ℤ) (p : PixelState) → count ≡ suc (1 + levels + f.len)
+pub kept_if_at_most : BitsOfNumber → NumberIsBelow → (levels count : ℕ) (f : Field) (tree : ℕ → Bool) (v : ℤ)
+    (p : PixelState) → count ≡ suc (1 + levels + f.len)
     → ((t : ℕ) → t < f.len → tree (suc (t + levels)) ≡ bit_of v t)
-    → bits_of (after_acts (at_most_act levels f) tree count p) ≡ keep (nat_le (modulo v f.len) (number_in f p.memory)) (bits_of p)
+    → bits_of (after_acts (at_most_act levels f) tree count p) ≡ keep (nat_le (modulo v f.len) (number_in f p.memory))
+    (bits_of p)
 kept_if_at_most bits below levels count f tree v p total seen =
     let last = 1 + levels + f.len in
     let start : PixelState = record p { carry = true } in
@@ -152,8 +166,10 @@ kept_if_at_most bits below levels count f tree v p total seen =
     after_acts-same (at_most_act levels f) fed tree tree last p (λ i low. rw (not_last i last low) refl) (λ i low. refl)
     ∙ after_bits levels last f.len (act.SetCarry true) (compare_act f) tree v p refl seen in
     let h = compared_by_tree bits f v f.len start (omega arith) refl in
-    let compared : HasCompared v number f.len p end = record { memory = h.memory; enable = h.enable; carry = h.carry } in
-    rw (total, is_last last, plain) (kept_by_carry v number f.len p end true (nat_le (modulo v f.len) number) (below f p.memory) compared
+    let compared : HasCompared v number f.len p end =
+    record { memory = h.memory; enable = h.enable; carry = h.carry } in
+    rw (total, is_last last, plain) (kept_by_carry v number f.len p end true (nat_le (modulo v f.len) number)
+    (below f p.memory) compared
     (same_as_true (nat_le (modulo v f.len) number)))
 
 -- the sign
@@ -164,7 +180,14 @@ not_same : (b : Bool) → beq b false ≡ not b
 not_same true = refl
 not_same false = refl
 
-pub kept_by_sign : (last count : ℕ) (tree : ℕ → Bool) (v : ℤ) (p : PixelState) → count ≡ suc last → tree last ≡ is_negative v
+pub kept_by_sign : (last count : ℕ) (tree : ℕ → Bool) (v : ℤ) (p : PixelState) → count ≡ suc last
+    → tree last ≡ is_negative v
     → bits_of (after_acts (sign_act last) tree count p) ≡ keep (not (is_negative v)) (bits_of p)
 kept_by_sign last count tree v p total sign =
-    rw (total, is_last last, after_nops (sign_act last) tree last p (λ i low. rw (not_last i last low) refl), sign, not_same (is_negative v)) refl
+    rw (
+      total,
+      is_last last,
+      after_nops (sign_act last) tree last p (λ i low. rw (not_last i last low) refl),
+      sign,
+      not_same (is_negative v),
+    ) refl

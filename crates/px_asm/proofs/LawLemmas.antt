@@ -8,7 +8,8 @@ use Rattle.px_tree.specs.Nodes.{IsGrid, leaf_output}
 use Rattle.px_tree.specs.TreeBit.{LeafGivesSign, LeafGivesValue}
 use Rattle.px_macro.specs.FieldLaws.{BitsOfNumber, NumberIsBelow}
 use Rattle.px_macro.specs.declared.field.Field.{Field}
-use Rattle.px_macro.specs.declared.operation.Macro.TheVariants.{All, KeepSign, KeepBit, LoadLinear, KeepAtMost, AddLinear, LoadConst, SetBit, Toggle, Copy, KeepLess}
+use Rattle.px_macro.specs.declared.operation.Macro.TheVariants.{All, KeepSign, KeepBit, LoadLinear, KeepAtMost}
+use Rattle.px_macro.specs.declared.operation.Macro.TheVariants.{AddLinear, LoadConst, SetBit, Toggle, Copy, KeepLess}
 use Rattle.px_array.specs.Arrays.{HasGrid, State, pixel_at, pixel_of}
 use Rattle.px_asm.specs.Micros.{micro_at, tree_at}
 use Rattle.px_asm.specs.Microprograms.{LeaveTheMeaning, bits_of}
@@ -17,20 +18,25 @@ use Rattle.px_asm.proofs.FormRuns.{at_most_act, kept_by_sign, kept_if_at_most, n
 use Rattle.px_asm.proofs.Comparing.{kept_if_less}
 use Rattle.px_asm.proofs.PlaceLemmas.{act_of_choice}
 use Rattle.px_asm.proofs.Storing.{put_by_copy, put_by_stores}
-use Rattle.px_asm.proofs.Steps.{leaf_while_fed, pixel_after_run, place_inside, steps}
+use Rattle.px_tree.proofs.PlaceLaws.{index_below}
+use Rattle.px_asm.proofs.Steps.{leaf_while_fed, pixel_after_run, steps}
 
-memory_size : (bits nx ny : ℕ) (s : State) → HasGrid bits nx ny s → (x y : ℕ) → x < 2 ^ nx → y < 2 ^ ny → length (pixel_of s x y).memory ≡ bits
+memory_size : (bits nx ny : ℕ) (s : State) → HasGrid bits nx ny s → (x y : ℕ) → x < 2 ^ nx → y < 2 ^ ny
+    → length (pixel_of s x y).memory ≡ bits
 memory_size bits nx ny s grid x y column row =
-    ap (λ rows. length (pixel_at s (x * 2 ^ rows + y)).memory) grid.rows ∙ grid.memory (x * 2 ^ ny + y) (place_inside nx ny x y column row)
+    ap (λ rows. length (pixel_at s (x * 2 ^ rows + y)).memory) grid.rows
+    ∙ grid.memory (x * 2 ^ ny + y) (index_below nx ny x y column row)
 
 -- bit 39 of a value is its sign
-sign_of_leaf : LeafGivesValue → LeafGivesSign → (form : Linear) (nx ny x y : ℕ) → IsInTreeRange form → IsGrid nx ny → x < 2 ^ nx → y < 2 ^ ny
+sign_of_leaf : LeafGivesValue → LeafGivesSign → (form : Linear) (nx ny x y : ℕ) → IsInTreeRange form → IsGrid nx ny
+    → x < 2 ^ nx → y < 2 ^ ny
     → bit_of (value_at form x y) 39 ≡ is_negative (value_at form x y)
 sign_of_leaf leaf sign form nx ny x y range sizes column row =
     sym (leaf form nx ny x y 39 sizes.0.0 sizes.1.0 column row) ∙ sign form nx ny x y range sizes column row
 
 -- the tree is fed in each clock of a comparison but the last
-fed_before_last : (form : Linear) (f : Field) (nx ny i : ℕ) → i < 1 + (nx + ny) + f.len → (micro_at (KeepAtMost form f) nx ny i).tree ≡ tree_at form nx ny i
+fed_before_last : (form : Linear) (f : Field) (nx ny i : ℕ) → i < 1 + (nx + ny) + f.len
+    → (micro_at (KeepAtMost form f) nx ny i).tree ≡ tree_at form nx ny i
 fed_before_last form f nx ny i low = rw (not_last i (1 + (nx + ny) + f.len) low) refl
 
 pub leave_the_meaning : BitsOfNumber → NumberIsBelow → LeafGivesValue → LeafGivesSign → LeaveTheMeaning
@@ -54,7 +60,8 @@ leave_the_meaning number below leaf sign bits nx ny sizes (LoadLinear form f) la
     let tree : ℕ → Bool = λ i. leaf_output (steps micro i s).tree (x * 2 ^ ny + y) in
     let size = memory_size bits nx ny s grid x y column row in
     ap bits_of (pixel_after_run bits nx ny micro count s grid x y column row)
-    ∙ put_by_load (nx + ny) count f tree (value_at form x y) (pixel_of s x y) refl (omega (arith, size, lawful.1.within)) (λ t low.
+    ∙ put_by_load (nx + ny) count f tree (value_at form x y) (pixel_of s x y) refl
+    (omega (arith, size, lawful.1.within)) (λ t low.
     leaf_while_fed leaf bits nx ny sizes micro form t s grid (λ i h. refl) x y column row)
 leave_the_meaning number below leaf sign bits nx ny sizes (KeepAtMost form f) lawful s grid x y column row =
     let micro = micro_at (KeepAtMost form f) nx ny in
@@ -63,22 +70,26 @@ leave_the_meaning number below leaf sign bits nx ny sizes (KeepAtMost form f) la
     let total : count ≡ suc last = omega arith in
     let tree : ℕ → Bool = λ i. leaf_output (steps micro i s).tree (x * 2 ^ ny + y) in
     ap bits_of (pixel_after_run bits nx ny micro count s grid x y column row)
-    ∙ (ap bits_of (after_acts-same (λ i. (micro i).act) (at_most_act (nx + ny) f) tree tree count (pixel_of s x y) (λ i low. act_of_choice (i == last) _ _) (λ i low. refl))
+    ∙ (ap bits_of (after_acts-same (λ i. (micro i).act) (at_most_act (nx + ny) f) tree tree count (pixel_of s x y)
+    (λ i low. act_of_choice (i == last) _ _) (λ i low. refl))
     ∙ kept_if_at_most number below (nx + ny) count f tree (value_at form x y) (pixel_of s x y) total (λ t low.
-    leaf_while_fed leaf bits nx ny sizes micro form t s grid (λ i h. fed_before_last form f nx ny i (omega arith)) x y column row))
+    leaf_while_fed leaf bits nx ny sizes micro form t s grid (λ i h. fed_before_last form f nx ny i (omega arith)) x
+    y column row))
 leave_the_meaning number below leaf sign bits nx ny sizes (AddLinear form f) lawful s grid x y column row =
     let micro = micro_at (AddLinear form f) nx ny in
     let count = 1 + (nx + ny) + f.len in
     let tree : ℕ → Bool = λ i. leaf_output (steps micro i s).tree (x * 2 ^ ny + y) in
     let size = memory_size bits nx ny s grid x y column row in
     ap bits_of (pixel_after_run bits nx ny micro count s grid x y column row)
-    ∙ put_by_add number (nx + ny) count f tree (value_at form x y) (pixel_of s x y) refl (omega (arith, size, lawful.1.within)) (λ t low.
+    ∙ put_by_add number (nx + ny) count f tree (value_at form x y) (pixel_of s x y) refl
+    (omega (arith, size, lawful.1.within)) (λ t low.
     leaf_while_fed leaf bits nx ny sizes micro form t s grid (λ i h. refl) x y column row)
 leave_the_meaning number below leaf sign bits nx ny sizes (LoadConst f c) lawful s grid x y column row =
     let micro = micro_at (LoadConst f c) nx ny in
     let size = memory_size bits nx ny s grid x y column row in
     ap bits_of (pixel_after_run bits nx ny micro f.len s grid x y column row)
-    ∙ put_by_stores f c (nat_bit c) (λ i. (micro i).act) (λ i. leaf_output (steps micro i s).tree (x * 2 ^ ny + y)) (pixel_of s x y)
+    ∙ put_by_stores f c (nat_bit c) (λ i. (micro i).act) (λ i. leaf_output (steps micro i s).tree (x * 2 ^ ny + y))
+    (pixel_of s x y)
     (omega (arith, size, lawful.0.within)) (λ t low. refl) (λ t p low. refl)
 leave_the_meaning number below leaf sign bits nx ny sizes (SetBit at v) lawful s grid x y column row =
     ap bits_of (pixel_after_run bits nx ny (micro_at (SetBit at v) nx ny) 1 s grid x y column row)
@@ -93,4 +104,5 @@ leave_the_meaning number below leaf sign bits nx ny sizes (Copy f g) lawful s gr
 leave_the_meaning number below leaf sign bits nx ny sizes (KeepLess f g) lawful s grid x y column row =
     let micro = micro_at (KeepLess f g) nx ny in
     ap bits_of (pixel_after_run bits nx ny micro (2 + 2 * f.len) s grid x y column row)
-    ∙ kept_if_less number below f g (λ i. leaf_output (steps micro i s).tree (x * 2 ^ ny + y)) (pixel_of s x y) lawful.length
+    ∙ kept_if_less number below f g (λ i. leaf_output (steps micro i s).tree (x * 2 ^ ny + y)) (pixel_of s x y)
+    lawful.length

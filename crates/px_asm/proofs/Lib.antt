@@ -1,5 +1,6 @@
 pub mod Acting
 pub mod Comparing
+pub mod CycleLaws
 pub mod FormRuns
 pub mod LawLemmas
 pub mod MakingLemmas

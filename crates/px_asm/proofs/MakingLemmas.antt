@@ -11,7 +11,8 @@ use Rattle.px_asm.specs.Micros.{cycles, micro_at, micros}
 use Rattle.px_macro.specs.declared.operation.Macro.{Macro}
 use Rattle.px_num.proofs.ListLaws.{get_or-tabulate, length-tabulate}
 
-between_step : (ms : List Micro) (i j : ℕ) (d : Micro) → i < j → j ≤ length ms → between i j ms ≡ get_or ms i d ∷ between (i + 1) j ms
+between_step : (ms : List Micro) (i j : ℕ) (d : Micro) → i < j → j ≤ length ms → between i j ms ≡ get_or ms i d
+    ∷ between (i + 1) j ms
 between_step ms i j d low within =
     let xs = take j ms in
     let e = length-take j ms in
@@ -25,11 +26,13 @@ one_clocked m ms d = ap (λ n. record { state = after_clocks (m ∷ ms) d.state;
 
 -- a clock of the operation is made, and as many are left as before but one
 pub one_made : (m : Macro) (nx ny i j : ℕ) (device : Device) → i < j → j ≤ cycles m nx ny →
-    all_clocked (between (i + 1) j (micros m nx ny)) (clocked (micro_at m nx ny i) device) ≡ all_clocked (between i j (micros m nx ny)) device
+    all_clocked (between (i + 1) j (micros m nx ny)) (clocked (micro_at m nx ny i) device)
+    ≡ all_clocked (between i j (micros m nx ny)) device
 one_made m nx ny i j device low within =
     let d = micro_at m nx ny i in
     let here = get_or-tabulate (cycles m nx ny) (micro_at m nx ny) i d (omega arith) in
-    let step = between_step (micros m nx ny) i j d low (omega (arith, length-tabulate (cycles m nx ny) (micro_at m nx ny))) in
+    let step = between_step (micros m nx ny) i j d low
+    (omega (arith, length-tabulate (cycles m nx ny) (micro_at m nx ny))) in
     sym (ap (λ ms. all_clocked ms device) (step ∙ ap (λ x. x ∷ between (i + 1) j (micros m nx ny)) here)
     ∙ one_clocked d (between (i + 1) j (micros m nx ny)) device)
 

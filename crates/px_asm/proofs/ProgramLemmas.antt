@@ -14,5 +14,6 @@ leave_the_meanings meaning bits nx ny sizes (m ∷ ms) lawful s grid x y column 
     let between = after_clocks first s in
     let rest : All (λ m. IsLawful m bits) ms = λ k d low. lawful (suc k) d (omega arith) in
     ap (λ (r : State). bits_of (pixel_of r x y)) (after_clocks-append first (all_micros ms nx ny) s)
-    ∙ (leave_the_meanings meaning bits nx ny sizes ms rest between (grid_after_clocks bits nx ny first s grid) x y column row
+    ∙ (leave_the_meanings meaning bits nx ny sizes ms rest between (grid_after_clocks bits nx ny first s grid) x y
+    column row
     ∙ ap (after_macros ms x y) (meaning bits nx ny sizes m (lawful 0 m (omega arith)) s grid x y column row))

@@ -1,5 +1,6 @@
 -- What is left of one pixel by acts that store a field, bit by bit.
-use Rattle.std.proofs.Common.{◌≡◌, ℕ, zero, suc, ◌+◌, ◌*◌, ◌/◌, ◌%◌, ◌<◌, ◌≤◌, ◌==◌, Bool, true, false, List, length, if◌then◌else◌, ◌⊎◌, inl, inr, refl, sym, ap, subst, ◌∙◌, arith}
+use Rattle.std.proofs.Common.{◌≡◌, ℕ, zero, suc, ◌+◌, ◌*◌, ◌/◌, ◌%◌, ◌<◌, ◌≤◌, ◌==◌, Bool, true, false, List, length}
+use Rattle.std.proofs.Common.{if◌then◌else◌, ◌⊎◌, inl, inr, refl, sym, ap, subst, ◌∙◌, arith}
 use Rattle.std.proofs.lemmas.Bool.Decides.{nat_tests}
 use Rattle.px_num.specs.Bits.{bit_at, nat_bit}
 use Rattle.px_pixel.specs.Acts.{after_act, stored}
@@ -18,31 +19,37 @@ use Rattle.px_asm.proofs.Written.{IsWritten, none_written, one_written, whole_wr
 abbrev pub StoreEach : (at n : ℕ) (v : ℕ → Bool) (act : ℕ → Act) (tree : ℕ → Bool) → Type 0
 StoreEach at n v act tree = (t : ℕ) (p : PixelState) → t < n → after_act (act t) (tree t) p ≡ stored (at + t) (v t) p
 
-pub enable_after_stores : (at n : ℕ) (v : ℕ → Bool) (act : ℕ → Act) (tree : ℕ → Bool) (p : PixelState) → StoreEach at n v act tree → (after_acts act tree n p).enable ≡ p.enable
+pub enable_after_stores : (at n : ℕ) (v : ℕ → Bool) (act : ℕ → Act) (tree : ℕ → Bool) (p : PixelState)
+    → StoreEach at n v act tree → (after_acts act tree n p).enable ≡ p.enable
 enable_after_stores at zero v act tree p each = refl
 enable_after_stores at (suc n) v act tree p each =
     ap (λ (q : PixelState). q.enable) (each n (after_acts act tree n p) (omega arith))
     ∙ enable_after_stores at n v act tree p (λ t q low. each t q (omega arith))
 
-pub written_by_stores : (at n : ℕ) (v : ℕ → Bool) (act : ℕ → Act) (tree : ℕ → Bool) (p : PixelState) → at + n ≤ length p.memory → StoreEach at n v act tree
+pub written_by_stores : (at n : ℕ) (v : ℕ → Bool) (act : ℕ → Act) (tree : ℕ → Bool) (p : PixelState)
+    → at + n ≤ length p.memory → StoreEach at n v act tree
     → IsWritten at n v p.enable p.memory (after_acts act tree n p).memory
 written_by_stores at zero v act tree p room each = none_written at v p.enable p.memory
 written_by_stores at (suc n) v act tree p room each =
     let fewer : StoreEach at n v act tree = λ t q low. each t q (omega arith) in
     let q = after_acts act tree n p in
     let before = written_by_stores at n v act tree p (omega arith) fewer in
-    rw (each n q (omega arith), enable_after_stores at n v act tree p fewer) (one_written at n v p.enable p.memory q.memory (omega arith) before)
+    rw (each n q (omega arith), enable_after_stores at n v act tree p fewer)
+    (one_written at n v p.enable p.memory q.memory (omega arith) before)
 
-pub same_bits : (p q : PixelState) (memory : List Bool) → q.enable ≡ p.enable → q.memory ≡ memory → bits_of q ≡ record { memory = memory; enable = p.enable }
+pub same_bits : (p q : PixelState) (memory : List Bool) → q.enable ≡ p.enable → q.memory ≡ memory
+    → bits_of q ≡ record { memory = memory; enable = p.enable }
 same_bits p q memory e m = rw (e, m) refl
 
 -- a field that was stored whole
-pub put_by_stores : (f : Field) (n : ℕ) (v : ℕ → Bool) (act : ℕ → Act) (tree : ℕ → Bool) (p : PixelState) → f.at + f.len ≤ length p.memory
+pub put_by_stores : (f : Field) (n : ℕ) (v : ℕ → Bool) (act : ℕ → Act) (tree : ℕ → Bool) (p : PixelState)
+    → f.at + f.len ≤ length p.memory
     → ((t : ℕ) → t < f.len → v t ≡ nat_bit n t) → StoreEach f.at f.len v act tree
     → bits_of (after_acts act tree f.len p) ≡ put f n (bits_of p)
 put_by_stores f n v act tree p room bits each =
     let q = after_acts act tree f.len p in
-    same_bits p q (if p.enable then with_number f n p.memory else p.memory) (enable_after_stores f.at f.len v act tree p each)
+    same_bits p q (if p.enable then with_number f n p.memory else p.memory)
+    (enable_after_stores f.at f.len v act tree p each)
     (whole_written f n v p.enable p.memory q.memory bits (written_by_stores f.at f.len v act tree p room each))
 
 -- acts that come in pairs
@@ -65,22 +72,28 @@ half_odd n = omega arith
 -- a pair of a copy: what was fetched is stored
 pub after_pair : (f g : Field) (tree : ℕ → Bool) (n : ℕ) (p : PixelState) →
     let q = after_acts (copy_act f g) tree (2 * n) p in
-    after_acts (copy_act f g) tree (2 * suc n) p ≡ stored (g.at + n) (bit_at q.memory (f.at + n)) (record q { latch = bit_at q.memory (f.at + n) })
+    after_acts (copy_act f g) tree (2 * suc n) p ≡ stored (g.at + n) (bit_at q.memory (f.at + n))
+    (record q { latch = bit_at q.memory (f.at + n) })
 after_pair f g tree n p =
     ap (λ i. after_acts (copy_act f g) tree i p) (two_more n)
     ∙ rw (even n, odd n, half_even n, half_odd n) refl
 
-pub enable_after_copy : (f g : Field) (tree : ℕ → Bool) (n : ℕ) (p : PixelState) → (after_acts (copy_act f g) tree (2 * n) p).enable ≡ p.enable
+pub enable_after_copy : (f g : Field) (tree : ℕ → Bool) (n : ℕ) (p : PixelState)
+    → (after_acts (copy_act f g) tree (2 * n) p).enable ≡ p.enable
 enable_after_copy f g tree zero p = refl
-enable_after_copy f g tree (suc n) p = ap (λ (q : PixelState). q.enable) (after_pair f g tree n p) ∙ enable_after_copy f g tree n p
+enable_after_copy f g tree (suc n) p = ap (λ (q : PixelState). q.enable) (after_pair f g tree n p)
+    ∙ enable_after_copy f g tree n p
 
 unread : (f g : Field) (n : ℕ) → n < f.len → n < g.len → AreApart f g → (f.at + n < g.at) ⊎ (g.at + n ≤ f.at + n)
 unread f g n low below (inl before) = inl (omega arith)
 unread f g n low below (inr after) = inr (omega arith)
 
-pub written_by_copy : (f g : Field) (tree : ℕ → Bool) (n : ℕ) (p : PixelState) → n ≤ f.len → n ≤ g.len → g.at + g.len ≤ length p.memory → AreApart f g
-    → IsWritten g.at n (λ t. bit_at p.memory (f.at + t)) p.enable p.memory (after_acts (copy_act f g) tree (2 * n) p).memory
-written_by_copy f g tree zero p low below room apart = none_written g.at (λ t. bit_at p.memory (f.at + t)) p.enable p.memory
+pub written_by_copy : (f g : Field) (tree : ℕ → Bool) (n : ℕ) (p : PixelState) → n ≤ f.len → n ≤ g.len
+    → g.at + g.len ≤ length p.memory → AreApart f g
+    → IsWritten g.at n (λ t. bit_at p.memory (f.at + t)) p.enable p.memory
+    (after_acts (copy_act f g) tree (2 * n) p).memory
+written_by_copy f g tree zero p low below room apart =
+    none_written g.at (λ t. bit_at p.memory (f.at + t)) p.enable p.memory
 written_by_copy f g tree (suc n) p low below room apart =
     let q = after_acts (copy_act f g) tree (2 * n) p in
     let before = written_by_copy f g tree n p (omega arith) (omega arith) room apart in
@@ -88,11 +101,15 @@ written_by_copy f g tree (suc n) p low below room apart =
     rw (after_pair f g tree n p, enable_after_copy f g tree n p, fetched)
     (one_written g.at n (λ t. bit_at p.memory (f.at + t)) p.enable p.memory q.memory (omega arith) before)
 
-pub put_by_copy : BitsOfNumber → (f g : Field) (tree : ℕ → Bool) (p : PixelState) → f.len ≡ g.len → g.at + g.len ≤ length p.memory → AreApart f g
+pub put_by_copy : BitsOfNumber → (f g : Field) (tree : ℕ → Bool) (p : PixelState) → f.len ≡ g.len → g.at + g.len
+    ≤ length p.memory → AreApart f g
     → bits_of (after_acts (copy_act f g) tree (2 * f.len) p) ≡ put g (number_in f p.memory) (bits_of p)
 put_by_copy bits f g tree p same room apart =
     let q = after_acts (copy_act f g) tree (2 * f.len) p in
     let v : ℕ → Bool = λ t. bit_at p.memory (f.at + t) in
-    let whole = subst (λ n. IsWritten g.at n v p.enable p.memory q.memory) same (written_by_copy f g tree f.len p (omega arith) (omega arith) room apart) in
-    same_bits p q (if p.enable then with_number g (number_in f p.memory) p.memory else p.memory) (enable_after_copy f g tree f.len p)
-    (whole_written g (number_in f p.memory) v p.enable p.memory q.memory (λ t low. sym (bits f p.memory t (omega arith))) whole)
+    let whole = subst (λ n. IsWritten g.at n v p.enable p.memory q.memory) same
+    (written_by_copy f g tree f.len p (omega arith) (omega arith) room apart) in
+    same_bits p q (if p.enable then with_number g (number_in f p.memory) p.memory else p.memory)
+    (enable_after_copy f g tree f.len p)
+    (whole_written g (number_in f p.memory) v p.enable p.memory q.memory
+    (λ t low. sym (bits f p.memory t (omega arith))) whole)

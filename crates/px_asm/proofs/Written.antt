@@ -1,5 +1,7 @@
 -- Fields that are written bit by bit.
-use Rattle.std.proofs.Common.{◌≡◌, ◌≢◌, ℕ, suc, ◌+◌, ◌-◌, ◌<◌, ◌≤◌, Bool, true, false, List, length, slice_set, if◌then◌else◌, ◌⊎◌, inl, inr, refl, sym, ap, ◌∙◌, arith, get_or-set_other, get_or-set_same, length-set}
+use Rattle.std.proofs.Common.{◌≡◌, ◌≢◌, ℕ, suc, ◌+◌, ◌-◌, ◌<◌, ◌≤◌, Bool, true, false, List, length, slice_set}
+use Rattle.std.proofs.Common.{if◌then◌else◌, ◌⊎◌, inl, inr, refl, sym, ap, ◌∙◌, arith, get_or-set_other}
+use Rattle.std.proofs.Common.{get_or-set_same, length-set}
 use Rattle.std.proofs.lemmas.Bool.{cases_lt}
 use Rattle.std.proofs.lemmas.Bool.Decides.{nat_tests}
 use Rattle.std.proofs.lemmas.List.{get_or_default, same_lists}
@@ -27,7 +29,8 @@ other_bit : (enable b : Bool) (memory : List Bool) (k i : ℕ) → i ≢ k
 other_bit true b memory k i differs = get_or-set_other memory k i b false differs
 other_bit false b memory k i differs = refl
 
-size_kept : (enable b : Bool) (memory : List Bool) (k : ℕ) → length (if enable then slice_set memory k b else memory) ≡ length memory
+size_kept : (enable b : Bool) (memory : List Bool) (k : ℕ) → length (if enable then slice_set memory k b else memory)
+    ≡ length memory
 size_kept true b memory k = length-set memory k b
 size_kept false b memory k = refl
 
@@ -40,7 +43,8 @@ not_there at n i (inl low) = omega arith
 not_there at n i (inr high) = omega arith
 
 -- one bit more
-pub one_written : (at n : ℕ) (v : ℕ → Bool) (enable : Bool) (old new : List Bool) → at + n < length old → IsWritten at n v enable old new
+pub one_written : (at n : ℕ) (v : ℕ → Bool) (enable : Bool) (old new : List Bool) → at + n < length old
+    → IsWritten at n v enable old new
     → IsWritten at (suc n) v enable old (if enable then slice_set new (at + n) (v n) else new)
 one_written at n v enable old new room h =
     let inside : at + n < length new = omega (arith, h.size) in
@@ -64,7 +68,8 @@ is_in_false : (f : Field) (k : ℕ) → (k < f.at) ⊎ (f.at + f.len ≤ k) → 
 is_in_false f k (inl low) = grind (arith, nat_tests)
 is_in_false f k (inr high) = grind (arith, nat_tests)
 
-enabled_bit : (f : Field) (number : ℕ) (v : ℕ → Bool) (old new : List Bool) → ((t : ℕ) → t < f.len → v t ≡ nat_bit number t)
+enabled_bit : (f : Field) (number : ℕ) (v : ℕ → Bool) (old new : List Bool)
+    → ((t : ℕ) → t < f.len → v t ≡ nat_bit number t)
     → IsWritten f.at f.len v true old new → (k : ℕ)
     → bit_at new k ≡ (if is_in f k then nat_bit number (k - f.at) else bit_at old k)
 enabled_bit f number v old new bits h k = elim (cases_lt k f.at) [
@@ -78,7 +83,8 @@ enabled_bit f number v old new bits h k = elim (cases_lt k f.at) [
   ]
 ]
 
-disabled_bit : (at n : ℕ) (v : ℕ → Bool) (old new : List Bool) → IsWritten at n v false old new → (k : ℕ) → bit_at new k ≡ bit_at old k
+disabled_bit : (at n : ℕ) (v : ℕ → Bool) (old new : List Bool) → IsWritten at n v false old new → (k : ℕ)
+    → bit_at new k ≡ bit_at old k
 disabled_bit at n v old new h k = elim (cases_lt k at) [
   | inl low ↦ h.others k (inl low)
   | inr from ↦ elim (cases_lt k (at + n)) [
@@ -90,11 +96,14 @@ disabled_bit at n v old new h k = elim (cases_lt k at) [
 ]
 
 -- a field that was written whole has taken the number of these bits
-pub whole_written : (f : Field) (number : ℕ) (v : ℕ → Bool) (enable : Bool) (old new : List Bool) → ((t : ℕ) → t < f.len → v t ≡ nat_bit number t)
+pub whole_written : (f : Field) (number : ℕ) (v : ℕ → Bool) (enable : Bool) (old new : List Bool)
+    → ((t : ℕ) → t < f.len → v t ≡ nat_bit number t)
     → IsWritten f.at f.len v enable old new → new ≡ (if enable then with_number f number old else old)
 whole_written f number v true old new bits h =
-    is_tabulate new (length old) (λ k. if is_in f k then nat_bit number (k - f.at) else bit_at old k) false h.size (λ k low. enabled_bit f number v old new bits h k)
+    is_tabulate new (length old) (λ k. if is_in f k then nat_bit number (k - f.at) else bit_at old k) false h.size
+    (λ k low. enabled_bit f number v old new bits h k)
 whole_written f number v false old new bits h =
     same_lists new old h.size (λ k d low.
     let inside : k < length old = omega (arith, h.size) in
-    get_or_default new k d false low ∙ (disabled_bit f.at f.len v old new h k ∙ sym (get_or_default old k d false inside)))
+    get_or_default new k d false low ∙ (disabled_bit f.at f.len v old new h k
+    ∙ sym (get_or_default old k d false inside)))

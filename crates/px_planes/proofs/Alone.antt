@@ -10,6 +10,7 @@ both_are_one_device bits micros start pixels planes one other = one ∙ sym othe
 pub each_pixel_is_alone : EachPixelIsAlone
 each_pixel_is_alone [] start place within = refl
 each_pixel_is_alone (m ∷ ms) start place within =
-    let size : (after_tree_op m.tree start.tree).nx + (after_tree_op m.tree start.tree).ny ≡ start.tree.nx + start.tree.ny = omega (arith, nx-after_tree_op m.tree start.tree, ny-after_tree_op m.tree start.tree) in
+    let size : (after_tree_op m.tree start.tree).nx + (after_tree_op m.tree start.tree).ny ≡ start.tree.nx
+    + start.tree.ny = omega (arith, nx-after_tree_op m.tree start.tree, ny-after_tree_op m.tree start.tree) in
     each_pixel_is_alone ms (after_clock m start) place (rw size within)
     ∙ ap (alone_after ms (after_tree_op m.tree start.tree) place) (pixel_at-after_clock m start place within)

@@ -1,11 +1,14 @@
 -- A heap that is fed level by level, from the leaves upwards.
-use Rattle.std.proofs.Common.{◌≡◌, ◌≢◌, ℕ, suc, ◌+◌, ◌-◌, ◌*◌, ◌/◌, ◌^◌, ◌<◌, ◌≤◌, Bool, true, false, List, length, length-set, get_or, set, zero, refl, sym, ap, subst, ◌∙◌, arith, inl, inr, get_or-set_same, get_or-set_other}
+use Rattle.std.proofs.Common.{◌≡◌, ◌≢◌, ℕ, suc, ◌+◌, ◌-◌, ◌*◌, ◌/◌, ◌^◌, ◌<◌, ◌≤◌, Bool, true, false, List, length}
+use Rattle.std.proofs.Common.{length-set, get_or, set, zero, refl, sym, ap, subst, ◌∙◌, arith, inl, inr}
+use Rattle.std.proofs.Common.{get_or-set_same, get_or-set_other}
 use Rattle.std.proofs.lemmas.Bool.{cases_eq, cases_lt, le-ltb, lt-ltb}
 use Rattle.std.proofs.lemmas.Nat.{pow-add}
 use Rattle.std.proofs.Math.Nat.{one-le-pow, pow-le-pow_right}
 use Rattle.px_num.specs.Bits.{nat_bit}
 use Rattle.px_tree.specs.declared.lines.Lines.{Lines}
-use Rattle.px_planes.specs.Heap.{AreStill, HasLines, HasOdd, IsAtRest, IsFed, IsFedFirst, IsFedHeap, IsFedWord, IsHeap, level_line, parent_bit}
+use Rattle.px_planes.specs.Heap.{AreStill, HasLines, HasOdd, IsAtRest, IsFed, IsFedFirst, IsFedHeap, IsFedWord}
+use Rattle.px_planes.specs.Heap.{IsHeap, level_line, parent_bit}
 use Rattle.px_planes.proofs.FedWords.{WordFed, node_law, place_line, same_line, same_parent, same_word, still_heap}
 use Rattle.px_planes.proofs.Heaps.{moved}
 
@@ -22,16 +25,22 @@ power_up m n h = pow-le-pow_right {n = 2} (omega arith) h
 pub power_some : (e : ℕ) → 1 ≤ 2 ^ e
 power_some e = one-le-pow e 2 (omega arith)
 
--- the words below 2^(u + 1) are as they were, the others were fed, and `still` tells which of the levels of these stayed
-pub record IsFedDown (nx : ℕ) (now : Lines) (u : ℕ) (outputs carries : List ℕ) (still : List Bool) (new_outputs new_carries : List ℕ) (new_still : List Bool) : Type 0 where
-  pub fed : (w : ℕ) → 2 ^ (u + 1) ≤ w → w < length outputs → WordFed (place_line now.a now.b (2 ^ (nx + 1)) w) now.c outputs carries new_outputs new_carries w
+-- the words below 2^(u + 1) are as they were, the others were fed, and `still` tells which of the levels of these
+-- stayed
+pub record IsFedDown (nx : ℕ) (now : Lines) (u : ℕ) (outputs carries : List ℕ) (still : List Bool)
+    (new_outputs new_carries : List ℕ) (new_still : List Bool) : Type 0 where
+  pub fed : (w : ℕ) → 2 ^ (u + 1) ≤ w → w < length outputs → WordFed (place_line now.a now.b (2 ^ (nx + 1)) w) now.c
+      outputs carries new_outputs new_carries w
   pub outputs_rest : (w : ℕ) → w < 2 ^ (u + 1) → get_or new_outputs w 0 ≡ get_or outputs w 0
   pub carries_rest : (w : ℕ) → w < 2 ^ (u + 1) → get_or new_carries w 0 ≡ get_or carries w 0
-  pub outputs_stay : (v : ℕ) → u ≤ v → v < length still → get_or new_still v false ≡ true → (w : ℕ) → 2 ^ (v + 1) ≤ w → w < 2 ^ (v + 2) → get_or new_outputs w 0 ≡ get_or outputs w 0
-  pub carries_stay : (v : ℕ) → u ≤ v → v < length still → get_or new_still v false ≡ true → (w : ℕ) → 2 ^ (v + 1) ≤ w → w < 2 ^ (v + 2) → get_or new_carries w 0 ≡ get_or carries w 0
+  pub outputs_stay : (v : ℕ) → u ≤ v → v < length still → get_or new_still v false ≡ true → (w : ℕ) → 2 ^ (v + 1) ≤ w
+      → w < 2 ^ (v + 2) → get_or new_outputs w 0 ≡ get_or outputs w 0
+  pub carries_stay : (v : ℕ) → u ≤ v → v < length still → get_or new_still v false ≡ true → (w : ℕ) → 2 ^ (v + 1) ≤ w
+      → w < 2 ^ (v + 2) → get_or new_carries w 0 ≡ get_or carries w 0
   pub still_rest : (v : ℕ) → v < u → get_or new_still v false ≡ get_or still v false
 
-pub fed_none : (nx : ℕ) (now : Lines) (outputs carries : List ℕ) (still : List Bool) → length outputs ≡ 2 ^ (length still + 1)
+pub fed_none : (nx : ℕ) (now : Lines) (outputs carries : List ℕ) (still : List Bool) → length outputs
+    ≡ 2 ^ (length still + 1)
     → IsFedDown nx now (length still) outputs carries still outputs carries still
 fed_none nx now outputs carries still levels = record {
   fed = λ w low high. absurd (omega (arith, levels));
@@ -43,7 +52,8 @@ fed_none nx now outputs carries still levels = record {
 }
 
 -- the place from which levels were fed, as one more than that of the level that comes next
-pub at_next : (nx : ℕ) (now : Lines) (u : ℕ) (outputs carries : List ℕ) (still : List Bool) (o k : List ℕ) (s : List Bool)
+pub at_next : (nx : ℕ) (now : Lines) (u : ℕ) (outputs carries : List ℕ) (still : List Bool) (o k : List ℕ)
+    (s : List Bool)
     → 1 ≤ u → IsFedDown nx now u outputs carries still o k s → IsFedDown nx now (u - 1 + 1) outputs carries still o k s
 at_next nx now u outputs carries still o k s some before =
     let e : u ≡ u - 1 + 1 = omega arith in
@@ -66,12 +76,15 @@ level_place_line nx lines u w j four low high in_word =
 
 -- a level at rest stays so where its words and those of its parents are the same
 pub rest_moved : (line : Bool) (from to : ℕ) (outputs carries new_outputs new_carries : List ℕ)
-    → ((w : ℕ) → from / 2 ≤ w → w < to → get_or new_outputs w 0 ≡ get_or outputs w 0) → ((w : ℕ) → from ≤ w → w < to → get_or new_carries w 0 ≡ get_or carries w 0)
+    → ((w : ℕ) → from / 2 ≤ w → w < to → get_or new_outputs w 0 ≡ get_or outputs w 0)
+    → ((w : ℕ) → from ≤ w → w < to → get_or new_carries w 0 ≡ get_or carries w 0)
     → IsAtRest line from to outputs carries → IsAtRest line from to new_outputs new_carries
 rest_moved line from to outputs carries new_outputs new_carries same_outputs same_carries rest = record {
   fed = λ w low high.
-      subst (λ n. IsFedWord (λ j. line) (nat_bit n) w (get_or new_carries w 0) (get_or new_outputs w 0) (get_or new_carries w 0)) (sym (same_outputs (w / 2) (omega arith) (omega arith)))
-      (moved (λ j. line) (nat_bit (get_or outputs (w / 2) 0)) w _ _ _ _ _ _ (sym (same_carries w low high)) (sym (same_outputs w (omega arith) high)) (sym (same_carries w low high)) (rest.fed w low high));
+      subst (λ n. IsFedWord (λ j. line) (nat_bit n) w (get_or new_carries w 0) (get_or new_outputs w 0)
+      (get_or new_carries w 0)) (sym (same_outputs (w / 2) (omega arith) (omega arith)))
+      (moved (λ j. line) (nat_bit (get_or outputs (w / 2) 0)) w _ _ _ _ _ _ (sym (same_carries w low high))
+      (sym (same_outputs w (omega arith) high)) (sym (same_carries w low high)) (rest.fed w low high));
   outputs_rest = record { below = λ k low. refl; above = λ k high. refl };
   carries_rest = record { below = λ k low. refl; above = λ k high. refl };
 }
@@ -83,12 +96,15 @@ set_there : (still : List Bool) (u v : ℕ) (b : Bool) → v ≢ u → get_or (s
 set_there still u v b other = get_or-set_other still u v b false other
 
 -- one more level
-pub fed_more : (nx : ℕ) (now : Lines) (u : ℕ) (outputs carries : List ℕ) (still : List Bool) (o k : List ℕ) (s : List Bool) (new_outputs new_carries : List ℕ) (r : Bool)
+pub fed_more : (nx : ℕ) (now : Lines) (u : ℕ) (outputs carries : List ℕ) (still : List Bool) (o k : List ℕ)
+    (s : List Bool) (new_outputs new_carries : List ℕ) (r : Bool)
     → 1 ≤ u → u < length still → length s ≡ length still
-    → IsFedDown nx now (u + 1) outputs carries still o k s → IsFed (level_line nx now u) (2 * 2 ^ u) (4 * 2 ^ u) o k new_outputs new_carries
+    → IsFedDown nx now (u + 1) outputs carries still o k s → IsFed (level_line nx now u) (2 * 2 ^ u) (4 * 2 ^ u) o k
+    new_outputs new_carries
     → (r ≡ true → new_outputs ≡ o) → (r ≡ true → new_carries ≡ k)
     → IsFedDown nx now u outputs carries still new_outputs new_carries (set s u r)
-fed_more nx now u outputs carries still o k s new_outputs new_carries r some within long before level same_outputs same_carries =
+fed_more nx now u outputs carries still o k s new_outputs new_carries r some within long before level same_outputs
+    same_carries =
     let here : 2 ^ (u + 1) ≡ 2 * 2 ^ u = power_of (u + 1) u (omega arith) in
     let next : 2 ^ (u + 2) ≡ 4 * 2 ^ u = ap (λ n. 2 ^ n) (omega arith) ∙ pow-add 2 2 u in
     let next_too : 2 ^ (u + 1 + 1) ≡ 4 * 2 ^ u = ap (λ n. 2 ^ n) (omega arith) ∙ next in
@@ -97,10 +113,13 @@ fed_more nx now u outputs carries still o k s new_outputs new_carries r some wit
       fed = λ w low high. elim (cases_lt w (4 * 2 ^ u)) [
         | inl l ↦
             let parent : get_or o (w / 2) 0 ≡ get_or outputs (w / 2) 0 = before.outputs_rest (w / 2) (omega arith) in
-            same_line (level_line nx now u) (place_line now.a now.b (2 ^ (nx + 1)) w) now.c outputs carries new_outputs new_carries w (omega arith)
+            same_line (level_line nx now u) (place_line now.a now.b (2 ^ (nx + 1)) w) now.c outputs carries
+            new_outputs new_carries w (omega arith)
             (λ j in_word. level_place_line nx now u w j (omega arith) low (omega arith) in_word)
-            (subst (λ n. IsFedWord (λ j. level_line nx now u) (nat_bit n) w (get_or carries w 0) (get_or new_outputs w 0) (get_or new_carries w 0)) parent
-            (moved (λ j. level_line nx now u) (nat_bit (get_or o (w / 2) 0)) w _ _ _ _ _ _ (before.carries_rest w (omega arith)) refl refl (level.fed w (omega arith) l)))
+            (subst (λ n. IsFedWord (λ j. level_line nx now u) (nat_bit n) w (get_or carries w 0)
+            (get_or new_outputs w 0) (get_or new_carries w 0)) parent
+            (moved (λ j. level_line nx now u) (nat_bit (get_or o (w / 2) 0)) w _ _ _ _ _ _
+            (before.carries_rest w (omega arith)) refl refl (level.fed w (omega arith) l)))
         | inr g ↦
             moved (place_line now.a now.b (2 ^ (nx + 1)) w) (parent_bit now.c outputs (w / 2)) w _ _ _ _ _ _ refl
             (sym (level.outputs_rest.above w g)) (sym (level.carries_rest.above w g)) (before.fed w (omega arith) high)
@@ -109,28 +128,35 @@ fed_more nx now u outputs carries still o k s new_outputs new_carries r some wit
       carries_rest = λ w low. level.carries_rest.below w (omega arith) ∙ before.carries_rest w (omega arith);
       outputs_stay = λ v low high stay w from to. elim (cases_eq v u) [
         | inl e ↦
-            let stayed : r ≡ true = sym (set_here s u r (omega arith)) ∙ subst (λ n. get_or (set s u r) n false ≡ true) e stay in
+            let stayed : r ≡ true =
+            sym (set_here s u r (omega arith)) ∙ subst (λ n. get_or (set s u r) n false ≡ true) e stay in
             let below : w < 2 ^ (u + 2) = subst (λ n. w < 2 ^ (n + 2)) e to in
             ap (λ xs. get_or xs w 0) (same_outputs stayed) ∙ before.outputs_rest w (omega arith)
         | inr n ↦
             let more : 2 ^ (u + 2) ≤ 2 ^ (v + 1) = power_up (u + 2) (v + 1) (omega arith) in
-            level.outputs_rest.above w (omega arith) ∙ before.outputs_stay v (omega arith) high (sym (set_there s u v r n) ∙ stay) w from to
+            level.outputs_rest.above w (omega arith)
+            ∙ before.outputs_stay v (omega arith) high (sym (set_there s u v r n) ∙ stay) w from to
       ];
       carries_stay = λ v low high stay w from to. elim (cases_eq v u) [
         | inl e ↦
-            let stayed : r ≡ true = sym (set_here s u r (omega arith)) ∙ subst (λ n. get_or (set s u r) n false ≡ true) e stay in
+            let stayed : r ≡ true =
+            sym (set_here s u r (omega arith)) ∙ subst (λ n. get_or (set s u r) n false ≡ true) e stay in
             let below : w < 2 ^ (u + 2) = subst (λ n. w < 2 ^ (n + 2)) e to in
             ap (λ xs. get_or xs w 0) (same_carries stayed) ∙ before.carries_rest w (omega arith)
         | inr n ↦
             let more : 2 ^ (u + 2) ≤ 2 ^ (v + 1) = power_up (u + 2) (v + 1) (omega arith) in
-            level.carries_rest.above w (omega arith) ∙ before.carries_stay v (omega arith) high (sym (set_there s u v r n) ∙ stay) w from to
+            level.carries_rest.above w (omega arith)
+            ∙ before.carries_stay v (omega arith) high (sym (set_there s u v r n) ∙ stay) w from to
       ];
-      still_rest = λ v low. let other : v ≢ u = omega arith in set_there s u v r other ∙ before.still_rest v (omega arith);
+      still_rest = λ v low. let other : v ≢ u = omega arith in
+          set_there s u v r other ∙ before.still_rest v (omega arith);
     }
 
 -- the level that comes next is at rest, where it and its parents were still and its line is the same
-pub next_rest : (nx : ℕ) (last now : Lines) (u : ℕ) (outputs carries : List ℕ) (still : List Bool) (o k : List ℕ) (s : List Bool)
-    → 1 ≤ u → u < length still → IsFedDown nx now (u + 1) outputs carries still o k s → AreStill nx last still outputs carries
+pub next_rest : (nx : ℕ) (last now : Lines) (u : ℕ) (outputs carries : List ℕ) (still : List Bool) (o k : List ℕ)
+    (s : List Bool)
+    → 1 ≤ u → u < length still → IsFedDown nx now (u + 1) outputs carries still o k s
+    → AreStill nx last still outputs carries
     → level_line nx now u ≡ level_line nx last u → get_or s (u - 1) false ≡ true → get_or s u false ≡ true
     → IsAtRest (level_line nx now u) (2 * 2 ^ u) (4 * 2 ^ u) o k
 next_rest nx last now u outputs carries still o k s some within before rest line above here =
@@ -138,20 +164,24 @@ next_rest nx last now u outputs carries still o k s some within before rest line
     let low : 2 ^ (u - 1 + 2) ≡ 2 * 2 ^ u = power_of (u - 1 + 2) u (omega arith) in
     let high : 2 ^ (u - 1 + 3) ≡ 4 * 2 ^ u = ap (λ n. 2 ^ n) (omega arith) ∙ pow-add 2 2 u in
     let top : 2 ^ (u + 1 + 1) ≡ 4 * 2 ^ u = ap (λ n. 2 ^ n) (omega arith) ∙ pow-add 2 2 u in
-    let was = rest.rest (u - 1) (omega arith) (ap (λ n. get_or still n false) one ∙ (sym (before.still_rest u (omega arith)) ∙ here)) (sym (before.still_rest (u - 1) (omega arith)) ∙ above) in
+    let was = rest.rest (u - 1) (omega arith) (ap (λ n. get_or still n false) one
+    ∙ (sym (before.still_rest u (omega arith)) ∙ here)) (sym (before.still_rest (u - 1) (omega arith)) ∙ above) in
     rest_moved (level_line nx now u) (2 * 2 ^ u) (4 * 2 ^ u) outputs carries o k
     (λ w from to. before.outputs_rest w (omega arith)) (λ w from to. before.carries_rest w (omega arith))
     (subst (λ d. IsAtRest d (2 * 2 ^ u) (4 * 2 ^ u) outputs carries) (ap (level_line nx last) one ∙ sym line)
-    (subst (λ m. IsAtRest (level_line nx last (u - 1 + 1)) m (4 * 2 ^ u) outputs carries) low (subst (λ m. IsAtRest (level_line nx last (u - 1 + 1)) (2 ^ (u - 1 + 2)) m outputs carries) high was)))
+    (subst (λ m. IsAtRest (level_line nx last (u - 1 + 1)) m (4 * 2 ^ u) outputs carries) low
+    (subst (λ m. IsAtRest (level_line nx last (u - 1 + 1)) (2 ^ (u - 1 + 2)) m outputs carries) high was)))
 
 -- the rest of what a level asks
-pub next_odd : (nx : ℕ) (now : Lines) (u : ℕ) (outputs carries : List ℕ) (still : List Bool) (o k : List ℕ) (s : List Bool) → u < length still → length outputs ≡ 2 ^ (length still + 1)
+pub next_odd : (nx : ℕ) (now : Lines) (u : ℕ) (outputs carries : List ℕ) (still : List Bool) (o k : List ℕ)
+    (s : List Bool) → u < length still → length outputs ≡ 2 ^ (length still + 1)
     → IsHeap outputs carries → IsFedDown nx now (u + 1) outputs carries still o k s → HasOdd (2 * 2 ^ u) (4 * 2 ^ u) k
 next_odd nx now u outputs carries still o k s within levels heap before = record {
   each = λ w j low high in_word even.
       let top : 2 ^ (u + 1 + 1) ≡ 4 * 2 ^ u = ap (λ n. 2 ^ n) (omega arith) ∙ pow-add 2 2 u in
       let all : 2 ^ (u + 1 + 1) ≤ 2 ^ (length still + 1) = power_up (u + 1 + 1) (length still + 1) (omega arith) in
-      ap (λ n. nat_bit n j) (before.carries_rest w (omega arith)) ∙ heap.odd.each w j (omega arith) (omega (arith, levels)) in_word even;
+      ap (λ n. nat_bit n j) (before.carries_rest w (omega arith))
+      ∙ heap.odd.each w j (omega arith) (omega (arith, levels)) in_word even;
 }
 
 pub next_fits : (u n m : ℕ) → u < n → m ≡ 2 ^ (n + 1) → 4 * 2 ^ u ≤ m
@@ -161,12 +191,17 @@ next_fits u n m within levels =
 
 -- ---- the first four words
 
-module _ (nx : ℕ) (now : Lines) (heads outputs carries : List ℕ) (still : List Bool) (o k : List ℕ) (s : List Bool) (new_outputs new_carries : List ℕ) (r : Bool)
-    (heap : IsHeap outputs carries) (levels : length outputs ≡ 2 ^ (length still + 1)) (some : 1 ≤ length still) (long : length s ≡ length still) (lines : HasLines now.a now.b (2 ^ (nx + 1)) heads)
-    (before : IsFedDown nx now 1 outputs carries still o k s) (first : IsFedFirst heads now.c o k new_outputs new_carries) where
-  head : (w : ℕ) → w < 4 → WordFed (place_line now.a now.b (2 ^ (nx + 1)) w) now.c outputs carries new_outputs new_carries w
+module _ (nx : ℕ) (now : Lines) (heads outputs carries : List ℕ) (still : List Bool) (o k : List ℕ) (s : List Bool)
+    (new_outputs new_carries : List ℕ) (r : Bool)
+    (heap : IsHeap outputs carries) (levels : length outputs ≡ 2 ^ (length still + 1)) (some : 1 ≤ length still)
+    (long : length s ≡ length still) (lines : HasLines now.a now.b (2 ^ (nx + 1)) heads)
+    (before : IsFedDown nx now 1 outputs carries still o k s) (first : IsFedFirst heads now.c o k new_outputs
+    new_carries) where
+  head : (w : ℕ) → w < 4 → WordFed (place_line now.a now.b (2 ^ (nx + 1)) w) now.c outputs carries new_outputs
+      new_carries w
   head w low =
-      let fed = subst (λ n. IsFedWord (nat_bit (get_or heads w 0)) (parent_bit now.c o (w / 2)) w n (get_or new_outputs w 0) (get_or new_carries w 0)) (before.carries_rest w low) (first.fed w low) in
+      let fed = subst (λ n. IsFedWord (nat_bit (get_or heads w 0)) (parent_bit now.c o (w / 2)) w n
+      (get_or new_outputs w 0) (get_or new_carries w 0)) (before.carries_rest w low) (first.fed w low) in
       let parent : get_or o (w / 2) 0 ≡ get_or outputs (w / 2) 0 = before.outputs_rest (w / 2) (omega arith) in
       let test = lt-ltb w 4 low in
       record {
@@ -174,7 +209,8 @@ module _ (nx : ℕ) (now : Lines) (heads outputs carries : List ℕ) (still : Li
         carry_bit = λ j in_word. fed.carry_bit j in_word ∙ rw (parent, lines.each w j low in_word, test) refl;
       }
 
-  pub all_words : (w : ℕ) → w < length outputs → WordFed (place_line now.a now.b (2 ^ (nx + 1)) w) now.c outputs carries new_outputs new_carries w
+  pub all_words : (w : ℕ) → w < length outputs → WordFed (place_line now.a now.b (2 ^ (nx + 1)) w) now.c outputs
+      carries new_outputs new_carries w
   all_words w within = elim (cases_lt w 4) [
     | inl l ↦ head w l
     | inr g ↦
@@ -182,14 +218,18 @@ module _ (nx : ℕ) (now : Lines) (heads outputs carries : List ℕ) (still : Li
         (sym (first.outputs_rest.above w g)) (sym (first.carries_rest.above w g)) (before.fed w g within)
   ]
 
-  pub fed_heap : length new_outputs ≡ length outputs → length new_carries ≡ length carries → IsFedHeap now.a now.b now.c (2 ^ (nx + 1)) outputs carries new_outputs new_carries
+  pub fed_heap : length new_outputs ≡ length outputs → length new_carries ≡ length carries
+      → IsFedHeap now.a now.b now.c (2 ^ (nx + 1)) outputs carries new_outputs new_carries
   fed_heap long_outputs long_carries = record {
-    heap = still_heap now.a now.b now.c (2 ^ (nx + 1)) outputs carries new_outputs new_carries heap all_words long_outputs long_carries;
+    heap = still_heap now.a now.b now.c (2 ^ (nx + 1)) outputs carries new_outputs new_carries heap all_words
+        long_outputs long_carries;
     node = node_law now.a now.b now.c (2 ^ (nx + 1)) outputs carries new_outputs new_carries heap all_words;
   }
 
-  module _ (second : r ≡ true → get_or new_outputs 2 0 ≡ get_or o 2 0) (third : r ≡ true → get_or new_outputs 3 0 ≡ get_or o 3 0) where
-    kept_outputs : (v w : ℕ) → v < length still → get_or (set s 0 r) v false ≡ true → 2 ^ (v + 1) ≤ w → w < 2 ^ (v + 2) → get_or new_outputs w 0 ≡ get_or outputs w 0
+  module _ (second : r ≡ true → get_or new_outputs 2 0 ≡ get_or o 2 0) (third : r ≡ true → get_or new_outputs 3 0
+      ≡ get_or o 3 0) where
+    kept_outputs : (v w : ℕ) → v < length still → get_or (set s 0 r) v false ≡ true → 2 ^ (v + 1) ≤ w
+        → w < 2 ^ (v + 2) → get_or new_outputs w 0 ≡ get_or outputs w 0
     kept_outputs zero w within stay low high =
         let stayed : r ≡ true = sym (set_here s 0 r (omega arith)) ∙ stay in
         elim (cases_lt w 3) [
@@ -199,18 +239,22 @@ module _ (nx : ℕ) (now : Lines) (heads outputs carries : List ℕ) (still : Li
     kept_outputs (suc v) w within stay low high =
         let four : 4 ≤ 2 ^ (suc v + 1) = power_up 2 (suc v + 1) (omega arith) in
         let other : suc v ≢ 0 = omega arith in
-        first.outputs_rest.above w (omega arith) ∙ before.outputs_stay (suc v) (omega arith) within (sym (set_there s 0 (suc v) r other) ∙ stay) w low high
+        first.outputs_rest.above w (omega arith)
+        ∙ before.outputs_stay (suc v) (omega arith) within (sym (set_there s 0 (suc v) r other) ∙ stay) w low high
 
-    kept_carries : (v w : ℕ) → suc v < length still → get_or (set s 0 r) (suc v) false ≡ true → 2 ^ (suc v + 1) ≤ w → w < 2 ^ (suc v + 2) → get_or new_carries w 0 ≡ get_or carries w 0
+    kept_carries : (v w : ℕ) → suc v < length still → get_or (set s 0 r) (suc v) false ≡ true → 2 ^ (suc v + 1) ≤ w
+        → w < 2 ^ (suc v + 2) → get_or new_carries w 0 ≡ get_or carries w 0
     kept_carries v w within stay low high =
         let four : 4 ≤ 2 ^ (suc v + 1) = power_up 2 (suc v + 1) (omega arith) in
         let other : suc v ≢ 0 = omega arith in
-        first.carries_rest.above w (omega arith) ∙ before.carries_stay (suc v) (omega arith) within (sym (set_there s 0 (suc v) r other) ∙ stay) w low high
+        first.carries_rest.above w (omega arith)
+        ∙ before.carries_stay (suc v) (omega arith) within (sym (set_there s 0 (suc v) r other) ∙ stay) w low high
 
     pub are_still : AreStill nx now (set s 0 r) new_outputs new_carries
     are_still = record { rest = rest }
       where
-        rest : (u : ℕ) → u + 1 < length (set s 0 r) → get_or (set s 0 r) (u + 1) false ≡ true → get_or (set s 0 r) u false ≡ true → IsAtRest (level_line nx now (u + 1)) (2 ^ (u + 2)) (2 ^ (u + 3)) new_outputs new_carries
+        rest : (u : ℕ) → u + 1 < length (set s 0 r) → get_or (set s 0 r) (u + 1) false ≡ true → get_or (set s 0 r) u
+            false ≡ true → IsAtRest (level_line nx now (u + 1)) (2 ^ (u + 2)) (2 ^ (u + 3)) new_outputs new_carries
         rest u within here above = record {
           fed = λ w low high.
               let in_still : suc u < length still = omega (arith, within, length-set s 0 r, long) in
@@ -225,11 +269,14 @@ module _ (nx : ℕ) (now : Lines) (heads outputs carries : List ℕ) (still : Li
               let high_line : 2 ^ (u + 1 + 2) ≡ 2 ^ (u + 3) = ap (λ n. 2 ^ n) (omega arith) in
               let all : 2 ^ (u + 3) ≤ 2 ^ (length still + 1) = power_up (u + 3) (length still + 1) (omega arith) in
               let parent = kept_outputs u (w / 2) (omega arith) above (omega arith) (omega arith) in
-              let carry = kept_carries u w in_still (ap (λ n. get_or (set s 0 r) n false) (sym up) ∙ here) (omega arith) (omega arith) in
-              subst (λ n. IsFedWord (λ j. level_line nx now (u + 1)) (nat_bit (get_or new_outputs (w / 2) 0)) w n (get_or new_outputs w 0) (get_or new_carries w 0)) (sym carry)
+              let carry = kept_carries u w in_still (ap (λ n. get_or (set s 0 r) n false) (sym up)
+              ∙ here) (omega arith) (omega arith) in
+              subst (λ n. IsFedWord (λ j. level_line nx now (u + 1)) (nat_bit (get_or new_outputs (w / 2) 0)) w n
+              (get_or new_outputs w 0) (get_or new_carries w 0)) (sym carry)
               (same_word _ (λ j. level_line nx now (u + 1)) _ (nat_bit (get_or new_outputs (w / 2) 0)) w _ _ _
               (λ j in_word. sym (level_place_line nx now (u + 1) w j (omega arith) (omega arith) (omega arith) in_word))
-              (λ i in_word. same_parent now.c outputs (w / 2) i (omega arith) ∙ ap (λ n. nat_bit n i) (sym parent)) (all_words w (omega (arith, levels))));
+              (λ i in_word. same_parent now.c outputs (w / 2) i (omega arith) ∙ ap (λ n. nat_bit n i) (sym parent))
+              (all_words w (omega (arith, levels))));
           outputs_rest = record { below = λ k low. refl; above = λ k high. refl };
           carries_rest = record { below = λ k low. refl; above = λ k high. refl };
         }

@@ -1,5 +1,7 @@
 -- Grids of rows: their pixels after an act, and their padding.
-use Rattle.std.proofs.Common.{◌≡◌, ℕ, zero, suc, ◌+◌, ◌-◌, ◌*◌, ◌==◌, ◌%◌, ◌^◌, ◌<◌, ◌≤◌, ◌&&◌, ◌||◌, Bool, true, false, cond, nat_lt, List, [], ◌∷◌, length, get_or, map, replicate, refl, sym, ap, ◌∙◌, arith, inl, inr}
+use Rattle.std.proofs.Common.{◌≡◌, ℕ, zero, suc, ◌+◌, ◌-◌, ◌*◌, ◌==◌, ◌%◌, ◌^◌, ◌<◌, ◌≤◌, ◌&&◌, ◌||◌, Bool, true}
+use Rattle.std.proofs.Common.{false, cond, nat_lt, List, [], ◌∷◌, length, get_or, map, replicate, refl, sym, ap, ◌∙◌}
+use Rattle.std.proofs.Common.{arith, inl, inr}
 use Rattle.std.proofs.lemmas.Bool.{cases_lt, le-ltb, lt-ltb}
 use Rattle.std.proofs.lemmas.List.{get_or_past}
 use Rattle.std.proofs.lemmas.Nat.{pow-add}
@@ -13,7 +15,9 @@ use Rattle.px_num.proofs.ListLaws.{get_or-tabulate, is_tabulate, length-tabulate
 use Rattle.px_pixel.specs.Acts.{after_act}
 use Rattle.px_pixel.specs.Pixels.{PixelState, zero_pixel}
 use Rattle.px_pixel.specs.declared.act.Act.{Act}
-use Rattle.px_pixel.specs.declared.act.Act.TheVariants.{Nop, EnableAll, EnableCarry, EnableTree, EnableBit, SetCarry, Fetch, StoreTree, StoreLatch, StoreConst, Toggle, CarryTree, CarryLatch, AddTree}
+use Rattle.px_pixel.specs.declared.act.Act.TheVariants.{Nop, EnableAll, EnableCarry, EnableTree, EnableBit, SetCarry}
+use Rattle.px_pixel.specs.declared.act.Act.TheVariants.{Fetch, StoreTree, StoreLatch, StoreConst, Toggle, CarryTree}
+use Rattle.px_pixel.specs.declared.act.Act.TheVariants.{CarryLatch, AddTree}
 use Rattle.px_planes.specs.Pixels.{HasPixels, IsActed, IsZero, acted_at, pixel_in, pixels_in}
 use Rattle.px_rows.specs.Rows.{words_for}
 use Rattle.px_rows.specs.Rows.{row_bit}
@@ -67,24 +71,39 @@ acted_outside bits (StoreTree at) = refl
 acted_outside bits (StoreLatch at) = refl
 acted_outside bits (StoreConst at v) = refl
 acted_outside bits (Toggle at) = refl
-acted_outside bits (CarryTree at) = ap (λ (b : Bool). record (zero_pixel bits) { carry = (true && b) || ((true && false) || (b && false)) }) (no_bit bits at)
-acted_outside bits (CarryLatch at) = ap (λ (b : Bool). record (zero_pixel bits) { carry = (true && b) || ((true && false) || (b && false)) }) (no_bit bits at)
-acted_outside bits (AddTree at) = ap (λ (b : Bool). record (zero_pixel bits) { carry = (false && b) || ((false && false) || (b && false)) }) (no_bit bits at)
+acted_outside bits (CarryTree at) =
+    ap (λ (b : Bool). record (zero_pixel bits) { carry = (true && b) || ((true && false) || (b && false)) })
+    (no_bit bits at)
+acted_outside bits (CarryLatch at) =
+    ap (λ (b : Bool). record (zero_pixel bits) { carry = (true && b) || ((true && false) || (b && false)) })
+    (no_bit bits at)
+acted_outside bits (AddTree at) =
+    ap (λ (b : Bool). record (zero_pixel bits) { carry = (false && b) || ((false && false) || (b && false)) })
+    (no_bit bits at)
 
-module _ (bits : ℕ) (act : Act) (tree : TreeState) (leaves : List ℕ) (old new : Planes) (long : length leaves ≡ words_for (2 ^ (tree.nx + tree.ny)))
-    (leaf : (p : ℕ) → p < 64 * length leaves → row_bit leaves p ≡ cond (nat_lt p (2 ^ (tree.nx + tree.ny))) (leaf_output tree p) false)
+module _ (bits : ℕ) (act : Act) (tree : TreeState) (leaves : List ℕ) (old new : Planes) (long : length leaves
+    ≡ words_for (2 ^ (tree.nx + tree.ny)))
+    (leaf : (p : ℕ) → p < 64 * length leaves → row_bit leaves p ≡ cond (nat_lt p (2 ^ (tree.nx + tree.ny)))
+    (leaf_output tree p) false)
     (pixels : HasPixels bits (2 ^ (tree.nx + tree.ny)) old) (done : IsActed act leaves old new) where
   pub acted_law : pixels_in (2 ^ (tree.nx + tree.ny)) new ≡ acted act tree (pixels_in (2 ^ (tree.nx + tree.ny)) old)
   acted_law =
-      is_tabulate (pixels_in (2 ^ (tree.nx + tree.ny)) new) (2 ^ (tree.nx + tree.ny)) (λ p. after_act act (leaf_output tree p) (get_or (pixels_in (2 ^ (tree.nx + tree.ny)) old) p no_pixel)) no_pixel (length-tabulate (2 ^ (tree.nx + tree.ny)) (pixel_in new))
+      is_tabulate (pixels_in (2 ^ (tree.nx + tree.ny)) new) (2 ^ (tree.nx + tree.ny))
+      (λ p. after_act act (leaf_output tree p) (get_or (pixels_in (2 ^ (tree.nx + tree.ny)) old) p no_pixel))
+      no_pixel (length-tabulate (2 ^ (tree.nx + tree.ny)) (pixel_in new))
       (λ p h.
       let in_row : p < 64 * length leaves = omega (arith, long) in
-      let inside : nat_bit old.full (p % 64) ≡ true = pixels.full p (omega (arith, long)) ∙ lt-ltb p (2 ^ (tree.nx + tree.ny)) h in
-      let bit : row_bit leaves p ≡ leaf_output tree p = leaf p in_row ∙ rw (lt-ltb p (2 ^ (tree.nx + tree.ny)) h) refl in
-      let before : get_or (pixels_in (2 ^ (tree.nx + tree.ny)) old) p no_pixel ≡ pixel_in old p = get_or-tabulate (2 ^ (tree.nx + tree.ny)) (pixel_in old) p no_pixel h in
+      let inside : nat_bit old.full (p % 64) ≡ true =
+      pixels.full p (omega (arith, long)) ∙ lt-ltb p (2 ^ (tree.nx + tree.ny)) h in
+      let bit : row_bit leaves p ≡ leaf_output tree p =
+      leaf p in_row ∙ rw (lt-ltb p (2 ^ (tree.nx + tree.ny)) h) refl in
+      let before : get_or (pixels_in (2 ^ (tree.nx + tree.ny)) old) p no_pixel ≡ pixel_in old p =
+      get_or-tabulate (2 ^ (tree.nx + tree.ny)) (pixel_in old) p no_pixel h in
       get_or-tabulate (2 ^ (tree.nx + tree.ny)) (pixel_in new) p no_pixel h
       ∙ (done.each p in_row ∙ (ap (λ (b : Bool). acted_at b act (row_bit leaves p) (pixel_in old p)) inside
-      ∙ (acted_inside act (row_bit leaves p) (pixel_in old p) ∙ (ap (λ (b : Bool). after_act act b (pixel_in old p)) bit ∙ ap (after_act act (leaf_output tree p)) (sym before))))))
+      ∙ (acted_inside act (row_bit leaves p) (pixel_in old p)
+      ∙ (ap (λ (b : Bool). after_act act b (pixel_in old p)) bit
+      ∙ ap (after_act act (leaf_output tree p)) (sym before))))))
 
   pub still_pixels : HasPixels bits (2 ^ (tree.nx + tree.ny)) new
   still_pixels = record {
@@ -92,31 +111,43 @@ module _ (bits : ℕ) (act : Act) (tree : TreeState) (leaves : List ℕ) (old ne
     memory = done.memory ∙ pixels.memory;
     full = λ p within. ap (λ n. nat_bit n (p % 64)) done.full ∙ pixels.full p within;
     padding = λ p past within.
-        let outside : nat_bit old.full (p % 64) ≡ false = pixels.full p within ∙ le-ltb p (2 ^ (tree.nx + tree.ny)) past in
-        let bit : row_bit leaves p ≡ false = leaf p (omega (arith, long)) ∙ rw (le-ltb p (2 ^ (tree.nx + tree.ny)) past) refl in
+        let outside : nat_bit old.full (p % 64) ≡ false =
+        pixels.full p within ∙ le-ltb p (2 ^ (tree.nx + tree.ny)) past in
+        let bit : row_bit leaves p ≡ false =
+        leaf p (omega (arith, long)) ∙ rw (le-ltb p (2 ^ (tree.nx + tree.ny)) past) refl in
         done.each p (omega (arith, long)) ∙ rw (outside, bit, pixels.padding p past within) (acted_outside bits act);
   }
 
 -- ---- rows of 0
 
-zero_memory : (bits words p : ℕ) → map (λ (row : List ℕ). row_bit row p) (replicate bits (replicate words 0)) ≡ replicate bits false
+zero_memory : (bits words p : ℕ) → map (λ (row : List ℕ). row_bit row p) (replicate bits (replicate words 0))
+    ≡ replicate bits false
 zero_memory zero words p = refl
 zero_memory (suc bits) words p =
     ap (λ (b : Bool). b ∷ map (λ (row : List ℕ). row_bit row p) (replicate bits (replicate words 0))) (zero_bit words p)
     ∙ ap (λ (bs : List Bool). false ∷ bs) (zero_memory bits words p)
 
-zero_pixel_in : (bits words mask : ℕ) (planes : Planes) (p : ℕ) → IsZero bits words mask planes → pixel_in planes p ≡ zero_pixel bits
-zero_pixel_in bits words mask planes p z = rw (z.memory, z.enable, z.carry, z.latch, zero_memory bits words p, zero_bit words p) refl
+zero_pixel_in : (bits words mask : ℕ) (planes : Planes) (p : ℕ) → IsZero bits words mask planes → pixel_in planes p
+    ≡ zero_pixel bits
+zero_pixel_in bits words mask planes p z =
+    rw (z.memory, z.enable, z.carry, z.latch, zero_memory bits words p, zero_bit words p) refl
 
-pub zero_law : (bits words mask n : ℕ) (planes : Planes) → IsZero bits words mask planes → pixels_in n planes ≡ replicate n (zero_pixel bits)
+pub zero_law : (bits words mask n : ℕ) (planes : Planes) → IsZero bits words mask planes → pixels_in n planes
+    ≡ replicate n (zero_pixel bits)
 zero_law bits words mask n planes z =
     sym (is_tabulate (replicate n (zero_pixel bits)) n (pixel_in planes) no_pixel (length-replicate n (zero_pixel bits))
     (λ p h. get_or-replicate n p (zero_pixel bits) no_pixel h ∙ sym (zero_pixel_in bits words mask planes p z)))
 
-pub zero_pixels : (bits words mask n : ℕ) (planes : Planes) → 1 ≤ n → words ≡ words_for n → (64 < n → n % 64 ≡ 0) → ((i : ℕ) → i < 64 → nat_bit mask i ≡ nat_lt i n) → IsZero bits words mask planes → HasPixels bits n planes
+pub zero_pixels : (bits words mask n : ℕ) (planes : Planes) → 1 ≤ n → words ≡ words_for n → (64 < n → n % 64 ≡ 0)
+    → ((i : ℕ) → i < 64 → nat_bit mask i ≡ nat_lt i n) → IsZero bits words mask planes → HasPixels bits n planes
 zero_pixels bits words mask n planes some enough whole full z = record {
   words = rw (← enough) (record {
-    memory = λ at within. ap (λ (rows : List (List ℕ)). length (get_or rows at [])) z.memory ∙ (ap length (get_or-replicate bits at (replicate words 0) [] (omega (arith, ap length z.memory, length-replicate {A = List ℕ} bits (replicate words 0)))) ∙ length-replicate words 0);
+    memory = λ at within. ap (λ (rows : List (List ℕ)). length (get_or rows at [])) z.memory
+        ∙ (ap length (get_or-replicate bits at (replicate words 0) [] (omega (
+          arith,
+          ap length z.memory,
+          length-replicate {A = List ℕ} bits (replicate words 0),
+        ))) ∙ length-replicate words 0);
     enable = ap length z.enable ∙ length-replicate words 0;
     carry = ap length z.carry ∙ length-replicate words 0;
     latch = ap length z.latch ∙ length-replicate words 0;
@@ -134,21 +165,27 @@ zero_pixels bits words mask n planes some enough whole full z = record {
 
 -- ---- single bits
 
-pub bit_law : (bits n : ℕ) (planes : Planes) (at p : ℕ) → HasPixels bits n planes → at < bits → p < n → row_bit (get_or planes.memory.items at []) p ≡ bit_at (get_or (pixels_in n planes) p no_pixel).memory at
+pub bit_law : (bits n : ℕ) (planes : Planes) (at p : ℕ) → HasPixels bits n planes → at < bits → p < n
+    → row_bit (get_or planes.memory.items at []) p ≡ bit_at (get_or (pixels_in n planes) p no_pixel).memory at
 bit_law bits n planes at p pixels place within =
-    sym (bit_of_rows planes.memory.items at p (omega (arith, pixels.memory))) ∙ ap (λ (x : PixelState). bit_at x.memory at) (sym (get_or-tabulate n (pixel_in planes) p no_pixel within))
+    sym (bit_of_rows planes.memory.items at p (omega (arith, pixels.memory)))
+    ∙ ap (λ (x : PixelState). bit_at x.memory at) (sym (get_or-tabulate n (pixel_in planes) p no_pixel within))
 
 pub row_law : (bits n : ℕ) (planes : Planes) (at p : ℕ) → HasPixels bits n planes → at < bits → p < 64 * words_for n
-    → row_bit (get_or planes.memory.items at []) p ≡ cond (nat_lt p n) (bit_at (get_or (pixels_in n planes) p no_pixel).memory at) false
+    → row_bit (get_or planes.memory.items at []) p
+    ≡ cond (nat_lt p n) (bit_at (get_or (pixels_in n planes) p no_pixel).memory at) false
 row_law bits n planes at p pixels place within = elim (cases_lt p n) [
   | inl l ↦ bit_law bits n planes at p pixels place l ∙ rw (lt-ltb p n l) refl
   | inr g ↦
       sym (bit_of_rows planes.memory.items at p (omega (arith, pixels.memory)))
-      ∙ (ap (λ (x : PixelState). bit_at x.memory at) (pixels.padding p g within) ∙ (no_bit bits at ∙ rw (le-ltb p n g) refl))
+      ∙ (ap (λ (x : PixelState). bit_at x.memory at) (pixels.padding p g within)
+      ∙ (no_bit bits at ∙ rw (le-ltb p n g) refl))
 ]
 
-pub registers_law : (n : ℕ) (planes : Planes) (p : ℕ) (enable carry latch : Bool) → p < n → enable ≡ row_bit planes.enable p → carry ≡ row_bit planes.carry p → latch ≡ row_bit planes.latch p
-    → ◌≡◌ {A = Registers} (record { enable = enable; carry = carry; latch = latch }) (registers_of (get_or (pixels_in n planes) p no_pixel))
+pub registers_law : (n : ℕ) (planes : Planes) (p : ℕ) (enable carry latch : Bool) → p < n
+    → enable ≡ row_bit planes.enable p → carry ≡ row_bit planes.carry p → latch ≡ row_bit planes.latch p
+    → ◌≡◌ {A = Registers} (record { enable = enable; carry = carry; latch = latch })
+    (registers_of (get_or (pixels_in n planes) p no_pixel))
 registers_law n planes p enable carry latch within e k l =
     rw (e, k, l) (ap registers_of (sym (get_or-tabulate n (pixel_in planes) p no_pixel within)))
 
@@ -156,7 +193,8 @@ registers_law n planes p enable carry latch within e k l =
 
 pub full_below : (n i : ℕ) → n < 64 → i < 64 → nat_bit (1 * 2 ^ n % 2 ^ 64 - 1) i ≡ nat_lt i n
 full_below n i small in_word =
-    let fits : 2 ^ n < 2 ^ 64 = omega (arith, power_up (n + 1) 64 (omega arith), power_of (n + 1) n (omega arith), power_some n) in
+    let fits : 2 ^ n < 2 ^ 64 =
+    omega (arith, power_up (n + 1) 64 (omega arith), power_of (n + 1) n (omega arith), power_some n) in
     let e : 1 * 2 ^ n % 2 ^ 64 ≡ 2 ^ n = omega arith in
     ap (λ m. nat_bit (m - 1) i) e ∙ elim (cases_lt i n) [
       | inl l ↦ ap (λ b. b == 1) (bit_at_ones n i l) ∙ sym (lt-ltb i n l)

@@ -1,5 +1,6 @@
 -- Rows on a shelf.
-use Rattle.std.proofs.Common.{◌≡◌, ℕ, ◌+◌, ◌*◌, ◌/◌, ◌%◌, ◌<◌, ◌≤◌, nat_lt, Bool, true, false, cond, None, Some, IsSome, List, [], ◌++◌, length, get_or, map, refl, sym, ap, ◌∙◌, arith, inl, inr}
+use Rattle.std.proofs.Common.{◌≡◌, ℕ, ◌+◌, ◌*◌, ◌/◌, ◌%◌, ◌<◌, ◌≤◌, nat_lt, Bool, true, false, cond, None, Some}
+use Rattle.std.proofs.Common.{IsSome, List, [], ◌++◌, length, get_or, map, refl, sym, ap, ◌∙◌, arith, inl, inr}
 use Rattle.std.proofs.lemmas.Bool.{cases_lt}
 use Rattle.std.proofs.lemmas.List.{get_or-append-add, get_or-map, get_or_append_left, length-append, length-map}
 use Rattle.std.proofs.Math.Nat.{mul-le-mul}
@@ -29,18 +30,22 @@ rows_fit k count n below =
     omega arith
 
 -- one row more
-pub pushed_row : (n at : ℕ) (words row : List ℕ) (rows : List (List ℕ)) → length words ≡ at * n → row ≡ get_or rows at []
+pub pushed_row : (n at : ℕ) (words row : List ℕ) (rows : List (List ℕ)) → length words ≡ at * n
+    → row ≡ get_or rows at []
     → ((k j : ℕ) → k < at → j < n → get_or words (k * n + j) 0 ≡ get_or (get_or rows k []) j 0)
     → (k j : ℕ) → k < at + 1 → j < n → get_or (words ++ row) (k * n + j) 0 ≡ get_or (get_or rows k []) j 0
 pushed_row n at words row rows long is before k j below within = elim (cases_lt k at) [
-  | inl l ↦ get_or_append_left words row 0 (k * n + j) (omega (arith, long, in_rows k at n j l within)) ∙ before k j l within
+  | inl l ↦ get_or_append_left words row 0 (k * n + j) (omega (arith, long, in_rows k at n j l within))
+      ∙ before k j l within
   | inr g ↦
       let e : k ≡ at = omega arith in
       let place : k * n + j ≡ length words + j = ap (λ m. m * n + j) e ∙ omega (arith, long) in
-      ap (λ m. get_or (words ++ row) m 0) place ∙ (get_or-append-add words row j 0 ∙ (ap (λ r. get_or r j 0) is ∙ ap (λ m. get_or (get_or rows m []) j 0) (sym e)))
+      ap (λ m. get_or (words ++ row) m 0) place ∙ (get_or-append-add words row j 0
+      ∙ (ap (λ r. get_or r j 0) is ∙ ap (λ m. get_or (get_or rows m []) j 0) (sym e)))
 ]
 
-module _ (bits n : ℕ) (planes : Planes) (words : List ℕ) (long : length words ≡ bits * n) (each : AreShelved n bits planes.memory.items words)
+module _ (bits n : ℕ) (planes : Planes) (words : List ℕ) (long : length words ≡ bits * n)
+    (each : AreShelved n bits planes.memory.items words)
     (enable : length planes.enable ≡ n) (carry : length planes.carry ≡ n) (latch : length planes.latch ≡ n) where
   one : List ℕ
   one = words ++ planes.enable
@@ -55,64 +60,92 @@ module _ (bits n : ℕ) (planes : Planes) (words : List ℕ) (long : length word
   long_two = omega (arith, length-append {A = ℕ} (words ++ planes.enable) planes.carry, long_one, carry)
 
   long_all : length (((words ++ planes.enable) ++ planes.carry) ++ planes.latch) ≡ (bits + 3) * n
-  long_all = omega (arith, length-append {A = ℕ} ((words ++ planes.enable) ++ planes.carry) planes.latch, long_two, latch)
+  long_all = omega (
+    arith,
+    length-append {A = ℕ} ((words ++ planes.enable) ++ planes.carry) planes.latch,
+    long_two,
+    latch,
+  )
 
   pub shelved_law : IsShelved bits n planes (((words ++ planes.enable) ++ planes.carry) ++ planes.latch)
   shelved_law = record {
     long = long_all;
     memory = λ at j below within.
         let place = in_rows at bits n j below within in
-        get_or_append_left ((words ++ planes.enable) ++ planes.carry) planes.latch 0 (at * n + j) (omega (arith, long_two, place))
+        get_or_append_left ((words ++ planes.enable) ++ planes.carry) planes.latch 0 (at * n + j)
+        (omega (arith, long_two, place))
         ∙ (get_or_append_left (words ++ planes.enable) planes.carry 0 (at * n + j) (omega (arith, long_one, place))
-        ∙ (get_or_append_left words planes.enable 0 (at * n + j) (omega (arith, long, place)) ∙ each.each at j below within));
+        ∙ (get_or_append_left words planes.enable 0 (at * n + j) (omega (arith, long, place))
+        ∙ each.each at j below within));
     enable = λ j within.
-        get_or_append_left ((words ++ planes.enable) ++ planes.carry) planes.latch 0 (bits * n + j) (omega (arith, long_two))
+        get_or_append_left ((words ++ planes.enable) ++ planes.carry) planes.latch 0 (bits * n + j)
+        (omega (arith, long_two))
         ∙ (get_or_append_left (words ++ planes.enable) planes.carry 0 (bits * n + j) (omega (arith, long_one))
-        ∙ (ap (λ m. get_or (words ++ planes.enable) m 0) (omega (arith, long)) ∙ get_or-append-add words planes.enable j 0));
+        ∙ (ap (λ m. get_or (words ++ planes.enable) m 0) (omega (arith, long))
+        ∙ get_or-append-add words planes.enable j 0));
     carry = λ j within.
-        get_or_append_left ((words ++ planes.enable) ++ planes.carry) planes.latch 0 ((bits + 1) * n + j) (omega (arith, long_two))
-        ∙ (ap (λ m. get_or ((words ++ planes.enable) ++ planes.carry) m 0) (omega (arith, long_one)) ∙ get_or-append-add (words ++ planes.enable) planes.carry j 0);
-    latch = λ j within. ap (λ m. get_or (((words ++ planes.enable) ++ planes.carry) ++ planes.latch) m 0) (omega (arith, long_two)) ∙ get_or-append-add ((words ++ planes.enable) ++ planes.carry) planes.latch j 0;
+        get_or_append_left ((words ++ planes.enable) ++ planes.carry) planes.latch 0 ((bits + 1) * n + j)
+        (omega (arith, long_two))
+        ∙ (ap (λ m. get_or ((words ++ planes.enable) ++ planes.carry) m 0) (omega (arith, long_one))
+        ∙ get_or-append-add (words ++ planes.enable) planes.carry j 0);
+    latch = λ j within. ap (λ m. get_or (((words ++ planes.enable) ++ planes.carry) ++ planes.latch) m 0)
+        (omega (arith, long_two)) ∙ get_or-append-add ((words ++ planes.enable) ++ planes.carry) planes.latch j 0;
   }
 
 -- ---- the pixels of what is kept
 
-shelf_bit : (row words : List ℕ) (from n p : ℕ) → ((j : ℕ) → j < n → get_or words (from + j) 0 ≡ get_or row j 0) → p < 64 * n → row_bit words (64 * from + p) ≡ row_bit row p
+shelf_bit : (row words : List ℕ) (from n p : ℕ) → ((j : ℕ) → j < n → get_or words (from + j) 0 ≡ get_or row j 0)
+    → p < 64 * n → row_bit words (64 * from + p) ≡ row_bit row p
 shelf_bit row words from n p same within =
     let word : (64 * from + p) / 64 ≡ from + p / 64 = omega arith in
     let place : (64 * from + p) % 64 ≡ p % 64 = omega arith in
     rw (word, place) (ap (λ w. nat_bit w (p % 64)) (same (p / 64) (omega arith)))
 
-module _ (bits n : ℕ) (planes : Planes) (words : List ℕ) (memory : length planes.memory.items ≡ bits) (kept : IsShelved bits n planes words) where
+module _ (bits n : ℕ) (planes : Planes) (words : List ℕ) (memory : length planes.memory.items ≡ bits)
+    (kept : IsShelved bits n planes words) where
   pub pixel_kept : (p : ℕ) → p < 64 * n → pixel_on bits n words p ≡ pixel_in planes p
   pixel_kept p within =
-      rw (memory_kept, shelf_bit planes.enable words (bits * n) n p kept.enable within, shelf_bit planes.carry words ((bits + 1) * n) n p kept.carry within, shelf_bit planes.latch words ((bits + 2) * n) n p kept.latch within) refl
+      rw (
+        memory_kept,
+        shelf_bit planes.enable words (bits * n) n p kept.enable within,
+        shelf_bit planes.carry words ((bits + 1) * n) n p kept.carry within,
+        shelf_bit planes.latch words ((bits + 2) * n) n p kept.latch within,
+      ) refl
     where
-      memory_kept : tabulate bits (λ at. row_bit words (64 * (at * n) + p)) ≡ map (λ row. row_bit row p) planes.memory.items
+      memory_kept : tabulate bits (λ at. row_bit words (64 * (at * n) + p)) ≡ map (λ row. row_bit row p)
+          planes.memory.items
       memory_kept =
-          sym (is_tabulate (map (λ row. row_bit row p) planes.memory.items) bits (λ at. row_bit words (64 * (at * n) + p)) false (length-map planes.memory.items (λ row. row_bit row p) ∙ memory)
+          sym (is_tabulate (map (λ row. row_bit row p) planes.memory.items) bits (λ at.
+          row_bit words (64 * (at * n) + p)) false (length-map planes.memory.items (λ row. row_bit row p) ∙ memory)
           (λ at below.
           get_or-map (λ row. row_bit row p) planes.memory.items at [] false (omega (arith, memory))
-          ∙ sym (shelf_bit (get_or planes.memory.items at []) words (at * n) n p (λ j h. kept.memory at j below h) within)))
+          ∙ sym (shelf_bit (get_or planes.memory.items at []) words (at * n) n p (λ j h. kept.memory at j below h)
+          within)))
 
-module _ (bits count : ℕ) (planes : Planes) (words : List ℕ) (memory : length planes.memory.items ≡ bits) (kept : IsShelved bits (words_for count) planes words) where
+module _ (bits count : ℕ) (planes : Planes) (words : List ℕ) (memory : length planes.memory.items ≡ bits)
+    (kept : IsShelved bits (words_for count) planes words) where
   pub pixels_kept : tabulate count (pixel_on bits (words_for count) words) ≡ pixels_in count planes
   pixels_kept =
-      sym (is_tabulate (pixels_in count planes) count (pixel_on bits (words_for count) words) no_pixel (length-tabulate count (pixel_in planes))
-      (λ p h. get_or-tabulate count (pixel_in planes) p no_pixel h ∙ sym (pixel_kept bits (words_for count) planes words memory kept p (omega arith))))
+      sym (is_tabulate (pixels_in count planes) count (pixel_on bits (words_for count) words) no_pixel
+      (length-tabulate count (pixel_in planes))
+      (λ p h. get_or-tabulate count (pixel_in planes) p no_pixel h
+      ∙ sym (pixel_kept bits (words_for count) planes words memory kept p (omega arith))))
 
   pub filled_by : HasPixels bits count planes → IsFilled bits count words
   filled_by pixels = record {
     long = kept.long;
-    padding = λ p past within. pixel_kept bits (words_for count) planes words memory kept p within ∙ pixels.padding p past within;
+    padding = λ p past within. pixel_kept bits (words_for count) planes words memory kept p within
+        ∙ pixels.padding p past within;
   }
 
-  pub pixels_taken : (mask : ℕ) → IsFilled bits count words → HasWords (words_for count) planes → planes.full ≡ mask → ((p : ℕ) → p < 64 * words_for count → nat_bit mask (p % 64) ≡ nat_lt p count) → HasPixels bits count planes
+  pub pixels_taken : (mask : ℕ) → IsFilled bits count words → HasWords (words_for count) planes → planes.full ≡ mask
+      → ((p : ℕ) → p < 64 * words_for count → nat_bit mask (p % 64) ≡ nat_lt p count) → HasPixels bits count planes
   pixels_taken mask filled rows same full = record {
     words = rows;
     memory = memory;
     full = λ p within. ap (λ m. nat_bit m (p % 64)) same ∙ full p within;
-    padding = λ p past within. sym (pixel_kept bits (words_for count) planes words memory kept p within) ∙ filled.padding p past within;
+    padding = λ p past within. sym (pixel_kept bits (words_for count) planes words memory kept p within)
+        ∙ filled.padding p past within;
   }
 
 pub saved_flag : (b : Bool) (d : Device) → IsSome (cond b (Some d) None) → b ≡ true

@@ -1,5 +1,7 @@
 -- Acts on rows, as what they do to the pixels.
-use Rattle.std.proofs.Common.{◌≡◌, ◌≢◌, ℕ, ◌*◌, ◌/◌, ◌<◌, ◌%◌, Bool, true, false, cond, List, [], length, length-set, get_or, get_or-set_other, get_or-set_same, set, map, replicate, refl, sym, ap, ◌∙◌, arith, inl, inr}
+use Rattle.std.proofs.Common.{◌≡◌, ◌≢◌, ℕ, ◌*◌, ◌/◌, ◌<◌, ◌%◌, Bool, true, false, cond, List, [], length, length-set}
+use Rattle.std.proofs.Common.{get_or, get_or-set_other, get_or-set_same, set, map, replicate, refl, sym, ap, ◌∙◌}
+use Rattle.std.proofs.Common.{arith, inl, inr}
 use Rattle.std.proofs.lemmas.Bool.{cases_eq}
 use Rattle.std.proofs.lemmas.List.{map-set, set-get_or, get_or-map, length-replicate}
 use Rattle.std.proofs.lemmas.Simd.{get_or-replicate}
@@ -15,35 +17,48 @@ use Rattle.px_planes.specs.declared.planes.Planes.{Planes}
 -- a row that is written is one bit of each pixel
 pub stored_row : (rows : List (List ℕ)) (at p : ℕ) (new : List ℕ) (e v : Bool) → at < length rows
     → row_bit new p ≡ cond e v (row_bit (get_or rows at []) p)
-    → map (λ row. row_bit row p) (set rows at new) ≡ cond e (set (map (λ row. row_bit row p) rows) at v) (map (λ row. row_bit row p) rows)
-stored_row rows at p new true v h s = map-set (λ row. row_bit row p) rows at new ∙ ap (set (map (λ row. row_bit row p) rows) at) s
+    → map (λ row. row_bit row p) (set rows at new) ≡ cond e (set (map (λ row. row_bit row p) rows) at v)
+    (map (λ row. row_bit row p) rows)
+stored_row rows at p new true v h s =
+    map-set (λ row. row_bit row p) rows at new ∙ ap (set (map (λ row. row_bit row p) rows) at) s
 stored_row rows at p new false v h s =
     map-set (λ row. row_bit row p) rows at new
     ∙ (ap (set (map (λ row. row_bit row p) rows) at) (s ∙ sym (get_or-map (λ row. row_bit row p) rows at [] false h))
     ∙ set-get_or (map (λ row. row_bit row p) rows) at false)
 
-pub bit_of_rows : (rows : List (List ℕ)) (at p : ℕ) → at < length rows → get_or (map (λ row. row_bit row p) rows) at false ≡ row_bit (get_or rows at []) p
+pub bit_of_rows : (rows : List (List ℕ)) (at p : ℕ) → at < length rows → get_or (map (λ row. row_bit row p) rows) at
+    false ≡ row_bit (get_or rows at []) p
 bit_of_rows rows at p h = get_or-map (λ row. row_bit row p) rows at [] false h
 
 -- every word of a row is the same
 pub filled_bit : (n word p : ℕ) → p < 64 * n → row_bit (replicate n word) p ≡ nat_bit word (p % 64)
 filled_bit n word p within = ap (λ w. nat_bit w (p % 64)) (get_or-replicate n (p / 64) word 0 (omega arith))
 
-module _ (leaves : List ℕ) (old : Planes) (at : ℕ) (row : List ℕ) (place : at < length old.memory.items) (words : HasWords (length leaves) old) (long : length row ≡ length leaves) where
-  pub words_stored : (k : ℕ) → k < length (set old.memory.items at row) → length (get_or (set old.memory.items at row) k []) ≡ length leaves
+module _ (leaves : List ℕ) (old : Planes) (at : ℕ) (row : List ℕ) (place : at < length old.memory.items)
+    (words : HasWords (length leaves) old) (long : length row ≡ length leaves) where
+  pub words_stored : (k : ℕ) → k < length (set old.memory.items at row)
+      → length (get_or (set old.memory.items at row) k []) ≡ length leaves
   words_stored k within = elim (cases_eq k at) [
     | inl e ↦ rw e (ap length (get_or-set_same old.memory.items at row [] place) ∙ long)
-    | inr n ↦ let other : k ≢ at = n in ap length (get_or-set_other old.memory.items at k row [] other) ∙ words.memory k (omega (arith, within, length-set old.memory.items at row))
+    | inr n ↦ let other : k ≢ at = n in ap length (get_or-set_other old.memory.items at k row [] other)
+        ∙ words.memory k (omega (arith, within, length-set old.memory.items at row))
   ]
 
   -- an act that stores a bit where the pixels are enabled
   pub store_law : (act : Act) (v : ℕ → Bool)
-      → ((p : ℕ) → p < 64 * length row → row_bit row p ≡ cond (row_bit old.enable p) (v p) (row_bit (get_or old.memory.items at []) p))
-      → ((p : ℕ) → stored at (v p) (pixel_in old p) ≡ acted_at (nat_bit old.full (p % 64)) act (row_bit leaves p) (pixel_in old p))
+      → ((p : ℕ) → p < 64 * length row → row_bit row p ≡ cond (row_bit old.enable p) (v p)
+      (row_bit (get_or old.memory.items at []) p))
+      → ((p : ℕ) → stored at (v p) (pixel_in old p) ≡ acted_at (nat_bit old.full (p % 64)) act (row_bit leaves p)
+      (pixel_in old p))
       → IsActed act leaves old (record old { memory = with_item old.memory at row })
   store_law act v each act_is = record {
     each = λ p within.
-        ap (λ (memory : List Bool). record { memory = memory; enable = row_bit old.enable p; carry = row_bit old.carry p; latch = row_bit old.latch p })
+        ap (λ (memory : List Bool). record {
+          memory = memory;
+          enable = row_bit old.enable p;
+          carry = row_bit old.carry p;
+          latch = row_bit old.latch p;
+        })
         (stored_row old.memory.items at p row (row_bit old.enable p) (v p) place (each p (omega (arith, long))))
         ∙ act_is p;
     words = record { memory = words_stored; enable = words.enable; carry = words.carry; latch = words.latch };
@@ -53,13 +68,18 @@ module _ (leaves : List ℕ) (old : Planes) (at : ℕ) (row : List ℕ) (place :
 
   -- an act that adds
   pub add_law : (carry : List ℕ) → length carry ≡ length leaves
-      → ((p : ℕ) → p < 64 * length row → row_bit row p ≡ cond (row_bit old.enable p) (xor (row_bit leaves p) (xor (row_bit (get_or old.memory.items at []) p) (row_bit old.carry p))) (row_bit (get_or old.memory.items at []) p))
-      → ((p : ℕ) → p < 64 * length carry → row_bit carry p ≡ majority (row_bit leaves p) (row_bit (get_or old.memory.items at []) p) (row_bit old.carry p))
+      → ((p : ℕ) → p < 64 * length row → row_bit row p ≡ cond (row_bit old.enable p)
+      (xor (row_bit leaves p) (xor (row_bit (get_or old.memory.items at []) p) (row_bit old.carry p)))
+      (row_bit (get_or old.memory.items at []) p))
+      → ((p : ℕ) → p < 64 * length carry → row_bit carry p ≡ majority (row_bit leaves p)
+      (row_bit (get_or old.memory.items at []) p) (row_bit old.carry p))
       → IsActed (AddTree at) leaves old (record old { memory = with_item old.memory at row; carry = carry })
   add_law carry long_carry each each_carry = record {
     each = λ p within.
         let bit = bit_of_rows old.memory.items at p place in
-        let added = stored_row old.memory.items at p row (row_bit old.enable p) (xor (row_bit leaves p) (xor (row_bit (get_or old.memory.items at []) p) (row_bit old.carry p))) place (each p (omega (arith, long))) in
+        let added = stored_row old.memory.items at p row (row_bit old.enable p)
+        (xor (row_bit leaves p) (xor (row_bit (get_or old.memory.items at []) p) (row_bit old.carry p))) place
+        (each p (omega (arith, long))) in
         let carried = each_carry p (omega (arith, long_carry)) in
         rw (bit, added, carried) refl;
     words = record { memory = words_stored; enable = words.enable; carry = long_carry; latch = words.latch };

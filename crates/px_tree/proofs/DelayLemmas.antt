@@ -1,12 +1,13 @@
 -- Bits that come later.
-use Rattle.std.proofs.Common.{◌≡◌, ℕ, zero, suc, ◌+◌, ◌-◌, ◌^◌, ◌<◌, ◌≤◌, ℤ, pos, negsuc, ◌+ℤ◌, ◌*ℤ◌, true, false, nat_lt, refl, sym, ap, ◌∙◌, arith, inl, inr}
+use Rattle.std.proofs.Common.{◌≡◌, ℕ, zero, suc, ◌+◌, ◌-◌, ◌^◌, ◌<◌, ◌≤◌, ℤ, pos, negsuc, ◌+ℤ◌, ◌*ℤ◌, true, false}
+use Rattle.std.proofs.Common.{nat_lt, refl, sym, ap, ◌∙◌, arith, inl, inr}
 use Rattle.std.proofs.lemmas.Bool.{cases_lt}
 use Rattle.std.proofs.lemmas.Int.{ints}
 use Rattle.std.proofs.lemmas.Bool.Decides.{nat_tests}
 use Rattle.px_num.specs.Bits.{bit_of}
 use Rattle.px_tree.specs.Feeds.{delayed_bit}
 use Rattle.px_num.proofs.AdderLaws.{double_bit, double_lowest}
-use Rattle.px_tree.proofs.PlaceLemmas.{double_pow}
+use Rattle.px_tree.proofs.PlaceLaws.{double_pow}
 
 pub lt_true : (m n : ℕ) → m < n → nat_lt m n ≡ true
 lt_true m n h = grind (arith, nat_tests)
@@ -58,7 +59,8 @@ moved_up (suc e) v (suc s) =
     ∙ (sym (double_bit (v *ℤ pos (2 ^ e)) s) ∙ ap (λ z. bit_of z (suc s)) (sym (times_double v e))))
 
 -- a longer delay is a shorter one of the integer moved up by the rest
-pub delayed_more : (delay k e : ℕ) (v : ℤ) (s : ℕ) → delay ≡ e + k → delayed_bit delay v s ≡ delayed_bit k (v *ℤ pos (2 ^ e)) s
+pub delayed_more : (delay k e : ℕ) (v : ℤ) (s : ℕ) → delay ≡ e + k → delayed_bit delay v s
+    ≡ delayed_bit k (v *ℤ pos (2 ^ e)) s
 delayed_more delay k e v s sum = elim (cases_lt s k) [
   | inl before ↦ delayed_before delay v s (omega arith) ∙ sym (delayed_before k (v *ℤ pos (2 ^ e)) s before)
   | inr after ↦

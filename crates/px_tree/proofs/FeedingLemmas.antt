@@ -8,7 +8,8 @@ use Rattle.px_tree.specs.declared.node.Node.{Node}
 use Rattle.px_tree.specs.Nodes.{at_place, next_at, zero_node}
 
 -- the two places above the tree stay
-low_stays : (a b c : Bool) (first_b : ℕ) (old : List Node) (place : ℕ) → place < 2 → next_at a b c first_b old place ≡ at_place old place
+low_stays : (a b c : Bool) (first_b : ℕ) (old : List Node) (place : ℕ) → place < 2 → next_at a b c first_b old place
+    ≡ at_place old place
 low_stays a b c first_b old place low = grind (arith, common_steps)
 
 -- all nodes, where those from `place` on were fed and the others are as before

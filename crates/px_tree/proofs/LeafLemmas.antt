@@ -13,7 +13,7 @@ use Rattle.px_tree.specs.Sums.{partial_sum}
 use Rattle.px_tree.specs.TreeBit.{LeafGivesSign, LeafGivesTreeBit, LeafGivesValue}
 use Rattle.px_tree.proofs.DelayLemmas.{delayed_after}
 use Rattle.px_tree.proofs.NodeLemmas.{fed_nx, fed_ny, nodes_hold_sums}
-use Rattle.px_tree.proofs.PlaceLemmas.{index_below}
+use Rattle.px_tree.proofs.PlaceLaws.{index_below}
 use Rattle.px_tree.proofs.SumLemmas.{leaf_sum_is_value}
 
 pub leaf_gives_value : LeafGivesValue
@@ -23,15 +23,18 @@ leaf_gives_value form nx ny x y t one_column one_row column row =
     ∙ (ap (λ n. (node_at tree (nx + n) (x * 2 ^ n + y)).output) (fed_ny form nx ny (t + (nx + ny)))
     ∙ at_level (nx + ny) refl)
   where
-    at_level : (levels : ℕ) → levels ≡ nx + ny → (node_at (fed_form form nx ny (t + (nx + ny))) levels (x * 2 ^ ny + y)).output ≡ bit_of (value_at form x y) t
+    at_level : (levels : ℕ) → levels ≡ nx + ny
+        → (node_at (fed_form form nx ny (t + (nx + ny))) levels (x * 2 ^ ny + y)).output ≡ bit_of (value_at form x y) t
     at_level zero e = absurd (omega arith)
     at_level (suc k) e =
         let in_level : x * 2 ^ ny + y < 2 ^ suc k = rw e (index_below nx ny x y column row) in
         let in_tree : suc k ≤ nx + ny = omega arith in
         let after : t + (nx + ny) ≡ t + suc k = omega arith in
-        let sum = ap (λ level. partial_sum form nx ny level (x * 2 ^ ny + y)) e ∙ leaf_sum_is_value form nx ny x y column row in
+        let sum = ap (λ level. partial_sum form nx ny level (x * 2 ^ ny + y)) e
+        ∙ leaf_sum_is_value form nx ny x y column row in
         ap (λ (n : Node). n.output) (nodes_hold_sums form nx ny (t + (nx + ny)) k (x * 2 ^ ny + y) in_tree in_level)
-        ∙ (delayed_after (suc k) (partial_sum form nx ny (suc k) (x * 2 ^ ny + y)) (t + (nx + ny)) t after ∙ ap (λ z. bit_of z t) sum)
+        ∙ (delayed_after (suc k) (partial_sum form nx ny (suc k) (x * 2 ^ ny + y)) (t + (nx + ny)) t after
+        ∙ ap (λ z. bit_of z t) sum)
 
 pub leaf_gives_tree_bit : LeafGivesTreeBit
 leaf_gives_tree_bit form nx ny x y t one_column one_row column row low =

@@ -2,5 +2,5 @@ pub mod DelayLemmas
 pub mod FeedingLemmas
 pub mod LeafLemmas
 pub mod NodeLemmas
-pub mod PlaceLemmas
+pub mod PlaceLaws
 pub mod SumLemmas

@@ -1,5 +1,6 @@
 -- What each node holds while one linear form is fed.
-use Rattle.std.proofs.Common.{◌≡◌, ℕ, zero, suc, ◌+◌, ◌-◌, ◌/◌, ◌%◌, ◌^◌, ◌<◌, ◌≤◌, ◌==◌, ◌&&◌, ℤ, pos, ◌+ℤ◌, Bool, true, false, cond, nat_lt, refl, sym, ap, ◌∙◌, arith, inl, inr}
+use Rattle.std.proofs.Common.{◌≡◌, ℕ, zero, suc, ◌+◌, ◌-◌, ◌/◌, ◌%◌, ◌^◌, ◌<◌, ◌≤◌, ◌==◌, ◌&&◌, ℤ, pos, ◌+ℤ◌, Bool}
+use Rattle.std.proofs.Common.{true, false, cond, nat_lt, refl, sym, ap, ◌∙◌, arith, inl, inr}
 use Rattle.std.proofs.lemmas.Bool.{cases_lt}
 use Rattle.std.proofs.lemmas.Bool.Decides.{nat_tests}
 use Rattle.std.proofs.lemmas.Int.{ints}
@@ -16,7 +17,7 @@ use Rattle.px_tree.specs.Sums.{HoldsSums, partial_sum, weight}
 use Rattle.px_tree.specs.TreeBit.{IsFedByTable, NodesHoldSums}
 use Rattle.px_num.proofs.AdderLaws.{sum_bit}
 use Rattle.px_tree.proofs.DelayLemmas.{delayed_after, delayed_before, delayed_more, lt_false, lt_true}
-use Rattle.px_tree.proofs.PlaceLemmas.{place_below}
+use Rattle.px_tree.proofs.PlaceLaws.{place_below}
 use Rattle.px_tree.proofs.SumLemmas.{double}
 
 power_up : (m n : ℕ) → m ≤ n → 2 ^ m ≤ 2 ^ n
@@ -42,7 +43,8 @@ line_test a b nx k index below = elim (cases_lt nx (suc k)) [
       let past : 2 ^ (nx + 1) ≤ 2 ^ suc k + index = omega (arith, power_up (nx + 1) (suc k) (omega arith)) in
       rw (lt_true nx (suc k) in_b, lt_false (2 ^ suc k + index) (2 ^ (nx + 1)) past) refl
   | inr in_a ↦
-      let before : 2 ^ suc k + index < 2 ^ (nx + 1) = omega (arith, double (suc k), power_up (suc (suc k)) (nx + 1) (omega arith)) in
+      let before : 2 ^ suc k + index < 2 ^ (nx + 1) =
+      omega (arith, double (suc k), power_up (suc (suc k)) (nx + 1) (omega arith)) in
       rw (lt_false nx (suc k) in_a, lt_true (2 ^ suc k + index) (2 ^ (nx + 1)) before) refl
 ]
 
@@ -73,7 +75,13 @@ module _ (u w : ℤ) (k s : ℕ) where
       let none : s - k ≡ 0 = omega arith in
       let still_none : suc s - k ≡ 0 = omega arith in
       let later : suc s < suc k = omega arith in
-      rw (delayed_before k u s before, delayed_before k w s before, none, still_none, delayed_before (suc k) (u +ℤ w) (suc s) later) refl
+      rw (
+        delayed_before k u s before,
+        delayed_before k w s before,
+        none,
+        still_none,
+        delayed_before (suc k) (u +ℤ w) (suc s) later,
+      ) refl
   waits false before =
       let later : suc s < suc k = omega arith in
       rw (delayed_before k u s before, delayed_before (suc k) (u +ℤ pos 0) (suc s) later) refl
@@ -84,7 +92,14 @@ module _ (u w : ℤ) (k s : ℕ) where
       let now : s ≡ (s - k) + k = omega arith in
       let then : suc s ≡ (s - k) + suc k = omega arith in
       let next : suc s - k ≡ suc (s - k) = omega arith in
-      rw (delayed_after k u s (s - k) now, delayed_after k w s (s - k) now, delayed_after (suc k) (u +ℤ w) (suc s) (s - k) then, next, sum_bit u w (s - k)) refl
+      rw (
+        delayed_after k u s (s - k) now,
+        delayed_after k w s (s - k) now,
+        delayed_after (suc k) (u +ℤ w) (suc s)
+            (s - k) then,
+        next,
+        sum_bit u w (s - k),
+      ) refl
   adds false after =
       let now : s ≡ (s - k) + k = omega arith in
       let then : suc s ≡ (s - k) + suc k = omega arith in
@@ -112,7 +127,8 @@ module _ (form : Linear) (nx ny : ℕ) where
 
   -- the line that comes to a level brings what its odd nodes add
   line_is : (s k : ℕ) → suc k ≤ nx + ny
-      → cond (nat_lt nx (suc k)) (lines_at form nx ny s).b (lines_at form nx ny s).a ≡ delayed_bit k (weight form nx ny (suc k)) s
+      → cond (nat_lt nx (suc k)) (lines_at form nx ny s).b (lines_at form nx ny s).a
+      ≡ delayed_bit k (weight form nx ny (suc k)) s
   line_is s k in_tree = elim (cases_lt nx (suc k)) [
     | inl in_b ↦
         rw (lt_true nx (suc k) in_b) (delayed_more (nx + ny - 1) k (nx + ny - suc k) form.b s (omega arith))
@@ -121,8 +137,10 @@ module _ (form : Linear) (nx ny : ℕ) where
   ]
 
   -- the output above a node, and line c above level 1
-  parent_is : (s : ℕ) → HoldsSums form nx ny s (fed_form form nx ny s) → (k index : ℕ) → suc k ≤ nx + ny → index < 2 ^ suc k
-      → cond (k == 0) (lines_at form nx ny s).c (node_at (fed_form form nx ny s) k (index / 2)).output ≡ delayed_bit k (partial_sum form nx ny k (index / 2)) s
+  parent_is : (s : ℕ) → HoldsSums form nx ny s (fed_form form nx ny s) → (k index : ℕ) → suc k ≤ nx + ny
+      → index < 2 ^ suc k
+      → cond (k == 0) (lines_at form nx ny s).c (node_at (fed_form form nx ny s) k (index / 2)).output
+      ≡ delayed_bit k (partial_sum form nx ny k (index / 2)) s
   parent_is s hold zero index in_tree in_level = sym (delayed_after 0 form.c s s (omega arith))
   parent_is s hold (suc k) index in_tree in_level =
       let above : suc k ≤ nx + ny = omega arith in
@@ -133,8 +151,13 @@ module _ (form : Linear) (nx ny : ℕ) where
   all_hold zero k index in_tree in_level =
       let before : 0 < suc k = omega arith in
       let none : 0 - k ≡ 0 = omega arith in
-      get_or-replicate (2 ^ (nx + ny + 1)) (2 ^ suc k + index) zero_node zero_node (in_nodes nx ny k index in_tree in_level)
-      ∙ rw (delayed_before (suc k) (partial_sum form nx ny (suc k) index) 0 before, none, none_carried (index % 2 == 1)) refl
+      get_or-replicate (2 ^ (nx + ny + 1)) (2 ^ suc k + index) zero_node zero_node
+      (in_nodes nx ny k index in_tree in_level)
+      ∙ rw (
+        delayed_before (suc k) (partial_sum form nx ny (suc k) index) 0 before,
+        none,
+        none_carried (index % 2 == 1),
+      ) refl
   all_hold (suc s) k index in_tree in_level =
       let tree = fed_form form nx ny s in
       let lines = lines_at form nx ny s in

@@ -1,5 +1,6 @@
 -- The sums on the way to a leaf.
-use Rattle.std.proofs.Common.{◌≡◌, ℕ, zero, suc, ◌+◌, ◌-◌, ◌*◌, ◌/◌, ◌%◌, ◌^◌, ◌<◌, ◌≤◌, ◌==◌, ℤ, pos, ◌+ℤ◌, ◌*ℤ◌, cond, refl, sym, ap, ◌∙◌, arith}
+use Rattle.std.proofs.Common.{◌≡◌, ℕ, zero, suc, ◌+◌, ◌-◌, ◌*◌, ◌/◌, ◌%◌, ◌^◌, ◌<◌, ◌≤◌, ◌==◌, ℤ, pos, ◌+ℤ◌, ◌*ℤ◌}
+use Rattle.std.proofs.Common.{cond, refl, sym, ap, ◌∙◌, arith}
 use Rattle.std.proofs.Math.IntN.{*ℤ-zero}
 use Rattle.std.proofs.lemmas.Int.{ints}
 use Rattle.std.proofs.lemmas.Nat.{shr-shr, mod-pow-add, div-mul-add, mod-mul-add}
@@ -7,7 +8,7 @@ use Rattle.px_num.specs.declared.linear.Linear.{Linear}
 use Rattle.px_tree.specs.Sums.{partial_sum}
 use Rattle.px_tree.specs.TreeBit.{LeafSumIsValue}
 use Rattle.px_tree.proofs.DelayLemmas.{lt_false, lt_true, times_sum}
-use Rattle.px_tree.proofs.PlaceLemmas.{double_pow}
+use Rattle.px_tree.proofs.PlaceLaws.{double_pow}
 
 pub double : (e : ℕ) → 2 ^ suc e ≡ 2 * 2 ^ e
 double e = let next : suc e ≡ e + 1 = omega arith in ap (λ n. 2 ^ n) next ∙ double_pow e
@@ -16,7 +17,8 @@ double e = let next : suc e ≡ e + 1 = omega arith in ap (λ n. 2 ^ n) next ∙
 one_more : (v : ℤ) (i m : ℕ) → (v *ℤ pos (i / 2 * (2 * m))) +ℤ cond (i % 2 == 1) (v *ℤ pos m) (pos 0) ≡ v *ℤ pos (i * m)
 one_more v i m = by_parity (i % 2) refl
   where
-    by_parity : (r : ℕ) → i % 2 ≡ r → (v *ℤ pos (i / 2 * (2 * m))) +ℤ cond (r == 1) (v *ℤ pos m) (pos 0) ≡ v *ℤ pos (i * m)
+    by_parity : (r : ℕ) → i % 2 ≡ r → (v *ℤ pos (i / 2 * (2 * m))) +ℤ cond (r == 1) (v *ℤ pos m) (pos 0) ≡ v
+        *ℤ pos (i * m)
     by_parity zero even =
         let parts : i ≡ 2 * (i / 2) = omega arith in
         let same : i / 2 * (2 * m) ≡ i * m = sym (ap (λ j. j * m) parts ∙ omega arith) in
@@ -44,11 +46,13 @@ module _ (form : Linear) (nx ny : ℕ) where
 
   -- the levels of line b
   sum_b : (j k i : ℕ) → k ≡ nx + j → j ≤ ny
-      → partial_sum form nx ny k i ≡ partial_sum form nx ny nx (i / 2 ^ j) +ℤ (form.b *ℤ pos ((i % 2 ^ j) * 2 ^ (ny - j)))
+      → partial_sum form nx ny k i ≡ partial_sum form nx ny nx (i / 2 ^ j)
+      +ℤ (form.b *ℤ pos ((i % 2 ^ j) * 2 ^ (ny - j)))
   sum_b zero k i at_level in_b =
       let same : k ≡ nx = omega arith in
       let one : i / 2 ^ 0 ≡ i = omega arith in
-      let none : (i % 2 ^ 0) * 2 ^ (ny - 0) ≡ 0 = let no_rest : i % 2 ^ 0 ≡ 0 = omega arith in ap (λ r. r * 2 ^ (ny - 0)) no_rest ∙ omega arith in
+      let none : (i % 2 ^ 0) * 2 ^ (ny - 0) ≡ 0 = let no_rest : i % 2 ^ 0 ≡ 0 = omega arith in
+      ap (λ r. r * 2 ^ (ny - 0)) no_rest ∙ omega arith in
       rw (same, one, none) (omega (arith, ints, *ℤ-zero form.b))
   sum_b (suc j) zero i at_level in_b = absurd (omega arith)
   sum_b (suc j) (suc k) i at_level in_b =
@@ -72,8 +76,10 @@ pub leaf_sum_is_value : LeafSumIsValue
 leaf_sum_is_value form nx ny x y column row =
     let high : (x * 2 ^ ny + y) / 2 ^ ny ≡ x = div-mul-add x (2 ^ ny) y row in
     let low : (x * 2 ^ ny + y) % 2 ^ ny ≡ y = mod-mul-add x (2 ^ ny) y row in
-    let one_x : x * 2 ^ (nx - nx) ≡ x = let none : nx - nx ≡ 0 = omega arith in ap (λ e. x * 2 ^ e) none ∙ omega arith in
-    let one_y : y * 2 ^ (ny - ny) ≡ y = let none : ny - ny ≡ 0 = omega arith in ap (λ e. y * 2 ^ e) none ∙ omega arith in
+    let one_x : x * 2 ^ (nx - nx) ≡ x = let none : nx - nx ≡ 0 = omega arith in
+    ap (λ e. x * 2 ^ e) none ∙ omega arith in
+    let one_y : y * 2 ^ (ny - ny) ≡ y = let none : ny - ny ≡ 0 = omega arith in
+    ap (λ e. y * 2 ^ e) none ∙ omega arith in
     let in_a = rw one_x at (sum_a form nx ny nx x (omega arith) column) in
     let in_b = rw (high, low, one_y) at (sum_b form nx ny ny (nx + ny) (x * 2 ^ ny + y) refl (omega arith)) in
     omega (arith, ints, in_a, in_b)

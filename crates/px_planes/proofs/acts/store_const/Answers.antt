@@ -7,6 +7,9 @@ use Rattle.px_planes.proofs.acts.store_const.Goals as goal
 pub returns : goal.returns
 returns c =
     let planes = c.args.planes.now in
-    let old : c.index_mut.result.now ≡ get_or planes.memory.items c.args.at [] = c.index_mut.ensures.value ∙ get_or_default planes.memory.items c.args.at c.index_mut.result.now [] c.requires.place in
-    store_law c.args.leaves.now planes c.args.at c.paint.new.self c.requires.place c.requires.words (c.paint.ensures.words ∙ (ap length old ∙ c.requires.words.memory c.args.at c.requires.place)) (StoreConst c.args.at c.args.v)
+    let old : c.index_mut.result.now ≡ get_or planes.memory.items c.args.at [] = c.index_mut.ensures.value
+    ∙ get_or_default planes.memory.items c.args.at c.index_mut.result.now [] c.requires.place in
+    store_law c.args.leaves.now planes c.args.at c.paint.new.self c.requires.place c.requires.words
+    (c.paint.ensures.words ∙ (ap length old ∙ c.requires.words.memory c.args.at c.requires.place))
+    (StoreConst c.args.at c.args.v)
     (λ p. c.args.v) (λ p within. rw (← c.words.ensures, ← old) (c.paint.ensures.bits p within)) (λ p. refl)

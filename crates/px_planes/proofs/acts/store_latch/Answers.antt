@@ -8,6 +8,10 @@ use Rattle.px_planes.proofs.acts.store_latch.Goals as goal
 pub returns : goal.returns
 returns c =
     let planes = c.args.planes.now in
-    let old : c.index_mut.result.now ≡ get_or planes.memory.items c.args.at [] = c.index_mut.ensures.value ∙ get_or_default planes.memory.items c.args.at c.index_mut.result.now [] c.requires.place in
-    store_law c.args.leaves.now planes c.args.at c.choose.new.self c.requires.place c.requires.words (c.choose.ensures.words ∙ (ap length old ∙ c.requires.words.memory c.args.at c.requires.place)) (StoreLatch c.args.at)
-    (λ p. row_bit planes.latch p) (λ p within. rw (← c.words.ensures, ← c.words-2.ensures, ← old) (c.choose.ensures.bits p within)) (λ p. refl)
+    let old : c.index_mut.result.now ≡ get_or planes.memory.items c.args.at [] = c.index_mut.ensures.value
+    ∙ get_or_default planes.memory.items c.args.at c.index_mut.result.now [] c.requires.place in
+    store_law c.args.leaves.now planes c.args.at c.choose.new.self c.requires.place c.requires.words
+    (c.choose.ensures.words ∙ (ap length old ∙ c.requires.words.memory c.args.at c.requires.place))
+    (StoreLatch c.args.at)
+    (λ p. row_bit planes.latch p) (λ p within. rw (← c.words.ensures, ← c.words-2.ensures, ← old)
+    (c.choose.ensures.bits p within)) (λ p. refl)

@@ -7,5 +7,7 @@ places = 0 ∷ 16 ∷ 1 ∷ 17 ∷ 2 ∷ 18 ∷ 3 ∷ 19 ∷ 4 ∷ 20 ∷ 5 ∷ 
 
 pub returns : goal.returns
 returns c =
-    woven_law 0 0 c.args.words c.args.bytes c.args.low c.args.high places refl (omega arith) c.requires.bytes c.requires.low c.requires.high refl
-    (eight_places (λ k. get_or places (2 * k) 0) (λ k. 0 + k) refl) (eight_places (λ k. get_or places (2 * k + 1) 0) (λ k. 16 + (0 + k)) refl)
+    woven_law 0 0 c.args.words c.args.bytes c.args.low c.args.high places refl (omega arith) c.requires.bytes
+    c.requires.low c.requires.high refl
+    (eight_places (λ k. get_or places (2 * k) 0) (λ k. 0 + k) refl) (eight_places (λ k. get_or places (2 * k + 1) 0)
+    (λ k. 16 + (0 + k)) refl)

@@ -9,5 +9,6 @@ loop-h-preserved c =
       from = omega arith;
       to = omega arith;
       even = omega arith;
-      fed = span_law c.args.line (c.loop-h.h - 2) c.loop-h.h c.args.to _ _ _ _ _ _ (omega arith) (omega arith) (omega arith) (omega arith) c.loop-h.invariant.fed c.feed_pair.ensures;
+      fed = span_law c.args.line (c.loop-h.h - 2) c.loop-h.h c.args.to _ _ _ _ _ _ (omega arith) (omega arith)
+          (omega arith) (omega arith) c.loop-h.invariant.fed c.feed_pair.ensures;
     }

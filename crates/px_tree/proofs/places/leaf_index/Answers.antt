@@ -1,4 +1,4 @@
-use Rattle.px_tree.proofs.PlaceLemmas.{index_below}
+use Rattle.px_tree.proofs.PlaceLaws.{index_below}
 use Rattle.px_tree.proofs.places.leaf_index.Goals as goal
 
 pub returns-clause-within : goal.returns-clause-within

@@ -1,4 +1,4 @@
-use Rattle.px_tree.proofs.PlaceLemmas.{place_below}
+use Rattle.px_tree.proofs.PlaceLaws.{place_below}
 use Rattle.px_tree.proofs.places.node_place.Goals as goal
 
 pub returns-clause-within : goal.returns-clause-within

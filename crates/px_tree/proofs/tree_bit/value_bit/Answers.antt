@@ -12,4 +12,5 @@ returns-clause-bit g c =
     let feeds : c.args.t + nx + ny ≡ c.args.t + (nx + ny) = omega arith in
     let state = c.feed_form.ensures.state ∙ ap (fed_form form nx ny) feeds in
     c.leaf.ensures ∙ (ap (λ tree. leaf_bit tree c.args.x c.args.y) state
-    ∙ leaf_gives_tree_bit form nx ny c.args.x c.args.y c.args.t c.requires.grid.0.0 c.requires.grid.1.0 c.requires.column c.requires.row c.requires.bit)
+    ∙ leaf_gives_tree_bit form nx ny c.args.x c.args.y c.args.t c.requires.grid.0.0 c.requires.grid.1.0
+    c.requires.column c.requires.row c.requires.bit)

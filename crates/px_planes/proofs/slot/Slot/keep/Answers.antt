@@ -25,4 +25,11 @@ returns g c =
     let columns : c.self.inside.tree.nx ≡ tree.nx = rw (← c.self.view_is, ← c.grid.view_is) at c.requires.columns in
     let rows : c.self.inside.tree.ny ≡ tree.ny = rw (← c.self.view_is, ← c.grid.view_is) at c.requires.rows in
     let kept = rw (pixels.memory, pixels.words.enable) at c.keep_planes.ensures.kept in
-    rw (c.copy_from.ensures, ← c.self.view_is, ← c.grid.view_is, columns, rows, pixels_kept g.row.N (2 ^ (tree.nx + tree.ny)) c.grid.inside.planes _ pixels.memory kept) refl
+    rw (
+      c.copy_from.ensures,
+      ← c.self.view_is,
+      ← c.grid.view_is,
+      columns,
+      rows,
+      pixels_kept g.row.N (2 ^ (tree.nx + tree.ny)) c.grid.inside.planes _ pixels.memory kept,
+    ) refl

@@ -1,0 +1,21 @@
+-- The clocks of an operation are few.
+use Rattle.std.proofs.Common.{ℕ, ◌≤◌, arith}
+use Rattle.px_asm.specs.Micros.{cycles}
+use Rattle.px_macro.specs.Macros.{IsLawful}
+use Rattle.px_macro.specs.declared.operation.Macro.{Macro}
+use Rattle.px_macro.specs.declared.operation.Macro.TheVariants as m
+use Rattle.px_tree.specs.Nodes.{IsGrid}
+
+-- no operation takes more than 82 clocks
+pub few_cycles : (op : Macro) (nx ny : ℕ) → IsGrid nx ny → IsLawful op 256 → cycles op nx ny ≤ 82
+few_cycles m.All nx ny grid lawful = omega arith
+few_cycles (m.KeepSign form) nx ny grid lawful = omega (arith, grid)
+few_cycles (m.KeepBit at v) nx ny grid lawful = omega arith
+few_cycles (m.LoadLinear form f) nx ny grid lawful = omega (arith, grid, lawful.1.to_forty)
+few_cycles (m.KeepAtMost form f) nx ny grid lawful = omega (arith, grid, lawful.1.to_forty)
+few_cycles (m.AddLinear form f) nx ny grid lawful = omega (arith, grid, lawful.1.to_forty)
+few_cycles (m.LoadConst f c) nx ny grid lawful = omega (arith, lawful.0.to_forty)
+few_cycles (m.SetBit at v) nx ny grid lawful = omega arith
+few_cycles (m.Toggle at) nx ny grid lawful = omega arith
+few_cycles (m.Copy f g) nx ny grid lawful = omega (arith, lawful.0.fields.0.to_forty)
+few_cycles (m.KeepLess f g) nx ny grid lawful = omega (arith, lawful.fields.0.to_forty)
