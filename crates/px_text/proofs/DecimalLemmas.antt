@@ -1,5 +1,6 @@
 -- A number that is written in decimal digits is read as it.
-use Rattle.std.proofs.Common.{◌≡◌, ℕ, ℤ, pos, ◌+◌, ◌-◌, ◌<◌, ◌≤◌, ◌^◌, ◌==◌, min, List, [], ◌∷◌, ◌++◌, map, Some, None, Bool, true, false, decimal, refl, ap, ◌∙◌, arith}
+use Rattle.std.proofs.Common.{◌≡◌, ℕ, ℤ, pos, ◌+◌, ◌-◌, ◌<◌, ◌≤◌, ◌^◌, ◌==◌, min, List, [], ◌∷◌, ◌++◌, map, Some}
+use Rattle.std.proofs.Common.{None, Bool, true, false, decimal, refl, ap, ◌∙◌, arith}
 use Prim.Native.Nat.{zero, suc}
 use lib.IntN.{negsuc}
 use lib.Signed.{mag}

@@ -1,5 +1,7 @@
 -- Words are plain: no byte of a number or a name is a blank, begins a comment or ends a line.
-use Rattle.std.proofs.Common.{◌≡◌, ℕ, ℤ, pos, ◌+◌, ◌<◌, ◌≤◌, ◌^◌, ◌==◌, List, [], ◌∷◌, ◌++◌, length, Bool, true, false, not, nat_le, ◌&&◌, ◌||◌, if◌then◌else◌, Option, Some, None, decimal, refl, ap, ◌∙◌, arith}
+use Rattle.std.proofs.Common.{◌≡◌, ℕ, ℤ, pos, ◌+◌, ◌<◌, ◌≤◌, ◌^◌, ◌==◌, List, [], ◌∷◌, ◌++◌, length, Bool, true}
+use Rattle.std.proofs.Common.{false, not, nat_le, ◌&&◌, ◌||◌, if◌then◌else◌, Some, None, decimal, refl, ap}
+use Rattle.std.proofs.Common.{◌∙◌, arith}
 use Prim.Native.Nat.{suc}
 use lib.IntN.{negsuc}
 use lib.Signed.{mag}

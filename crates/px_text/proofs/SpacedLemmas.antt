@@ -1,5 +1,6 @@
 -- Words that are written with spaces between them, and lines with their feeds, are read back.
-use Rattle.std.proofs.Common.{◌≡◌, ℕ, ◌-◌, ◌==◌, ◌||◌, List, [], ◌∷◌, ◌++◌, length, filter, Some, Bool, true, false, not, refl, ap, ◌∙◌, arith, append_assoc, append-nil, length-append, slice_get}
+use Rattle.std.proofs.Common.{◌≡◌, ℕ, ◌-◌, ◌==◌, ◌||◌, List, [], ◌∷◌, ◌++◌, length, filter, Some, Bool, true, false}
+use Rattle.std.proofs.Common.{not, refl, ap, ◌∙◌, arith, append_assoc, append-nil, length-append, slice_get}
 use Prim.Native.Nat.{zero, suc}
 use Rattle.std.specs.List.{All, flat_map, slice_split, list_all}
 use Rattle.std.proofs.lemmas.List.Splits.{slice_split_none, slice_split_at}

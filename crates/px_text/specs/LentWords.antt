@@ -1,4 +1,4 @@
--- Words that are lent: what stands behind references to them. Only proofs and private functions stand on it.
+-- Words that are lent: what stands behind references to them. Clauses of public calls stand on it.
 use Rattle.std.specs.Prelude.{ℕ, List, map}
 use Rattle.std.specs.Borrow.{Bor}
 use Rattle.px_text.specs.Text.{Words}

@@ -7,6 +7,9 @@ use crate::cut::{before_comment, is_blank, is_word, without_last_feed};
 use px_num::Memory;
 use std::alloc::Global;
 
+/// The program takes texts of at most so many bytes (docs/SCENES.md, "Limits").
+pub const MAX_TEXT_BYTES: usize = 1_048_576;
+
 /// The lines of a text, in order: the pieces between line feeds, without them. A last piece that is
 /// empty is no line (docs/SCENES.md, "Lines and words").
 pub fn lines_of(alloc: Global, text: &[u8]) -> Result<Vec<&[u8]>, Memory>
