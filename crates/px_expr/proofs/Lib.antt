@@ -1,6 +1,8 @@
 pub mod PostorderLemmas
+pub mod CombinationLaws
 pub mod CellsLemmas
+pub mod LeafLaws
 pub mod WaitingLemmas
 pub mod SidesLemmas
-pub mod ShapeLaws
+pub mod OperatorLaws
 pub mod StackLaws

@@ -1,15 +1,17 @@
 -- The nodes of a tree, read from the first on.
-use Rattle.std.proofs.Common.{ℕ, ◌≡◌, ◌≤◌, ◌<◌, ◌+◌, ◌-◌, ◌*◌, List, [], ◌∷◌, ◌++◌, length, take, get_or, fold, refl, ◌∙◌, arith, rules, length-append}
+use Rattle.std.proofs.Common.{ℕ, ◌≡◌, ◌≤◌, ◌<◌, ◌+◌, ◌-◌, ◌*◌, List, [], ◌∷◌, ◌++◌, length, take, get_or, fold, refl}
+use Rattle.std.proofs.Common.{◌∙◌, arith, rules, length-append}
 use Rattle.std.specs.List.{All}
 use Rattle.std.proofs.lemmas.List.Sums.{fold-append}
 use Rattle.std.proofs.lemmas.List.Elements.{All-nil, All-cons, All-append}
 use Prim.Native.Nat.{zero, suc}
 use Rattle.px_expr.specs.Tree.{Tree, leaf, join, leaf_count, nesting, HasLeavesBelow}
 use Rattle.px_expr.specs.Shapes.{shape_of, op_node, joined, CanPlace, IsLeafBelow}
-use Rattle.px_expr.proofs.ShapeLaws.{shape_of_op}
+use Rattle.px_expr.proofs.OperatorLaws.{shape_of_op}
 use Rattle.px_expr.specs.Postorder.{size, nodes_behind, nodes_of, placed, trees_after}
 use Rattle.px_expr.specs.declared.node.Node.{Node}
 use Rattle.px_expr.specs.declared.node.Op.{Op}
+use Rattle.px_expr.specs.declared.builder.TheConstants.{MAX_NESTING, MAX_WAITING}
 
 pub size_leaves : (tree : Tree) → size tree + 1 ≡ 2 * leaf_count tree
 size_leaves (leaf solid) = refl
@@ -18,17 +20,28 @@ size_leaves (join op left right) = omega (arith, size_leaves left, size_leaves r
 pub length-nodes_behind : (others : ℕ) (tree : Tree) → length (nodes_behind others tree) ≡ size tree
 length-nodes_behind others (leaf solid) = refl
 length-nodes_behind others (join op left right) =
-    grind (arith, length-append {A = Node}, length-nodes_behind others left, length-nodes_behind (others + size left) right)
+    grind (
+      arith,
+      length-append {A = Node},
+      length-nodes_behind others left,
+      length-nodes_behind (others + size left) right,
+    )
 
 pub placed_op : (op : Op) (l r : ℕ) (trees : List Tree) → placed trees (op_node op l r) ≡ joined join op trees
 placed_op op l r trees = rw (shape_of_op op l r) refl
 
 -- the nodes of a tree leave that tree
-pub read_tree : (others : ℕ) (tree : Tree) (trees : List Tree) → fold placed trees (nodes_behind others tree) ≡ tree ∷ trees
+pub read_tree : (others : ℕ) (tree : Tree) (trees : List Tree) → fold placed trees (nodes_behind others tree)
+    ≡ tree ∷ trees
 read_tree others (leaf solid) trees = refl
 read_tree others (join op left right) trees =
     fold-append placed trees (nodes_behind others left ++ nodes_behind (others + size left) right) _
-    ∙ rw (fold-append placed trees (nodes_behind others left) (nodes_behind (others + size left) right), read_tree others left trees, read_tree (others + size left) right (left ∷ trees)) (placed_op op _ _ (right ∷ left ∷ trees))
+    ∙ rw (
+      fold-append placed trees (nodes_behind others left) (nodes_behind (others + size left) right),
+      read_tree others left trees,
+      read_tree (others + size left) right (left ∷ trees),
+    )
+    (placed_op op _ _ (right ∷ left ∷ trees))
 
 pub tree_of_nodes : (tree : Tree) → trees_after (nodes_of tree) ≡ tree ∷ []
 tree_of_nodes tree = read_tree 0 tree []
@@ -38,17 +51,24 @@ abbrev AllPlaced : List Tree → List Node → Type 0
 AllPlaced trees [] = Unit {0}
 AllPlaced trees (node ∷ nodes) = CanPlace (length trees) (shape_of node) × AllPlaced (placed trees node) nodes
 
-placed_both : (trees : List Tree) (xs ys : List Node) → AllPlaced trees xs → AllPlaced (fold placed trees xs) ys → AllPlaced trees (xs ++ ys)
+placed_both : (trees : List Tree) (xs ys : List Node) → AllPlaced trees xs → AllPlaced (fold placed trees xs) ys
+    → AllPlaced trees (xs ++ ys)
 placed_both trees [] ys first second = second
 placed_both trees (x ∷ xs) ys first second = (first.0, placed_both (placed trees x) xs ys first.1 second)
 
-placed_tree : (others : ℕ) (tree : Tree) (trees : List Tree) → length trees + nesting tree < 65 → AllPlaced trees (nodes_behind others tree)
+placed_tree : (others : ℕ) (tree : Tree) (trees : List Tree) → length trees + nesting tree < MAX_WAITING
+    → AllPlaced trees (nodes_behind others tree)
 placed_tree others (leaf solid) trees room = (omega arith, tt)
 placed_tree others (join op left right) trees room =
     placed_both trees (nodes_behind others left ++ nodes_behind (others + size left) right) _
-    (placed_both trees (nodes_behind others left) (nodes_behind (others + size left) right) (placed_tree others left trees (omega arith))
+    (placed_both trees (nodes_behind others left) (nodes_behind (others + size left) right)
+    (placed_tree others left trees (omega arith))
     (rw (read_tree others left trees) (placed_tree (others + size left) right (left ∷ trees) (omega arith))))
-    (rw (fold-append placed trees (nodes_behind others left) (nodes_behind (others + size left) right), read_tree others left trees, read_tree (others + size left) right (left ∷ trees))
+    (rw (
+      fold-append placed trees (nodes_behind others left) (nodes_behind (others + size left) right),
+      read_tree others left trees,
+      read_tree (others + size left) right (left ∷ trees),
+    )
     (rw (shape_of_op op (others + size left - 1) (others + size left + size right - 1)) (omega arith, omega arith), tt))
 
 placed_at : (trees : List Tree) (nodes : List Node) (i : ℕ) (any : Node) → AllPlaced trees nodes → i < length nodes
@@ -57,7 +77,7 @@ placed_at trees [] i any all lt = absurd (omega arith)
 placed_at trees (x ∷ xs) zero any all lt = all.0
 placed_at trees (x ∷ xs) (suc i) any all lt = placed_at (placed trees x) xs i any all.1 (omega arith)
 
-pub can_place : (tree : Tree) (i : ℕ) (any : Node) → nesting tree ≤ 64 → i < length (nodes_of tree)
+pub can_place : (tree : Tree) (i : ℕ) (any : Node) → nesting tree ≤ MAX_NESTING → i < length (nodes_of tree)
     → CanPlace (length (trees_after (take i (nodes_of tree)))) (shape_of (get_or (nodes_of tree) i any))
 can_place tree i any shallow lt = placed_at [] (nodes_of tree) i any (placed_tree 0 tree [] (omega arith)) lt
 
@@ -65,10 +85,13 @@ abbrev pub AreBelow : ℕ → List Node → Type 0
 AreBelow count nodes = All (λ node. IsLeafBelow count (shape_of node)) nodes
 
 op_is_no_leaf : (count : ℕ) (op : Op) (l r : ℕ) → AreBelow count (op_node op l r ∷ [])
-op_is_no_leaf count op l r = All-cons (λ node. IsLeafBelow count (shape_of node)) _ [] (rw (shape_of_op op l r) tt) (All-nil _)
+op_is_no_leaf count op l r =
+    All-cons (λ node. IsLeafBelow count (shape_of node)) _ [] (rw (shape_of_op op l r) tt) (All-nil _)
 
-pub leaves_below : (others count : ℕ) (tree : Tree) → HasLeavesBelow count tree → AreBelow count (nodes_behind others tree)
+pub leaves_below : (others count : ℕ) (tree : Tree) → HasLeavesBelow count tree
+    → AreBelow count (nodes_behind others tree)
 leaves_below others count (leaf solid) below = search rules
 leaves_below others count (join op left right) below =
     let each = λ (node : Node). IsLeafBelow count (shape_of node)
-    in All-append each _ _ (All-append each _ _ (leaves_below others count left below.0) (leaves_below (others + size left) count right below.1)) (op_is_no_leaf count op _ _)
+    in All-append each _ _ (All-append each _ _ (leaves_below others count left below.0)
+    (leaves_below (others + size left) count right below.1)) (op_is_no_leaf count op _ _)

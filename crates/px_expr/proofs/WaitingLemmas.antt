@@ -1,5 +1,6 @@
 -- What is known of the trees that wait in a builder.
-use Rattle.std.proofs.Common.{ℕ, ◌≡◌, ◌≤◌, ◌<◌, ◌+◌, ◌-◌, ◌*◌, max, List, [], ◌∷◌, ◌++◌, length, reverse, refl, ap, sym, ◌∙◌, arith, append_assoc, length-append}
+use Rattle.std.proofs.Common.{ℕ, ◌≡◌, ◌≤◌, ◌<◌, ◌+◌, ◌-◌, ◌*◌, max, List, [], ◌∷◌, ◌++◌, length, reverse, refl, ap}
+use Rattle.std.proofs.Common.{sym, ◌∙◌, arith, append_assoc, length-append}
 use Rattle.std.proofs.lemmas.List.{reverse-append, length-reverse}
 use Rattle.std.proofs.lemmas.List.Sums.{fold-append}
 use Rattle.px_expr.specs.Tree.{Tree, leaf, join, nesting}
@@ -11,11 +12,13 @@ use Rattle.px_expr.specs.declared.node.Node.{Node}
 use Rattle.px_expr.specs.declared.node.Node.TheVariants as n
 use Rattle.px_expr.specs.declared.node.Op.{Op}
 use Rattle.px_expr.specs.declared.builder.Subtree.{Subtree}
+use Rattle.px_expr.specs.declared.builder.TheConstants.{MAX_LEAVES, MAX_NESTING}
 use Rattle.px_expr.proofs.PostorderLemmas.{size_leaves, length-nodes_behind}
 
 pub length-all_nodes : (trees : List Tree) → length (all_nodes trees) ≡ all_size trees
 length-all_nodes [] = refl
-length-all_nodes (tree ∷ others) = grind (arith, length-append {A = Node}, length-all_nodes others, length-nodes_behind (all_size others) tree)
+length-all_nodes (tree ∷ others) =
+    grind (arith, length-append {A = Node}, length-all_nodes others, length-nodes_behind (all_size others) tree)
 
 pub length-subtrees_of : (trees : List Tree) → length (subtrees_of trees) ≡ length trees
 length-subtrees_of [] = refl
@@ -31,9 +34,11 @@ pub record HasCounts (given : List Node) (kept : List Subtree) (trees : List Tre
   pub nodes : length given ≡ all_size trees
   pub leaves : length given + length kept ≡ 2 * all_leaves trees
 
-pub counts : (given : List Node) (kept : List Subtree) (trees : List Tree) → IsKept given kept trees → HasCounts given kept trees
+pub counts : (given : List Node) (kept : List Subtree) (trees : List Tree) → IsKept given kept trees
+    → HasCounts given kept trees
 counts given kept trees is =
-    let as_many : length kept ≡ length trees = omega (arith, length-reverse kept, ap length is.subtrees, length-subtrees_of trees)
+    let as_many : length kept ≡ length trees =
+    omega (arith, length-reverse kept, ap length is.subtrees, length-subtrees_of trees)
     in let sizes : length given ≡ all_size trees = ap length is.nodes ∙ length-all_nodes trees
     in record { subtrees = as_many; nodes = sizes; leaves = omega (arith, all_size_leaves trees) }
 
@@ -41,8 +46,10 @@ reverse_push : {X : Type 0} (xs : List X) (x : X) → reverse (xs ++ x ∷ []) �
 reverse_push xs x = reverse-append xs (x ∷ [])
 
 -- a leaf is put down
-pub kept_leaf : (given : List Node) (kept : List Subtree) (trees : List Tree) (solid : ℕ) → IsKept given kept trees → all_leaves trees < 512 → solid < 256
-    → IsKept (given ++ n.Leaf solid ∷ []) (kept ++ record { root = length given; nesting = 0 } ∷ []) (leaf solid ∷ trees)
+pub kept_leaf : (given : List Node) (kept : List Subtree) (trees : List Tree) (solid : ℕ) → IsKept given kept trees
+    → all_leaves trees < MAX_LEAVES → solid < 256
+    → IsKept (given ++ n.Leaf solid ∷ []) (kept ++ record { root = length given; nesting = 0 } ∷ [])
+    (leaf solid ∷ trees)
 kept_leaf given kept trees solid is few known =
     let root : length given ≡ all_size trees + 1 - 1 = omega (arith, (counts given kept trees is).nodes)
     in record {
@@ -54,37 +61,49 @@ kept_leaf given kept trees solid is few known =
 
 all_nodes_joined : (op : Op) (left right : Tree) (others : List Tree) →
     all_nodes (join op left right ∷ others)
-    ≡ all_nodes (right ∷ left ∷ others) ++ op_node op (all_size others + size left - 1) (all_size others + size left + size right - 1) ∷ []
+    ≡ all_nodes (right ∷ left ∷ others) ++ op_node op (all_size others + size left - 1) (all_size others + size left
+    + size right - 1) ∷ []
 all_nodes_joined op left right others =
-    sym (append_assoc (all_nodes others) (nodes_behind (all_size others) left ++ nodes_behind (all_size others + size left) right) _)
-    ∙ ap (λ nodes. nodes ++ op_node op (all_size others + size left - 1) (all_size others + size left + size right - 1) ∷ [])
-    (sym (append_assoc (all_nodes others) (nodes_behind (all_size others) left) (nodes_behind (all_size others + size left) right)))
+    sym (append_assoc (all_nodes others) (nodes_behind (all_size others) left
+    ++ nodes_behind (all_size others + size left) right) _)
+    ∙ ap (λ nodes. nodes ++ op_node op (all_size others + size left - 1) (all_size others + size left
+    + size right - 1) ∷ [])
+    (sym (append_assoc (all_nodes others) (nodes_behind (all_size others) left)
+    (nodes_behind (all_size others + size left) right)))
 
 -- the last two that are kept are those of the last two trees
-last_are : (kept rest : List Subtree) (left right : Subtree) (a b : Tree) (others : List Tree) → reverse kept ≡ subtrees_of (b ∷ a ∷ others)
+last_are : (kept rest : List Subtree) (left right : Subtree) (a b : Tree) (others : List Tree) → reverse kept
+    ≡ subtrees_of (b ∷ a ∷ others)
     → kept ≡ rest ++ left ∷ right ∷ [] → right ∷ left ∷ reverse rest ≡ subtrees_of (b ∷ a ∷ others)
-last_are kept rest left right a b others is last = sym (reverse-append rest (left ∷ right ∷ [])) ∙ ap reverse (sym last) ∙ is
+last_are kept rest left right a b others is last = sym (reverse-append rest (left ∷ right ∷ []))
+    ∙ ap reverse (sym last) ∙ is
 
-pub nesting_joined : (kept rest : List Subtree) (left right : Subtree) (op : Op) (trees : List Tree) → reverse kept ≡ subtrees_of trees → 2 ≤ length trees
+pub nesting_joined : (kept rest : List Subtree) (left right : Subtree) (op : Op) (trees : List Tree) → reverse kept
+    ≡ subtrees_of trees → 2 ≤ length trees
     → kept ≡ rest ++ left ∷ right ∷ [] → max left.nesting right.nesting + 1 ≡ nesting (newest (joined join op trees))
 nesting_joined kept rest left right op [] is two last = absurd (omega arith)
 nesting_joined kept rest left right op (b ∷ []) is two last = absurd (omega arith)
-nesting_joined kept rest left right op (b ∷ a ∷ others) is two last = let same = last_are kept rest left right a b others is last in cc
+nesting_joined kept rest left right op (b ∷ a ∷ others) is two last = let same =
+    last_are kept rest left right a b others is last in cc
 
 -- the last two trees are joined
-pub kept_joined : (given : List Node) (kept rest : List Subtree) (left right : Subtree) (trees : List Tree) (op : Op) (depth : ℕ) → IsKept given kept trees → 2 ≤ length trees
-    → kept ≡ rest ++ left ∷ right ∷ [] → depth ≡ nesting (newest (joined join op trees)) → depth ≤ 64
-    → IsKept (given ++ op_node op left.root right.root ∷ []) (rest ++ record { root = length given; nesting = depth } ∷ []) (joined join op trees)
+pub kept_joined : (given : List Node) (kept rest : List Subtree) (left right : Subtree) (trees : List Tree) (op : Op)
+    (depth : ℕ) → IsKept given kept trees → 2 ≤ length trees
+    → kept ≡ rest ++ left ∷ right ∷ [] → depth ≡ nesting (newest (joined join op trees)) → depth ≤ MAX_NESTING
+    → IsKept (given ++ op_node op left.root right.root ∷ []) (rest ++ record { root = length given; nesting = depth }
+    ∷ []) (joined join op trees)
 kept_joined given kept rest left right [] op depth is two last same few = absurd (omega arith)
 kept_joined given kept rest left right (b ∷ []) op depth is two last same few = absurd (omega arith)
 kept_joined given kept rest left right (b ∷ a ∷ others) op depth is two last same few =
     let pair = last_are kept rest left right a b others is.subtrees last
     in let right_root : right.root ≡ all_size others + size a + size b - 1 = cc
     in let left_root : left.root ≡ all_size others + size a - 1 = cc
-    in let root : length given ≡ all_size others + (size a + size b + 1) - 1 = omega (arith, (counts given kept (b ∷ a ∷ others) is).nodes)
+    in let root : length given ≡ all_size others + (size a + size b + 1) - 1 =
+    omega (arith, (counts given kept (b ∷ a ∷ others) is).nodes)
     in let below : reverse rest ≡ subtrees_of others = cc
     in record {
-      nodes = rw (left_root, right_root) (ap (λ nodes. nodes ++ op_node op (all_size others + size a - 1) (all_size others + size a + size b - 1) ∷ []) is.nodes
+      nodes = rw (left_root, right_root) (ap (λ nodes. nodes ++ op_node op (all_size others + size a - 1)
+          (all_size others + size a + size b - 1) ∷ []) is.nodes
           ∙ sym (all_nodes_joined op a b others));
       subtrees = reverse_push rest _ ∙ cc (root, below, same);
       leaves = omega arith;
@@ -92,16 +111,27 @@ kept_joined given kept rest left right (b ∷ a ∷ others) op depth is two last
     }
 
 -- what a node leaves of the trees that waited
-pub after_push : (new old given : List Node) (node : Node) → new ≡ old ++ node ∷ [] → old ≡ given → trees_after new ≡ placed (trees_after given) node
-after_push new old given node is same = ap trees_after is ∙ fold-append placed [] old (node ∷ []) ∙ ap (λ nodes. placed (trees_after nodes) node) same
+pub after_push : (new old given : List Node) (node : Node) → new ≡ old ++ node ∷ [] → old ≡ given → trees_after new
+    ≡ placed (trees_after given) node
+after_push new old given node is same = ap trees_after is ∙ fold-append placed [] old (node ∷ [])
+    ∙ ap (λ nodes. placed (trees_after nodes) node) same
 
-pub same_kept : (given more : List Node) (kept others : List Subtree) (trees now : List Tree) → more ≡ given → others ≡ kept → now ≡ trees → IsKept given kept trees → IsKept more others now
+pub same_kept : (given more : List Node) (kept others : List Subtree) (trees now : List Tree) → more ≡ given
+    → others ≡ kept → now ≡ trees → IsKept given kept trees → IsKept more others now
 same_kept given more kept others trees now nodes subtrees is so = rw (nodes, subtrees, is) so
 
-pub few_leaves : (trees now : List Tree) (count : ℕ) → trees ≡ now → count ≡ all_leaves now → (count ≡ 512 → ⊥) → all_leaves trees ≤ 512 → all_leaves trees < 512
+pub few_leaves : (trees now : List Tree) (count : ℕ) → trees ≡ now → count ≡ all_leaves now → (count ≡ MAX_LEAVES → ⊥)
+    → all_leaves trees ≤ MAX_LEAVES → all_leaves trees < MAX_LEAVES
 few_leaves trees now count same is not_full most = omega (arith, ap all_leaves same)
 
-pub nesting_most : (op : Op) (trees : List Tree) → AreLawful trees → nesting (newest (joined join op trees)) ≤ 65
-nesting_most op [] each = omega arith
-nesting_most op (a ∷ []) each = omega arith
-nesting_most op (b ∷ a ∷ others) each = omega arith
+-- the last two that are kept are nested no deeper than they may
+pub nesting_most : (kept rest : List Subtree) (left right : Subtree) (trees : List Tree) → reverse kept
+    ≡ subtrees_of trees → 2 ≤ length trees → kept ≡ rest ++ left ∷ right ∷ [] → AreLawful trees
+    → max left.nesting right.nesting ≤ MAX_NESTING
+nesting_most kept rest left right [] is two last each = absurd (omega arith)
+nesting_most kept rest left right (b ∷ []) is two last each = absurd (omega arith)
+nesting_most kept rest left right (b ∷ a ∷ others) is two last each =
+    let same = last_are kept rest left right a b others is last in
+    let first : left.nesting ≡ nesting a = cc in
+    let second : right.nesting ≡ nesting b = cc in
+    omega (arith, first, second, each.0, each.2.0)

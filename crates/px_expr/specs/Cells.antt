@@ -1,16 +1,18 @@
 -- What an expression is at a cell of a ray: a member or not, and the faces shown or hidden there. Clauses of public calls stand on it.
 -- It follows from what each solid is at that cell, whatever that may be.
-use Rattle.std.specs.Prelude.{ℕ, ◌≡◌, ◌<◌, ◌==◌, Bool, true, false, ◌&&◌, ◌||◌, not, List, [], ◌++◌, length, if◌then◌else◌, slice_index_or}
+use Rattle.std.specs.Prelude.{ℕ, ◌≡◌, ◌<◌, ◌==◌, Bool, true, false, List, [], ◌++◌, length, if◌then◌else◌, slice_index_or}
 use Rattle.std.specs.List.{list_any}
 use Rattle.px_expr.specs.Tree.{Tree, leaf, join}
+use Rattle.px_expr.specs.Combinations.{combination_of, complement_of, truth_in, truth_when}
 use Rattle.px_expr.specs.declared.node.Op.{Op}
-use Rattle.px_expr.specs.declared.node.Op.TheVariants as o
+use Rattle.px_expr.specs.declared.combination.Sense.{Sense}
+use Rattle.px_expr.specs.declared.combination.Sense.TheVariants.{Plain, Complement}
+use Rattle.px_expr.specs.declared.combination.Combination.{Combination}
+use Rattle.px_expr.specs.declared.combination.Combination.TheVariants.{Both, Either, EitherWay}
 
+-- whether a cell is in the whole, by whether it is in each side
 abbrev pub truth_of : Op → Bool → Bool → Bool
-truth_of o.Union left right = left || right
-truth_of o.Meet left right = left && right
-truth_of o.Minus left right = left && not right
-truth_of o.Differ left right = (left && not right) || (not left && right)
+truth_of op left right = truth_when (combination_of op) left right
 
 -- whether a cell belongs to an expression, by the solids that the cell is inside
 abbrev pub is_member : (ℕ → Bool) → Tree → Bool
@@ -30,47 +32,33 @@ pub record Cell : Type 0 where
 abbrev pub where_true : Bool → List ℕ → List ℕ
 where_true test faces = if test then faces else []
 
--- each side that has the cell shows its faces
-abbrev pub united : Cell → Cell → Cell
-united a b = record {
-  member = truth_of o.Union a.member b.member;
-  shown = where_true a.member a.shown ++ where_true b.member b.shown;
-  hidden = a.hidden ++ b.hidden;
-}
+-- what a side shows in its sense: a complement shows what the side hides
+abbrev pub shown_in : Sense → Cell → List ℕ
+shown_in Plain side = side.shown
+shown_in Complement side = side.hidden
 
--- each side that lacks the cell hides its faces
-abbrev pub met : Cell → Cell → Cell
-met a b = record {
-  member = truth_of o.Meet a.member b.member;
-  shown = a.shown ++ b.shown;
-  hidden = where_true (not a.member) a.hidden ++ where_true (not b.member) b.hidden;
-}
-
--- what is subtracted shows what it hides, and hides what it shows
-abbrev pub subtracted : Cell → Cell → Cell
-subtracted a b = record {
-  member = truth_of o.Minus a.member b.member;
-  shown = a.shown ++ b.hidden;
-  hidden = where_true (not a.member) a.hidden ++ where_true b.member b.shown;
-}
+-- what a side shows where it has the cell in its sense
+abbrev pub shown_where : Sense → Cell → List ℕ
+shown_where sense side = where_true (truth_in sense side.member) (shown_in sense side)
 
 -- the faces of a side: shown where it has the cell, or else hidden
 abbrev pub own_faces : Cell → List ℕ
-own_faces a = if a.member then a.shown else a.hidden
+own_faces side = if side.member then side.shown else side.hidden
 
--- each side changes the whole, so its own faces are shown or hidden
-abbrev pub differed : Cell → Cell → Cell
-differed a b = record {
-  member = truth_of o.Differ a.member b.member;
-  shown = own_faces a ++ own_faces b;
-  hidden = own_faces a ++ own_faces b;
-}
+-- where both sides are needed, both show; of either, each that has the cell; either way each
+-- side changes the whole, and its own faces show
+abbrev pub shown_when : Combination → Cell → Cell → List ℕ
+shown_when (Both first second) left right = shown_in first left ++ shown_in second right
+shown_when (Either first second) left right = shown_where first left ++ shown_where second right
+shown_when (EitherWay sense) left right = own_faces left ++ own_faces right
 
+-- what is hidden is what the complement shows
 abbrev pub combined : Op → Cell → Cell → Cell
-combined o.Union a b = united a b
-combined o.Meet a b = met a b
-combined o.Minus a b = subtracted a b
-combined o.Differ a b = differed a b
+combined op left right = record {
+  member = truth_of op left.member right.member;
+  shown = shown_when (combination_of op) left right;
+  hidden = shown_when (complement_of (combination_of op)) left right;
+}
 
 abbrev pub cell : (ℕ → Cell) → Tree → Cell
 cell solid_at (leaf solid) = solid_at solid

@@ -5,6 +5,7 @@ use Rattle.px_expr.specs.Waiting.{all_leaves}
 use Rattle.px_expr.specs.Postorder.{size, nodes_behind}
 use Rattle.px_expr.specs.declared.node.Node.{Node}
 use Rattle.px_expr.specs.declared.builder.Subtree.{Subtree}
+use Rattle.px_expr.specs.declared.builder.TheConstants.{MAX_LEAVES, MAX_NESTING}
 
 abbrev pub all_size : List Tree → ℕ
 all_size [] = 0
@@ -21,10 +22,10 @@ subtrees_of (tree ∷ others) =
 
 abbrev pub AreLawful : List Tree → Type 0
 AreLawful [] = Unit {0}
-AreLawful (tree ∷ others) = (nesting tree ≤ 64) × HasLeavesBelow 256 tree × AreLawful others
+AreLawful (tree ∷ others) = (nesting tree ≤ MAX_NESTING) × HasLeavesBelow 256 tree × AreLawful others
 
 pub record IsKept (given : List Node) (kept : List Subtree) (trees : List Tree) : Type 0 where
   pub nodes : given ≡ all_nodes trees
   pub subtrees : reverse kept ≡ subtrees_of trees
-  pub leaves : all_leaves trees ≤ 512
+  pub leaves : all_leaves trees ≤ MAX_LEAVES
   pub lawful : AreLawful trees

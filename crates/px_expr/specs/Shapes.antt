@@ -6,6 +6,7 @@ use Rattle.px_expr.specs.declared.node.Op.{Op}
 use Rattle.px_expr.specs.declared.node.Op.TheVariants as o
 use Rattle.px_expr.specs.declared.node.Shape.{Shape}
 use Rattle.px_expr.specs.declared.node.Shape.TheVariants as p
+use Rattle.px_expr.specs.declared.builder.TheConstants.{MAX_WAITING}
 
 -- a leaf, or an operator between the places of its sides
 abbrev pub shape_of : Node → Shape
@@ -33,10 +34,10 @@ abbrev pub put : {X : Type 0} → (ℕ → X) → (Op → X → X → X) → Lis
 put at join values (p.Leaf solid) = at solid ∷ values
 put at join values (p.Join op left right) = joined join op values
 
--- where so many values wait, a shape finds its two sides, or room for one more; at most 65 wait
+-- where so many values wait, a shape finds its two sides, or room for one more
 abbrev pub CanPlace : ℕ → Shape → Type 0
-CanPlace waiting (p.Leaf solid) = waiting < 65
-CanPlace waiting (p.Join op left right) = (2 ≤ waiting) × (waiting ≤ 65)
+CanPlace waiting (p.Leaf solid) = waiting < MAX_WAITING
+CanPlace waiting (p.Join op left right) = (2 ≤ waiting) × (waiting ≤ MAX_WAITING)
 
 abbrev pub IsLeafBelow : ℕ → Shape → Type 0
 IsLeafBelow count (p.Leaf solid) = solid < count

@@ -1,5 +1,5 @@
 //! Building an expression from its leaves up.
-ghost use Rattle.std.specs.Prelude.{◌≡◌, ◌<◌, ◌≤◌, ◌+◌, ◌-◌, ◌∷◌, ◌++◌, [], length, take, vec_len, vec_capacity, OnOk, OnErr, IfErr};
+ghost use Rattle.std.specs.Prelude.{◌≡◌, ◌<◌, ◌≤◌, ◌+◌, ◌-◌, ◌*◌, ◌∷◌, ◌++◌, [], length, take, vec_len, vec_capacity, OnOk, OnErr, IfErr};
 ghost use Rattle.px_expr.specs.Tree.{leaf, join, nesting};
 ghost use Rattle.px_expr.specs.Shapes.{joined};
 ghost use Rattle.px_expr.specs.Waiting.{newest, all_leaves};
@@ -9,9 +9,15 @@ use crate::{Expr, ExprFault, Node, Op};
 use std::alloc::Global;
 use std::marker::Model;
 
-const MAX_LEAVES: usize = 512;
+/// An expression has at most so many leaves (docs/SCENES.md, "Limits").
+pub const MAX_LEAVES: usize = 512;
 
-const MAX_NESTING: u8 = 64;
+/// An expression is nested at most so deep (docs/SCENES.md, "Limits").
+pub const MAX_NESTING: u8 = 64;
+
+/// At most so many values wait in a walk over an expression's nodes: one of each level that is
+/// open, and the next leaf's.
+pub const MAX_WAITING: usize = MAX_NESTING as usize + 1;
 
 /// A waiting subtree: the place of its root, and how deep it is nested.
 #[derive(Clone, Copy, Debug, PartialEq, Eq)]
@@ -68,12 +74,15 @@ impl ExprBuilder {
     pub fn leaf(&mut self, solid: u8) -> Result<(), ExprFault>
         ensures ok { OnOk result (self.new ≡ leaf solid ∷ self.old) }
         ensures err { OnErr result (self.new ≡ self.old) }
-        ensures full { 512 ≤ all_leaves self.old → result ≡ Err (ExprFault.Leaves 513) }
-        ensures memory { all_leaves self.old < 512 →
+        ensures full { MAX_LEAVES ≤ all_leaves self.old →
+            result ≡ Err (ExprFault.Leaves (MAX_LEAVES + 1)) }
+        ensures memory { all_leaves self.old < MAX_LEAVES →
             IfErr result (λ fault. fault ≡ ExprFault.Memory) }
     {
         if self.leaves() == MAX_LEAVES {
-            return Err(ExprFault::Leaves { found: 513 });
+            return Err(ExprFault::Leaves {
+                found: MAX_LEAVES as u32 + 1,
+            });
         }
         self.nodes.reserve(1)?;
         self.waiting.reserve(1)?;
@@ -86,9 +95,9 @@ impl ExprBuilder {
         requires { 2 ≤ length self.old }
         ensures ok { OnOk result (self.new ≡ joined join op self.old) }
         ensures err { OnErr result (self.new ≡ self.old) }
-        ensures deep { 64 < nesting (newest (joined join op self.old)) →
-            result ≡ Err (ExprFault.Nesting 65) }
-        ensures memory { nesting (newest (joined join op self.old)) ≤ 64 →
+        ensures deep { MAX_NESTING < nesting (newest (joined join op self.old)) →
+            result ≡ Err (ExprFault.Nesting (MAX_NESTING + 1)) }
+        ensures memory { nesting (newest (joined join op self.old)) ≤ MAX_NESTING →
             IfErr result (λ fault. fault ≡ ExprFault.Memory) }
     {
         let nesting = self.joined_nesting();
@@ -121,7 +130,7 @@ impl ExprBuilder {
     fn joined_nesting(&self) -> u8
         requires { 2 ≤ length self.now }
         ensures nesting { (op : AnyOp) → result ≡ nesting (newest (joined join op self.now)) }
-        ensures most { result ≤ 65 }
+        ensures most { result ≤ MAX_NESTING + 1 }
     {
         let (left, right) = last_two(&self.waiting);
         left.nesting.max(right.nesting) + 1
@@ -158,7 +167,7 @@ fn take_two(waiting: &mut Vec<Subtree>) -> (Subtree, Subtree)
 fn put(nodes: &mut Vec<Node>, waiting: &mut Vec<Subtree>, node: Node, nesting: u8)
     requires node_room { vec_len nodes.old < vec_capacity nodes.old }
     requires subtree_room { vec_len waiting.old < vec_capacity waiting.old }
-    requires few { vec_len nodes.old < 1023 }
+    requires few { vec_len nodes.old < 2 * MAX_LEAVES - 1 }
     ensures nodes { nodes.new.items ≡ nodes.old.items ++ node ∷ [] }
     ensures waiting { waiting.new.items ≡ waiting.old.items
         ++ record { root = vec_len nodes.old; nesting = nesting } ∷ [] }

@@ -1,5 +1,5 @@
 //! An expression, its nodes and its truth.
-ghost use Rattle.std.specs.Prelude.{◌≡◌, ◌<◌, ◌≤◌, ◌+◌, ◌∷◌, [], ℕ, All, IfOk, length, reverse, take, slice_index_or};
+ghost use Rattle.std.specs.Prelude.{◌≡◌, ◌<◌, ◌≤◌, ◌+◌, ◌-◌, ◌*◌, ◌∷◌, [], ℕ, All, IfOk, length, reverse, take, slice_index_or};
 ghost use Rattle.arrayvec.specs.ArrayVec.{array_vec_len};
 ghost use Rattle.px_expr.specs.Tree.{HasLeavesBelow, IsLawful};
 ghost use Rattle.px_expr.specs.Cells.{is_member, is_true, truth_of};
@@ -7,12 +7,12 @@ ghost use Rattle.px_expr.specs.Shapes.{shape_of, joined, put, CanPlace, IsLeafBe
 ghost use Rattle.px_expr.specs.Postorder.{nodes_of, trees_after, parent_count};
 ghost use Rattle.px_expr.specs.declared.node.Node.{Node as AnyNode};
 
-use crate::{Node, Op, Shape};
+use crate::{MAX_LEAVES, MAX_WAITING, Node, Op, Shape};
 use arrayvec::ArrayVec;
 use px_num::Memory;
 use std::marker::Model;
 
-/// An expression over solids, of at most 512 leaves and 64 levels of nesting.
+/// An expression over solids, of at most `MAX_LEAVES` leaves and `MAX_NESTING` levels of nesting.
 /// Contracts see the tree that is written.
 #[derive(Debug, Drop)]
 pub struct Expr {
@@ -43,7 +43,7 @@ impl Expr {
     pub fn nodes(&self) -> &[Node]
         ensures nodes { result.now ≡ nodes_of self.now }
         ensures tree { trees_after result.now ≡ self.now ∷ [] }
-        ensures few { length result.now ≤ 1023 }
+        ensures few { length result.now ≤ 2 * MAX_LEAVES - 1 }
         ensures before { (i : ℕ) (any : AnyNode) → i < length result.now →
             All (λ side. side < i) (sides (shape_of (slice_index_or result.now i any))) }
         ensures once { (i : ℕ) → i + 1 < length result.now → parent_count i result.now ≡ 1 }
@@ -69,7 +69,7 @@ impl Expr {
         requires { HasLeavesBelow (length inside.now) self.now }
         ensures { result ≡ is_member (is_true inside.now) self.now }
     {
-        let mut stack = ArrayVec::<bool, 65>::new();
+        let mut stack = ArrayVec::<bool, MAX_WAITING>::new();
         for node in self.nodes() {
             place(&mut stack, node.shape(), inside);
         }
@@ -78,7 +78,7 @@ impl Expr {
 }
 
 /// Puts the truth of a shape down, in place of its sides' where it has them.
-fn place(stack: &mut ArrayVec<bool, 65>, shape: Shape, inside: &[bool])
+fn place(stack: &mut ArrayVec<bool, MAX_WAITING>, shape: Shape, inside: &[bool])
     requires place { CanPlace (array_vec_len stack.old) shape }
     requires leaf { IsLeafBelow (length inside.now) shape }
     ensures { reverse stack.new.items
@@ -91,9 +91,9 @@ fn place(stack: &mut ArrayVec<bool, 65>, shape: Shape, inside: &[bool])
 }
 
 /// The last two become one.
-fn combine(stack: &mut ArrayVec<bool, 65>, op: Op)
+fn combine(stack: &mut ArrayVec<bool, MAX_WAITING>, op: Op)
     requires two { 2 ≤ array_vec_len stack.old }
-    requires few { array_vec_len stack.old ≤ 65 }
+    requires few { array_vec_len stack.old ≤ MAX_WAITING }
     ensures { reverse stack.new.items ≡ joined truth_of op (reverse stack.old.items) }
 {
     let right = stack.pop().unwrap();

@@ -5,10 +5,10 @@ use thiserror::Error;
 /// Why a leaf or an operator was refused (docs/SCENES.md, "Limits").
 #[derive(Clone, Copy, Debug, PartialEq, Eq, Error)]
 pub enum ExprFault {
-    /// An expression has at most 512 leaves.
+    /// An expression has at most `MAX_LEAVES` leaves.
     #[error("{found} leaves, of at most 512")]
     Leaves { found: u32 },
-    /// An expression is nested at most 64 deep.
+    /// An expression is nested at most `MAX_NESTING` deep.
     #[error("nested {found} deep, of at most 64")]
     Nesting { found: u32 },
     #[error("out of memory")]

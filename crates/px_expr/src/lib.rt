@@ -2,12 +2,14 @@
 #![tactic(auto)]
 
 mod builder;
+mod combination;
 mod expr;
 mod fault;
 mod node;
 mod surface;
 
-pub use builder::ExprBuilder;
+pub use builder::{ExprBuilder, MAX_LEAVES, MAX_NESTING, MAX_WAITING};
+pub use combination::{Combination, Sense};
 pub use expr::Expr;
 pub use fault::ExprFault;
 pub use node::{Node, Op, Shape};

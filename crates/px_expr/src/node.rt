@@ -1,7 +1,10 @@
 //! Operators, and the nodes of an expression.
 ghost use Rattle.std.specs.Prelude.{◌≡◌};
 ghost use Rattle.px_expr.specs.Cells.{truth_of};
+ghost use Rattle.px_expr.specs.Combinations.{combination_of};
 ghost use Rattle.px_expr.specs.Shapes.{op_node, shape_of};
+
+use crate::{Combination, Sense};
 
 /// What joins two expressions.
 #[derive(Clone, Copy, Debug, PartialEq, Eq)]
@@ -61,15 +64,22 @@ impl Op {
         }
     }
 
+    /// What it makes of its two sides.
+    pub fn combination(self) -> Combination
+        ensures { result ≡ combination_of self }
+    {
+        match self {
+            Op::Union => Combination::Either(Sense::Plain, Sense::Plain),
+            Op::Meet => Combination::Both(Sense::Plain, Sense::Plain),
+            Op::Minus => Combination::Both(Sense::Plain, Sense::Complement),
+            Op::Differ => Combination::EitherWay(Sense::Complement),
+        }
+    }
+
     /// Whether a cell is in the whole, by whether it is in each side.
     pub(crate) fn truth(self, left: bool, right: bool) -> bool
         ensures { result ≡ truth_of self left right }
     {
-        match self {
-            Op::Union => left || right,
-            Op::Meet => left && right,
-            Op::Minus => left && !right,
-            Op::Differ => left != right,
-        }
+        self.combination().truth(left, right)
     }
 }

@@ -15,4 +15,5 @@ invariant_of-self-2 c =
     (c.put.ensures.waiting ∙ cc (c.reserve.ensures.len, c.reserve-2.ensures.items))
     (after_push _ _ _ _ c.put.ensures.nodes c.reserve.ensures.items)
     (kept_leaf _ _ _ c.args.solid c.self.invariant
-    (few_leaves _ _ _ c.self.view_is c.leaves.ensures c.if-leaves-eq-MAX_LEAVES.false c.self.invariant.leaves) (omega arith))
+    (few_leaves _ _ _ c.self.view_is c.leaves.ensures c.if-leaves-eq-MAX_LEAVES.false c.self.invariant.leaves)
+    (omega arith))

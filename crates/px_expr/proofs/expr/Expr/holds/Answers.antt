@@ -8,10 +8,12 @@ use Rattle.px_expr.proofs.expr.Expr.holds.Goals as goal
 
 pub place-requires-clause-place : goal.place-requires-clause-place
 place-requires-clause-place c =
-    rw (c.shape.ensures, values_length _ _ _ c.loop-node.invariant) (c.nodes-node-items.ensures.places _ _ c.loop-node-test.true)
+    rw (c.shape.ensures, values_length _ _ _ c.loop-node.invariant)
+    (c.nodes-node-items.ensures.places _ _ c.loop-node-test.true)
 
 pub place-requires-clause-leaf : goal.place-requires-clause-leaf
-place-requires-clause-leaf c = rw c.shape.ensures (c.nodes-node-items.ensures.leaves _ c.requires _ _ c.loop-node-test.true)
+place-requires-clause-leaf c =
+    rw c.shape.ensures (c.nodes-node-items.ensures.leaves _ c.requires _ _ c.loop-node-test.true)
 
 pub loop-node-preserved : goal.loop-node-preserved
 loop-node-preserved c =

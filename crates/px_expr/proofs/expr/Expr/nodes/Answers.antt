@@ -16,7 +16,12 @@ returns-clause-tree c = rw (nodes_are c) (tree_of_nodes _)
 
 pub returns-clause-few : goal.returns-clause-few
 returns-clause-few c =
-    rw (nodes_are c) (omega (arith, (lawful c).leaves, size_leaves c.args.self.now, length-nodes_behind 0 c.args.self.now))
+    rw (nodes_are c) (omega (
+      arith,
+      (lawful c).leaves,
+      size_leaves c.args.self.now,
+      length-nodes_behind 0 c.args.self.now,
+    ))
 
 pub returns-clause-places : goal.returns-clause-places
 returns-clause-places c = rw (nodes_are c) (λ i any lt. can_place _ i any (lawful c).depth lt)
@@ -26,7 +31,10 @@ returns-clause-leaves c = rw (nodes_are c) (λ count. leaves_below 0 count _)
 
 pub returns-clause-before : goal.returns-clause-before
 returns-clause-before c =
-    rw (nodes_are c) (λ i any lt. behind_at 0 (nodes_of c.args.self.now) i i any (omega arith) (behind_tree 0 c.args.self.now) lt)
+    rw (nodes_are c) (λ i any lt. behind_at 0 (nodes_of c.args.self.now) i i any (omega arith)
+    (behind_tree 0 c.args.self.now) lt)
 
 pub returns-clause-once : goal.returns-clause-once
-returns-clause-once c = rw (nodes_are c) (λ i lt. (parents i 0 c.args.self.now).inside (omega arith) (omega (arith, length-nodes_behind 0 c.args.self.now)))
+returns-clause-once c =
+    rw (nodes_are c) (λ i lt. (parents i 0 c.args.self.now).inside (omega arith)
+    (omega (arith, length-nodes_behind 0 c.args.self.now)))
