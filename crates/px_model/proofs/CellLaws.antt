@@ -1,5 +1,6 @@
 -- Laws of cells and of the values that planes have there.
-use Rattle.std.proofs.Common.{◌≡◌, ℕ, ◌+◌, ◌-◌, ◌*◌, ◌/◌, ◌^◌, ◌<◌, ◌≤◌, ◌≤ℤ◌, ℤ, pos, negsuc, true, nat_le, nat_lt, inl, inr, arith, ap, sym, ◌∙◌}
+use Rattle.std.proofs.Common.{◌≡◌, ℕ, ◌+◌, ◌-◌, ◌*◌, ◌/◌, ◌^◌, ◌<◌, ◌≤◌, ◌≤ℤ◌, ℤ, pos, negsuc, true, nat_le, nat_lt}
+use Rattle.std.proofs.Common.{inl, inr, arith, ap, sym, ◌∙◌}
 use Rattle.std.proofs.Math.Nat.{le-div_iff_mul-le, mul-le-mul}
 use Rattle.std.proofs.Math.Pow.{pow_mono}
 use Rattle.std.proofs.lemmas.Nat.{pow-add, pow_pos}
@@ -8,6 +9,7 @@ use Rattle.std.proofs.lemmas.Bool.Decides.{nat_tests}
 use Rattle.std.proofs.lemmas.Int.{ints}
 use lib.Signed.{le_z, lt_z}
 use Rattle.px_model.specs.Cells.{Depths, depths, cell_of, end_of, value_of}
+use Rattle.px_model.specs.declared.limits.TheConstants.{MAX_DEPTH_BITS}
 
 -- the first number of wholes that is not below n
 up_is : (u n z : ℕ) → 0 < u → nat_le ((n + (u - 1)) / u) z ≡ nat_le n (z * u)
@@ -42,8 +44,9 @@ end_is_small w f =
     let e : 2 ^ w ≡ (2 ^ w - 1) + 1 = omega (arith, some) in ap (λ k. k * 2 ^ f) e ∙ grind arith in
     omega (arith, parts, less, one)
 
-pub end_is_within : (w f : ℕ) → w + f ≤ 24 → (2 ^ w - 1) * 2 ^ f < 2 ^ 24
-end_is_within w f few = omega (arith, end_is_small w f, pow_mono {i = w + f} {j = 24} few)
+pub end_is_within : (w f : ℕ) → w + f ≤ MAX_DEPTH_BITS →
+    (2 ^ w - 1) * 2 ^ f < 2 ^ MAX_DEPTH_BITS
+end_is_within w f few = omega (arith, end_is_small w f, pow_mono {i = w + f} {j = MAX_DEPTH_BITS} few)
 
 le_true : (m n : ℕ) → m ≤ n → nat_le m n ≡ true
 le_true m n h = grind (arith, nat_tests)
@@ -74,7 +77,8 @@ before_end d z =
     let some : 0 < 2 ^ d.fraction_bits = pow_pos d.fraction_bits in
     elim (cases_lt z d.far) [
       | inl before ↦
-          let more : (z + 1) * 2 ^ d.fraction_bits ≤ d.far * 2 ^ d.fraction_bits = mul-le-mul (omega arith) (omega arith) in
+          let more : (z + 1) * 2 ^ d.fraction_bits ≤ d.far * 2 ^ d.fraction_bits =
+          mul-le-mul (omega arith) (omega arith) in
           let one : (z + 1) * 2 ^ d.fraction_bits ≡ z * 2 ^ d.fraction_bits + 2 ^ d.fraction_bits = grind arith in
           grind (arith, nat_tests)
       | inr past ↦

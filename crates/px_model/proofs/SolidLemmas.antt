@@ -5,6 +5,7 @@ use Rattle.std.proofs.lemmas.List.Elements.{All-append}
 use Rattle.std.proofs.lemmas.List.Quantifiers.{all_pairs_push}
 use Rattle.std.specs.List.{All}
 use Rattle.px_model.specs.declared.solid.Face.{Face}
+use Rattle.px_model.specs.declared.limits.TheConstants.{MAX_PLANES_OF_A_KIND}
 use Rattle.px_model.specs.Solids.{AreFaces, IsColour, IsPlane}
 
 all_of_one : {X : Type 0} (P : X → Type 0) (x : X) → P x → All P (x ∷ [])
@@ -14,7 +15,8 @@ all_of_one P x holds (suc k) d lt = absurd (omega arith)
 pub All-push : {X : Type 0} (P : X → Type 0) (xs : List X) (x : X) → All P xs → P x → All P (xs ++ x ∷ [])
 All-push P xs x all holds = All-append P xs (x ∷ []) all (all_of_one P x holds)
 
-pub faces_pushed : (near : ℕ) (faces : List Face) (face : Face) → AreFaces near faces → length faces < 32
+pub faces_pushed : (near : ℕ) (faces : List Face) (face : Face) → AreFaces near faces → length faces
+    < MAX_PLANES_OF_A_KIND
     → IsPlane face.plane → IsColour face.colour → near < face.number → All (λ f. f.number < face.number) faces
     → AreFaces near (faces ++ face ∷ [])
 faces_pushed near faces face are room plane colour above order = record {

@@ -3,6 +3,8 @@ use Rattle.std.specs.Prelude.{◌≡◌, ◌≢◌, ℕ, ◌≤◌, ◌<◌, ◌
 use Rattle.std.specs.List.{list_any, AllPass}
 use Rattle.px_model.specs.declared.solid.Colour.{Colour}
 use Rattle.px_model.specs.declared.solid.Face.{Face}
+use Rattle.px_model.specs.declared.limits.TheConstants.{MAX_PICTURE_SIZE, MAX_DEPTH_BITS, MAX_FRACTION_BITS}
+use Rattle.px_model.specs.declared.limits.TheConstants.{MAX_SOLIDS, MAX_FACES}
 use Rattle.px_model.specs.Solids.{SolidView, colour_in, faces_in, names_of}
 use Rattle.px_expr.specs.Tree.{Tree, HasLeavesBelow}
 use Rattle.px_text.specs.Word.{is_name}
@@ -36,17 +38,17 @@ AreNumberedFrom first (s ∷ ss) = IsNumberedFrom first s × AreNumberedFrom (fi
 
 pub record IsLawfulScene (s : SceneView) : Type 0 where
   pub some_width : 1 ≤ s.width
-  pub width : s.width ≤ 512
+  pub width : s.width ≤ MAX_PICTURE_SIZE
   pub some_height : 1 ≤ s.height
-  pub height : s.height ≤ 512
+  pub height : s.height ≤ MAX_PICTURE_SIZE
   pub some_depth : 1 ≤ s.depth_bits
-  pub depth : s.depth_bits + s.fraction_bits ≤ 24
-  pub fraction : s.fraction_bits ≤ 8
-  pub solids : length s.solids ≤ 255
+  pub depth : s.depth_bits + s.fraction_bits ≤ MAX_DEPTH_BITS
+  pub fraction : s.fraction_bits ≤ MAX_FRACTION_BITS
+  pub solids : length s.solids ≤ MAX_SOLIDS
   pub names : AllPass is_name (names_of s.solids)
   pub different : AllPairs (λ m n. m ≢ n) (names_of s.solids)
   pub numbers : AreNumberedFrom 1 s.solids
-  pub faces : faces_of s.solids ≤ 4095
+  pub faces : faces_of s.solids ≤ MAX_FACES
   pub shown : HasLeavesBelow (length s.solids) s.show
 
 -- the least n of at least 1 with 2 ^ n at least the size

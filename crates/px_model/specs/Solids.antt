@@ -1,10 +1,11 @@
 -- What a contract sees of a solid, and what every solid keeps. Clauses of public calls stand on it.
-use Rattle.std.specs.Prelude.{ℕ, ◌≤◌, ◌<◌, ◌+◌, ◌==◌, List, length, ◌^◌, All, AllPairs, map, find, Option, Some, None, if◌then◌else◌}
+use Rattle.std.specs.Prelude.{ℕ, ◌≤◌, ◌<◌, ◌+◌, ◌==◌, List, length, All, AllPairs, map, find, Option, Some, None, if◌then◌else◌}
 use Rattle.std.specs.Option.{option_or}
 use Rattle.px_num.specs.declared.linear.Linear.{Linear}
 use Rattle.px_num.specs.Forms.{IsWithin}
 use Rattle.px_model.specs.declared.solid.Face.{Face}
 use Rattle.px_model.specs.declared.solid.Colour.{Colour}
+use Rattle.px_model.specs.declared.limits.TheConstants.{MAX_SLOPE, MAX_CONSTANT, MAX_PLANES_OF_A_KIND}
 
 pub record SolidView : Type 0 where
   pub name : List ℕ
@@ -19,9 +20,9 @@ names_of solids = map (λ s. s.name) solids
 
 -- the limits of a plane's coefficients
 pub record IsPlane (form : Linear) : Type 0 where
-  pub a : IsWithin (2 ^ 23) form.a
-  pub b : IsWithin (2 ^ 23) form.b
-  pub c : IsWithin (2 ^ 33) form.c
+  pub a : IsWithin MAX_SLOPE form.a
+  pub b : IsWithin MAX_SLOPE form.b
+  pub c : IsWithin MAX_CONSTANT form.c
 
 -- each part of a colour is a byte
 pub record IsColour (c : Colour) : Type 0 where
@@ -31,7 +32,7 @@ pub record IsColour (c : Colour) : Type 0 where
 
 -- faces of one kind: few, within the limits, their numbers above the near face's and growing
 pub record AreFaces (near_number : ℕ) (faces : List Face) : Type 0 where
-  pub few : length faces ≤ 32
+  pub few : length faces ≤ MAX_PLANES_OF_A_KIND
   pub planes : All (λ f. IsPlane f.plane) faces
   pub colours : All (λ f. IsColour f.colour) faces
   pub numbers : All (λ f. near_number < f.number) faces
@@ -41,7 +42,7 @@ pub record IsLawfulSolid (s : SolidView) : Type 0 where
   pub colour : IsColour s.colour
   pub fronts : AreFaces s.near_number s.fronts
   pub backs : AreFaces s.near_number s.backs
-  pub few_sides : length s.sides ≤ 32
+  pub few_sides : length s.sides ≤ MAX_PLANES_OF_A_KIND
   pub sides : All IsPlane s.sides
 
 abbrev pub face_colour : Option Face → Option Colour

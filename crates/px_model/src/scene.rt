@@ -5,14 +5,16 @@ ghost use Rattle.px_model.specs.Cells.{depths_of, end_of};
 ghost use Rattle.px_model.specs.Scenes.{SceneView, IsLawfulScene, IsGridExponent, faces_of, colour_in_scene};
 
 use crate::solid::{Colour, Solid};
+use crate::{MAX_DEPTH_BITS, MAX_FACES, MAX_PICTURE_SIZE};
 use px_expr::Expr;
 use std::marker::Model;
 
 /// A scene (docs/SCENES.md), with its limits kept in its type.
 ///
-/// The picture is 1 to 512 pixels wide and high. A depth has at least one bit, its fraction at most
-/// 8, and both together at most 24. There are 1 to 255 solids of different names. Face numbers run
-/// from 1 over the scene (docs/PICTURE.md, "Faces").
+/// The picture is 1 to `MAX_PICTURE_SIZE` pixels wide and high. A depth has at least one bit, its
+/// fraction at most `MAX_FRACTION_BITS`, and both together at most `MAX_DEPTH_BITS`. There are 1 to
+/// `MAX_SOLIDS` solids of different names. Face numbers run from 1 over the scene, to `MAX_FACES` at
+/// most (docs/PICTURE.md, "Faces").
 #[derive(Drop)]
 pub struct Scene {
     width: u32,
@@ -94,7 +96,7 @@ impl Scene {
         }
     }
 
-    /// The pixels in a row of the picture, 1 to 512.
+    /// The pixels in a row of the picture, 1 to `MAX_PICTURE_SIZE`.
     pub fn width(&self) -> u32
         ensures value { result ≡ self.now.width }
         ensures lawful { IsLawfulScene self.now }
@@ -102,7 +104,7 @@ impl Scene {
         self.width
     }
 
-    /// The rows of the picture, 1 to 512.
+    /// The rows of the picture, 1 to `MAX_PICTURE_SIZE`.
     pub fn height(&self) -> u32
         ensures value { result ≡ self.now.height }
         ensures lawful { IsLawfulScene self.now }
@@ -110,7 +112,7 @@ impl Scene {
         self.height
     }
 
-    /// The bits of a depth, 1 to 24.
+    /// The bits of a depth, 1 to `MAX_DEPTH_BITS`.
     pub fn depth_bits(&self) -> u32
         ensures value { result ≡ self.now.depth_bits }
         ensures lawful { IsLawfulScene self.now }
@@ -118,7 +120,7 @@ impl Scene {
         self.depth_bits
     }
 
-    /// The bits of a plane's value below a whole cell, 0 to 8.
+    /// The bits of a plane's value below a whole cell, 0 to `MAX_FRACTION_BITS`.
     pub fn fraction_bits(&self) -> u32
         ensures value { result ≡ self.now.fraction_bits }
         ensures lawful { IsLawfulScene self.now }
@@ -150,10 +152,10 @@ impl Scene {
         (1 << self.depth_bits) - 1
     }
 
-    /// The value of the far limit, below `2^24`.
+    /// The value of the far limit, below `2^MAX_DEPTH_BITS`.
     pub fn end(&self) -> u32
         ensures value { result ≡ end_of (depths_of self.now) }
-        ensures small { result < 2 ^ 24 }
+        ensures small { result < 2 ^ MAX_DEPTH_BITS }
     {
         self.far() << self.fraction_bits
     }
@@ -203,7 +205,7 @@ pub fn laws_of_scenes(scene: &Scene)
 
 /// The greatest face number of these solids.
 fn faces_among(solids: &[Solid]) -> u32
-    requires { faces_of solids.now ≤ 4095 }
+    requires { faces_of solids.now ≤ MAX_FACES }
     ensures faces { result ≡ faces_of solids.now }
     ensures each { All IsLawfulSolid solids.now }
 {
@@ -214,10 +216,11 @@ fn faces_among(solids: &[Solid]) -> u32
     faces
 }
 
-/// The least `n` of at least 1 with `2^n` at least `size`, which is from 1 to 512.
+/// The least `n` of at least 1 with `2^n` at least `size`, which is from 1 to
+/// `MAX_PICTURE_SIZE`.
 fn grid_exponent(size: u32) -> u32
     requires low { 1 ≤ size }
-    requires high { size ≤ 512 }
+    requires high { size ≤ MAX_PICTURE_SIZE }
     ensures { IsGridExponent size result }
 {
     for exponent in 1..9 {

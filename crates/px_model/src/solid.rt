@@ -2,6 +2,7 @@
 ghost use Rattle.std.specs.Prelude.{◌≡◌, ◌<◌, ◌≤◌, ◌++◌, ◌∷◌, [], length, OnOk, OnErr, All};
 ghost use Rattle.px_model.specs.Solids.{SolidView, IsLawfulSolid, IsPlane, AreFaces, colour_in, colour_among, faces_in};
 
+use crate::MAX_PLANES_OF_A_KIND;
 use arrayvec::ArrayVec;
 use px_num::{Linear, Memory};
 use std::alloc::Global;
@@ -25,8 +26,8 @@ pub struct Face {
 
 /// An intersection of half-spaces (docs/PICTURE.md, "Solids").
 ///
-/// At most 32 fronts, 32 backs and 32 sides, their coefficients within the limits of
-/// docs/SCENES.md. Its numbers grow: the near face's first, then those of the fronts, and those
+/// At most `MAX_PLANES_OF_A_KIND` fronts, as many backs and as many sides, their coefficients within
+/// the limits of docs/SCENES.md. Its numbers grow: the near face's first, then those of the fronts, and those
 /// of the backs, in index order.
 #[derive(Drop)]
 pub struct Solid {
@@ -181,7 +182,7 @@ impl Solid {
 
     /// Adds a front behind the others. A refusal changes nothing.
     pub fn push_front(&mut self, front: Face) -> Result<(), Memory>
-        requires room { length self.old.fronts < 32 }
+        requires room { length self.old.fronts < MAX_PLANES_OF_A_KIND }
         requires plane { IsPlane front.plane }
         requires near { self.old.near_number < front.number }
         requires order { All (λ f. f.number < front.number) self.old.fronts }
@@ -196,7 +197,7 @@ impl Solid {
 
     /// Adds a back behind the others. A refusal changes nothing.
     pub fn push_back(&mut self, back: Face) -> Result<(), Memory>
-        requires room { length self.old.backs < 32 }
+        requires room { length self.old.backs < MAX_PLANES_OF_A_KIND }
         requires plane { IsPlane back.plane }
         requires near { self.old.near_number < back.number }
         requires order { All (λ f. f.number < back.number) self.old.backs }
@@ -210,7 +211,7 @@ impl Solid {
 
     /// Adds a side behind the others. A refusal changes nothing.
     pub fn push_side(&mut self, side: Linear) -> Result<(), Memory>
-        requires room { length self.old.sides < 32 }
+        requires room { length self.old.sides < MAX_PLANES_OF_A_KIND }
         requires plane { IsPlane side }
         ensures ok { OnOk result (self.new ≡ record self.old {
           sides = self.old.sides ++ side ∷ [];
@@ -234,7 +235,7 @@ fn colour_among(faces: &[Face], number: u32) -> Option<Colour>
 /// Adds a face of one kind behind the others.
 fn push_face(faces: &mut Vec<Face>, near_number: u32, face: Face) -> Result<(), Memory>
     requires are { AreFaces near_number faces.old.items }
-    requires room { length faces.old.items < 32 }
+    requires room { length faces.old.items < MAX_PLANES_OF_A_KIND }
     requires plane { IsPlane face.plane }
     requires near { near_number < face.number }
     requires order { All (λ f. f.number < face.number) faces.old.items }

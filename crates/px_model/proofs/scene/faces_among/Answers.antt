@@ -10,6 +10,14 @@ loop-solid-preserved c =
     let solid = c.solid-item.result in
     let inside = c.loop-solid-test.true in
     let is = sym c.solid-item.is in (
-      omega (arith, c.loop-solid.invariant.0, c.face_count-faces.ensures.count, sum_by_more faces_in c.args.solids.now i solid inside, ap faces_in is),
-      All-more IsLawfulSolid c.args.solids.now i solid inside c.loop-solid.invariant.1 (rw is c.face_count-faces.ensures.lawful),
+      omega (
+        arith,
+        c.loop-solid.invariant.0,
+        c.face_count-faces.ensures.count,
+        sum_by_more faces_in c.args.solids.now
+            i solid inside,
+        ap faces_in is,
+      ),
+      All-more IsLawfulSolid c.args.solids.now i solid inside c.loop-solid.invariant.1
+          (rw is c.face_count-faces.ensures.lawful),
     )
