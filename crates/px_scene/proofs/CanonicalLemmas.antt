@@ -1,19 +1,22 @@
 -- The lines of the canonical text, and their words.
-use Rattle.std.proofs.Common.{◌≡◌, ℕ, ◌+◌, ◌==◌, List, [], ◌∷◌, ◌++◌, length, Bool, true, false, ◌&&◌, filter, map, codes, decimal, refl, ap, sym, ◌∙◌, append_assoc, append-nil}
+use Rattle.std.proofs.Common.{◌≡◌, ℕ, ◌+◌, ◌==◌, List, [], ◌∷◌, ◌++◌, length, Bool, true, false, ◌&&◌, filter, map}
+use Rattle.std.proofs.Common.{codes, decimal, refl, ap, sym, ◌∙◌, append_assoc, append-nil}
 use Rattle.std.specs.List.{flat_map, range_with_len, list_all}
 use Rattle.px_num.specs.declared.linear.Linear.{Linear}
 use Rattle.px_model.specs.declared.solid.Face.{Face}
 use Rattle.px_text.specs.Text.{Words, words_of}
 use Rattle.px_model.specs.Solids.{SolidView}
 use Rattle.px_model.specs.Scenes.{SceneView}
-use Rattle.px_scene.specs.Versions.{version_word}
-use Rattle.px_scene.specs.Canonical.{version_for, depth_words, written_line, plane_words, colour_words, face_line, side_line, lines_at, lines_of_number, face_lines, solid_lines, canonical_text}
+use Rattle.px_show.specs.Versions.{version_word}
+use Rattle.px_scene.specs.Canonical.{version_for, depth_words, written_line, plane_words, colour_words, face_line}
+use Rattle.px_scene.specs.Canonical.{side_line, lines_at, lines_of_number, face_lines, solid_lines, canonical_text}
 use Rattle.px_text.specs.Written.{spaced, fed, is_plain, are_plain}
 use Rattle.px_text.proofs.PlainLemmas.{both}
 use Rattle.px_text.proofs.SpacedLemmas.{words_read}
 use Rattle.px_scene.proofs.RoundLemmas.{face_words}
 use Rattle.px_scene.proofs.FaceWalkLemmas.{words_at, words_of_number}
-use Rattle.px_scene.proofs.SceneWalkLemmas.{head_words, numbers_words, sides_words, solid_words, first_words, shown_text}
+use Rattle.px_scene.proofs.SceneWalkLemmas.{head_words, numbers_words, sides_words, solid_words, first_words}
+use Rattle.px_scene.proofs.SceneWalkLemmas.{shown_text}
 
 abbrev pub bare : Words → List ℕ
 bare [] = []
@@ -109,7 +112,8 @@ pub text_is : (scene : SceneView)
 text_is scene =
     four_parts (first_words scene) (flat_map solid_words scene.solids) (codes "show" ∷ shown_text scene ∷ [])
     (codes "end" ∷ []) _ _ _ _
-    (three_lines (codes "pxscene" ∷ version_word (version_for scene) ∷ []) (codes "picture" ∷ decimal scene.width ∷ decimal scene.height ∷ [])
+    (three_lines (codes "pxscene" ∷ version_word (version_for scene) ∷ []) (codes "picture" ∷ decimal scene.width
+    ∷ decimal scene.height ∷ [])
     (codes "depth" ∷ depth_words (version_for scene) scene.depth_bits scene.fraction_bits) _ _ _
     (one_line (codes "pxscene") (version_word (version_for scene) ∷ []))
     (one_line (codes "picture") (decimal scene.width ∷ decimal scene.height ∷ []))

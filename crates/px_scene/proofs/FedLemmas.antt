@@ -2,14 +2,15 @@
 use Rattle.std.proofs.Common.{◌≡◌, List, [], ◌∷◌, ◌++◌, filter, true, map, codes, refl, ap, sym, ◌∙◌, append-nil}
 use Rattle.std.specs.List.{list_all, slice_split}
 use Rattle.std.proofs.lemmas.List.Folds.{list_all-append}
-use Rattle.px_expr.specs.declared.node.Op.{Op}
-use Rattle.px_expr.specs.declared.node.Op.TheVariants as o
 use Rattle.px_text.specs.Text.{Words, is_some_byte, is_blank, words_of}
-use Rattle.px_scene.specs.Expressions.{Named, leaf, join, has_names}
-use Rattle.px_scene.specs.Printed.{printed, sign_byte}
+use Rattle.px_show.specs.Expressions.{Named, leaf, join, has_names}
+use Rattle.px_show.specs.Printed.{printed}
+use Rattle.px_show.specs.Signs.{sign_byte}
 use Rattle.px_text.specs.Written.{spaced, is_plain_byte, is_plain, are_plain, is_no_feed}
-use Rattle.px_scene.proofs.PrintedLemmas.{printed_uncommented}
-use Rattle.px_text.proofs.PlainLemmas.{both, name_bytes, is_no_comment, before_none, names_plain, plain_fed, spaced_fed}
+use Rattle.px_show.proofs.PrintedLemmas.{printed_uncommented}
+use Rattle.px_show.proofs.SignLemmas.{sign_plain}
+use Rattle.px_text.proofs.PlainLemmas.{both, name_bytes, is_no_comment, before_none, names_plain, plain_byte, plain_fed}
+use Rattle.px_text.proofs.PlainLemmas.{spaced_fed}
 use Rattle.px_scene.proofs.CanonicalLemmas.{bare, is_written}
 
 bare_fed : (l : Words) → is_written l ≡ true → list_all is_no_feed (bare l) ≡ true
@@ -26,12 +27,6 @@ bares_fed (l ∷ ls) all =
     let each = both (is_written l) (list_all is_written ls) all
     in rw (bare_fed l each.0, bares_fed ls each.1) refl
 
-sign_fed : (op : Op) → is_no_feed (sign_byte op) ≡ true
-sign_fed o.Union = refl
-sign_fed o.Meet = refl
-sign_fed o.Minus = refl
-sign_fed o.Differ = refl
-
 pub printed_fed : (tree : Named) → has_names tree ≡ true → list_all is_no_feed (printed tree) ≡ true
 printed_fed (leaf n) names = plain_fed n (names_plain n (name_bytes n names))
 printed_fed (join op left right) names =
@@ -39,7 +34,7 @@ printed_fed (join op left right) names =
     in rw (
       list_all-append is_no_feed (printed left) (32 ∷ sign_byte op ∷ 32 ∷ (printed right ++ 41 ∷ [])),
       printed_fed left each.0,
-      sign_fed op,
+      (plain_byte (sign_byte op) (sign_plain op)).no_feed,
       list_all-append is_no_feed (printed right) (41 ∷ []),
       printed_fed right each.1,
     ) refl

@@ -1,5 +1,6 @@
 -- The canonical text of a scene is within the limit of texts.
-use Rattle.std.proofs.Common.{◌≡◌, ℕ, ℤ, pos, ◌+◌, ◌*◌, ◌<◌, ◌≤◌, ◌^◌, List, [], ◌∷◌, ◌++◌, length, Bool, true, false, not, nat_le, ◌&&◌, codes, decimal, get_or, refl, sym, subst, arith, length-append}
+use Rattle.std.proofs.Common.{◌≡◌, ℕ, ℤ, pos, ◌+◌, ◌*◌, ◌<◌, ◌≤◌, ◌^◌, List, [], ◌∷◌, ◌++◌, length, Bool, true, false}
+use Rattle.std.proofs.Common.{not, nat_le, ◌&&◌, codes, decimal, get_or, refl, sym, subst, arith, length-append}
 use Prim.Native.Nat.{zero, suc}
 use lib.IntN.{negsuc}
 use Rattle.std.specs.Fmt.{signed_decimal}
@@ -17,12 +18,15 @@ use Rattle.px_text.specs.Text.{Words}
 use Rattle.px_text.specs.Word.{is_letter, is_name, is_name_byte}
 use Rattle.px_model.specs.Solids.{SolidView, IsColour, IsLawfulSolid, IsPlane, faces_in, names_of}
 use Rattle.px_model.specs.Scenes.{SceneView, IsLawfulScene, IsNumberedFrom, AreNumberedFrom, faces_of, has_number}
-use Rattle.px_scene.specs.Printed.{printed, named_by, sign_byte}
+use Rattle.px_show.specs.Printed.{printed, named_by}
+use Rattle.px_show.specs.Signs.{sign_byte}
 use Rattle.px_scene.specs.Writable.{IsWritable}
-use Rattle.px_scene.specs.Versions.{version_word}
-use Rattle.px_scene.specs.declared.version.Version.{Version}
-use Rattle.px_scene.specs.declared.version.Version.TheVariants as v
-use Rattle.px_scene.specs.Canonical.{version_for, depth_words, written_line, plane_words, colour_words, face_line, side_line, lines_at, lines_of_number, face_lines, solid_lines, first_lines, show_line, canonical_text}
+use Rattle.px_show.specs.Versions.{version_word}
+use Rattle.px_show.specs.declared.version.Version.{Version}
+use Rattle.px_show.specs.declared.version.Version.TheVariants as v
+use Rattle.px_scene.specs.Canonical.{version_for, depth_words, written_line, plane_words, colour_words, face_line}
+use Rattle.px_scene.specs.Canonical.{side_line, lines_at, lines_of_number, face_lines, solid_lines, first_lines}
+use Rattle.px_scene.specs.Canonical.{show_line, canonical_text}
 use Rattle.px_text.specs.Written.{spaced}
 use Rattle.px_text.proofs.PlainLemmas.{both}
 use Rattle.px_scene.proofs.CutLemmas.{HasOne, cut}
@@ -192,14 +196,16 @@ depth_short v.Three bits fraction b f =
 first_short : (scene : SceneView) → IsLawfulScene scene → length (first_lines scene) ≤ 40
 first_short scene is =
     joined _ _ 26 14
-    (joined _ _ 10 16 (line_short (codes "pxscene") (version_word (version_for scene) ∷ []) 7 2 (omega arith) (version_short (version_for scene)))
+    (joined _ _ 10 16 (line_short (codes "pxscene") (version_word (version_for scene) ∷ []) 7 2 (omega arith)
+    (version_short (version_for scene)))
     (line_short (codes "picture") (decimal scene.width ∷ decimal scene.height ∷ []) 7 8 (omega arith)
     (joined (32 ∷ decimal scene.width) _ 4 4
     (let w = decimal_short scene.width (let m = is.width in omega arith) in omega arith)
     (joined (32 ∷ decimal scene.height) [] 4 0
     (let h = decimal_short scene.height (let m = is.height in omega arith) in omega arith) (omega arith)))))
     (line_short (codes "depth") (depth_words (version_for scene) scene.depth_bits scene.fraction_bits) 5 8 (omega arith)
-    (depth_short (version_for scene) scene.depth_bits scene.fraction_bits (let m = is.depth in omega arith) (let m = is.fraction in omega arith)))
+    (depth_short (version_for scene) scene.depth_bits scene.fraction_bits (let m = is.depth in
+    omega arith) (let m = is.fraction in omega arith)))
 
 pub canonical_short : (scene : SceneView) → IsWritable scene → length (canonical_text scene) ≤ 2 ^ 20
 canonical_short scene is =

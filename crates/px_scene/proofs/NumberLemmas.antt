@@ -1,7 +1,8 @@
 -- Face numbers run on when a solid or a face comes behind the others.
 use Prim.Native.Nat.{suc}
 use Rattle.std.proofs.lemmas.Bool.Decides.{nat_tests}
-use Rattle.std.proofs.Common.{◌≡◌, ℕ, ◌+◌, ◌<◌, ◌≤◌, ◌==◌, List, [], ◌∷◌, ◌++◌, false, ◌||◌, refl, ap, ◌∙◌, arith, zero-add, length-append, inl, inr, ◌⊎◌, subst}
+use Rattle.std.proofs.Common.{◌≡◌, ℕ, ◌+◌, ◌<◌, ◌≤◌, ◌==◌, List, [], ◌∷◌, ◌++◌, false, ◌||◌, refl, ap, ◌∙◌, arith}
+use Rattle.std.proofs.Common.{zero-add, length-append, inl, inr, ◌⊎◌, subst}
 use Rattle.std.proofs.lemmas.Bool.{cases_eq}
 use Rattle.std.proofs.lemmas.List.Sums.{sum_by-append}
 use Rattle.std.specs.List.{All}
@@ -10,7 +11,8 @@ use Rattle.px_model.specs.Solids.{SolidView, faces_in}
 use Rattle.px_model.specs.Scenes.{has_number, IsNumberedFrom, AreNumberedFrom, faces_of}
 use Rattle.std.proofs.lemmas.List.Elements.{All-push}
 
-has_number-push : (faces : List Face) (f : Face) (n : ℕ) → has_number (faces ++ f ∷ []) n ≡ (has_number faces n || f.number == n)
+has_number-push : (faces : List Face) (f : Face) (n : ℕ) → has_number (faces ++ f ∷ []) n
+    ≡ (has_number faces n || f.number == n)
 has_number-push [] f n = grind arith
 has_number-push (g ∷ gs) f n = grind (arith, has_number-push gs f n)
 
@@ -33,13 +35,20 @@ next_or_before m n lt = elim (cases_eq n m) [ inl e ↦ inl e | inr ne ↦ inr (
 pub numbered_front : (first : ℕ) (s : SolidView) (f : Face) → IsNumberedFrom first s → f.number ≡ first + faces_in s
     → IsNumberedFrom first (record s { fronts = s.fronts ++ f ∷ [] })
 numbered_front first s f is e =
-    let grown : faces_in (record s { fronts = s.fronts ++ f ∷ [] }) ≡ faces_in s + 1 = omega (arith, length-append s.fronts (f ∷ []))
+    let grown : faces_in (record s { fronts = s.fronts ++ f ∷ [] }) ≡ faces_in s + 1 =
+    omega (arith, length-append s.fronts (f ∷ []))
     in record {
       near = is.near;
-      fronts = All-push (λ g. g.number < first + faces_in (record s { fronts = s.fronts ++ f ∷ [] })) s.fronts f (weaker s.fronts (first + faces_in s) _ (omega arith) is.fronts) (omega arith);
+      fronts = All-push (λ g. g.number < first + faces_in (record s { fronts = s.fronts ++ f ∷ [] })) s.fronts f
+          (weaker s.fronts (first + faces_in s) _ (omega arith) is.fronts) (omega arith);
       backs = weaker s.backs (first + faces_in s) _ (omega arith) is.backs;
       once = λ n above below. elim (next_or_before (first + faces_in s) n (omega arith)) [
-        | inl here ↦ grind (arith, nat_tests, has_number-push s.fronts f n, has_number-above s.backs (first + faces_in s) n is.backs (omega arith))
+        | inl here ↦ grind (
+          arith,
+          nat_tests,
+          has_number-push s.fronts f n,
+          has_number-above s.backs (first + faces_in s) n is.backs (omega arith),
+        )
         | inr under ↦ grind (arith, nat_tests, has_number-push s.fronts f n, is.once n above under)
       ];
     }
@@ -48,13 +57,20 @@ numbered_front first s f is e =
 pub numbered_back : (first : ℕ) (s : SolidView) (f : Face) → IsNumberedFrom first s → f.number ≡ first + faces_in s
     → IsNumberedFrom first (record s { backs = s.backs ++ f ∷ [] })
 numbered_back first s f is e =
-    let grown : faces_in (record s { backs = s.backs ++ f ∷ [] }) ≡ faces_in s + 1 = omega (arith, length-append s.backs (f ∷ []))
+    let grown : faces_in (record s { backs = s.backs ++ f ∷ [] }) ≡ faces_in s + 1 =
+    omega (arith, length-append s.backs (f ∷ []))
     in record {
       near = is.near;
       fronts = weaker s.fronts (first + faces_in s) _ (omega arith) is.fronts;
-      backs = All-push (λ g. g.number < first + faces_in (record s { backs = s.backs ++ f ∷ [] })) s.backs f (weaker s.backs (first + faces_in s) _ (omega arith) is.backs) (omega arith);
+      backs = All-push (λ g. g.number < first + faces_in (record s { backs = s.backs ++ f ∷ [] })) s.backs f
+          (weaker s.backs (first + faces_in s) _ (omega arith) is.backs) (omega arith);
       once = λ n above below. elim (next_or_before (first + faces_in s) n (omega arith)) [
-        | inl here ↦ grind (arith, nat_tests, has_number-push s.backs f n, has_number-above s.fronts (first + faces_in s) n is.fronts (omega arith))
+        | inl here ↦ grind (
+          arith,
+          nat_tests,
+          has_number-push s.backs f n,
+          has_number-above s.fronts (first + faces_in s) n is.fronts (omega arith),
+        )
         | inr under ↦ grind (arith, nat_tests, has_number-push s.backs f n, is.once n above under)
       ];
     }
@@ -63,14 +79,16 @@ pub faces_of-cons : (q : SolidView) (qs : List SolidView) → faces_of (q ∷ qs
 faces_of-cons q qs = sum_by-append faces_in (q ∷ []) qs ∙ ap (λ n. n + faces_of qs) (zero-add (faces_in q))
 
 -- the last solid is numbered from behind the others
-pub numbered_ends : (first : ℕ) (ss : List SolidView) (s : SolidView) → AreNumberedFrom first (ss ++ s ∷ []) → AreNumberedFrom first ss × IsNumberedFrom (first + faces_of ss) s
+pub numbered_ends : (first : ℕ) (ss : List SolidView) (s : SolidView) → AreNumberedFrom first (ss ++ s ∷ [])
+    → AreNumberedFrom first ss × IsNumberedFrom (first + faces_of ss) s
 numbered_ends first [] s are = (tt, subst (λ (n : ℕ). IsNumberedFrom n s) (omega arith) are.0)
 numbered_ends first (q ∷ qs) s are =
     let later = numbered_ends (first + faces_in q) qs s are.1
     in let counted : faces_of (q ∷ qs) ≡ faces_in q + faces_of qs = faces_of-cons q qs
     in ((are.0, later.0), subst (λ (n : ℕ). IsNumberedFrom n s) (omega arith) later.1)
 
-pub numbered_push : (first : ℕ) (ss : List SolidView) (s : SolidView) → AreNumberedFrom first ss → IsNumberedFrom (first + faces_of ss) s → AreNumberedFrom first (ss ++ s ∷ [])
+pub numbered_push : (first : ℕ) (ss : List SolidView) (s : SolidView) → AreNumberedFrom first ss
+    → IsNumberedFrom (first + faces_of ss) s → AreNumberedFrom first (ss ++ s ∷ [])
 numbered_push first [] s are is = (subst (λ (n : ℕ). IsNumberedFrom n s) (omega arith) is, tt)
 numbered_push first (q ∷ qs) s are is =
     let counted : faces_of (q ∷ qs) ≡ faces_in q + faces_of qs = faces_of-cons q qs

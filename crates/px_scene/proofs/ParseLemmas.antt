@@ -1,24 +1,27 @@
 -- A line that is due and whose words are of good form is parsed.
-use Rattle.std.proofs.Common.{◌≡◌, ℕ, ℤ, List, true, refl, ap, sym, ◌∙◌, Result, Ok, Err, [], ◌∷◌, ◌+◌, ◌++◌, Option, Some, None, subst}
+use Rattle.std.proofs.Common.{◌≡◌, ℕ, ℤ, List, true, refl, ap, sym, ◌∙◌, Result, Ok, Err, [], ◌∷◌, ◌+◌, ◌++◌, Option}
+use Rattle.std.proofs.Common.{Some, None, subst}
 use Rattle.std.specs.Option.{option_or}
 use Rattle.px_model.specs.Solids.{names_of}
 use Rattle.px_text.specs.Text.{Words}
 use Rattle.px_text.specs.LentWords.{now_of}
-use Rattle.px_scene.specs.declared.version.Version.{Version}
-use Rattle.px_scene.specs.declared.line.Cause.{Cause}
+use Rattle.px_show.specs.declared.version.Version.{Version}
+use Rattle.px_show.specs.declared.fault.Cause.{Cause}
 use Rattle.px_scene.specs.declared.line.Due.{Due}
 use Rattle.px_scene.specs.declared.line.Keyword.{Keyword}
 use Rattle.px_scene.specs.declared.parse.Line.{Line}
-use Rattle.px_scene.specs.Lines.{keyword_of, is_due, form_of, due_form, cause_of, numbers_of, figures, limit_of, limit_on, due_after}
+use Rattle.px_scene.specs.Lines.{keyword_of, is_due, form_of, due_form, cause_of, numbers_of, figures, limit_of}
+use Rattle.px_scene.specs.Lines.{limit_on, due_after}
 use Rattle.px_scene.specs.declared.parse.Line.TheVariants as l
 use Rattle.px_scene.specs.declared.line.Keyword.TheVariants as k
-use Rattle.px_scene.specs.declared.version.Version.TheVariants as v
-use Rattle.px_scene.specs.declared.line.LineFault.{LineFault}
-use Rattle.px_scene.specs.Faults.{judged}
-use Rattle.px_scene.specs.Show.{show_cause, show_limit, show_tree}
-use Rattle.px_scene.specs.Versions.{version_word, version_or_first}
+use Rattle.px_show.specs.declared.version.Version.TheVariants as v
+use Rattle.px_show.specs.declared.fault.LineFault.{LineFault}
+use Rattle.px_show.specs.Faults.{judged}
+use Rattle.px_show.specs.Show.{show_cause, show_limit, show_tree}
+use Rattle.px_show.specs.Versions.{version_word, version_or_first}
 use Rattle.px_scene.specs.Drafts.{DraftView, IsLawfulDraft, with_line, tally_of, taken, fault_in, new_solid}
-use Rattle.px_scene.specs.Parsed.{IsLine, ParsesTo, Forms, Keeps, keyword_in, words_in, numbers_in, second_name, cause_left, fault_left, fault_shown}
+use Rattle.px_scene.specs.Parsed.{IsLine, ParsesTo, Forms, Keeps, keyword_in, words_in, numbers_in, second_name}
+use Rattle.px_scene.specs.Parsed.{cause_left, fault_left, fault_shown}
 use Rattle.px_scene.proofs.TakenLemmas.{good_form}
 use Rattle.px_scene.proofs.LawfulLemmas.{of_form, lawful_line}
 
@@ -46,8 +49,10 @@ or_none None = refl
 or_none (Some x) = refl
 
 -- all that is wrong with a parsed line
-fault_here : (draft : DraftView) (ws : Words) (line : Line) → numbers_in line ≡ numbers_of (figures (keyword_in line) ws) → Keeps line ws
-    → judged (cause_left draft.version (names_of draft.solids) line) (limit_on draft.version (keyword_in line) (tally_of draft) ws)
+fault_here : (draft : DraftView) (ws : Words) (line : Line) → numbers_in line
+    ≡ numbers_of (figures (keyword_in line) ws) → Keeps line ws
+    → judged (cause_left draft.version (names_of draft.solids) line) (limit_on draft.version (keyword_in line)
+    (tally_of draft) ws)
     ≡ option_or (fault_left draft line) (fault_shown draft line)
 fault_here draft ws (l.Header version) numbers kept = refl
 fault_here draft ws (l.Picture width height) numbers kept =
@@ -55,7 +60,8 @@ fault_here draft ws (l.Picture width height) numbers kept =
 fault_here draft ws (l.Depth bits fraction) numbers kept =
     ap (limit_of k.Depth (tally_of draft)) (sym numbers) ∙ sym (or_none _)
 fault_here draft ws (l.Solid name paint) numbers kept =
-    ap (λ zs. judged (second_name (names_of draft.solids) (l.Solid name paint)) (limit_of k.Solid (tally_of draft) zs)) (sym numbers)
+    ap (λ zs. judged (second_name (names_of draft.solids) (l.Solid name paint))
+    (limit_of k.Solid (tally_of draft) zs)) (sym numbers)
     ∙ sym (or_none _)
 fault_here draft ws (l.Front face) numbers kept =
     ap (limit_of k.Front (tally_of draft)) (sym numbers) ∙ sym (or_none _)
@@ -64,14 +70,17 @@ fault_here draft ws (l.Back face) numbers kept =
 fault_here draft ws (l.Side form) numbers kept =
     ap (limit_of k.Side (tally_of draft)) (sym numbers) ∙ sym (or_none _)
 fault_here draft ws (l.Show words) numbers kept =
-    ap (λ ns. judged (show_cause draft.version (names_of draft.solids) (now_of words.now)) (show_limit draft.version ns)) (sym kept)
+    ap (λ ns. judged (show_cause draft.version (names_of draft.solids) (now_of words.now))
+    (show_limit draft.version ns)) (sym kept)
 fault_here draft ws l.End numbers kept = refl
 
 pub fault_is : (draft : DraftView) (w : List ℕ) (ws : Words) (line : Line) → IsLine draft.version draft.due w ws line
     → fault_in draft (w ∷ ws) ≡ option_or (fault_left draft line) (fault_shown draft line)
 fault_is draft w ws line is =
-    ap (λ cause. judged cause (limit_on draft.version (keyword_of w) (tally_of draft) ws)) (is.cause (names_of draft.solids))
-    ∙ ap (λ key. judged (cause_left draft.version (names_of draft.solids) line) (limit_on draft.version key (tally_of draft) ws)) (sym is.keyword)
+    ap (λ cause. judged cause (limit_on draft.version (keyword_of w) (tally_of draft) ws))
+    (is.cause (names_of draft.solids))
+    ∙ ap (λ key. judged (cause_left draft.version (names_of draft.solids) line)
+    (limit_on draft.version key (tally_of draft) ws)) (sym is.keyword)
     ∙ fault_here draft ws line (is.numbers ∙ ap (λ key. numbers_of (figures key ws)) (sym is.keyword)) is.kept
 
 named_again : (version : Version) → version_or_first (version_word version ∷ []) ≡ version
@@ -86,7 +95,11 @@ said_here draft ws (l.Header version) zs kept = rw (named_again version, kept) r
 said_here draft ws (l.Picture width height) zs kept = refl
 said_here draft ws (l.Depth bits fraction) zs kept = refl
 said_here draft ws (l.Solid name paint) zs kept =
-    ap (λ n. record draft { numbered = draft.numbered + 1; solids = draft.solids ++ new_solid n (draft.numbered + 1) zs }) kept.0
+    ap (λ n. record draft {
+      numbered = draft.numbered + 1;
+      solids = draft.solids ++ new_solid n (draft.numbered + 1)
+          zs;
+    }) kept.0
 said_here draft ws (l.Front face) zs kept = refl
 said_here draft ws (l.Back face) zs kept = refl
 said_here draft ws (l.Side form) zs kept = refl
@@ -94,13 +107,16 @@ said_here draft ws (l.Show words) zs kept =
     ap (λ ns. record draft { show = show_tree draft.version (names_of draft.solids) ns }) kept
 said_here draft ws l.End zs kept = refl
 
-pub taken_is : (draft after : DraftView) (w : List ℕ) (ws : Words) (line : Line) → IsLine draft.version draft.due w ws line
+pub taken_is : (draft after : DraftView) (w : List ℕ) (ws : Words) (line : Line)
+    → IsLine draft.version draft.due w ws line
     → after ≡ with_line (keyword_in line) draft (words_in line) (numbers_in line)
     → record after { due = due_after (keyword_in line) } ≡ taken draft (w ∷ ws)
 taken_is draft after w ws line is line_taken =
     ap {A = DraftView} (λ d. record d { due = due_after (keyword_in line) })
-    (line_taken ∙ said_here draft ws line (numbers_in line) is.kept ∙ ap (with_line (keyword_in line) draft ws) is.numbers)
-    ∙ ap {A = Keyword} (λ key. record (with_line key draft ws (numbers_of (figures (keyword_of w) ws))) { due = due_after key }) is.keyword
+    (line_taken ∙ said_here draft ws line (numbers_in line) is.kept
+    ∙ ap (with_line (keyword_in line) draft ws) is.numbers)
+    ∙ ap {A = Keyword} (λ key. record (with_line key draft ws (numbers_of (figures (keyword_of w) ws)))
+    { due = due_after key }) is.keyword
 
 none_left : (cause : Option Cause) (limit : Option LineFault) → judged cause limit ≡ None → limit ≡ None
 none_left None limit e = e
@@ -119,7 +135,8 @@ lawful_taken draft w ws line is parsed left shown =
     let good : fault_in draft (w ∷ ws) ≡ None = fault_is draft w ws line parsed ∙ rw (left, shown) refl
     in let form = good_form draft.version draft.due (names_of draft.solids) w ws (of_form _ _ good)
     in let limit : limit_of (keyword_of w) (tally_of draft) (numbers_of (figures (keyword_of w) ws)) ≡ None =
-    rw (← parsed.keyword) (ap (limit_of (keyword_in line) (tally_of draft)) (rw parsed.keyword (sym parsed.numbers)) ∙ within draft line left)
+    rw (← parsed.keyword) (ap (limit_of (keyword_in line) (tally_of draft)) (rw parsed.keyword (sym parsed.numbers))
+    ∙ within draft line left)
     in lawful_line draft (keyword_of w) ws is form limit
 
 pub lawful_with : (draft after : DraftView) (due : Due) (w : List ℕ) (ws : Words) (line : Line) → IsLawfulDraft draft
@@ -128,4 +145,5 @@ pub lawful_with : (draft after : DraftView) (due : Due) (w : List ℕ) (ws : Wor
     → IsLawfulDraft (record after { due = due })
 lawful_with draft after due w ws line is parsed left shown line_taken next =
     rw next
-    (subst IsLawfulDraft (sym (taken_is draft after w ws line parsed line_taken)) (lawful_taken draft w ws line is parsed left shown))
+    (subst IsLawfulDraft (sym (taken_is draft after w ws line parsed line_taken))
+    (lawful_taken draft w ws line is parsed left shown))

@@ -1,5 +1,7 @@
 -- The lines of the canonical text, one after another, are good and give the scene.
-use Rattle.std.proofs.Common.{◌≡◌, ℕ, ℤ, pos, ◌+◌, ◌-◌, min, ◌<◌, ◌≤◌, ◌^◌, ◌==◌, List, [], ◌∷◌, ◌++◌, length, Option, Some, None, Bool, true, false, ◌||◌, codes, decimal, refl, ap, sym, ◌∙◌, arith, slice_get, length-append}
+use Rattle.std.proofs.Common.{◌≡◌, ℕ, ℤ, pos, ◌+◌, ◌-◌, min, ◌<◌, ◌≤◌, ◌^◌, ◌==◌, List, [], ◌∷◌, ◌++◌, length, Option}
+use Rattle.std.proofs.Common.{Some, None, Bool, true, false, ◌||◌, codes, decimal, refl, ap, sym, ◌∙◌, arith}
+use Rattle.std.proofs.Common.{slice_get, length-append}
 use lib.IntN.{negsuc}
 use lib.Signed.{mag}
 use Rattle.std.specs.Option.{option_or}
@@ -10,24 +12,26 @@ use Rattle.px_num.specs.Forms.{IsWithin}
 use Rattle.px_model.specs.declared.solid.Colour.{Colour}
 use Rattle.px_model.specs.declared.solid.Face.{Face}
 use Rattle.px_scene.specs.declared.line.Due.TheVariants as d
-use Rattle.px_scene.specs.declared.line.LimitKind.{LimitKind}
-use Rattle.px_scene.specs.declared.line.LimitKind.TheVariants as kind
+use Rattle.px_show.specs.declared.fault.LimitKind.{LimitKind}
+use Rattle.px_show.specs.declared.fault.LimitKind.TheVariants as kind
 use Rattle.px_text.specs.Text.{Words, words_of}
 use Rattle.px_text.specs.Word.{number_of, is_name}
 use Rattle.px_scene.specs.declared.line.Due.{Due}
 use Rattle.px_scene.specs.declared.line.Tally.{Tally}
-use Rattle.px_scene.specs.declared.line.LineFault.{LineFault}
+use Rattle.px_show.specs.declared.fault.LineFault.{LineFault}
 use Rattle.px_expr.specs.Tree.{Tree, HasLeavesBelow, IsLawful}
-use Rattle.px_scene.specs.Expressions.{has_signs}
-use Rattle.px_scene.specs.Versions.{version_word}
-use Rattle.px_scene.specs.declared.version.Version.{Version}
-use Rattle.px_scene.specs.declared.version.Version.TheVariants as v
-use Rattle.px_scene.specs.Printed.{AreDistinctNames, printed, named_by}
-use Rattle.px_scene.proofs.PrintedLemmas.{printed_tree, printed_good}
-use Rattle.px_scene.specs.Faults.{judged, is_among}
-use Rattle.px_scene.specs.Lines.{numeric, solid_form, three_past, fault_of, are_numbers, numbers_of, past, most, size_past, plane_past, colour_past, face_past, face_limit}
+use Rattle.px_show.specs.Expressions.{has_signs}
+use Rattle.px_show.specs.Versions.{version_word}
+use Rattle.px_show.specs.declared.version.Version.{Version}
+use Rattle.px_show.specs.declared.version.Version.TheVariants as v
+use Rattle.px_show.specs.Printed.{AreDistinctNames, printed, named_by}
+use Rattle.px_show.proofs.PrintedLemmas.{printed_tree, printed_good}
+use Rattle.px_show.specs.Faults.{judged, is_among}
+use Rattle.px_scene.specs.Lines.{numeric, solid_form, three_past, fault_of, are_numbers, numbers_of, past, most}
+use Rattle.px_scene.specs.Lines.{size_past, plane_past, colour_past, face_past, face_limit}
 use Rattle.px_model.specs.Solids.{SolidView, IsColour, IsPlane, names_of}
-use Rattle.px_scene.specs.Drafts.{DraftView, with_front, with_back, with_side, with_last, in_last, tally_of, fresh_solid, new_solid}
+use Rattle.px_scene.specs.Drafts.{DraftView, with_front, with_back, with_side, with_last, in_last, tally_of}
+use Rattle.px_scene.specs.Drafts.{fresh_solid, new_solid}
 use Rattle.px_scene.specs.Canonical.{depth_words, plane_words, colour_words}
 use Rattle.px_text.proofs.DecimalLemmas.{number_read, signed_read}
 use Rattle.px_scene.proofs.TellsLemmas.{blank}
@@ -79,7 +83,8 @@ CanWrite v.Three fraction = Unit {0}
 abbrev headed : Version → Due → ℕ → ℕ → DraftView
 headed version due width height = record blank { version = version; due = due; width = width; height = height }
 
-header_walk : (version : Version) → Walk blank ((codes "pxscene" ∷ version_word version ∷ []) ∷ []) (headed version d.Picture 1 1)
+header_walk : (version : Version) → Walk blank ((codes "pxscene" ∷ version_word version ∷ []) ∷ [])
+    (headed version d.Picture 1 1)
 header_walk v.One = (refl, refl)
 header_walk v.Two = (refl, refl)
 header_walk v.Three = (refl, refl)
@@ -114,9 +119,11 @@ depth_walk v.Three width height bits fraction some b1 b2 f =
       rw (b, n) refl,
     )
 
-pub first_walk : (version : Version) (width height bits fraction : ℕ) → CanWrite version fraction → 1 ≤ width → width ≤ 512
+pub first_walk : (version : Version) (width height bits fraction : ℕ) → CanWrite version fraction → 1 ≤ width
+    → width ≤ 512
     → 1 ≤ height → height ≤ 512 → 1 ≤ bits → bits + fraction ≤ 24 → fraction ≤ 8
-    → Walk blank ((codes "pxscene" ∷ version_word version ∷ []) ∷ (codes "picture" ∷ decimal width ∷ decimal height ∷ []) ∷
+    → Walk blank ((codes "pxscene" ∷ version_word version ∷ [])
+    ∷ (codes "picture" ∷ decimal width ∷ decimal height ∷ []) ∷
     (codes "depth" ∷ depth_words version bits fraction) ∷ []) (opened version width height bits fraction)
 first_walk version width height bits fraction can w1 w2 h1 h2 b1 b2 f =
     let header = codes "pxscene" ∷ version_word version ∷ []
@@ -203,7 +210,8 @@ three_or_six : (ws : Words) (zs : List ℤ) (counted : Bool) → AreFigures ws z
     → numeric counted ws ≡ None
 three_or_six ws zs counted are e = rw (e, are.are) refl
 
-front_good : (version : Version) (names ws : Words) (t : Tally) (zs : List ℤ) → AreFigures ws zs → (length ws == 3 || length ws == 6) ≡ true
+front_good : (version : Version) (names ws : Words) (t : Tally) (zs : List ℤ) → AreFigures ws zs
+    → (length ws == 3 || length ws == 6) ≡ true
     → face_limit kind.Fronts t.fronts t.numbered zs ≡ None
     → fault_of version d.Plane names t (codes "front" ∷ ws) ≡ None
 front_good version names ws t zs are counted within =
@@ -211,7 +219,8 @@ front_good version names ws t zs are counted within =
     (three_or_six ws zs (length ws == 3 || length ws == 6) are counted)
     ∙ ap (λ ns. face_limit kind.Fronts t.fronts t.numbered ns) are.is ∙ within
 
-back_good : (version : Version) (names ws : Words) (t : Tally) (zs : List ℤ) → AreFigures ws zs → (length ws == 3 || length ws == 6) ≡ true
+back_good : (version : Version) (names ws : Words) (t : Tally) (zs : List ℤ) → AreFigures ws zs
+    → (length ws == 3 || length ws == 6) ≡ true
     → face_limit kind.Backs t.backs t.numbered zs ≡ None
     → fault_of version d.Plane names t (codes "back" ∷ ws) ≡ None
 back_good version names ws t zs are counted within =
@@ -219,7 +228,8 @@ back_good version names ws t zs are counted within =
     (three_or_six ws zs (length ws == 3 || length ws == 6) are counted)
     ∙ ap (λ ns. face_limit kind.Backs t.backs t.numbered ns) are.is ∙ within
 
-side_good : (version : Version) (names ws : Words) (t : Tally) (zs : List ℤ) → AreFigures ws zs → (length ws == 3) ≡ true
+side_good : (version : Version) (names ws : Words) (t : Tally) (zs : List ℤ) → AreFigures ws zs
+    → (length ws == 3) ≡ true
     → option_or (face_past zs) (most kind.Sides 32 (t.sides + 1)) ≡ None
     → fault_of version d.Plane names t (codes "side" ∷ ws) ≡ None
 side_good version names ws t zs are counted within =

@@ -1,5 +1,6 @@
 -- The union of the sample's blocks, however deep it is allowed to be halved.
-use Rattle.std.proofs.Common.{◌≡◌, ℕ, zero, suc, ◌+◌, ◌-◌, ◌/◌, ◌<◌, ◌≤◌, ◌==◌, Bool, true, false, if◌then◌else◌, List, ◌++◌, codes, inl, inr, refl, ap, sym, ◌∙◌, arith}
+use Rattle.std.proofs.Common.{◌≡◌, ℕ, zero, suc, ◌+◌, ◌-◌, ◌/◌, ◌<◌, ◌≤◌, ◌==◌, Bool, true, false, if◌then◌else◌}
+use Rattle.std.proofs.Common.{List, ◌++◌, codes, inl, inr, refl, ap, sym, ◌∙◌, arith}
 use Rattle.std.proofs.lemmas.Bool.{cases_lt}
 use Rattle.std.proofs.lemmas.Bool.Decides.{nat_tests}
 use Rattle.px_scene.specs.Sample.{block_name, union_in, union_of}
@@ -26,7 +27,8 @@ unfolding union_in
 halved d first end more = where_false (end == first + 1) (block_name first) _ (grind (arith, nat_tests))
 
 -- depth that is enough is as good as more
-enough : (d e first end : ℕ) → first < end → end - first ≤ d → end - first ≤ e → union_in d first end ≡ union_in e first end
+enough : (d e first end : ℕ) → first < end → end - first ≤ d → end - first ≤ e → union_in d first end
+    ≡ union_in e first end
 enough zero e first end some small large = absurd (omega arith)
 enough (suc d) zero first end some small large = absurd (omega arith)
 enough (suc d) (suc e) first end some small large =
@@ -54,7 +56,8 @@ union_of_halves first end more =
     let d = end - first - 1 in
     let e : end - first ≡ suc d = omega arith in
     let m = middle first end in
-    let low : union_in d first m ≡ union_of first m = enough d (m - first) first m (omega arith) (omega arith) (omega arith) in
+    let low : union_in d first m ≡ union_of first m =
+    enough d (m - first) first m (omega arith) (omega arith) (omega arith) in
     let high : union_in d m end ≡ union_of m end = enough d (end - m) m end (omega arith) (omega arith) (omega arith) in
     ap (λ k. union_in k first end) e ∙ halved d first end more
     ∙ ap (λ t. joined t (union_in d m end)) low ∙ ap (joined (union_of first m)) high

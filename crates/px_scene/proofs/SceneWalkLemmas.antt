@@ -1,5 +1,7 @@
 -- The lines of all solids, and of a whole scene.
-use Rattle.std.proofs.Common.{◌≡◌, ◌≢◌, ℕ, ◌+◌, ◌<◌, ◌≤◌, ◌==◌, if◌then◌else◌, not, List, [], ◌∷◌, ◌++◌, length, Bool, true, false, ◌||◌, codes, decimal, map, Some, refl, ap, sym, subst, ◌∙◌, arith, append_assoc, append-nil, length-append, zero-add}
+use Rattle.std.proofs.Common.{◌≡◌, ◌≢◌, ℕ, ◌+◌, ◌<◌, ◌≤◌, ◌==◌, if◌then◌else◌, not, List, [], ◌∷◌, ◌++◌, length, Bool}
+use Rattle.std.proofs.Common.{true, false, ◌||◌, codes, decimal, map, Some, refl, ap, sym, subst, ◌∙◌, arith}
+use Rattle.std.proofs.Common.{append_assoc, append-nil, length-append, zero-add}
 use Prim.Native.Nat.{suc}
 use Rattle.std.specs.List.{All, AllPass, AllPairs, flat_map, range_with_len}
 use Rattle.std.specs.Str.{bytes_eq}
@@ -11,21 +13,23 @@ use Rattle.px_expr.specs.Tree.{Tree, leaf, join, HasLeavesBelow}
 use Rattle.px_scene.specs.declared.line.Due.TheVariants as d
 use Rattle.px_text.specs.Text.{Words, words_of}
 use Rattle.px_text.specs.Word.{is_name}
-use Rattle.px_scene.specs.Faults.{is_among}
-use Rattle.px_scene.specs.Printed.{printed, named_by}
+use Rattle.px_show.specs.Faults.{is_among}
+use Rattle.px_show.specs.Printed.{printed, named_by}
 use Rattle.px_model.specs.Solids.{SolidView, IsLawfulSolid, faces_in, names_of}
 use Rattle.px_model.specs.Scenes.{SceneView, IsNumberedFrom, AreNumberedFrom, faces_of}
 use Rattle.px_scene.specs.Writable.{IsWritable}
 use Rattle.px_scene.specs.Drafts.{DraftView, fresh_solid}
-use Rattle.px_scene.specs.Versions.{version_word, has_differ, has_difference}
-use Rattle.px_scene.specs.declared.version.Version.TheVariants as v
+use Rattle.px_show.specs.Signs.{has_difference}
+use Rattle.px_show.specs.Versions.{version_word, has_differ}
+use Rattle.px_show.specs.declared.version.Version.TheVariants as v
 use Rattle.px_scene.specs.Canonical.{version_for, depth_words, plane_words, colour_words}
 use Rattle.px_scene.proofs.NumberLemmas.{faces_of-cons}
 use Rattle.px_scene.proofs.CutLemmas.{below, none_below, all_below}
 use Rattle.px_scene.proofs.TellsLemmas.{blank}
-use Rattle.px_scene.proofs.PrintedLemmas.{signs_of}
+use Rattle.px_show.proofs.PrintedLemmas.{signs_of}
 use Rattle.px_scene.proofs.WalkLemmas.{Walk, walk_both}
-use Rattle.px_scene.proofs.RoundLemmas.{CanWrite, opened, open_solid, written_so_far, standing, shown_draft, first_walk, solid_walk, last_walk}
+use Rattle.px_scene.proofs.RoundLemmas.{CanWrite, opened, open_solid, written_so_far, standing, shown_draft}
+use Rattle.px_scene.proofs.RoundLemmas.{first_walk, solid_walk, last_walk}
 use Rattle.px_scene.proofs.FaceWalkLemmas.{part, words_of_number, faces_walk, sides_walk}
 
 abbrev pub head_words : SolidView → Words
@@ -169,7 +173,8 @@ some_solid (leaf place) count below = omega arith
 some_solid (join op left right) count below = some_solid left count below.0
 
 -- the version of a scene writes its fraction bits and its signs
-can_write : (fraction : ℕ) (differs : Bool) → CanWrite (if fraction == 0 then (if differs then v.Two else v.One) else v.Three) fraction
+can_write : (fraction : ℕ) (differs : Bool)
+    → CanWrite (if fraction == 0 then (if differs then v.Two else v.One) else v.Three) fraction
 can_write fraction differs = by_test (fraction == 0) differs (λ same. grind (arith, nat_tests))
   where
     by_test : (whole differs : Bool) → (whole ≡ true → fraction ≡ 0)
@@ -192,7 +197,8 @@ scene_walk scene is =
     in let below = subst (λ (n : ℕ). HasLeavesBelow n scene.show) (sym names) law.shown
     in let stand = standing (start_of scene)
     in let first = first_walk (version_for scene) scene.width scene.height scene.depth_bits scene.fraction_bits
-    (can_write scene.fraction_bits (has_difference scene.show)) law.some_width law.width law.some_height law.height law.some_depth law.depth
+    (can_write scene.fraction_bits (has_difference scene.show)) law.some_width law.width law.some_height law.height
+    law.some_depth law.depth
     law.fraction
     in let solids = solids_walk (start_of scene) scene.solids [] 0 is.solids law.numbers
     (let faces = law.faces in omega arith) law.names law.different (let few = law.solids in omega arith)

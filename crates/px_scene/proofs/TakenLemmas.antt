@@ -1,22 +1,25 @@
 -- A draft stays lawful over a good line.
 use Prim.Native.Nat.{zero, suc}
-use Rattle.std.proofs.Common.{◌≡◌, ◌≢◌, ℕ, ℤ, pos, ◌≤ℤ◌, ◌+◌, ◌-◌, min, ◌<◌, ◌≤◌, List, [], ◌∷◌, ◌++◌, length, Bool, true, false, not, ◌||◌, ◌&&◌, codes, refl, ap, sym, arith, slice_get, IfSome, Option, Some, None, get_or, unwrap_or, add-zero, if◌then◌else◌}
+use Rattle.std.proofs.Common.{◌≡◌, ◌≢◌, ℕ, ℤ, pos, ◌≤ℤ◌, ◌+◌, ◌-◌, min, ◌<◌, ◌≤◌, List, [], ◌∷◌, ◌++◌, length, Bool}
+use Rattle.std.proofs.Common.{true, false, not, ◌||◌, ◌&&◌, codes, refl, ap, sym, arith, slice_get, IfSome, Option}
+use Rattle.std.proofs.Common.{Some, None, get_or, unwrap_or, add-zero, if◌then◌else◌}
 use Rattle.std.proofs.lemmas.Int.{ints}
 use Rattle.std.specs.Option.{option_or}
 use Rattle.std.specs.List.{AllPairs, AllPass}
-use Rattle.px_scene.specs.declared.line.LimitKind.{LimitKind}
-use Rattle.px_scene.specs.declared.line.LimitKind.TheVariants as kind
+use Rattle.px_show.specs.declared.fault.LimitKind.{LimitKind}
+use Rattle.px_show.specs.declared.fault.LimitKind.TheVariants as kind
 use Rattle.px_scene.specs.declared.line.Due.{Due}
 use Rattle.px_scene.specs.declared.line.Due.TheVariants as d
 use Rattle.px_scene.specs.declared.line.Keyword.{Keyword}
 use Rattle.px_scene.specs.declared.line.Keyword.TheVariants as k
-use Rattle.px_scene.specs.declared.version.Version.{Version}
-use Rattle.px_scene.specs.declared.line.Cause.{Cause}
-use Rattle.px_scene.specs.declared.line.Cause.TheVariants as cause
+use Rattle.px_show.specs.declared.version.Version.{Version}
+use Rattle.px_show.specs.declared.fault.Cause.{Cause}
+use Rattle.px_show.specs.declared.fault.Cause.TheVariants as cause
 use Rattle.px_text.specs.Text.{Words}
-use Rattle.px_scene.specs.declared.line.LineFault.{LineFault}
-use Rattle.px_scene.specs.Lines.{past, most, fraction_past, face_past, face_limit, is_due, form_of, is_header, keyword_of, cause_of, solid_form, are_numbers, numbers_of, figures}
-use Rattle.px_scene.specs.Faults.{is_among}
+use Rattle.px_show.specs.declared.fault.LineFault.{LineFault}
+use Rattle.px_scene.specs.Lines.{past, most, fraction_past, face_past, face_limit, is_due, form_of, is_header}
+use Rattle.px_scene.specs.Lines.{keyword_of, cause_of, solid_form, are_numbers, numbers_of, figures}
+use Rattle.px_show.specs.Faults.{is_among}
 use Rattle.px_scene.specs.Figures.{colour_of, size_of}
 use Rattle.px_scene.specs.Reading.{head_colour, first_word}
 use lib.IntN.{negsuc}
@@ -26,18 +29,11 @@ use Rattle.std.specs.Str.{bytes_eq}
 use Rattle.std.specs.Cmp.Lexicographic.{other_text}
 use Rattle.px_model.specs.Solids.{SolidView, faces_in, names_of}
 use Rattle.px_model.specs.Scenes.{IsNumberedFrom, AreNumberedFrom, faces_of}
+use Rattle.px_show.proofs.FaultLemmas.{none_first, none_second}
 use Rattle.px_scene.proofs.NumberLemmas.{faces_of-cons}
 use Rattle.px_scene.specs.Drafts.{CanTakeFace, is_begun, is_ended, new_solid, fresh_solid, with_last, IsGoodForm}
 use Rattle.std.proofs.lemmas.List.Elements.{All-push}
 use Rattle.std.proofs.lemmas.List.Quantifiers.{all_pairs_push}
-
-pub none_first : {A : Type 0} (x y : Option A) → option_or x y ≡ None → x ≡ None
-none_first None y e = refl
-none_first (Some x) y e = cc
-
-pub none_second : {A : Type 0} (x y : Option A) → option_or x y ≡ None → y ≡ None
-none_second None y e = e
-none_second (Some x) y e = cc
 
 pub at_most : (limit : LimitKind) (high found : ℕ) → most limit high found ≡ None → found ≤ high
 at_most limit high found e = grind (arith, ints)
@@ -48,11 +44,14 @@ pub record FaceRoom (zs : List ℤ) (faces numbered : ℕ) : Type 0 where
   pub room : faces < 32
   pub next : numbered < 4095
 
-pub face_room : (limit : LimitKind) (faces numbered : ℕ) (zs : List ℤ) → face_limit limit faces numbered zs ≡ None → FaceRoom zs faces numbered
+pub face_room : (limit : LimitKind) (faces numbered : ℕ) (zs : List ℤ) → face_limit limit faces numbered zs ≡ None
+    → FaceRoom zs faces numbered
 face_room limit faces numbered zs e =
-    let planes = none_first (option_or (face_past zs) (most limit 32 (faces + 1))) (most kind.Faces 4095 (numbered + 1)) e
+    let planes =
+    none_first (option_or (face_past zs) (most limit 32 (faces + 1))) (most kind.Faces 4095 (numbered + 1)) e
     in let few : faces + 1 ≤ 32 = at_most limit 32 (faces + 1) (none_second (face_past zs) _ planes)
-    in let numbers : numbered + 1 ≤ 4095 = at_most kind.Faces 4095 (numbered + 1) (none_second (option_or (face_past zs) (most limit 32 (faces + 1))) _ e)
+    in let numbers : numbered + 1 ≤ 4095 =
+    at_most kind.Faces 4095 (numbered + 1) (none_second (option_or (face_past zs) (most limit 32 (faces + 1))) _ e)
     in record { within = none_first _ _ planes; room = omega arith; next = omega arith }
 
 -- what no limit on the line of a solid says
@@ -60,21 +59,31 @@ pub record SolidRoom (before numbered : ℕ) : Type 0 where
   pub solids : before < 255
   pub numbers : numbered < 4095
 
-pub solid_room : (before numbered : ℕ) (past : Option LineFault) → option_or (option_or past (most kind.Solids 255 (before + 1))) (most kind.Faces 4095 (numbered + 1)) ≡ None → SolidRoom before numbered
+pub solid_room : (before numbered : ℕ) (past : Option LineFault)
+    → option_or (option_or past (most kind.Solids 255 (before + 1))) (most kind.Faces 4095 (numbered + 1)) ≡ None
+    → SolidRoom before numbered
 solid_room before numbered past e =
     let solids = none_first (option_or past (most kind.Solids 255 (before + 1))) (most kind.Faces 4095 (numbered + 1)) e
     in let few : before + 1 ≤ 255 = at_most kind.Solids 255 (before + 1) (none_second past _ solids)
-    in let numbers : numbered + 1 ≤ 4095 = at_most kind.Faces 4095 (numbered + 1) (none_second (option_or past (most kind.Solids 255 (before + 1))) _ e)
+    in let numbers : numbered + 1 ≤ 4095 =
+    at_most kind.Faces 4095 (numbered + 1) (none_second (option_or past (most kind.Solids 255 (before + 1))) _ e)
     in record { solids = omega arith; numbers = omega arith }
 
 -- the last solid can take the number behind all the faces
-pub last_can_take : (first : ℕ) (ss : List SolidView) → AreNumberedFrom first ss → 0 < length ss → IfSome (slice_get ss (length ss - 1)) (CanTakeFace (first + faces_of ss))
+pub last_can_take : (first : ℕ) (ss : List SolidView) → AreNumberedFrom first ss → 0 < length ss
+    → IfSome (slice_get ss (length ss - 1)) (CanTakeFace (first + faces_of ss))
 last_can_take first [] are some = absurd (omega arith)
 last_can_take first (s ∷ []) are some =
-    rw (faces_of-cons s [], add-zero) (record { near = let near = are.0.near in grind arith; fronts = are.0.fronts; backs = are.0.backs })
+    rw (faces_of-cons s [], add-zero) (record {
+      near = let near = are.0.near in
+          grind arith;
+      fronts = are.0.fronts;
+      backs = are.0.backs;
+    })
 last_can_take first (s ∷ t ∷ ss) are some =
     let place : length (s ∷ t ∷ ss) - 1 ≡ suc (length (t ∷ ss) - 1) = omega arith
-    in let counted : first + faces_of (s ∷ t ∷ ss) ≡ (first + faces_in s) + faces_of (t ∷ ss) = omega (arith, faces_of-cons s (t ∷ ss))
+    in let counted : first + faces_of (s ∷ t ∷ ss) ≡ (first + faces_in s) + faces_of (t ∷ ss) =
+    omega (arith, faces_of-cons s (t ∷ ss))
     in rw (place, counted) (last_can_take (first + faces_in s) (t ∷ ss) are.1 (omega arith))
 
 both_true : (a b : Bool) → a && b ≡ true → a ≡ true
@@ -84,18 +93,21 @@ both_true false b e = e
 abbrev no_cause : Option Cause
 no_cause = None
 
-header_form : (version : Version) (names : Words) (w : List ℕ) (ws : Words) (b : Bool) → is_header w ws ≡ b → (if b then no_cause else Some cause.NotHeader) ≡ None → IsGoodForm version d.Header names (keyword_of w) ws
+header_form : (version : Version) (names : Words) (w : List ℕ) (ws : Words) (b : Bool) → is_header w ws ≡ b
+    → (if b then no_cause else Some cause.NotHeader) ≡ None → IsGoodForm version d.Header names (keyword_of w) ws
 header_form version names w ws false e none = cc
 header_form version names w ws true e none =
     let word : bytes_eq w (codes "pxscene") ≡ true = both_true _ _ e
     in let begins : keyword_of w ≡ k.Pxscene = rw word refl
     in rw begins (record { comes = refl; formed = refl })
 
-due_form_none : (version : Version) (due : Due) (names ws : Words) (k : Keyword) (b : Bool) → is_due due k ≡ b → (if b then form_of version k names ws else Some cause.Unexpected) ≡ None → IsGoodForm version due names k ws
+due_form_none : (version : Version) (due : Due) (names ws : Words) (k : Keyword) (b : Bool) → is_due due k ≡ b
+    → (if b then form_of version k names ws else Some cause.Unexpected) ≡ None → IsGoodForm version due names k ws
 due_form_none version due names ws k true e none = record { comes = e; formed = none }
 due_form_none version due names ws k false e none = cc
 
-pub good_form : (version : Version) (due : Due) (names : Words) (w : List ℕ) (ws : Words) → cause_of version due names w ws ≡ None → IsGoodForm version due names (keyword_of w) ws
+pub good_form : (version : Version) (due : Due) (names : Words) (w : List ℕ) (ws : Words)
+    → cause_of version due names w ws ≡ None → IsGoodForm version due names (keyword_of w) ws
 good_form version d.Header names w ws none = header_form version names w ws _ refl none
 good_form version d.Picture names w ws none = due_form_none version _ names ws (keyword_of w) _ refl none
 good_form version d.Depth names w ws none = due_form_none version _ names ws (keyword_of w) _ refl none
@@ -131,9 +143,11 @@ pub record IsNewName (names : Words) (ws : Words) : Type 0 where
   pub fresh : is_among names (first_word ws) ≡ false
   pub colour : Colour
   pub written : head_colour (numbers_of (figures k.Solid ws)) ≡ colour
-  pub solid : (number : ℕ) → new_solid (first_word ws) number (numbers_of (figures k.Solid ws)) ≡ fresh_solid (first_word ws) number colour ∷ []
+  pub solid : (number : ℕ) → new_solid (first_word ws) number (numbers_of (figures k.Solid ws))
+      ≡ fresh_solid (first_word ws) number colour ∷ []
 
-pub numbered_fresh : (name : List ℕ) (number : ℕ) (colour : Colour) → IsNumberedFrom number (fresh_solid name number colour)
+pub numbered_fresh : (name : List ℕ) (number : ℕ) (colour : Colour)
+    → IsNumberedFrom number (fresh_solid name number colour)
 numbered_fresh name number colour = record {
   near = refl;
   fronts = λ k d lt. absurd (omega arith);
@@ -146,16 +160,26 @@ new_name names [] e = cc
 new_name names (name ∷ []) e = cc
 new_name names (name ∷ a ∷ []) e = cc
 new_name names (name ∷ a ∷ b ∷ []) e = cc
-new_name names (name ∷ a ∷ b ∷ c ∷ []) e = new_by (is_name name) (are_numbers (a ∷ b ∷ c ∷ [])) (is_among names name) refl refl e
+new_name names (name ∷ a ∷ b ∷ c ∷ []) e =
+    new_by (is_name name) (are_numbers (a ∷ b ∷ c ∷ [])) (is_among names name) refl refl e
   where
     number : List ℕ → ℤ
     number w = unwrap_or (number_of w) (pos 0)
 
-    new_by : (lawful numeric among : Bool) → is_name name ≡ lawful → is_among names name ≡ among → (if not lawful then Some cause.BadName else if not numeric then Some cause.NotNumber else if among then Some cause.SecondName else None) ≡ None → IsNewName names (name ∷ a ∷ b ∷ c ∷ [])
+    new_by : (lawful numeric among : Bool) → is_name name ≡ lawful → is_among names name ≡ among
+        → (if not lawful then Some cause.BadName else if not numeric then Some cause.NotNumber else if among then Some
+        cause.SecondName else None) ≡ None → IsNewName names (name ∷ a ∷ b ∷ c ∷ [])
     new_by false numeric among l m e = cc
     new_by true false among l m e = cc
     new_by true true true l m e = cc
-    new_by true true false l m e = record { lawful = l; fresh = m; colour = colour_of (number a) (number b) (number c); written = refl; solid = λ n. refl }
+    new_by true true false l m e =
+        record {
+          lawful = l;
+          fresh = m;
+          colour = colour_of (number a) (number b) (number c);
+          written = refl;
+          solid = λ n. refl;
+        }
 new_name names (name ∷ a ∷ b ∷ c ∷ d ∷ ws) e = cc
 
 -- names: all lawful, and no two alike
@@ -167,34 +191,44 @@ neither : (a b : Bool) → a || b ≡ false → (a ≡ false) × (b ≡ false)
 neither false b e = (refl, e)
 neither true b e = cc
 
-others : (names : Words) (name : List ℕ) → is_among names name ≡ false → (k : ℕ) (e : List ℕ) → k < length names → get_or names k e ≢ name
+others : (names : Words) (name : List ℕ) → is_among names name ≡ false → (k : ℕ) (e : List ℕ) → k < length names
+    → get_or names k e ≢ name
 others [] name fresh k e lt = absurd (omega arith)
 others (n ∷ ns) name fresh zero e lt = other_text n name (sym (neither (bytes_eq n name) _ fresh).0)
 others (n ∷ ns) name fresh (suc k) e lt = others ns name (neither (bytes_eq n name) _ fresh).1 k e (omega arith)
 
-pub names_push : (names : Words) (name : List ℕ) → AreNames names → is_name name ≡ true → is_among names name ≡ false → AreNames (names ++ name ∷ [])
+pub names_push : (names : Words) (name : List ℕ) → AreNames names → is_name name ≡ true → is_among names name ≡ false
+    → AreNames (names ++ name ∷ [])
 names_push names name are lawful fresh = record {
   lawful = All-push (λ n. is_name n ≡ true) names name are.lawful lawful;
   different = all_pairs_push (λ m n. m ≢ n) names name are.different (others names name fresh);
 }
 
-pub names_with_last : (change : SolidView → SolidView) → ((s : SolidView) → (change s).name ≡ s.name) → (ss : List SolidView) → names_of (with_last change ss) ≡ names_of ss
+pub names_with_last : (change : SolidView → SolidView) → ((s : SolidView) → (change s).name ≡ s.name)
+    → (ss : List SolidView) → names_of (with_last change ss) ≡ names_of ss
 names_with_last change keeps [] = refl
 names_with_last change keeps (s ∷ []) = ap (λ n. n ∷ []) (keeps s)
 names_with_last change keeps (s ∷ t ∷ ss) = ap (λ ns. s.name ∷ ns) (names_with_last change keeps (t ∷ ss))
 
 -- a face of the next number behind the last solid's
-pub numbered_last : (change : SolidView → SolidView) (first : ℕ) (ss : List SolidView) → AreNumberedFrom first ss → 0 < length ss
-    → ((n : ℕ) (s : SolidView) → n + faces_in s ≡ first + faces_of ss → IsNumberedFrom n s → IsNumberedFrom n (change s))
+pub numbered_last : (change : SolidView → SolidView) (first : ℕ) (ss : List SolidView) → AreNumberedFrom first ss
+    → 0 < length ss
+    → ((n : ℕ) (s : SolidView) → n + faces_in s ≡ first + faces_of ss → IsNumberedFrom n s
+    → IsNumberedFrom n (change s))
     → AreNumberedFrom first (with_last change ss)
 numbered_last change first [] are some step = absurd (omega arith)
 numbered_last change first (s ∷ []) are some step = (step first s (omega (arith, faces_of-cons s [])) are.0, tt)
-numbered_last change first (s ∷ t ∷ ss) are some step =
-    (are.0, numbered_last change (first + faces_in s) (t ∷ ss) are.1 (omega arith) (λ n q e is. step n q (omega (arith, faces_of-cons s (t ∷ ss))) is))
+numbered_last change first (s ∷ t ∷ ss) are some step = (
+  are.0,
+  numbered_last change (first + faces_in s) (t ∷ ss) are.1 (omega arith)
+      (λ n q e is. step n q (omega (arith, faces_of-cons s (t ∷ ss))) is),
+)
 
-pub faces_of-with_last : (change : SolidView → SolidView) (more : ℕ) → ((s : SolidView) → faces_in (change s) ≡ faces_in s + more) → (ss : List SolidView) → 0 < length ss → faces_of (with_last change ss) ≡ faces_of ss + more
+pub faces_of-with_last : (change : SolidView → SolidView) (more : ℕ) → ((s : SolidView) → faces_in (change s)
+    ≡ faces_in s + more) → (ss : List SolidView) → 0 < length ss → faces_of (with_last change ss) ≡ faces_of ss + more
 faces_of-with_last change more grows [] some = absurd (omega arith)
-faces_of-with_last change more grows (s ∷ []) some = omega (arith, faces_of-cons s [], faces_of-cons (change s) [], grows s)
+faces_of-with_last change more grows (s ∷ []) some =
+    omega (arith, faces_of-cons s [], faces_of-cons (change s) [], grows s)
 faces_of-with_last change more grows (s ∷ t ∷ ss) some =
     let later = faces_of-with_last change more grows (t ∷ ss) (omega arith)
     in omega (arith, faces_of-cons s (t ∷ ss), faces_of-cons s (with_last change (t ∷ ss)))
@@ -207,7 +241,8 @@ past_none : (limit : LimitKind) (least most z : ℤ) → past limit least most z
 past_none limit least most z e = record { above = grind (arith, ints); below = grind (arith, ints) }
 
 -- a size within a limit
-pub size_within : (limit : LimitKind) (most : ℕ) (z : ℤ) → past limit (pos 1) (pos most) z ≡ None → (1 ≤ size_of z) × (size_of z ≤ most)
+pub size_within : (limit : LimitKind) (most : ℕ) (z : ℤ) → past limit (pos 1) (pos most) z ≡ None → (1 ≤ size_of z)
+    × (size_of z ≤ most)
 size_within limit most (pos n) e =
     let is = past_none limit (pos 1) (pos most) (pos n) e
     in let above = is.above in let below = is.below in (omega (arith, ints), omega (arith, ints))

@@ -1,5 +1,6 @@
 -- The words of the canonical text's lines, and so what is read of it.
-use Rattle.std.proofs.Common.{◌≡◌, ℕ, ◌+◌, ◌≤◌, ◌^◌, List, [], ◌∷◌, ◌++◌, length, take, Bool, true, false, map, codes, ◌==◌, refl, ap, sym, subst, ◌∙◌, arith, append_assoc, append-nil}
+use Rattle.std.proofs.Common.{◌≡◌, ℕ, ◌+◌, ◌≤◌, ◌^◌, List, [], ◌∷◌, ◌++◌, length, take, Bool, true, false, map, codes}
+use Rattle.std.proofs.Common.{◌==◌, refl, ap, sym, subst, ◌∙◌, arith, append_assoc, append-nil}
 use Prim.Native.Nat.{suc}
 use Rattle.std.specs.List.{All, flat_map, range_with_len, list_all}
 use Rattle.std.proofs.lemmas.List.Folds.{list_all-append}
@@ -11,24 +12,26 @@ use Rattle.px_text.specs.Word.{is_name}
 use Rattle.px_model.specs.Solids.{SolidView, IsColour, IsLawfulSolid, IsPlane, names_of}
 use Rattle.px_model.specs.Scenes.{SceneView, IsLawfulScene}
 use Rattle.px_scene.specs.Writable.{IsWritable, IsReadAs}
-use Rattle.px_scene.specs.Versions.{version_word}
-use Rattle.px_scene.specs.declared.version.Version.{Version}
-use Rattle.px_scene.specs.declared.version.Version.TheVariants as v
-use Rattle.px_scene.specs.Canonical.{version_for, depth_words, plane_words, colour_words, written_line, first_lines, solid_lines, show_line, canonical_text}
+use Rattle.px_show.specs.Versions.{version_word}
+use Rattle.px_show.specs.declared.version.Version.{Version}
+use Rattle.px_show.specs.declared.version.Version.TheVariants as v
+use Rattle.px_scene.specs.Canonical.{version_for, depth_words, plane_words, colour_words, written_line, first_lines}
+use Rattle.px_scene.specs.Canonical.{solid_lines, show_line, canonical_text}
 use Rattle.px_text.specs.Written.{is_plain, are_plain, is_no_feed, fed}
 use Rattle.px_scene.proofs.RoundLemmas.{face_words, small}
 use Rattle.px_scene.proofs.FaceWalkLemmas.{words_at, words_of_number}
-use Rattle.px_scene.proofs.SceneWalkLemmas.{numbers_words, sides_words, solid_words, first_words, last_words, scene_words, final_draft, shown_text, scene_walk}
+use Rattle.px_scene.proofs.SceneWalkLemmas.{numbers_words, sides_words, solid_words, first_words, last_words}
+use Rattle.px_scene.proofs.SceneWalkLemmas.{scene_words, final_draft, shown_text, scene_walk}
 use Rattle.px_scene.proofs.CanonicalLemmas.{is_written, bare, end_words, text_is, read_plain}
 use Rattle.px_text.proofs.PlainLemmas.{decimal_plain, signed_plain, name_is_plain}
 use Rattle.px_scene.proofs.FedLemmas.{bares_fed, printed_fed, show_words}
 use Rattle.px_text.proofs.SpacedLemmas.{lines_read}
-use Rattle.px_scene.proofs.PrintedLemmas.{names_lawful}
+use Rattle.px_show.proofs.PrintedLemmas.{names_lawful}
 use Rattle.px_scene.proofs.LengthLemmas.{canonical_short}
 use Rattle.px_scene.proofs.WalkLemmas.{Walk, read_by_walk}
 use Rattle.px_scene.proofs.TellsLemmas.{blank}
-use Rattle.px_scene.specs.Printed.{named_by}
-use Rattle.px_scene.specs.Expressions.{has_names}
+use Rattle.px_show.specs.Printed.{named_by}
+use Rattle.px_show.specs.Expressions.{has_names}
 use Rattle.px_expr.specs.Tree.{HasLeavesBelow, IsLawful}
 use Rattle.std.proofs.lemmas.List.{length-map, take_all}
 
@@ -128,7 +131,8 @@ first_plain scene is =
       decimal_plain scene.width (omega arith),
       decimal_plain scene.height (omega arith),
       version_plain (version_for scene),
-      depth_plain (version_for scene) scene.depth_bits scene.fraction_bits (omega arith) (let f = is.lawful.fraction in omega arith),
+      depth_plain (version_for scene) scene.depth_bits scene.fraction_bits (omega arith)
+          (let f = is.lawful.fraction in omega arith),
     ) refl
 
 map_joined : (ls ms : List Words) → map bare (ls ++ ms) ≡ map bare ls ++ map bare ms

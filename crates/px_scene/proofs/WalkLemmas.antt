@@ -1,11 +1,12 @@
 -- Lines none of which is bad, one after another, and what they come to.
-use Rattle.std.proofs.Common.{◌≡◌, ℕ, ◌+◌, ◌≤◌, ◌^◌, List, [], ◌∷◌, ◌++◌, length, Option, Some, None, true, refl, ap, sym, ◌∙◌, append_assoc, append-nil}
-use Rattle.px_scene.specs.declared.line.Cause.{Cause}
+use Rattle.std.proofs.Common.{◌≡◌, ℕ, ◌+◌, ◌≤◌, ◌^◌, List, [], ◌∷◌, ◌++◌, length, Option, Some, None, true, refl, ap}
+use Rattle.std.proofs.Common.{sym, ◌∙◌, append_assoc, append-nil}
+use Rattle.px_show.specs.declared.fault.Cause.{Cause}
 use Rattle.px_scene.specs.declared.line.Keyword.{Keyword}
 use Rattle.px_scene.specs.declared.line.Keyword.TheVariants as k
-use Rattle.px_scene.specs.declared.line.LineFault.{LineFault}
+use Rattle.px_show.specs.declared.fault.LineFault.{LineFault}
 use Rattle.px_text.specs.Text.{Words, worded}
-use Rattle.px_scene.specs.Faults.{judged}
+use Rattle.px_show.specs.Faults.{judged}
 use Rattle.px_scene.specs.Lines.{keyword_of, numbers_of, figures, cause_of, limit_on, limit_of}
 use Rattle.px_model.specs.Solids.{names_of}
 use Rattle.px_scene.specs.Drafts.{DraftView, IsLawfulDraft, tally_of, fault_in, taken, drawn}

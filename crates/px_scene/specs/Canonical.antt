@@ -7,12 +7,13 @@ use Rattle.px_model.specs.declared.solid.Colour.{Colour}
 use Rattle.px_model.specs.declared.solid.Face.{Face}
 use Rattle.px_text.specs.Text.{Words}
 use Rattle.px_text.specs.Written.{spaced}
-use Rattle.px_scene.specs.Printed.{printed, named_by}
+use Rattle.px_show.specs.Printed.{printed, named_by}
 use Rattle.px_model.specs.Solids.{SolidView, names_of}
 use Rattle.px_model.specs.Scenes.{SceneView}
-use Rattle.px_scene.specs.Versions.{version_word, has_difference}
-use Rattle.px_scene.specs.declared.version.Version.{Version}
-use Rattle.px_scene.specs.declared.version.Version.TheVariants as v
+use Rattle.px_show.specs.Signs.{has_difference}
+use Rattle.px_show.specs.Versions.{version_word}
+use Rattle.px_show.specs.declared.version.Version.{Version}
+use Rattle.px_show.specs.declared.version.Version.TheVariants as v
 
 -- a line: its first word, the words after it, and the line feed
 unfoldable pub written_line : List ℕ → Words → List ℕ

@@ -3,18 +3,20 @@ use Rattle.std.specs.Prelude.{◌≡◌, ◌≢◌, ℕ, ℤ, ◌+◌, ◌-◌, 
 use Rattle.std.specs.List.{AllPass}
 use Rattle.std.specs.Option.{option_map_or}
 use Rattle.px_num.specs.declared.linear.Linear.{Linear}
+use Rattle.px_model.specs.declared.limits.TheConstants.{MAX_DEPTH_BITS, MAX_FACES, MAX_FRACTION_BITS}
+use Rattle.px_model.specs.declared.limits.TheConstants.{MAX_PICTURE_SIZE, MAX_SOLIDS}
 use Rattle.px_model.specs.declared.solid.Colour.{Colour}
 use Rattle.px_model.specs.declared.solid.Face.{Face}
 use Rattle.px_scene.specs.declared.line.Due.{Due}
 use Rattle.px_scene.specs.declared.line.Due.TheVariants as d
 use Rattle.px_scene.specs.declared.line.Tally.{Tally}
-use Rattle.px_scene.specs.declared.line.LineFault.{LineFault}
+use Rattle.px_show.specs.declared.fault.LineFault.{LineFault}
 use Rattle.px_text.specs.Text.{Words}
 use Rattle.px_expr.specs.Tree.{Tree, leaf, HasLeavesBelow}
-use Rattle.px_scene.specs.Show.{show_tree}
-use Rattle.px_scene.specs.Versions.{version_or_first}
+use Rattle.px_show.specs.Show.{show_tree}
+use Rattle.px_show.specs.Versions.{version_or_first}
 use Rattle.px_scene.specs.Reading.{first_word}
-use Rattle.px_scene.specs.declared.version.Version.{Version}
+use Rattle.px_show.specs.declared.version.Version.{Version}
 use Rattle.px_text.specs.Word.{is_name}
 use Rattle.px_model.specs.Solids.{SolidView, names_of}
 use Rattle.px_model.specs.Scenes.{SceneView, AreNumberedFrom, faces_of}
@@ -141,18 +143,18 @@ is_ended d.Nothing = true
 
 pub record IsLawfulDraft (draft : DraftView) : Type 0 where
   pub some_width : 1 ≤ draft.width
-  pub width_limit : draft.width ≤ 512
+  pub width_limit : draft.width ≤ MAX_PICTURE_SIZE
   pub some_height : 1 ≤ draft.height
-  pub height_limit : draft.height ≤ 512
+  pub height_limit : draft.height ≤ MAX_PICTURE_SIZE
   pub some_depth : 1 ≤ draft.depth_bits
-  pub depth_limit : draft.depth_bits + draft.fraction_bits ≤ 24
-  pub fraction_limit : draft.fraction_bits ≤ 8
-  pub few : length draft.solids ≤ 255
+  pub depth_limit : draft.depth_bits + draft.fraction_bits ≤ MAX_DEPTH_BITS
+  pub fraction_limit : draft.fraction_bits ≤ MAX_FRACTION_BITS
+  pub few : length draft.solids ≤ MAX_SOLIDS
   pub names : AllPass is_name (names_of draft.solids)
   pub different : AllPairs (λ m n. m ≢ n) (names_of draft.solids)
   pub numbers : AreNumberedFrom 1 draft.solids
   pub count : draft.numbered ≡ faces_of draft.solids
-  pub faces : draft.numbered ≤ 4095
+  pub faces : draft.numbered ≤ MAX_FACES
   pub shown : is_ended draft.due ≡ true → IsSomeAnd draft.show (HasLeavesBelow (length draft.solids))
   pub begun : is_begun draft.due ≡ true → 0 < length draft.solids
 

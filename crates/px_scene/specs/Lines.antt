@@ -1,27 +1,30 @@
 -- One line of a scene text: which lines are due, and why a line is bad. Clauses of public calls stand on it.
-use Rattle.std.specs.Prelude.{ℕ, ℤ, pos, ◌+◌, ◌-◌, min, ◌-ℤ◌, ◌^◌, ◌==◌, List, [], ◌∷◌, ◌&&◌, ◌||◌, not, Bool, true, false, if◌then◌else◌, Option, Some, None, map, length, codes, unwrap_or, is_some}
+use Rattle.std.specs.Prelude.{ℕ, ℤ, pos, ◌+◌, ◌-◌, min, ◌-ℤ◌, ◌==◌, List, [], ◌∷◌, ◌&&◌, ◌||◌, not, Bool, true, false, if◌then◌else◌, Option, Some, None, map, length, codes, unwrap_or, is_some}
 use Rattle.std.specs.Option.{option_or}
 use Rattle.std.specs.Str.{bytes_eq}
 use Rattle.std.specs.List.{list_all}
 use lib.Signed.{le_z}
+use Rattle.px_model.specs.declared.limits.TheConstants.{MAX_CONSTANT, MAX_DEPTH_BITS, MAX_FACES}
+use Rattle.px_model.specs.declared.limits.TheConstants.{MAX_FRACTION_BITS, MAX_PICTURE_SIZE}
+use Rattle.px_model.specs.declared.limits.TheConstants.{MAX_PLANES_OF_A_KIND, MAX_SLOPE, MAX_SOLIDS}
 use Rattle.px_text.specs.Text.{Words}
 use Rattle.px_text.specs.Word.{number_of, is_name}
-use Rattle.px_scene.specs.Faults.{judged, is_among}
-use Rattle.px_scene.specs.Show.{show_cause, show_limit}
+use Rattle.px_show.specs.Faults.{judged, is_among}
+use Rattle.px_show.specs.Show.{show_cause, show_limit}
 use Rattle.px_scene.specs.Figures.{size_of}
-use Rattle.px_scene.specs.Versions.{depth_count, version_of}
-use Rattle.px_scene.specs.declared.version.Version.{Version}
+use Rattle.px_show.specs.Versions.{depth_count, version_of}
+use Rattle.px_show.specs.declared.version.Version.{Version}
 use Rattle.px_scene.specs.declared.line.Keyword.{Keyword}
 use Rattle.px_scene.specs.declared.line.Keyword.TheVariants as k
 use Rattle.px_scene.specs.declared.line.Due.{Due}
 use Rattle.px_scene.specs.declared.line.Due.TheVariants as d
-use Rattle.px_scene.specs.declared.line.Cause.{Cause}
-use Rattle.px_scene.specs.declared.line.Cause.TheVariants as c
-use Rattle.px_scene.specs.declared.line.LimitKind.{LimitKind}
-use Rattle.px_scene.specs.declared.line.LimitKind.TheVariants as kind
+use Rattle.px_show.specs.declared.fault.Cause.{Cause}
+use Rattle.px_show.specs.declared.fault.Cause.TheVariants as c
+use Rattle.px_show.specs.declared.fault.LimitKind.{LimitKind}
+use Rattle.px_show.specs.declared.fault.LimitKind.TheVariants as kind
 use Rattle.px_scene.specs.declared.line.Tally.{Tally}
-use Rattle.px_scene.specs.declared.line.LineFault.{LineFault}
-use Rattle.px_scene.specs.declared.line.LineFault.TheVariants as f
+use Rattle.px_show.specs.declared.fault.LineFault.{LineFault}
+use Rattle.px_show.specs.declared.fault.LineFault.TheVariants as f
 
 abbrev pub keyword_of : List ℕ → Keyword
 keyword_of w =
@@ -117,7 +120,10 @@ abbrev pub most : LimitKind → ℕ → ℕ → Option LineFault
 most limit high found = past limit (pos 0) (pos high) (pos found)
 
 abbrev pub picture_past : ℤ → ℤ → Option LineFault
-picture_past width height = option_or (past kind.Picture (pos 1) (pos 512) width) (past kind.Picture (pos 1) (pos 512) height)
+picture_past width height =
+    option_or
+    (past kind.Picture (pos 1) (pos MAX_PICTURE_SIZE) width)
+    (past kind.Picture (pos 1) (pos MAX_PICTURE_SIZE) height)
 
 abbrev pub colour_past : ℤ → ℤ → ℤ → Option LineFault
 colour_past red green blue =
@@ -128,7 +134,7 @@ abbrev pub size_past : ℕ → ℤ → Option LineFault
 size_past n z = past kind.Coefficient (pos 0 -ℤ pos n) (pos n) z
 
 abbrev pub plane_past : ℤ → ℤ → ℤ → Option LineFault
-plane_past a b c = option_or (option_or (size_past (2 ^ 23) a) (size_past (2 ^ 23) b)) (size_past (2 ^ 33) c)
+plane_past a b c = option_or (option_or (size_past MAX_SLOPE a) (size_past MAX_SLOPE b)) (size_past MAX_CONSTANT c)
 
 abbrev pub face_past : List ℤ → Option LineFault
 face_past (a ∷ b ∷ c ∷ []) = plane_past a b c
@@ -156,13 +162,15 @@ abbrev pub two_past : List ℤ → Option LineFault
 two_past (width ∷ height ∷ []) = picture_past width height
 two_past zs = None
 
--- fraction bits past 8, or past what the bits of a depth leave of 24
+-- fraction bits past their limit, or past what the bits of a depth leave of the limit of both
 abbrev pub fraction_past : ℤ → ℤ → Option LineFault
-fraction_past bits fraction = past kind.Fraction (pos 0) (pos (min 8 (24 - size_of bits))) fraction
+fraction_past bits fraction =
+    past kind.Fraction (pos 0) (pos (min MAX_FRACTION_BITS (MAX_DEPTH_BITS - size_of bits))) fraction
 
 abbrev pub depth_past : List ℤ → Option LineFault
-depth_past (bits ∷ []) = past kind.Depth (pos 1) (pos 24) bits
-depth_past (bits ∷ fraction ∷ []) = option_or (past kind.Depth (pos 1) (pos 24) bits) (fraction_past bits fraction)
+depth_past (bits ∷ []) = past kind.Depth (pos 1) (pos MAX_DEPTH_BITS) bits
+depth_past (bits ∷ fraction ∷ []) =
+    option_or (past kind.Depth (pos 1) (pos MAX_DEPTH_BITS) bits) (fraction_past bits fraction)
 depth_past zs = None
 
 abbrev pub three_past : List ℤ → Option LineFault
@@ -171,16 +179,22 @@ three_past zs = None
 
 -- a face's line: its numbers, the faces of its kind, and the face numbers, with this line
 abbrev pub face_limit : LimitKind → ℕ → ℕ → List ℤ → Option LineFault
-face_limit limit faces numbered zs = option_or (option_or (face_past zs) (most limit 32 (faces + 1))) (most kind.Faces 4095 (numbered + 1))
+face_limit limit faces numbered zs =
+    option_or
+    (option_or (face_past zs) (most limit MAX_PLANES_OF_A_KIND (faces + 1)))
+    (most kind.Faces MAX_FACES (numbered + 1))
 
 -- the first limit that a line of good form passes: its numbers from left to right, and then the counts with this line
 abbrev pub limit_of : Keyword → Tally → List ℤ → Option LineFault
 limit_of k.Picture t zs = two_past zs
 limit_of k.Depth t zs = depth_past zs
-limit_of k.Solid t zs = option_or (option_or (three_past zs) (most kind.Solids 255 (t.solids + 1))) (most kind.Faces 4095 (t.numbered + 1))
+limit_of k.Solid t zs =
+    option_or
+    (option_or (three_past zs) (most kind.Solids MAX_SOLIDS (t.solids + 1)))
+    (most kind.Faces MAX_FACES (t.numbered + 1))
 limit_of k.Front t zs = face_limit kind.Fronts t.fronts t.numbered zs
 limit_of k.Back t zs = face_limit kind.Backs t.backs t.numbered zs
-limit_of k.Side t zs = option_or (face_past zs) (most kind.Sides 32 (t.sides + 1))
+limit_of k.Side t zs = option_or (face_past zs) (most kind.Sides MAX_PLANES_OF_A_KIND (t.sides + 1))
 limit_of k.Pxscene t zs = None
 limit_of k.Show t zs = None
 limit_of k.End t zs = None

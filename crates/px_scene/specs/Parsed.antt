@@ -4,17 +4,17 @@ use Rattle.std.specs.Prelude.{◌≡◌, ℕ, ℤ, List, [], ◌∷◌, ◌==◌
 use Rattle.px_text.specs.Text.{Words}
 use Rattle.px_text.specs.LentWords.{now_of}
 use Rattle.px_text.specs.Word.{is_name, number_of}
-use Rattle.px_scene.specs.Versions.{version_word, version_of}
-use Rattle.px_scene.specs.Faults.{judged, is_among}
-use Rattle.px_scene.specs.Show.{show_cause, show_fault}
+use Rattle.px_show.specs.Versions.{version_word, version_of}
+use Rattle.px_show.specs.Faults.{judged, is_among}
+use Rattle.px_show.specs.Show.{show_cause, show_fault}
 use Rattle.px_scene.specs.Lines.{keyword_of, is_due, numeric, numbers_of, figures, form_of, cause_of, limit_of}
 use Rattle.px_scene.specs.Drafts.{DraftView, tally_of}
 use Rattle.px_scene.specs.Reading.{first_word}
 use Rattle.px_model.specs.Solids.{names_of}
-use Rattle.px_scene.specs.declared.version.Version.{Version}
-use Rattle.px_scene.specs.declared.line.Cause.{Cause}
-use Rattle.px_scene.specs.declared.line.Cause.TheVariants as c
-use Rattle.px_scene.specs.declared.line.LineFault.{LineFault}
+use Rattle.px_show.specs.declared.version.Version.{Version}
+use Rattle.px_show.specs.declared.fault.Cause.{Cause}
+use Rattle.px_show.specs.declared.fault.Cause.TheVariants as c
+use Rattle.px_show.specs.declared.fault.LineFault.{LineFault}
 use Rattle.px_scene.specs.declared.line.Due.{Due}
 use Rattle.px_scene.specs.declared.line.Keyword.{Keyword}
 use Rattle.px_scene.specs.declared.line.Keyword.TheVariants as k

@@ -11,15 +11,15 @@ use Rattle.px_scene.specs.declared.line.Keyword.TheVariants as k
 use Rattle.px_scene.specs.declared.line.Due.{Due}
 use Rattle.px_scene.specs.declared.line.Due.TheVariants as d
 use Rattle.px_scene.specs.declared.line.Tally.{Tally}
-use Rattle.px_scene.specs.declared.line.LineFault.{LineFault}
+use Rattle.px_show.specs.declared.fault.LineFault.{LineFault}
 use Rattle.px_text.specs.Text.{Words}
 use Rattle.px_scene.specs.Lines.{keyword_of, due_after, figures, numbers_of, fault_of}
 use Rattle.px_scene.specs.Figures.{size_of, depth_of, fraction_of, colour_of, face_of, side_of}
 use Rattle.px_model.specs.Solids.{SolidView}
 use Rattle.px_model.specs.Scenes.{SceneView, black}
-use Rattle.px_scene.specs.Show.{show_tree}
-use Rattle.px_scene.specs.Versions.{version_or_first}
-use Rattle.px_scene.specs.declared.version.Version.{Version}
+use Rattle.px_show.specs.Show.{show_tree}
+use Rattle.px_show.specs.Versions.{version_or_first}
+use Rattle.px_show.specs.declared.version.Version.{Version}
 
 abbrev pub is_pxscene : Keyword → Bool
 is_pxscene k.Pxscene = true

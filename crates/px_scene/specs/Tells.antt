@@ -1,9 +1,9 @@
 -- A draft that says what the lines of a text say, and the fault of the first that is bad. Only proofs and private functions stand on it.
-use Rattle.std.specs.Prelude.{◌≡◌, ℕ, List, [], length, false, Option, Some, None}
+use Rattle.std.specs.Prelude.{◌≡◌, ℕ, List, [], length, false, Some, None}
 use Rattle.px_text.specs.Text.{Words}
 use Rattle.px_model.specs.Solids.{names_of}
 use Rattle.px_scene.specs.Drafts.{DraftView, IsLawfulDraft, in_last, is_ended}
-use Rattle.px_scene.specs.declared.line.LineFault.{LineFault}
+use Rattle.px_show.specs.declared.fault.LineFault.{LineFault}
 use Rattle.px_scene.specs.declared.read.SceneFault.{SceneFault}
 use Rattle.px_scene.specs.Refusals.{fault_at}
 use Rattle.px_scene.specs.Figures.{depth_of, fraction_of}

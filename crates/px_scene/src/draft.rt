@@ -5,29 +5,29 @@ ghost use Rattle.std.specs.List.{list_any};
 ghost use Rattle.px_text.specs.Text.{words_of};
 ghost use Rattle.px_text.specs.LentWords.{now_of};
 ghost use Rattle.px_scene.specs.Refusals.{is_nothing};
-ghost use Rattle.px_scene.specs.Faults.{is_among};
+ghost use Rattle.px_show.specs.Faults.{is_among};
 ghost use Rattle.px_scene.specs.Figures.{colour_of, size_of};
 ghost use Rattle.px_scene.specs.Lines.{is_due, limit_of, face_past, plane_past, colour_past, picture_past, depth_past};
 ghost use Rattle.px_scene.specs.Parsed.{keyword_in, name_in, words_in, numbers_in, face_numbers, depth_numbers, second_name, fault_left, fault_shown};
-ghost use Rattle.px_scene.specs.Show.{show_fault, show_tree};
+ghost use Rattle.px_show.specs.Show.{show_fault, show_tree};
+ghost use Rattle.px_model.specs.declared.limits.TheConstants.{MAX_FACES, MAX_PLANES_OF_A_KIND};
 ghost use Rattle.px_model.specs.Solids.{IsPlane, SolidView, faces_in, names_of};
 ghost use Rattle.px_model.specs.Scenes.{AreNumberedFrom, faces_of};
 ghost use Rattle.px_scene.specs.Drafts.{fresh_solid, with_line, with_depth, taken, with_last, in_last, with_front, with_back, with_side, CanTakeFace, CanBeTaken, IsLawfulDraft, tally_of, fault_in, drawn};
 ghost use Rattle.px_scene.specs.Reading.{first_word};
 ghost use Rattle.px_scene.specs.declared.line.Due.TheVariants as Due;
-ghost use Rattle.px_scene.specs.declared.version.Version.TheVariants as Version;
-ghost use Rattle.px_scene.specs.declared.line.LineFault.{LineFault};
+ghost use Rattle.px_show.specs.declared.version.Version.TheVariants as Version;
+ghost use Rattle.px_show.specs.declared.fault.LineFault.{LineFault};
 
 use crate::figure::{colour_of, face_of};
 use crate::limit::limit_of;
-use crate::line::{Cause, Due, LineError, LineFault, Tally};
+use crate::line::{Due, Tally};
 use crate::parse::{Line, Paint, Plane};
-use crate::show::read_show;
-use crate::version::Version;
 use arrayvec::ArrayVec;
 use px_expr::Expr;
 use px_model::{Scene, Solid};
 use px_num::{Linear, Memory};
+use px_show::{Cause, LineError, LineFault, Version, read_show};
 use px_text::words_of;
 use std::alloc::Global;
 
@@ -78,7 +78,8 @@ impl Draft {
     fn tally(&self) -> Tally
         requires { IsLawfulDraft (view_of self.now) }
         ensures value { result ≡ tally_of (view_of self.now) }
-        ensures few { (result.fronts ≤ 32) × (result.backs ≤ 32) × (result.sides ≤ 32) }
+        ensures few { (result.fronts ≤ MAX_PLANES_OF_A_KIND)
+            × (result.backs ≤ MAX_PLANES_OF_A_KIND) × (result.sides ≤ MAX_PLANES_OF_A_KIND) }
     {
         match self.solids.last() {
             Some(last) => Tally {
@@ -245,7 +246,7 @@ impl Draft {
     fn take_solid(&mut self, alloc: Global, name: &[u8], paint: Paint) -> Result<(), Memory>
         requires name { length name.now ≤ 32 }
         requires limit { colour_past paint.red paint.green paint.blue ≡ None }
-        requires faces { self.old.numbered < 4095 }
+        requires faces { self.old.numbered < MAX_FACES }
         ensures ok { OnOk result (view_of self.new ≡ record (view_of self.old) {
           numbered = self.old.numbered + 1;
           solids = self.old.solids.items ++ fresh_solid name.now (self.old.numbered + 1)
@@ -263,8 +264,8 @@ impl Draft {
     fn take_front(&mut self, face: Plane) -> Result<(), Memory>
         requires begun { 0 < vec_len self.old.solids }
         requires limit { face_past (face_numbers face) ≡ None }
-        requires faces { self.old.numbered < 4095 }
-        requires room { in_last (λ s. length s.fronts) self.old.solids.items < 32 }
+        requires faces { self.old.numbered < MAX_FACES }
+        requires room { in_last (λ s. length s.fronts) self.old.solids.items < MAX_PLANES_OF_A_KIND }
         requires next { CanBeTaken self.old.numbered self.old.solids.items }
         ensures ok { OnOk result (view_of self.new ≡ record (view_of self.old) {
           numbered =
@@ -285,8 +286,8 @@ impl Draft {
     fn take_back(&mut self, face: Plane) -> Result<(), Memory>
         requires begun { 0 < vec_len self.old.solids }
         requires limit { face_past (face_numbers face) ≡ None }
-        requires faces { self.old.numbered < 4095 }
-        requires room { in_last (λ s. length s.backs) self.old.solids.items < 32 }
+        requires faces { self.old.numbered < MAX_FACES }
+        requires room { in_last (λ s. length s.backs) self.old.solids.items < MAX_PLANES_OF_A_KIND }
         requires next { CanBeTaken self.old.numbered self.old.solids.items }
         ensures ok { OnOk result (view_of self.new ≡ record (view_of self.old) {
           numbered =
@@ -307,7 +308,7 @@ impl Draft {
     fn take_side(&mut self, form: Linear) -> Result<(), Memory>
         requires begun { 0 < vec_len self.old.solids }
         requires limit { plane_past form.a form.b form.c ≡ None }
-        requires room { in_last (λ s. length s.sides) self.old.solids.items < 32 }
+        requires room { in_last (λ s. length s.sides) self.old.solids.items < MAX_PLANES_OF_A_KIND }
         ensures ok { OnOk result (view_of self.new ≡ record (view_of self.old) {
           solids = with_last
               (with_side (form.a ∷ form.b ∷ form.c ∷ [])) self.old.solids.items;
@@ -369,7 +370,7 @@ fn name_of(word: &[u8]) -> ArrayVec<u8, 32>
 /// Adds the front of a line to its solid.
 fn push_front(solid: &mut Solid, number: u32, face: Plane) -> Result<(), Memory>
     requires limit { face_past (face_numbers face) ≡ None }
-    requires room { length solid.old.fronts < 32 }
+    requires room { length solid.old.fronts < MAX_PLANES_OF_A_KIND }
     requires next { CanTakeFace number solid.old }
     ensures ok { OnOk result (solid.new ≡ with_front number (face_numbers face) solid.old) }
     ensures err { OnErr result (solid.new ≡ solid.old) }
@@ -380,7 +381,7 @@ fn push_front(solid: &mut Solid, number: u32, face: Plane) -> Result<(), Memory>
 /// Adds the back of a line to its solid.
 fn push_back(solid: &mut Solid, number: u32, face: Plane) -> Result<(), Memory>
     requires limit { face_past (face_numbers face) ≡ None }
-    requires room { length solid.old.backs < 32 }
+    requires room { length solid.old.backs < MAX_PLANES_OF_A_KIND }
     requires next { CanTakeFace number solid.old }
     ensures ok { OnOk result (solid.new ≡ with_back number (face_numbers face) solid.old) }
     ensures err { OnErr result (solid.new ≡ solid.old) }

@@ -1,34 +1,48 @@
 //! The limits of a line's numbers, and of the counts with it (docs/SCENES.md, "Limits").
 ghost use Rattle.std.specs.Prelude.{◌≡◌, ◌≤◌, pos, None};
-ghost use Rattle.px_scene.specs.declared.line.LimitKind.TheVariants as Kind;
+ghost use Rattle.px_model.specs.declared.limits.TheConstants.{
+  MAX_DEPTH_BITS,
+  MAX_FACES,
+  MAX_PLANES_OF_A_KIND,
+  MAX_SOLIDS,
+};
+ghost use Rattle.px_show.specs.declared.fault.LimitKind.TheVariants as Kind;
 ghost use Rattle.px_scene.specs.Lines.{past, most, picture_past, depth_past, fraction_past, colour_past, plane_past, face_past, limit_of};
 ghost use Rattle.px_scene.specs.Parsed.{keyword_in, numbers_in, depth_numbers, face_numbers};
 
-use crate::line::{LimitKind, LineFault, Tally};
+use crate::line::Tally;
 use crate::parse::{Line, Paint, Plane};
+use px_model::{
+    MAX_CONSTANT, MAX_DEPTH_BITS, MAX_FACES, MAX_FRACTION_BITS, MAX_PICTURE_SIZE,
+    MAX_PLANES_OF_A_KIND, MAX_SLOPE, MAX_SOLIDS,
+};
 use px_num::Linear;
+use px_show::{LimitKind, LineFault};
 
 /// The first limit that a line of good form passes, where it passes one: its numbers from left to
 /// right, and then the counts with this line. The limits of an expression are found as it is read.
 pub(crate) fn limit_of(line: Line, tally: Tally) -> Option<LineFault>
-    requires solids { tally.solids ≤ 255 }
-    requires numbered { tally.numbered ≤ 4095 }
-    requires faces { (tally.fronts ≤ 32) × (tally.backs ≤ 32) × (tally.sides ≤ 32) }
+    requires solids { tally.solids ≤ MAX_SOLIDS }
+    requires numbered { tally.numbered ≤ MAX_FACES }
+    requires faces { (tally.fronts ≤ MAX_PLANES_OF_A_KIND) × (tally.backs ≤ MAX_PLANES_OF_A_KIND)
+        × (tally.sides ≤ MAX_PLANES_OF_A_KIND) }
     ensures { result ≡ limit_of (keyword_in line.entry) tally (numbers_in line.entry) }
 {
     match line {
         Line::Picture { width, height } => picture_past(width, height),
         Line::Depth { bits, fraction } => depth_past(bits, fraction),
         Line::Solid { name: _, paint } => colour_past(paint)
-            .or(most(LimitKind::Solids, 255, tally.solids + 1))
-            .or(most(LimitKind::Faces, 4095, tally.numbered + 1)),
+            .or(most(LimitKind::Solids, MAX_SOLIDS, tally.solids + 1))
+            .or(most(LimitKind::Faces, MAX_FACES, tally.numbered + 1)),
         Line::Front(face) => face_past(face)
-            .or(most(LimitKind::Fronts, 32, tally.fronts + 1))
-            .or(most(LimitKind::Faces, 4095, tally.numbered + 1)),
+            .or(most(LimitKind::Fronts, MAX_PLANES_OF_A_KIND, tally.fronts + 1))
+            .or(most(LimitKind::Faces, MAX_FACES, tally.numbered + 1)),
         Line::Back(face) => face_past(face)
-            .or(most(LimitKind::Backs, 32, tally.backs + 1))
-            .or(most(LimitKind::Faces, 4095, tally.numbered + 1)),
-        Line::Side(form) => plane_past(form).or(most(LimitKind::Sides, 32, tally.sides + 1)),
+            .or(most(LimitKind::Backs, MAX_PLANES_OF_A_KIND, tally.backs + 1))
+            .or(most(LimitKind::Faces, MAX_FACES, tally.numbered + 1)),
+        Line::Side(form) => {
+            plane_past(form).or(most(LimitKind::Sides, MAX_PLANES_OF_A_KIND, tally.sides + 1))
+        }
         Line::Header(_) | Line::Show(_) | Line::End => None,
     }
 }
@@ -36,13 +50,15 @@ pub(crate) fn limit_of(line: Line, tally: Tally) -> Option<LineFault>
 fn picture_past(width: i64, height: i64) -> Option<LineFault>
     ensures { result ≡ picture_past width height }
 {
-    past(LimitKind::Picture, 1, 512, width).or(past(LimitKind::Picture, 1, 512, height))
+    let size = i64::from(MAX_PICTURE_SIZE);
+    past(LimitKind::Picture, 1, size, width).or(past(LimitKind::Picture, 1, size, height))
 }
 
 fn depth_past(bits: i64, fraction: Option<i64>) -> Option<LineFault>
     ensures { result ≡ depth_past (depth_numbers bits fraction) }
 {
-    match (past(LimitKind::Depth, 1, 24, bits), fraction) {
+    let depth = past(LimitKind::Depth, 1, i64::from(MAX_DEPTH_BITS), bits);
+    match (depth, fraction) {
         (None, Some(fraction)) => fraction_past(bits, fraction),
         (past, _) => past,
     }
@@ -50,10 +66,11 @@ fn depth_past(bits: i64, fraction: Option<i64>) -> Option<LineFault>
 
 /// Fraction bits are judged beside good bits of a depth.
 fn fraction_past(bits: i64, fraction: i64) -> Option<LineFault>
-    requires { past Kind.Depth (pos 1) (pos 24) bits ≡ None }
+    requires { past Kind.Depth (pos 1) (pos MAX_DEPTH_BITS) bits ≡ None }
     ensures { result ≡ fraction_past bits fraction }
 {
-    past(LimitKind::Fraction, 0, (24 - bits).min(8), fraction)
+    let left = (i64::from(MAX_DEPTH_BITS) - bits).min(i64::from(MAX_FRACTION_BITS));
+    past(LimitKind::Fraction, 0, left, fraction)
 }
 
 fn face_past(face: Plane) -> Option<LineFault>
@@ -68,9 +85,11 @@ fn face_past(face: Plane) -> Option<LineFault>
 fn plane_past(form: Linear) -> Option<LineFault>
     ensures { result ≡ plane_past form.a form.b form.c }
 {
-    past(LimitKind::Coefficient, -8388608, 8388608, form.a)
-        .or(past(LimitKind::Coefficient, -8388608, 8388608, form.b))
-        .or(past(LimitKind::Coefficient, -8589934592, 8589934592, form.c))
+    let slope = i64::from(MAX_SLOPE);
+    let constant = MAX_CONSTANT as i64;
+    past(LimitKind::Coefficient, -slope, slope, form.a)
+        .or(past(LimitKind::Coefficient, -slope, slope, form.b))
+        .or(past(LimitKind::Coefficient, -constant, constant, form.c))
 }
 
 fn colour_past(paint: Paint) -> Option<LineFault>

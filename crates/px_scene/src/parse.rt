@@ -4,12 +4,12 @@ ghost use Rattle.std.specs.Prelude.{◌≡◌, Some, true, false, ◌∷◌, [],
 ghost use Rattle.px_text.specs.LentWords.{now_of};
 ghost use Rattle.px_scene.specs.Lines.{are_numbers, due_after};
 ghost use Rattle.px_scene.specs.Parsed.{keyword_in, Writes, ParsesTo, Forms, FaceForms, HeaderForms, DepthForms};
-ghost use Rattle.px_scene.specs.declared.version.Version.{Version as AnyVersion};
+ghost use Rattle.px_show.specs.declared.version.Version.{Version as AnyVersion};
 ghost use Rattle.px_scene.specs.declared.line.Keyword.TheVariants as Kind;
 
-use crate::line::{Cause, Due, Keyword, keyword_of};
-use crate::version::Version;
+use crate::line::{Due, Keyword, keyword_of};
 use px_num::Linear;
+use px_show::{Cause, Version};
 use px_text::{is_name, number_of};
 
 /// The numbers of a colour, which no limit holds yet.

@@ -6,10 +6,10 @@ ghost use Rattle.px_scene.specs.Refusals.{refusal_of, fault_at, is_nothing};
 ghost use Rattle.px_scene.specs.Tells.{IsFirstBad, IsDraftOf};
 
 use crate::draft::Draft;
-use crate::line::{Cause, LimitKind, LineError, LineFault};
 use px_model::Scene;
 use px_num::Memory;
-use px_text::lines_of;
+use px_show::{Cause, LimitKind, LineError, LineFault};
+use px_text::{MAX_TEXT_BYTES, lines_of};
 use std::alloc::Global;
 use thiserror::Error;
 
@@ -46,9 +46,6 @@ impl From<Memory> for SceneFault {
     }
 }
 
-/// The bytes that a text may have.
-const TEXT_LIMIT: usize = 1_048_576;
-
 /// Reads a scene (docs/SCENES.md).
 ///
 /// `Malformed` and `Limit` come exactly as docs/SCENES.md says, for the first bad line.
@@ -56,11 +53,11 @@ pub fn read_scene(alloc: Global, text: &[u8]) -> Result<Scene, SceneFault>
     ensures ok { IfOk result (λ s. (refusal_of text.now ≡ None) × (s ≡ scene_of (worded text.now))) }
     ensures err { IfErr result (λ f. (f ≡ SceneFault.Memory) ⊎ (refusal_of text.now ≡ Some f)) }
 {
-    if text.len() > TEXT_LIMIT {
+    if text.len() > MAX_TEXT_BYTES {
         return Err(SceneFault::Limit {
             line: 0,
             kind: LimitKind::Text,
-            found: 1_048_577,
+            found: MAX_TEXT_BYTES as i64 + 1,
         });
     }
     let lines = lines_of(alloc, text)?;
@@ -107,7 +104,7 @@ fn fault_at(line: u32, fault: LineFault) -> SceneFault
 #[cfg(test)]
 mod tests {
     use super::{SceneFault, read_scene};
-    use crate::line::{Cause, LimitKind};
+    use px_show::{Cause, LimitKind};
 
     fn malformed(line: u32, cause: Cause) -> Option<SceneFault> {
         Some(SceneFault::Malformed { line, cause })

@@ -17,13 +17,13 @@ ghost use Rattle.px_scene.specs.Sample.{
   union_of,
 };
 
-use crate::version::Version;
 use crate::write::{
     put, put_colour, put_depth, put_head, put_header, put_line, put_picture, put_plane, put_side,
 };
 use itoa::Buffer;
 use px_model::Colour;
 use px_num::{Linear, Memory};
+use px_show::Version;
 use std::alloc::Global;
 
 /// How many blocks stand in a row.

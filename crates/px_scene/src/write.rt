@@ -3,20 +3,17 @@ ghost use Rattle.std.specs.Prelude.{◌≡◌, None, ◌++◌, ◌∷◌, [], co
 ghost use Rattle.px_expr.specs.Tree.{IsLawful};
 ghost use Rattle.px_model.specs.Solids.{IsLawfulSolid};
 ghost use Rattle.px_model.specs.Scenes.{SceneView};
-ghost use Rattle.px_scene.specs.Versions.{version_word, has_difference};
-ghost use Rattle.px_scene.specs.Differences.{is_difference};
+ghost use Rattle.px_show.specs.Versions.{version_word};
 ghost use Rattle.px_scene.specs.Writable.{IsWritable, IsReadAs};
 ghost use Rattle.std.specs.Fmt.{signed_decimal};
-ghost use Rattle.std.specs.List.{list_any, flat_map};
+ghost use Rattle.std.specs.List.{flat_map};
 ghost use Rattle.px_scene.specs.Canonical.{written_line, colour_words, plane_words, face_line, side_line, lines_at, lines_of_number, face_lines, solid_lines, first_lines, version_for, depth_words, show_line, canonical_text};
 ghost use Rattle.px_text.specs.Written.{spaced};
 
-use crate::print::put_expression;
-use crate::version::Version;
 use itoa::Buffer;
-use px_expr::{Expr, Node};
 use px_model::{Colour, Face, Scene, Solid};
 use px_num::{Linear, Memory};
+use px_show::{Version, has_difference, put_expression};
 use std::alloc::Global;
 
 /// The canonical text of a scene (docs/SCENES.md, "Canonical text").
@@ -46,29 +43,6 @@ fn version_for(scene: &Scene) -> Version
         Version::Two
     } else {
         Version::One
-    }
-}
-
-/// Whether a `^` stands in an expression.
-#[tactic(auto, using(crate::proofs::VersionLemmas::difference_among))]
-fn has_difference(expr: &Expr) -> bool
-    ensures { result ≡ has_difference expr.now }
-{
-    is_any_difference(expr.nodes())
-}
-
-fn is_any_difference(nodes: &[Node]) -> bool
-    ensures { result ≡ list_any is_difference nodes.now }
-{
-    nodes.iter().any(|node| is_difference(*node))
-}
-
-fn is_difference(node: Node) -> bool
-    ensures { result ≡ is_difference node }
-{
-    match node {
-        Node::Differ(..) => true,
-        Node::Leaf(_) | Node::Union(..) | Node::Meet(..) | Node::Minus(..) => false,
     }
 }
 

@@ -5,5 +5,6 @@ use Rattle.px_scene.proofs.sample.sample_text.Goals as goal
 
 pub loop-i-preserved : goal.loop-i-preserved
 loop-i-preserved c =
-    next_number block_lines 0 c.loop-i.i c.loop-i.i (sample_start c.args.n) c.loop-i.text.items c.put_block.new.text.items
+    next_number block_lines 0 c.loop-i.i c.loop-i.i (sample_start c.args.n) c.loop-i.text.items
+    c.put_block.new.text.items
     c.loop-i.invariant (omega arith) c.in_ok-put_block.ensures

@@ -1,6 +1,0 @@
-use Rattle.std.proofs.Common.{◌≡◌, [], fold, take}
-use Rattle.px_scene.specs.Stacks.{built}
-use Rattle.px_scene.proofs.show.build.Given as goal
-
-abbrev pub invariant-loop-step : goal.invariant-loop-step
-invariant-loop-step l = l.builder ≡ fold built [] (take l.step-index l.steps)

@@ -1,0 +1,9 @@
+pub mod ExpressionLemmas
+pub mod FaultLemmas
+pub mod GapLemmas
+pub mod PrintedLemmas
+pub mod ShowLemmas
+pub mod SignLemmas
+pub mod StackLemmas
+pub mod StepLemmas
+pub mod TokenLemmas

@@ -1,0 +1,262 @@
+-- A printed expression is read as it.
+use Rattle.std.proofs.Common.{◌≡◌, ◌≢◌, ℕ, ◌+◌, ◌<◌, ◌≤◌, ◌==◌, List, [], ◌∷◌, ◌++◌, length, get_or, filter, Some}
+use Rattle.std.proofs.Common.{None, Bool, true, false, not, nat_le, ◌&&◌, ◌||◌, if◌then◌else◌, refl, ap, sym, ◌∙◌}
+use Rattle.std.proofs.Common.{arith, append_assoc, append-nil}
+use Prim.Native.Nat.{zero, suc}
+use Rattle.std.specs.List.{AllPass, AllPairs, flat_map, slice_split, onto_first, before_first, list_all}
+use Rattle.std.specs.Option.{option_map}
+use Rattle.std.specs.Str.{bytes_eq}
+use Rattle.std.proofs.lemmas.Slice.Eq.{bytes_eq-Decides}
+use Rattle.std.proofs.lemmas.Bool.Decides.{nat_tests}
+use Rattle.std.proofs.lemmas.List.Folds.{list_all-append}
+use Rattle.px_expr.specs.declared.node.Op.{Op}
+use Rattle.px_expr.specs.Tree.{Tree, leaf_count, HasLeavesBelow, IsLawful}
+use Rattle.px_expr.specs.Tree as shown
+use Rattle.px_text.specs.Text.{Words, is_blank, is_some_byte, words_of}
+use Rattle.px_text.specs.Word.{is_name, is_name_byte}
+use Rattle.px_show.specs.Tokens.{Token, name, opens, closes, sign, mark, tokens_in, tokens_of}
+use Rattle.px_show.specs.Expressions.{Named, leaf, join, written, has_names, has_signs, whole, expression_of, leaves}
+use Rattle.px_show.specs.Expressions.{nesting}
+use Rattle.px_show.specs.Faults.{is_among, judged}
+use Rattle.px_show.specs.Show.{place_of, placed, are_known, cause_in, limit_in, count_past, show_tree, show_fault}
+use Rattle.px_show.specs.Versions.{has_differ}
+use Rattle.px_show.specs.Signs.{sign_byte, is_sign, is_differ, has_difference}
+use Rattle.px_show.specs.declared.version.Version.{Version}
+use Rattle.px_show.specs.declared.fault.LimitKind.{LimitKind}
+use Rattle.px_show.specs.declared.fault.LimitKind.TheVariants as kind
+use Rattle.px_show.specs.Printed.{AreDistinctNames, printed, named_by}
+use Rattle.px_text.proofs.PlainLemmas.{both, name_bytes, is_no_comment, before_none, plain_byte}
+use Rattle.px_show.proofs.SignLemmas.{sign_marked, sign_no_name, sign_plain}
+use Rattle.px_show.proofs.TokenLemmas.{apart}
+use Rattle.px_show.proofs.ExpressionLemmas.{reads}
+use Rattle.px_show.proofs.StackLemmas.{place_unknown}
+use Rattle.px_show.proofs.ShowLemmas.{same_leaves, same_nesting}
+
+-- no byte of a name begins a comment or is a blank
+record IsPlain (b : ℕ) : Type 0 where
+  no_blank : is_blank b ≡ false
+  no_comment : (b == 35) ≡ false
+
+plain_name : (b : ℕ) → is_name_byte b ≡ true → IsPlain b
+plain_name b e = record { no_blank = grind (arith, nat_tests); no_comment = grind (arith, nat_tests) }
+
+abbrev tokens_across : Version → List ℕ → List Token
+tokens_across version bs = flat_map (tokens_in version) (slice_split is_blank bs)
+
+-- a byte that stands in no name, and is no blank
+across_mark : (version : Version) (b : ℕ) (bs : List ℕ) → is_blank b ≡ false → is_name_byte b ≡ false
+    → tokens_across version (b ∷ bs) ≡ mark version b ∷ tokens_across version bs
+across_mark version b bs blank none = rw blank (by_pieces (slice_split is_blank bs))
+  where
+    by_pieces : (pieces : List (List ℕ)) → flat_map (tokens_in version) (onto_first b pieces) ≡ mark version b
+        ∷ flat_map (tokens_in version) pieces
+    by_pieces [] = rw none refl
+    by_pieces (piece ∷ pieces) = rw none refl
+
+-- what stands behind a name
+abbrev Apart : List ℕ → Type 0
+Apart [] = Unit {0}
+Apart (b ∷ bs) = is_name_byte b ≡ false
+
+tokens_apart : (version : Version) (b : ℕ) (bs piece : List ℕ) → list_all is_name_byte (b ∷ bs) ≡ true → Apart piece
+    → tokens_in version (b ∷ (bs ++ piece)) ≡ name (b ∷ bs) ∷ tokens_in version piece
+tokens_apart version b [] [] all behind = rw (both (is_name_byte b) true all).0 refl
+tokens_apart version b [] (c ∷ cs) all behind =
+    rw ((both (is_name_byte b) true all).0, behind) (apart version b c (tokens_in version cs))
+tokens_apart version b (c ∷ cs) piece all behind =
+    let each = both (is_name_byte b) (list_all is_name_byte (c ∷ cs)) all
+    in rw (each.0, tokens_apart version c cs piece each.1 behind) refl
+
+record IsSplit (bs : List ℕ) : Type 0 where
+  first : List ℕ
+  others : List (List ℕ)
+  pieces : slice_split is_blank bs ≡ first ∷ others
+  behind : Apart first
+
+split_apart : (bs : List ℕ) → Apart bs → IsSplit bs
+split_apart [] behind = record { first = []; others = []; pieces = refl; behind = tt }
+split_apart (b ∷ bs) behind = by_test (is_blank b) (slice_split is_blank bs) refl refl
+  where
+    by_test : (test : Bool) (pieces : List (List ℕ)) → is_blank b ≡ test → slice_split is_blank bs ≡ pieces
+        → IsSplit (b ∷ bs)
+    by_test true pieces blank is = record { first = []; others = pieces; pieces = rw (blank, is) refl; behind = tt }
+    by_test false [] blank is = record { first = b ∷ []; others = []; pieces = rw (blank, is) refl; behind = behind }
+    by_test false (piece ∷ pieces) blank is =
+        record { first = b ∷ piece; others = pieces; pieces = rw (blank, is) refl; behind = behind }
+
+split_name : (n bs first : List ℕ) (others : List (List ℕ)) → list_all is_name_byte n ≡ true
+    → slice_split is_blank bs ≡ first ∷ others → slice_split is_blank (n ++ bs) ≡ (n ++ first) ∷ others
+split_name [] bs first others all is = is
+split_name (b ∷ n) bs first others all is =
+    let each = both (is_name_byte b) (list_all is_name_byte n) all
+    in rw ((plain_name b each.0).no_blank, split_name n bs first others each.1 is) refl
+
+across_name : (version : Version) (n bs : List ℕ) → is_name n ≡ true → Apart bs → tokens_across version (n ++ bs)
+    ≡ name n ∷ tokens_across version bs
+across_name version [] bs e behind = cc
+across_name version (b ∷ n) bs e behind =
+    let split = split_apart bs behind
+    in let all = name_bytes (b ∷ n) e
+    in ap (flat_map (tokens_in version)) (split_name (b ∷ n) bs split.first split.others all split.pieces)
+    ∙ rw (tokens_apart version b n split.first all split.behind, split.pieces) refl
+
+across_sign : (version : Version) (op : Op) (bs : List ℕ) → is_sign version op ≡ true
+    → tokens_across version (sign_byte op ∷ bs) ≡ sign op ∷ tokens_across version bs
+across_sign version op bs is =
+    across_mark version (sign_byte op) bs (plain_byte (sign_byte op) (sign_plain op)).no_blank (sign_no_name op)
+    ∙ ap (λ t. t ∷ tokens_across version bs) (sign_marked version op is)
+
+across_printed : (version : Version) (tree : Named) (bs : List ℕ) → has_names tree ≡ true
+    → has_signs version tree ≡ true → Apart bs
+    → tokens_across version (printed tree ++ bs) ≡ written tree ++ tokens_across version bs
+across_printed version (leaf n) bs names signs behind = across_name version n bs names behind
+across_printed version (join op left right) bs names signs behind =
+    let each = both (has_names left) (has_names right) names
+    in let allowed = both (is_sign version op && has_signs version left) (has_signs version right) signs
+    in let before = both (is_sign version op) (has_signs version left) allowed.0
+    in let behind_right : tokens_across version ((printed right ++ 41 ∷ []) ++ bs) ≡ (written right ++ closes ∷ [])
+    ++ tokens_across version bs =
+    rw (
+      append_assoc (printed right) (41 ∷ []) bs,
+      append_assoc (written right) (closes ∷ [])
+          (tokens_across version bs),
+    )
+    (across_printed version right (41 ∷ bs) each.1 allowed.1 refl
+    ∙ ap (λ ts. written right ++ ts) (across_mark version 41 bs refl refl))
+    in let behind_left : tokens_across version (sign_byte op ∷ 32 ∷ ((printed right ++ 41 ∷ []) ++ bs))
+    ≡ sign op ∷ ((written right ++ closes ∷ []) ++ tokens_across version bs) =
+    across_sign version op (32 ∷ ((printed right ++ 41 ∷ []) ++ bs)) before.0 ∙ ap (λ ts. sign op ∷ ts) behind_right
+    in across_mark version 40 ((printed left ++ 32 ∷ sign_byte op ∷ 32 ∷ (printed right ++ 41 ∷ [])) ++ bs) refl refl
+    ∙ ap (λ ts. opens ∷ ts)
+    (rw (
+      append_assoc (printed left) (32 ∷ sign_byte op ∷ 32 ∷ (printed right ++ 41 ∷ [])) bs,
+      append_assoc (written left) (sign op ∷ (written right ++ closes ∷ [])) (tokens_across version bs),
+    )
+    (across_printed version left (32 ∷ sign_byte op ∷ 32 ∷ ((printed right ++ 41 ∷ []) ++ bs)) each.0 before.1 refl
+    ∙ ap (λ ts. written left ++ ts) behind_left))
+
+name_uncommented : (n : List ℕ) → list_all is_name_byte n ≡ true → list_all is_no_comment n ≡ true
+name_uncommented [] all = refl
+name_uncommented (b ∷ n) all =
+    let each = both (is_name_byte b) (list_all is_name_byte n) all
+    in rw ((plain_name b each.0).no_comment, name_uncommented n each.1) refl
+
+pub printed_uncommented : (tree : Named) → has_names tree ≡ true → list_all is_no_comment (printed tree) ≡ true
+printed_uncommented (leaf n) names = name_uncommented n (name_bytes n names)
+printed_uncommented (join op left right) names =
+    let each = both (has_names left) (has_names right) names
+    in rw (
+      list_all-append is_no_comment (printed left) (32 ∷ sign_byte op ∷ 32 ∷ (printed right ++ 41 ∷ [])),
+      printed_uncommented left each.0,
+      (plain_byte (sign_byte op) (sign_plain op)).no_comment,
+      list_all-append is_no_comment (printed right) (41 ∷ []),
+      printed_uncommented right each.1,
+    ) refl
+
+-- empty pieces have no tokens
+words_only : (version : Version) (pieces : List (List ℕ))
+    → flat_map (tokens_in version) (filter is_some_byte pieces) ≡ flat_map (tokens_in version) pieces
+words_only version [] = refl
+words_only version ([] ∷ pieces) = words_only version pieces
+words_only version ((b ∷ bs) ∷ pieces) = ap (λ ts. tokens_in version (b ∷ bs) ++ ts) (words_only version pieces)
+
+pub printed_tokens : (version : Version) (tree : Named) → has_names tree ≡ true → has_signs version tree ≡ true
+    → tokens_of version (words_of (printed tree)) ≡ written tree
+printed_tokens version tree names signs =
+    words_only version (slice_split is_blank (before_first (λ b. b == 35) (printed tree)))
+    ∙ ap (tokens_across version) (before_none (printed tree) (printed_uncommented tree names))
+    ∙ ap (tokens_across version) (sym (append-nil (printed tree)))
+    ∙ across_printed version tree [] names signs tt
+    ∙ append-nil (written tree)
+
+-- a name's place gives it back, where no two are alike
+place_back : (names : Words) (place : ℕ) → AllPairs (λ m n. m ≢ n) names → place < length names
+    → place_of names (get_or names place []) ≡ place
+place_back [] place different below = absurd (omega arith)
+place_back (n ∷ ns) zero different below = rw ((bytes_eq-Decides n n).1 refl) refl
+place_back (n ∷ ns) (suc place) different below =
+    by_test (bytes_eq n (get_or ns place [])) refl
+    (place_back ns place (λ i j d lt le. different (suc i) (suc j) d (omega arith) (omega arith)) (omega arith))
+  where
+    by_test : (test : Bool) → bytes_eq n (get_or ns place []) ≡ test → place_of ns (get_or ns place []) ≡ place
+        → (if test then 0 else place_of ns (get_or ns place []) + 1) ≡ suc place
+    by_test true same later =
+        absurd (different 0 (suc place) [] (omega arith) (omega arith)
+        ((bytes_eq-Decides n (get_or ns place [])).0 same))
+    by_test false other later = omega arith
+
+placed_back : (names : Words) (tree : Tree) → AllPairs (λ m n. m ≢ n) names → HasLeavesBelow (length names) tree
+    → placed names (named_by names tree) ≡ tree
+placed_back names (shown.leaf place) different below = ap shown.leaf (place_back names place different below)
+placed_back names (shown.join op left right) different below =
+    cc (placed_back names left different below.0, placed_back names right different below.1)
+
+pub names_lawful : (names : Words) (tree : Tree) → AllPass is_name names → HasLeavesBelow (length names) tree
+    → has_names (named_by names tree) ≡ true
+names_lawful names (shown.leaf place) lawful below = lawful place [] below
+names_lawful names (shown.join op left right) lawful below =
+    rw (names_lawful names left lawful below.0, names_lawful names right lawful below.1) refl
+
+all_known : (names : Words) (tree : Named) → HasLeavesBelow (length names) (placed names tree)
+    → are_known names tree ≡ true
+all_known names (leaf n) below = by_test (is_among names n) (place_unknown names n)
+  where
+    by_test : (test : Bool) → nat_le (length names) (place_of names n) ≡ not test → test ≡ true
+    by_test true e = refl
+    by_test false e = absurd (grind (arith, nat_tests))
+all_known names (join op left right) below = rw (all_known names left below.0, all_known names right below.1) refl
+
+printed_read : (version : Version) (tree : Named) → has_names tree ≡ true → has_signs version tree ≡ true
+    → expression_of (tokens_of version (words_of (printed tree))) ≡ Some tree
+printed_read version tree lawful signs =
+    ap expression_of (printed_tokens version tree lawful signs) ∙ ap whole (reads tree [] lawful)
+
+-- a tree that is printed with the names of its solids is read as it
+pub printed_tree : (version : Version) (names : Words) (tree : Tree) → AreDistinctNames names
+    → HasLeavesBelow (length names) tree → has_signs version (named_by names tree) ≡ true
+    → show_tree version names (words_of (printed (named_by names tree))) ≡ Some tree
+printed_tree version names tree are below signs =
+    ap (option_map (placed names)) (printed_read version (named_by names tree)
+    (names_lawful names tree are.lawful below) signs)
+    ∙ ap Some (placed_back names tree are.different below)
+
+not_past : (limit : LimitKind) (most found : ℕ) → found ≤ most → count_past limit most found ≡ None
+not_past limit most found le = grind (arith, nat_tests)
+
+pub printed_good : (version : Version) (names : Words) (tree : Tree) → AreDistinctNames names
+    → HasLeavesBelow (length names) tree → has_signs version (named_by names tree) ≡ true → IsLawful tree
+    → show_fault version names (words_of (printed (named_by names tree))) ≡ None
+printed_good version names tree are below signs within =
+    let named = named_by names tree
+    in let back = placed_back names tree are.different below
+    in let few : leaves named ≤ 512 = omega (arith, same_leaves names named, ap leaf_count back, within.leaves)
+    in let flat : nesting named ≤ 64 = omega (arith, same_nesting names named, ap shown.nesting back, within.depth)
+    in ap (λ read. judged (cause_in names read) (limit_in read))
+    (printed_read version named (names_lawful names tree are.lawful below) signs)
+    ∙ rw (all_known names named (rw back below), not_past kind.Leaves 512 (leaves named) few)
+    (not_past kind.Nesting 64 (nesting named) flat)
+
+-- a version has the signs of a tree, where it has `^` or the tree has none
+sign_of_op : (version : Version) (op : Op) → has_differ version || not (is_differ op) ≡ true
+    → is_sign version op ≡ true
+sign_of_op version op e = swapped (has_differ version) (not (is_differ op)) e
+  where
+    swapped : (a b : Bool) → a || b ≡ true → b || a ≡ true
+    swapped a true e = refl
+    swapped true false e = refl
+    swapped false false e = cc
+
+pub signs_of : (version : Version) (names : Words) (tree : Tree)
+    → has_differ version || not (has_difference tree) ≡ true → has_signs version (named_by names tree) ≡ true
+signs_of version names (shown.leaf place) e = refl
+signs_of version names (shown.join op left right) e =
+    let each = apart_of (has_differ version) (is_differ op) (has_difference left) (has_difference right) e
+    in rw (sign_of_op version op each.0, signs_of version names left each.1, signs_of version names right each.2) refl
+  where
+    apart_of : (b p q r : Bool) → b || not (p || q || r) ≡ true
+        → (b || not p ≡ true) × (b || not q ≡ true) × (b || not r ≡ true)
+    apart_of true p q r e = (refl, refl, refl)
+    apart_of false false false false e = (refl, refl, refl)
+    apart_of false true q r e = cc
+    apart_of false false true r e = cc
+    apart_of false false false true e = cc

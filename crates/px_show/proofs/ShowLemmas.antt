@@ -1,0 +1,108 @@
+-- A line of an expression with no fault has a lawful one, over the solids that stand before it.
+use Rattle.std.proofs.Common.{◌≡◌, ℕ, ◌+◌, ◌<◌, ◌≤◌, List, [], ◌∷◌, length, Bool, true, false, ◌||◌, if◌then◌else◌}
+use Rattle.std.proofs.Common.{Option, Some, None, IsSomeAnd, refl, ap, sym, ◌∙◌, arith}
+use Rattle.std.specs.Option.{option_map}
+use Rattle.std.specs.Str.{bytes_eq}
+use Rattle.std.proofs.lemmas.Bool.Decides.{nat_tests}
+use Rattle.px_expr.specs.Tree.{Tree, leaf_count, HasLeavesBelow, IsLawful}
+use Rattle.px_expr.specs.Tree as shown
+use Rattle.px_text.specs.Text.{Words}
+use Rattle.px_show.specs.Faults.{is_among, judged}
+use Rattle.px_show.specs.Tokens.{tokens_of}
+use Rattle.px_show.specs.Expressions.{Named, leaf, join, leaves, nesting, expression_of}
+use Rattle.px_show.specs.Show.{place_of, placed, are_known, cause_in, limit_in, count_past, counts_past, show_cause}
+use Rattle.px_show.specs.Show.{show_fault, show_tree}
+use Rattle.px_show.specs.declared.version.Version.{Version}
+use Rattle.px_show.specs.declared.fault.Cause.{Cause}
+use Rattle.px_show.specs.declared.fault.Cause.TheVariants as cause
+use Rattle.px_show.specs.declared.fault.LineFault.{LineFault}
+use Rattle.px_show.specs.declared.fault.LimitKind.{LimitKind}
+use Rattle.px_show.specs.declared.fault.LimitKind.TheVariants as kind
+use Rattle.px_text.proofs.PlainLemmas.{both}
+use Rattle.px_show.proofs.FaultLemmas.{none_first, none_second}
+
+place_below : (names : Words) (name : List ℕ) → is_among names name ≡ true → place_of names name < length names
+place_below [] name e = cc
+place_below (n ∷ ns) name e = by_test (bytes_eq n name) (place_below ns name) e
+  where
+    by_test : (b : Bool) → (is_among ns name ≡ true → place_of ns name < length ns) → b || is_among ns name ≡ true
+        → (if b then 0 else place_of ns name + 1) < length (n ∷ ns)
+    by_test true later among = omega arith
+    by_test false later among = let below = later among in omega arith
+
+known_below : (names : Words) (tree : Named) → are_known names tree ≡ true
+    → HasLeavesBelow (length names) (placed names tree)
+known_below names (leaf name) e = place_below names name e
+known_below names (join op left right) e =
+    let each = both (are_known names left) (are_known names right) e
+    in (known_below names left each.0, known_below names right each.1)
+
+-- what no cause says of an expression
+record IsKnown (names : Words) (read : Option Named) : Type 0 where
+  tree : Named
+  is : read ≡ Some tree
+  known : are_known names tree ≡ true
+
+good_cause : (names : Words) (read : Option Named) → cause_in names read ≡ None → IsKnown names read
+good_cause names None e = absurd (cc)
+good_cause names (Some tree) e = record { tree = tree; is = refl; known = by_test (are_known names tree) e }
+  where
+    by_test : (test : Bool) → (if test then None else Some cause.UnknownName) ≡ None → test ≡ true
+    by_test true e = refl
+    by_test false e = cc
+
+pub shown_lawful : (version : Version) (names ws : Words) → show_cause version names ws ≡ None
+    → IsSomeAnd (show_tree version names ws) (HasLeavesBelow (length names))
+shown_lawful version names ws e =
+    let good = good_cause names (expression_of (tokens_of version ws)) e
+    in rw (ap (option_map (placed names)) good.is) (known_below names good.tree good.known)
+
+-- an expression names some solid
+some_leaf : (count : ℕ) (tree : Tree) → HasLeavesBelow count tree → 0 < count
+some_leaf count (shown.leaf place) below = omega arith
+some_leaf count (shown.join op left right) below = some_leaf count left below.0
+
+pub named_show : (version : Version) (names ws : Words) → show_cause version names ws ≡ None → 0 < length names
+named_show version names ws e =
+    let good = good_cause names (expression_of (tokens_of version ws)) e
+    in some_leaf (length names) (placed names good.tree) (known_below names good.tree good.known)
+
+pub same_leaves : (names : Words) (tree : Named) → leaf_count (placed names tree) ≡ leaves tree
+same_leaves names (leaf name) = refl
+same_leaves names (join op left right) = omega (arith, same_leaves names left, same_leaves names right)
+
+pub same_nesting : (names : Words) (tree : Named) → shown.nesting (placed names tree) ≡ nesting tree
+same_nesting names (leaf name) = refl
+same_nesting names (join op left right) = ap (λ n. n + 1) (cc (same_nesting names left, same_nesting names right))
+
+fewer : (count most : ℕ) (tree : Tree) → count ≤ most → HasLeavesBelow count tree → HasLeavesBelow most tree
+fewer count most (shown.leaf place) le below = omega arith
+fewer count most (shown.join op left right) le below =
+    (fewer count most left le below.0, fewer count most right le below.1)
+
+not_past : (limit : LimitKind) (most found : ℕ) → count_past limit most found ≡ None → found ≤ most
+not_past limit most found e = grind (arith, nat_tests)
+
+form_first : (cause : Option Cause) (limit : Option LineFault) → judged cause limit ≡ None → cause ≡ None
+form_first None limit e = refl
+form_first (Some cause) limit e = cc
+
+limit_next : (cause : Option Cause) (limit : Option LineFault) → judged cause limit ≡ None → limit ≡ None
+limit_next None limit e = e
+limit_next (Some cause) limit e = cc
+
+-- what is shown is within all limits
+pub shown_within : (version : Version) (names ws : Words) → length names ≤ 256 → show_fault version names ws ≡ None
+    → IsSomeAnd (show_tree version names ws) IsLawful
+shown_within version names ws few e =
+    let good = good_cause names (expression_of (tokens_of version ws))
+    (form_first _ (limit_in (expression_of (tokens_of version ws))) e)
+    in let past : counts_past (leaves good.tree) (nesting good.tree) ≡ None =
+    sym (ap limit_in good.is) ∙ limit_next (cause_in names (expression_of (tokens_of version ws))) _ e
+    in rw (ap (option_map (placed names)) good.is) (record {
+      leaves = rw (same_leaves names good.tree) (not_past kind.Leaves 512 (leaves good.tree)
+          (none_first _ (count_past kind.Nesting 64 (nesting good.tree)) past));
+      depth = rw (same_nesting names good.tree) (not_past kind.Nesting 64 (nesting good.tree)
+          (none_second (count_past kind.Leaves 512 (leaves good.tree)) _ past));
+      solids = fewer (length names) 256 (placed names good.tree) few (known_below names good.tree good.known);
+    })

@@ -1,0 +1,195 @@
+-- What the parts and the steps of a stack say of its expression.
+use Rattle.std.proofs.Common.{◌≡◌, ℕ, ◌+◌, ◌-◌, ◌<◌, ◌≤◌, ◌^◌, min, max, List, [], ◌∷◌, ◌++◌, length, take, drop, map}
+use Rattle.std.proofs.Common.{reverse, Bool, true, false, ◌&&◌, ◌||◌, not, if◌then◌else◌, Option, Some, None}
+use Rattle.std.proofs.Common.{unwrap_or, Result, Ok, Err, OnOk, refl, ap, sym, ◌∙◌, arith, append_assoc}
+use Rattle.std.proofs.Common.{length-append}
+use Rattle.std.specs.List.{list_any, count_by}
+use Rattle.std.specs.Str.{bytes_eq}
+use Rattle.std.proofs.Common.{nat_le}
+use Rattle.std.proofs.lemmas.List.{reverse-append, length-reverse, length-drop, take-append-drop}
+use Rattle.std.proofs.lemmas.List.Folds.{list_any-append}
+use Rattle.std.proofs.lemmas.List.Sums.{sum_by-append, count_by-le-length}
+use Rattle.std.proofs.lemmas.Bool.Decides.{nat_tests}
+use Rattle.std.proofs.Math.Seq.{drop-append_seam}
+use Rattle.px_expr.specs.declared.node.Op.{Op}
+use Rattle.px_text.specs.Text.{Words}
+use Rattle.px_show.specs.Faults.{is_among, judged}
+use Rattle.px_show.specs.Tokens.{opens, sign, other}
+use Rattle.px_show.specs.Expressions.{Named, leaf, join, leaves, nesting, Part, side, token, closed, whole}
+use Rattle.px_show.specs.Show.{place_of, placed, are_known, cause_in, limit_in, counts_past}
+use Rattle.px_show.specs.Stacks.{part_of, bracketed, closing, nesting_of, steps_of, all_steps, is_leaf, is_unknown}
+use Rattle.px_show.specs.Stacks.{AreKept}
+use Rattle.px_show.specs.declared.fault.Cause.TheVariants as cause
+use Rattle.px_show.specs.declared.fault.LineFault.{LineFault}
+use Rattle.px_show.specs.declared.fault.LineFault.TheVariants as fault
+use Rattle.px_show.specs.declared.stack.Part.{Part as Kind}
+use Rattle.px_show.specs.declared.stack.Part.TheVariants as p
+use Rattle.px_show.specs.declared.stack.Step.{Step}
+use Rattle.px_show.specs.declared.stack.Step.TheVariants as s
+
+-- a tree has more steps than it is nested deep
+nesting_below : (names : Words) (tree : Named) → nesting tree < length (steps_of (placed names tree))
+nesting_below names (leaf n) = omega arith
+nesting_below names (join op left right) =
+    grind (arith, length-append {A = Step}, nesting_below names left, nesting_below names right)
+
+leaves_counted : (names : Words) (tree : Named) → count_by is_leaf (steps_of (placed names tree)) ≡ leaves tree
+leaves_counted names (leaf n) = refl
+leaves_counted names (join op left right) =
+    grind (arith, sum_by-append {X = Step}, leaves_counted names left, leaves_counted names right)
+
+pub place_unknown : (names : Words) (n : List ℕ) → nat_le (length names) (place_of names n) ≡ not (is_among names n)
+place_unknown [] n = refl
+place_unknown (m ∷ ms) n = by_test (bytes_eq m n) (place_unknown ms n)
+  where
+    by_test : (test : Bool) → nat_le (length ms) (place_of ms n) ≡ not (is_among ms n)
+        → nat_le (length (m ∷ ms)) (if test then 0 else place_of ms n + 1) ≡ not (test || is_among ms n)
+    by_test true later = grind (arith, nat_tests)
+    by_test false later = grind (arith, nat_tests)
+
+or-false : (b : Bool) → b || false ≡ b
+or-false true = refl
+or-false false = refl
+
+either : (a b : Bool) → not a || not b ≡ not (a && b)
+either true b = refl
+either false b = refl
+
+some_unknown : (names : Words) (tree : Named) → list_any (is_unknown (length names)) (steps_of (placed names tree))
+    ≡ not (are_known names tree)
+some_unknown names (leaf n) = or-false _ ∙ place_unknown names n
+some_unknown names (join op left right) =
+    list_any-append (is_unknown (length names)) (steps_of (placed names left) ++ steps_of (placed names right))
+    (s.Join op ∷ [])
+    ∙ or-false _
+    ∙ list_any-append (is_unknown (length names)) (steps_of (placed names left)) (steps_of (placed names right))
+    ∙ rw (some_unknown names left, some_unknown names right) (either (are_known names left) (are_known names right))
+
+reverse_take : {X : Type 0} (xs : List X) (k : ℕ) → k ≤ length xs → reverse (take (length xs - k) xs)
+    ≡ drop k (reverse xs)
+reverse_take xs k le =
+    let m = length xs - k
+    in let size : length (reverse (drop m xs)) ≡ k = omega (arith, length-reverse (drop m xs), length-drop m xs)
+    in let cut : reverse xs ≡ reverse (drop m xs) ++ reverse (take m xs) =
+    ap reverse (sym (take-append-drop m xs)) ∙ reverse-append (take m xs) (drop m xs)
+    in sym (drop-append_seam (reverse (drop m xs)) (reverse (take m xs))) ∙ rw (size, ← cut) refl
+
+-- what a bracket closes among the parts
+record IsClosing (read : List Part) (op : Op) (n : ℕ) : Type 0 where
+  left : Named
+  right : Named
+  before : List Part
+  shape : read ≡ side right ∷ token (sign op) ∷ side left ∷ token opens ∷ before
+  is : n ≡ min (max (nesting left) (nesting right) + 1) (2 ^ 64 - 1)
+
+bracket_shape : (a b c d : Part) (before : List Part) (op : Op) (n : ℕ) → Some (op, n) ≡ bracketed (part_of a)
+    (part_of b) (part_of c) (part_of d) → IsClosing (d ∷ c ∷ b ∷ a ∷ before) op n
+bracket_shape (token opens) (side left) (token (sign o)) (side right) before op n e =
+    let same = ap (λ (x : Option (Op × ℕ)). unwrap_or x (op, n)) e
+    in record {
+      left = left;
+      right = right;
+      before = before;
+      shape = ap (λ (x : Op × ℕ). side right ∷ token (sign x.0) ∷ side left ∷ token opens ∷ before) (sym same);
+      is = ap (λ (x : Op × ℕ). x.1) same;
+    }
+bracket_shape (token opens) (side left) (token (sign o)) (token other) before op n e = absurd (cc)
+bracket_shape (token opens) (token other) c d before op n e = absurd (cc)
+bracket_shape a b c d before op n e = absurd (cc)
+
+closing_shape : (read : List Part) (op : Op) (n : ℕ) → Some (op, n) ≡ closing (map part_of read) → IsClosing read op n
+closing_shape (d ∷ c ∷ b ∷ a ∷ before) op n e = bracket_shape a b c d before op n e
+closing_shape [] op n e = absurd (cc)
+closing_shape (d ∷ []) op n e = absurd (cc)
+closing_shape (d ∷ c ∷ []) op n e = absurd (cc)
+closing_shape (d ∷ c ∷ b ∷ []) op n e = absurd (cc)
+
+closed_stack : (names : Words) (parts new_parts : List Kind) (steps new_steps : List Step) (op : Op) (n : ℕ)
+    (left right : Named) (before : List Part)
+    → AreKept names parts steps (side right ∷ token (sign op) ∷ side left ∷ token opens ∷ before)
+    → n ≡ min (max (nesting left) (nesting right) + 1) (2 ^ 64 - 1)
+    → 4 ≤ length parts → length steps < 2 ^ 63 → new_parts ≡ take (length parts - 4) parts ++ p.Side n ∷ []
+    → new_steps ≡ steps ++ s.Join op ∷ []
+    → AreKept names new_parts new_steps (side (join op left right) ∷ before)
+closed_stack names parts new_parts steps new_steps op n left right before is same four few put more =
+    let left_steps = steps_of (placed names left)
+    in let right_steps = steps_of (placed names right)
+    in let size : length steps ≡ length (all_steps names before) + length left_steps + length right_steps =
+    ap length is.order ∙ grind (arith, length-append {A = Step})
+    in let exact : n ≡ max (nesting left) (nesting right) + 1 =
+    omega (arith, nesting_below names left, nesting_below names right)
+    in record {
+      kinds = ap reverse put ∙ reverse-append (take (length parts - 4) parts) (p.Side n ∷ [])
+          ∙ ap (λ ks. p.Side n ∷ ks) (reverse_take parts 4 four ∙ ap (drop 4) is.kinds)
+          ∙ ap (λ m. p.Side m ∷ map part_of before) exact;
+      order = more ∙ ap (λ ss. ss ++ s.Join op ∷ []) is.order ∙ simp append_assoc;
+    }
+
+-- a bracket that closes two sides
+pub closes_sides : (names : Words) (parts new_parts : List Kind) (steps new_steps : List Step) (read : List Part)
+    (op : Op) (n : ℕ)
+    → AreKept names parts steps read → Some (op, n) ≡ closing (reverse parts) → 4 ≤ length parts → length steps < 2 ^ 63
+    → new_parts ≡ take (length parts - 4) parts ++ p.Side n ∷ [] → new_steps ≡ steps ++ s.Join op ∷ []
+    → AreKept names new_parts new_steps (closed read)
+closes_sides names parts new_parts steps new_steps read op n is e four few put more =
+    let found = closing_shape read op n (rw is.kinds at e)
+    in rw found.shape
+    (closed_stack names parts new_parts steps new_steps op n found.left found.right found.before
+    (rw found.shape at is) found.is four few put more)
+
+-- the one side that is read, with no other part
+record IsWhole (names : Words) (parts : List Kind) (steps : List Step) (read : List Part) (n : ℕ) : Type 0 where
+  tree : Named
+  shape : read ≡ side tree ∷ []
+  nested : nesting tree ≡ n
+  order : steps ≡ steps_of (placed names tree)
+
+whole_stack : (names : Words) (parts : List Kind) (steps : List Step) (read : List Part) (n : ℕ)
+    → Some n ≡ nesting_of (reverse parts) → AreKept names parts steps read → IsWhole names parts steps read n
+whole_stack names parts steps read n e is = by_parts read is.order (e ∙ ap nesting_of is.kinds)
+  where
+    by_parts : (read : List Part) → steps ≡ all_steps names read → Some n ≡ nesting_of (map part_of read)
+        → IsWhole names parts steps read n
+    by_parts (side tree ∷ []) order e = record { tree = tree; shape = refl; nested = cc; order = order }
+    by_parts [] order e = absurd (cc)
+    by_parts (a ∷ b ∷ before) order e = absurd (cc)
+    by_parts (token other ∷ []) order e = absurd (cc)
+    by_parts parts order e = absurd (cc)
+
+judged_by : (limit : Option LineFault) (test : Bool)
+    → judged (if test then None else Some cause.UnknownName) limit
+    ≡ (if not test then Some (fault.Malformed cause.UnknownName) else limit)
+judged_by limit true = refl
+judged_by limit false = refl
+
+-- the fault of a whole expression, by its steps
+pub whole_fault : (names : Words) (parts : List Kind) (steps : List Step) (read : List Part) (n count : ℕ)
+    (unknown : Bool)
+    → Some n ≡ nesting_of (reverse parts) → AreKept names parts steps read → length names ≡ count
+    → unknown ≡ list_any (is_unknown count) steps
+    → (if unknown then Some (fault.Malformed cause.UnknownName) else counts_past (count_by is_leaf steps) n)
+    ≡ judged (cause_in names (whole read)) (limit_in (whole read))
+whole_fault names parts steps read n count unknown e is same test =
+    let found = whole_stack names parts steps read n e is
+    in let known : not (are_known names found.tree) ≡ unknown =
+    sym (test ∙ ap (λ k. list_any (is_unknown k) steps) (sym same)
+    ∙ ap (list_any (is_unknown (length names))) found.order ∙ some_unknown names found.tree)
+    in let counted : leaves found.tree ≡ count_by is_leaf steps =
+    sym (ap (count_by is_leaf) found.order ∙ leaves_counted names found.tree)
+    in sym (ap (λ r. judged (cause_in names (whole r)) (limit_in (whole r))) found.shape
+    ∙ rw (counted, found.nested, ← known) (judged_by (counts_past (count_by is_leaf steps) n)
+    (are_known names found.tree)))
+
+pub few_leaves : (steps : List Step) (counted : ℕ) (slice : List Step) → counted ≡ count_by is_leaf slice
+    → slice ≡ steps → length steps < 2 ^ 63 → counted < 2 ^ 63
+few_leaves steps counted slice e is few = omega (arith, count_by-le-length is_leaf slice, ap length is)
+
+pub few_counted : (names : Words) (parts : List Kind) (steps : List Step) (read : List Part) (n : ℕ)
+    → Some n ≡ nesting_of (reverse parts) → AreKept names parts steps read → n < length steps
+few_counted names parts steps read n e is =
+    let found = whole_stack names parts steps read n e is
+    in rw found.order (rw found.nested at (nesting_below names found.tree))
+
+pub both_ok : {T E : Type 0} {P Q R : Type 0} (r : Result T E) → OnOk r P → OnOk r Q → (P → Q → R) → OnOk r R
+both_ok (Ok x) p q f = f p q
+both_ok (Err e) p q f = tt

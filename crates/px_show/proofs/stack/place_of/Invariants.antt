@@ -1,0 +1,7 @@
+use Rattle.std.proofs.Common.{◌≡◌, ◌+◌, drop}
+use Rattle.px_model.specs.Solids.{names_of}
+use Rattle.px_show.specs.Show.{place_of}
+use Rattle.px_show.proofs.stack.place_of.Given as goal
+
+abbrev pub invariant-loop-i : goal.invariant-loop-i
+invariant-loop-i l = place_of (names_of l.solids) l.name ≡ l.i + place_of (names_of (drop l.i l.solids)) l.name

@@ -1,0 +1,8 @@
+use Rattle.std.proofs.Common.{◌≡◌, map, take}
+use Rattle.px_text.specs.LentWords.{now_of}
+use Rattle.px_show.specs.Tokens.{tokens_of}
+use Rattle.px_show.specs.Stacks.{token_of}
+use Rattle.px_show.proofs.token.tokens_of.Given as goal
+
+abbrev pub invariant-loop-word : goal.invariant-loop-word
+invariant-loop-word l = map token_of l.tokens.items ≡ tokens_of l.version (now_of (take l.word-index l.words))

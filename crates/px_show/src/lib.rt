@@ -1,0 +1,16 @@
+//! The text of an expression, both ways: what it says or why it is bad, and how it is printed.
+#![tactic(auto)]
+
+mod fault;
+mod print;
+mod show;
+mod sign;
+mod stack;
+mod token;
+mod version;
+
+pub use fault::{Cause, LimitKind, LineError, LineFault};
+pub use print::put_expression;
+pub use show::{expression_law, printed_law, read_show};
+pub use sign::has_difference;
+pub use version::Version;
