@@ -1,5 +1,6 @@
 -- The bits of sets.
-use Rattle.std.proofs.Common.{ℕ, suc, zero, ◌≡◌, ◌≢◌, ◌<◌, ◌/◌, ◌%◌, ◌^◌, max, ◌==◌, ◌||◌, true, false, List, [], ◌∷◌, refl, ap, sym, ◌∙◌, arith, inl, inr, get_or, get_or-set_other}
+use Rattle.std.proofs.Common.{ℕ, suc, zero, ◌≡◌, ◌≢◌, ◌<◌, ◌/◌, ◌%◌, ◌^◌, max, ◌==◌, ◌||◌, true, false, List, [], ◌∷◌}
+use Rattle.std.proofs.Common.{refl, ap, sym, ◌∙◌, arith, inl, inr, get_or, get_or-set_other}
 use Rattle.std.specs.Int.{bit_at}
 use Rattle.std.proofs.lemmas.Grind.{get_or-set_at}
 use Rattle.std.proofs.lemmas.Nat.Bits.{bit_at_or, bit_at-lt, bit_at-zero, bit_at-pow_same, bit_at-pow_other}
@@ -55,7 +56,8 @@ pub has-one : (q p : ℕ) → q < 256 → has (one q) p ≡ (p == q)
 has-one q p hq = elim (cases_eq (p / 64) (q / 64)) [
   | inl e ↦ ap (λ w. bit_at w (p % 64) == 1) (get_or-set_at zeros (q / 64) (p / 64) (2 ^ (q % 64)) 0 e (omega arith))
       ∙ power_bit (q % 64) (p % 64) ∙ part_test p q e
-  | inr ne ↦ ap (λ w. bit_at w (p % 64) == 1) (get_or-set_other zeros (q / 64) (p / 64) (2 ^ (q % 64)) 0 ne ∙ word_of_zeros (p / 64))
+  | inr ne ↦ ap (λ w. bit_at w (p % 64) == 1) (get_or-set_other zeros (q / 64) (p / 64) (2 ^ (q % 64)) 0 ne
+      ∙ word_of_zeros (p / 64))
       ∙ ap (λ b. b == 1) (bit_at-zero (p % 64)) ∙ sym (other_test p q (λ e. ne (ap (λ n. n / 64) e)))
 ]
 

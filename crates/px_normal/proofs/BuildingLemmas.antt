@@ -1,9 +1,10 @@
 -- The steps of an expression come from its nodes, and build the live lists that are wanted.
-use Rattle.std.proofs.Common.{ℕ, ◌≡◌, ◌+◌, ◌-◌, List, [], ◌∷◌, ◌++◌, length, refl, ap, sym, ◌∙◌, reverse, append_assoc, append-nil, fold, arith, Option, Some, None}
+use Rattle.std.proofs.Common.{ℕ, ◌≡◌, ◌+◌, ◌-◌, List, [], ◌∷◌, ◌++◌, length, refl, ap, sym, ◌∙◌, reverse}
+use Rattle.std.proofs.Common.{append_assoc, append-nil, fold, arith, Option, Some, None}
 use Rattle.std.proofs.lemmas.List.{reverse-append}
 use Rattle.px_expr.specs.Tree.{Tree, leaf, join}
 use Rattle.px_expr.specs.Shapes.{op_node}
-use Rattle.px_expr.proofs.ShapeLaws.{shape_of_op}
+use Rattle.px_expr.proofs.OperatorLaws.{shape_of_op}
 use Rattle.px_expr.specs.Postorder.{size, nodes_behind, nodes_of}
 use Rattle.px_expr.specs.declared.node.Node.{Node}
 use Rattle.px_expr.specs.declared.node.Op.{Op}
@@ -18,27 +19,35 @@ use Rattle.px_normal.specs.Building.{steps_of, shape_step, sides_wanted, walked,
 use Rattle.px_normal.proofs.CrowdLemmas.{wanted_sides, past_none, past_some}
 
 walked_op : (op : Op) (l r : ℕ) (nodes : List Node) (first : Wanted) (wanted : List Wanted) (known : List Step)
-    → walked (op_node op l r ∷ nodes) (first ∷ wanted) known ≡ walked nodes (of_right op first ∷ of_left op first ∷ wanted) (s.Join op first ∷ known)
+    → walked (op_node op l r ∷ nodes) (first ∷ wanted) known ≡ walked nodes (of_right op first ∷ of_left op first
+    ∷ wanted) (s.Join op first ∷ known)
 walked_op op l r nodes first wanted known =
-    ap (λ shape. walked nodes (sides_wanted shape first ++ wanted) (shape_step shape first ∷ known)) (shape_of_op op l r)
+    ap (λ shape. walked nodes (sides_wanted shape first ++ wanted) (shape_step shape first ∷ known))
+    (shape_of_op op l r)
 
 -- the nodes of a tree, read from the root, give its steps
 walked_tree : (others : ℕ) (tree : Tree) (nodes : List Node) (first : Wanted) (wanted : List Wanted) (known : List Step)
-    → walked (reverse (nodes_behind others tree) ++ nodes) (first ∷ wanted) known ≡ walked nodes wanted (steps_of first tree ++ known)
+    → walked (reverse (nodes_behind others tree) ++ nodes) (first ∷ wanted) known ≡ walked nodes wanted
+    (steps_of first tree ++ known)
 walked_tree others (leaf solid) nodes first wanted known = refl
 walked_tree others (join op left right) nodes first wanted known =
     let l = nodes_behind others left in let r = nodes_behind (others + size left) right
     in let i = others + size left - 1 in let j = others + size left + size right - 1
-    in let turned : reverse ((l ++ r) ++ op_node op i j ∷ []) ++ nodes ≡ op_node op i j ∷ (reverse r ++ (reverse l ++ nodes)) =
-    ap (λ xs. xs ++ nodes) (reverse-append (l ++ r) (op_node op i j ∷ []) ∙ ap (λ xs. op_node op i j ∷ xs) (reverse-append l r)) ∙ ap (λ xs. op_node op i j ∷ xs) (append_assoc (reverse r) (reverse l) nodes)
+    in let turned : reverse ((l ++ r) ++ op_node op i j ∷ []) ++ nodes ≡ op_node op i j
+    ∷ (reverse r ++ (reverse l ++ nodes)) =
+    ap (λ xs. xs ++ nodes) (reverse-append (l ++ r) (op_node op i j ∷ [])
+    ∙ ap (λ xs. op_node op i j ∷ xs) (reverse-append l r))
+    ∙ ap (λ xs. op_node op i j ∷ xs) (append_assoc (reverse r) (reverse l) nodes)
     in let first_steps = steps_of (of_left op first) left in let second_steps = steps_of (of_right op first) right
     in ap (λ xs. walked xs (first ∷ wanted) known) turned
     ∙ walked_op op i j _ first wanted known
     ∙ walked_tree (others + size left) right _ (of_right op first) (of_left op first ∷ wanted) _
     ∙ walked_tree others left nodes (of_left op first) wanted _
-    ∙ ap (walked nodes wanted) (sym (append_assoc first_steps second_steps (s.Join op first ∷ known)) ∙ sym (append_assoc (first_steps ++ second_steps) (s.Join op first ∷ []) known))
+    ∙ ap (walked nodes wanted) (sym (append_assoc first_steps second_steps (s.Join op first ∷ known))
+    ∙ sym (append_assoc (first_steps ++ second_steps) (s.Join op first ∷ []) known))
 
-pub walked_all : (nodes : List Node) (tree : Tree) → nodes ≡ nodes_of tree → walked (reverse nodes) (of_root ∷ []) [] ≡ steps_of of_root tree
+pub walked_all : (nodes : List Node) (tree : Tree) → nodes ≡ nodes_of tree → walked (reverse nodes) (of_root ∷ []) []
+    ≡ steps_of of_root tree
 walked_all nodes tree is =
     ap (λ xs. walked xs (of_root ∷ []) []) (ap reverse is ∙ sym (append-nil (reverse (nodes_of tree))))
     ∙ walked_tree 0 tree [] of_root [] [] ∙ append-nil (steps_of of_root tree)
@@ -55,25 +64,34 @@ module _ (boxes : ℕ → Option CellBox) where
 
   -- the steps of a tree leave its lists, and the lists of its nodes are made on the way
   record Builds (wanted : Wanted) (tree : Tree) (lists : List Forms) (steps : List Step) : Type 0 where
-    last : fold (built boxes) lists (steps_of wanted tree ++ steps) ≡ fold (built boxes) (wanted_forms boxes wanted (forms tree) ∷ lists) steps
-    way : made lists (steps_of wanted tree ++ steps) ≡ wanted_lists boxes wanted tree ++ made (wanted_forms boxes wanted (forms tree) ∷ lists) steps
-    can : AllCanBuild (wanted_forms boxes wanted (forms tree) ∷ lists) steps → AllCanBuild lists (steps_of wanted tree ++ steps)
+    last : fold (built boxes) lists (steps_of wanted tree ++ steps) ≡ fold (built boxes)
+        (wanted_forms boxes wanted (forms tree) ∷ lists) steps
+    way : made lists (steps_of wanted tree ++ steps) ≡ wanted_lists boxes wanted tree
+        ++ made (wanted_forms boxes wanted (forms tree) ∷ lists) steps
+    can : AllCanBuild (wanted_forms boxes wanted (forms tree) ∷ lists) steps
+        → AllCanBuild lists (steps_of wanted tree ++ steps)
 
   builds : (wanted : Wanted) (tree : Tree) (lists : List Forms) (steps : List Step) → Builds wanted tree lists steps
   builds wanted (leaf solid) lists steps = record { last = refl; way = refl; can = λ rest. (tt, rest) }
   builds wanted (join op left right) lists steps =
       let l = steps_of (of_left op wanted) left in let r = steps_of (of_right op wanted) right
-      in let x = wanted_forms boxes (of_left op wanted) (forms left) in let y = wanted_forms boxes (of_right op wanted) (forms right)
-      in let split : ((l ++ r) ++ s.Join op wanted ∷ []) ++ steps ≡ l ++ (r ++ s.Join op wanted ∷ steps) = append_assoc (l ++ r) (s.Join op wanted ∷ []) steps ∙ append_assoc l r (s.Join op wanted ∷ steps)
+      in let x = wanted_forms boxes (of_left op wanted) (forms left) in let y =
+      wanted_forms boxes (of_right op wanted) (forms right)
+      in let split : ((l ++ r) ++ s.Join op wanted ∷ []) ++ steps ≡ l ++ (r ++ s.Join op wanted ∷ steps) =
+      append_assoc (l ++ r) (s.Join op wanted ∷ []) steps ∙ append_assoc l r (s.Join op wanted ∷ steps)
       in let first = builds (of_left op wanted) left lists (r ++ s.Join op wanted ∷ steps)
       in let second = builds (of_right op wanted) right (x ∷ lists) (s.Join op wanted ∷ steps)
       in let sides = wanted_sides boxes op wanted (forms left) (forms right)
       in record {
         last = rw split (first.last ∙ second.last ∙ ap (λ z. fold (built boxes) (z ∷ lists) steps) sides);
         way = rw split (first.way ∙ ap (λ zs. wanted_lists boxes (of_left op wanted) left ++ zs) (second.way
-            ∙ ap (λ z. wanted_lists boxes (of_right op wanted) right ++ (newest_lists (z ∷ lists) ++ made (z ∷ lists) steps)) sides)
-            ∙ sym (append_assoc (wanted_lists boxes (of_left op wanted) left) (wanted_lists boxes (of_right op wanted) right) _)
-            ∙ sym (append_assoc (wanted_lists boxes (of_left op wanted) left ++ wanted_lists boxes (of_right op wanted) right) (newest_lists (wanted_forms boxes wanted (forms (join op left right)) ∷ lists)) _));
+            ∙ ap (λ z. wanted_lists boxes (of_right op wanted) right
+            ++ (newest_lists (z ∷ lists) ++ made (z ∷ lists) steps)) sides)
+            ∙ sym (append_assoc (wanted_lists boxes (of_left op wanted) left)
+            (wanted_lists boxes (of_right op wanted) right) _)
+            ∙ sym (append_assoc (wanted_lists boxes (of_left op wanted) left ++ wanted_lists boxes
+            (of_right op wanted) right) (newest_lists (wanted_forms boxes wanted (forms (join op left right))
+            ∷ lists)) _));
         can = λ rest. rw split (first.can (second.can (omega arith, rw sides rest)));
       }
 
@@ -83,19 +101,28 @@ module _ (boxes : ℕ → Option CellBox) where
     pub way : first_past_limit (made lists (reverse rest)) ≡ crowd boxes tree
     pub can : AllCanBuild lists (reverse rest)
 
-  pub started : (tree : Tree) (rest given : List Step) (items : List Forms) → rest ≡ given → reverse given ≡ steps_of of_root tree → items ≡ [] → IsOnTheWay tree (reverse items) rest
+  pub started : (tree : Tree) (rest given : List Step) (items : List Forms) → rest ≡ given → reverse given
+      ≡ steps_of of_root tree → items ≡ [] → IsOnTheWay tree (reverse items) rest
   started tree rest given items same is none =
       let all = builds of_root tree [] []
-      in let steps : reverse rest ≡ steps_of of_root tree ++ [] = ap reverse same ∙ is ∙ sym (append-nil (steps_of of_root tree))
-      in rw none record { last = rw steps all.last; way = rw steps (ap first_past_limit (all.way ∙ append-nil (wanted_lists boxes of_root tree))); can = rw steps (all.can tt) }
+      in let steps : reverse rest ≡ steps_of of_root tree ++ [] =
+      ap reverse same ∙ is ∙ sym (append-nil (steps_of of_root tree))
+      in rw none record {
+        last = rw steps all.last;
+        way = rw steps (ap first_past_limit (all.way ∙ append-nil (wanted_lists boxes of_root tree)));
+        can =
+            rw steps (all.can tt);
+      }
 
   turned : (rest before : List Step) (step : Step) → rest ≡ before ++ step ∷ [] → reverse rest ≡ step ∷ reverse before
   turned rest before step last = ap reverse last ∙ reverse-append before (step ∷ [])
 
-  pub can_step : (tree : Tree) (lists : List Forms) (rest before : List Step) (step : Step) → rest ≡ before ++ step ∷ [] → IsOnTheWay tree lists rest → CanBuild (length lists) step
+  pub can_step : (tree : Tree) (lists : List Forms) (rest before : List Step) (step : Step) → rest ≡ before ++ step
+      ∷ [] → IsOnTheWay tree lists rest → CanBuild (length lists) step
   can_step tree lists rest before step last is = (rw (turned rest before step last) at is.can).0
 
-  pub stepped : (tree : Tree) (lists now : List Forms) (rest before : List Step) (step : Step) → rest ≡ before ++ step ∷ [] → now ≡ built boxes lists step
+  pub stepped : (tree : Tree) (lists now : List Forms) (rest before : List Step) (step : Step) → rest ≡ before ++ step
+      ∷ [] → now ≡ built boxes lists step
       → first_past_limit (newest_lists now) ≡ None → IsOnTheWay tree lists rest → IsOnTheWay tree now before
   stepped tree lists now rest before step last made_is few is =
       let e = turned rest before step last
@@ -106,7 +133,9 @@ module _ (boxes : ℕ → Option CellBox) where
         can = (rw e at is.can).1;
       }
 
-  pub stopped : (tree : Tree) (lists : List Forms) (rest before : List Step) (step : Step) (count : ℕ) → rest ≡ before ++ step ∷ []
-      → first_past_limit (newest_lists (built boxes lists step)) ≡ Some count → IsOnTheWay tree lists rest → crowd boxes tree ≡ Some count
+  pub stopped : (tree : Tree) (lists : List Forms) (rest before : List Step) (step : Step) (count : ℕ)
+      → rest ≡ before ++ step ∷ []
+      → first_past_limit (newest_lists (built boxes lists step)) ≡ Some count → IsOnTheWay tree lists rest
+      → crowd boxes tree ≡ Some count
   stopped tree lists rest before step count last many is =
       sym (rw (turned rest before step last) at is.way) ∙ past_some (newest_lists (built boxes lists step)) _ count many

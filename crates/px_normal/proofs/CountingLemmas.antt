@@ -1,19 +1,26 @@
 -- Counts are the lengths of normal forms.
-use Rattle.std.proofs.Common.{ℕ, suc, zero, ◌≡◌, ◌≤◌, ◌+◌, ◌*◌, ◌^◌, min, List, [], ◌∷◌, ◌++◌, length, refl, ap, sym, ◌∙◌, arith, inl, inr, map, length-append, lit≤}
+use Rattle.std.proofs.Common.{ℕ, suc, zero, ◌≡◌, ◌≤◌, ◌+◌, ◌*◌, ◌^◌, min, List, [], ◌∷◌, ◌++◌, length, refl, ap, sym}
+use Rattle.std.proofs.Common.{◌∙◌, arith, inl, inr, map, length-append, lit≤}
 use Rattle.std.proofs.Math.Nat.{mul-le-mul, mul_comm}
 use Rattle.std.proofs.lemmas.Bool.{cases_lt}
 use Rattle.std.proofs.lemmas.List.{length-map}
 use Rattle.px_expr.specs.Tree.{Tree, join}
 use Rattle.px_expr.specs.declared.node.Op.{Op}
-use Rattle.px_expr.specs.declared.node.Op.TheVariants as o
+use Rattle.px_expr.specs.Combinations.{combination_of, complement_of, opposite}
+use Rattle.px_expr.specs.declared.combination.Sense.{Sense}
+use Rattle.px_expr.specs.declared.combination.Sense.TheVariants.{Plain, Complement}
+use Rattle.px_expr.specs.declared.combination.Combination.{Combination}
+use Rattle.px_expr.specs.declared.combination.Combination.TheVariants.{Both, Either, EitherWay}
 use Rattle.px_normal.specs.declared.product.Product.{Product}
-use Rattle.px_normal.specs.Forms.{forms, both, crossed}
+use Rattle.px_normal.specs.Forms.{forms, both, crossed, sum_in, sum_when}
 use Rattle.px_normal.specs.Counting.{capped}
-use Rattle.px_normal.specs.FormCounts.{counts_of, combined_counts}
+use Rattle.px_normal.specs.FormCounts.{counts_of, combined_counts, count_in, count_when}
+use Rattle.px_normal.specs.declared.count.Counts.{Counts}
 
 pub length-crossed : (ps qs : List Product) → length (crossed ps qs) ≡ length ps * length qs
 length-crossed [] qs = grind arith
-length-crossed (p ∷ ps) qs = grind (arith, length-append (map (both p) qs) (crossed ps qs), length-map qs (both p), length-crossed ps qs)
+length-crossed (p ∷ ps) qs =
+    grind (arith, length-append (map (both p) qs) (crossed ps qs), length-map qs (both p), length-crossed ps qs)
 
 pub at_least : (k x y : ℕ) → k ≤ x → 1 ≤ y → k ≤ x * y
 at_least k x y p q = omega (arith, mul-le-mul {n₁ = k} {m₁ = 1} {n₂ = x} {m₂ = y} p q)
@@ -27,9 +34,15 @@ min_product k zero b one = grind arith
 min_product k (suc a) zero one = grind arith
 min_product k (suc a) (suc b) one = elim (cases_lt (suc a) k) [
   | inl p ↦ elim (cases_lt (suc b) k) [
-    | inl q ↦ let e : min (suc a) k ≡ suc a = omega arith in let f : min (suc b) k ≡ suc b = omega arith in rw (e, f) refl
-    | inr q ↦ past_both k (suc a) (suc b) one (omega (arith, at_least k (suc b) (suc a) q (omega arith), mul_comm (suc a) (suc b)))
-        (let e : min (suc b) k ≡ k = omega arith in rw e (omega (arith, at_least k k (min (suc a) k) (omega arith) (omega arith), mul_comm k (min (suc a) k))))
+    | inl q ↦ let e : min (suc a) k ≡ suc a = omega arith in let f : min (suc b) k ≡ suc b = omega arith in
+        rw (e, f) refl
+    | inr q ↦ past_both k (suc a) (suc b) one (omega (
+      arith,
+      at_least k (suc b) (suc a) q (omega arith),
+      mul_comm (suc a) (suc b),
+    ))
+        (let e : min (suc b) k ≡ k = omega arith in
+        rw e (omega (arith, at_least k k (min (suc a) k) (omega arith) (omega arith), mul_comm k (min (suc a) k))))
   ]
   | inr p ↦ past_both k (suc a) (suc b) one (at_least k (suc a) (suc b) p (omega arith))
       (at_least k (min (suc a) k) (min (suc b) k) (omega arith) (omega arith))
@@ -41,19 +54,37 @@ capped_sum a b = omega arith
 capped_append : (ps qs : List Product) → capped (length (ps ++ qs)) ≡ capped (capped (length ps) + capped (length qs))
 capped_append ps qs = ap capped (length-append ps qs) ∙ sym (capped_sum (length ps) (length qs))
 
-capped_crossed : (ps qs : List Product) → capped (length (crossed ps qs)) ≡ capped (capped (length ps) * capped (length qs))
+capped_crossed : (ps qs : List Product) → capped (length (crossed ps qs))
+    ≡ capped (capped (length ps) * capped (length qs))
 capped_crossed ps qs = ap capped (length-crossed ps qs) ∙ sym (min_product (2 ^ 32) (length ps) (length qs) (lit≤ tt))
 
-capped_two : (ps qs rs ts : List Product) → capped (length (crossed ps qs ++ crossed rs ts))
-    ≡ capped (capped (length ps) * capped (length qs) + capped (length rs) * capped (length ts))
-capped_two ps qs rs ts =
-    capped_append (crossed ps qs) (crossed rs ts) ∙ rw (capped_crossed ps qs, capped_crossed rs ts) (capped_sum (capped (length ps) * capped (length qs)) (capped (length rs) * capped (length ts)))
+count_in_is : (sense : Sense) (tree : Tree) → count_in sense (counts_of tree)
+    ≡ capped (length (sum_in sense (forms tree)))
+count_in_is Plain tree = refl
+count_in_is Complement tree = refl
 
-pub counts_join : (op : Op) (left right : Tree) → counts_of (join op left right) ≡ combined_counts op (counts_of left) (counts_of right)
-counts_join o.Union left right = rw (capped_append (forms left).products (forms right).products, capped_crossed (forms left).complement (forms right).complement) refl
-counts_join o.Meet left right = rw (capped_crossed (forms left).products (forms right).products, capped_append (forms left).complement (forms right).complement) refl
-counts_join o.Minus left right = rw (capped_crossed (forms left).products (forms right).complement, capped_append (forms left).complement (forms right).products) refl
-counts_join o.Differ left right = rw (
-  capped_two (forms left).products (forms right).complement (forms left).complement (forms right).products,
-  capped_two (forms left).products (forms right).products (forms left).complement (forms right).complement,
-) refl
+counts_when : (k : Combination) (left right : Tree) → capped (length (sum_when k (forms left) (forms right)))
+    ≡ count_when k (counts_of left) (counts_of right)
+counts_when (Both s t) left right =
+    rw (count_in_is s left, count_in_is t right) (capped_crossed (sum_in s (forms left)) (sum_in t (forms right)))
+counts_when (Either s t) left right =
+    rw (count_in_is s left, count_in_is t right) (capped_append (sum_in s (forms left)) (sum_in t (forms right)))
+counts_when (EitherWay s) left right =
+    let x = forms left in let y = forms right
+    in capped_append (crossed x.products (sum_in s y)) (crossed x.complement (sum_in (opposite s) y))
+    ∙ rw (
+      capped_crossed x.products (sum_in s y),
+      capped_crossed x.complement (sum_in (opposite s) y),
+      count_in_is s right,
+      count_in_is (opposite s) right,
+    ) (capped_sum (capped (length x.products) * capped (length (sum_in s y)))
+    (capped (length x.complement) * capped (length (sum_in (opposite s) y))))
+
+counts_are : (a b c d : ℕ) → a ≡ c → b ≡ d → ◌≡◌ {A = Counts} (record { products = a; complement = b })
+    (record { products = c; complement = d })
+counts_are a b c d first second = cc (first, second)
+
+pub counts_join : (op : Op) (left right : Tree) → counts_of (join op left right) ≡ combined_counts op (counts_of left)
+    (counts_of right)
+counts_join op left right = counts_are _ _ _ _ (counts_when (combination_of op) left right)
+    (counts_when (complement_of (combination_of op)) left right)

@@ -1,57 +1,116 @@
 -- What is wanted of a node is made of what is wanted of its sides, and the first list past the limit.
-use Rattle.std.proofs.Common.{ℕ, ◌≡◌, Bool, true, false, List, [], ◌∷◌, ◌++◌, length, nat_lt, refl, ap, sym, ◌∙◌, Option, Some, None}
+use Rattle.std.proofs.Common.{ℕ, ◌≡◌, ◌||◌, arith, Bool, true, false, List, [], ◌∷◌, ◌++◌, length, nat_lt, refl, ap}
+use Rattle.std.proofs.Common.{sym, ◌∙◌}
+use Rattle.std.proofs.Common.{Option, Some, None}
+use Rattle.std.specs.List.{filter}
 use Rattle.px_expr.specs.declared.node.Op.{Op}
-use Rattle.px_expr.specs.declared.node.Op.TheVariants as o
+use Rattle.px_expr.specs.Combinations.{combination_of, complement_of, opposite}
+use Rattle.px_expr.specs.declared.combination.Sense.{Sense}
+use Rattle.px_expr.specs.declared.combination.Sense.TheVariants.{Plain, Complement}
+use Rattle.px_expr.specs.declared.combination.Combination.{Combination}
+use Rattle.px_expr.specs.declared.combination.Combination.TheVariants.{Both, Either, EitherWay}
 use Rattle.px_normal.specs.declared.cell_box.CellBox.{CellBox}
 use Rattle.px_normal.specs.declared.product.Product.{Product}
 use Rattle.px_normal.specs.declared.step.Wanted.{Wanted}
-use Rattle.px_normal.specs.Forms.{Forms, combined}
-use Rattle.px_normal.specs.Live.{live}
-use Rattle.px_normal.specs.Crowd.{of_left, of_right, where_wanted, wanted_forms, first_past_limit}
+use Rattle.px_normal.specs.Forms.{Forms, combined, sum_in, sum_when}
+use Rattle.px_normal.specs.Live.{is_live, live}
+use Rattle.px_normal.specs.Crowd.{of_either, of_left, of_right, left_when, right_when, wanted_in, where_wanted}
+use Rattle.px_normal.specs.Crowd.{wanted_forms, first_past_limit}
 use Rattle.px_normal.proofs.LiveLemmas.{live_sides}
 use Rattle.px_normal.specs.declared.product.TheConstants.{MAX_PRODUCTS}
 
 abbrev blank : Wanted → Forms → Forms
-blank wanted x = record { products = where_wanted wanted.products x.products; complement = where_wanted wanted.complement x.complement }
+blank wanted x = record {
+  products = where_wanted wanted.products x.products;
+  complement = where_wanted wanted.complement x.complement;
+}
+
+-- of a side in its sense no product is missing where those of the node are wanted
+own_in : (sense : Sense) (wanted : Wanted) (x : Forms) → wanted.products ≡ true
+    → sum_in sense (blank (wanted_in sense wanted) x) ≡ sum_in sense x
+own_in Plain wanted x e = rw e refl
+own_in Complement wanted x e = rw e refl
+
+-- and in the other sense none where those of the node's complement are
+other_in : (sense : Sense) (wanted : Wanted) (x : Forms) → wanted.complement ≡ true
+    → sum_in (opposite sense) (blank (wanted_in sense wanted) x) ≡ sum_in (opposite sense) x
+other_in Plain wanted x e = rw e refl
+other_in Complement wanted x e = rw e refl
+
+-- where either is wanted, all of the sides is there
+either_is : (wanted : Wanted) (x : Forms) → wanted.products || wanted.complement ≡ true
+    → blank (of_either wanted) x ≡ x
+either_is wanted x e = rw e refl
+
+or_first : (a b : Bool) → a ≡ true → a || b ≡ true
+or_first a b e = grind arith
+
+or_second : (a b : Bool) → b ≡ true → a || b ≡ true
+or_second a b e = grind arith
+
+same_sides : (k : Combination) (x y more others : Forms) → x ≡ more → y ≡ others → sum_when k x y
+    ≡ sum_when k more others
+same_sides k x y more others first second = rw (first, second) refl
+
+products_kept : (k : Combination) (wanted : Wanted) (x y : Forms) → wanted.products ≡ true
+    → sum_when k (blank (left_when k wanted) x) (blank (right_when k wanted) y) ≡ sum_when k x y
+products_kept (Both s t) wanted x y e = rw (own_in s wanted x e, own_in t wanted y e) refl
+products_kept (Either s t) wanted x y e = rw (own_in s wanted x e, own_in t wanted y e) refl
+products_kept (EitherWay s) wanted x y e =
+    let some = or_first wanted.products wanted.complement e
+    in same_sides (EitherWay s) _ _ _ _ (either_is wanted x some) (either_is wanted y some)
+
+complement_kept : (k : Combination) (wanted : Wanted) (x y : Forms) → wanted.complement ≡ true
+    → sum_when (complement_of k) (blank (left_when k wanted) x) (blank (right_when k wanted) y)
+    ≡ sum_when (complement_of k) x y
+complement_kept (Both s t) wanted x y e = rw (other_in s wanted x e, other_in t wanted y e) refl
+complement_kept (Either s t) wanted x y e = rw (other_in s wanted x e, other_in t wanted y e) refl
+complement_kept (EitherWay s) wanted x y e =
+    let some = or_second wanted.products wanted.complement e
+    in same_sides (EitherWay (opposite s)) _ _ _ _ (either_is wanted x some) (either_is wanted y some)
+
+where_same : (wanted : Bool) (ps qs : List Product) → (wanted ≡ true → ps ≡ qs)
+    → where_wanted wanted ps ≡ where_wanted wanted qs
+where_same true ps qs same = same refl
+where_same false ps qs same = refl
+
+forms_are : (a b c d : List Product) → a ≡ c → b ≡ d → ◌≡◌ {A = Forms} (record { products = a; complement = b })
+    (record { products = c; complement = d })
+forms_are a b c d first second = cc (first, second)
 
 module _ (boxes : ℕ → Option CellBox) where
   -- a list that is not wanted is in no list that is
-  blank_sides : (op : Op) (products complement : Bool) (x y : Forms) → let wanted : Wanted = record { products = products; complement = complement }
-      in blank wanted (live boxes (combined op (blank (of_left op wanted) x) (blank (of_right op wanted) y))) ≡ blank wanted (live boxes (combined op x y))
-  blank_sides o.Union true true x y = refl
-  blank_sides o.Union true false x y = refl
-  blank_sides o.Union false true x y = refl
-  blank_sides o.Union false false x y = refl
-  blank_sides o.Meet true true x y = refl
-  blank_sides o.Meet true false x y = refl
-  blank_sides o.Meet false true x y = refl
-  blank_sides o.Meet false false x y = refl
-  blank_sides o.Minus true true x y = refl
-  blank_sides o.Minus true false x y = refl
-  blank_sides o.Minus false true x y = refl
-  blank_sides o.Minus false false x y = refl
-  blank_sides o.Differ true true x y = refl
-  blank_sides o.Differ true false x y = refl
-  blank_sides o.Differ false true x y = refl
-  blank_sides o.Differ false false x y = refl
+  blank_sides : (op : Op) (wanted : Wanted) (x y : Forms)
+      → blank wanted (live boxes (combined op (blank (of_left op wanted) x) (blank (of_right op wanted) y)))
+      ≡ blank wanted (live boxes (combined op x y))
+  blank_sides op wanted x y =
+      let k = combination_of op in
+      forms_are _ _ _ _
+      (where_same wanted.products _ _ (λ e. ap (filter (is_live boxes)) (products_kept k wanted x y e)))
+      (where_same wanted.complement _ _ (λ e. ap (filter (is_live boxes)) (complement_kept k wanted x y e)))
 
   pub wanted_sides : (op : Op) (wanted : Wanted) (x y : Forms)
-      → wanted_forms boxes wanted (combined op (wanted_forms boxes (of_left op wanted) x) (wanted_forms boxes (of_right op wanted) y)) ≡ wanted_forms boxes wanted (combined op x y)
+      → wanted_forms boxes wanted (combined op (wanted_forms boxes (of_left op wanted) x)
+      (wanted_forms boxes (of_right op wanted) y)) ≡ wanted_forms boxes wanted (combined op x y)
   wanted_sides op wanted x y =
-      blank_sides op wanted.products wanted.complement (live boxes x) (live boxes y) ∙ ap (blank wanted) (sym (live_sides boxes op x y))
+      blank_sides op wanted (live boxes x) (live boxes y) ∙ ap (blank wanted) (sym (live_sides boxes op x y))
 
-pub past_none : (xs ys : List (List Product)) → first_past_limit xs ≡ None → first_past_limit (xs ++ ys) ≡ first_past_limit ys
+pub past_none : (xs ys : List (List Product)) → first_past_limit xs ≡ None → first_past_limit (xs ++ ys)
+    ≡ first_past_limit ys
 past_none [] ys none = refl
 past_none (x ∷ xs) ys none = step (nat_lt MAX_PRODUCTS (length x)) refl (past_none xs ys) where
-  step : (b : Bool) → nat_lt MAX_PRODUCTS (length x) ≡ b → (first_past_limit xs ≡ None → first_past_limit (xs ++ ys) ≡ first_past_limit ys) → first_past_limit ((x ∷ xs) ++ ys) ≡ first_past_limit ys
+  step : (b : Bool) → nat_lt MAX_PRODUCTS (length x) ≡ b → (first_past_limit xs ≡ None → first_past_limit (xs ++ ys)
+      ≡ first_past_limit ys) → first_past_limit ((x ∷ xs) ++ ys) ≡ first_past_limit ys
   step true e rest = absurd (some_is_none (length x) (rw e at none)) where
     some_is_none : (n : ℕ) → Some n ≡ None → ⊥
     some_is_none n e = cc
   step false e rest = rw e (rest (rw e at none))
 
-pub past_some : (xs ys : List (List Product)) (count : ℕ) → first_past_limit xs ≡ Some count → first_past_limit (xs ++ ys) ≡ Some count
+pub past_some : (xs ys : List (List Product)) (count : ℕ) → first_past_limit xs ≡ Some count
+    → first_past_limit (xs ++ ys) ≡ Some count
 past_some [] ys count some = absurd cc
 past_some (x ∷ xs) ys count some = step (nat_lt MAX_PRODUCTS (length x)) refl (past_some xs ys count) where
-  step : (b : Bool) → nat_lt MAX_PRODUCTS (length x) ≡ b → (first_past_limit xs ≡ Some count → first_past_limit (xs ++ ys) ≡ Some count) → first_past_limit ((x ∷ xs) ++ ys) ≡ Some count
+  step : (b : Bool) → nat_lt MAX_PRODUCTS (length x) ≡ b → (first_past_limit xs ≡ Some count
+      → first_past_limit (xs ++ ys) ≡ Some count) → first_past_limit ((x ∷ xs) ++ ys) ≡ Some count
   step true e rest = rw e (rw e at some)
   step false e rest = rw e (rest (rw e at some))

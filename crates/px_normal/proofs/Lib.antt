@@ -8,3 +8,4 @@ pub mod LiveLemmas
 pub mod CrowdLemmas
 pub mod ShorterLemmas
 pub mod BuildingLemmas
+pub mod EndLemmas

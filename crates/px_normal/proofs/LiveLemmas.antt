@@ -1,17 +1,22 @@
 -- Live products: a product of both is live only where each is, and one that holds at a place is live.
-use Rattle.std.proofs.Common.{ℕ, ◌≡◌, ◌<◌, ◌^◌, ◌||◌, ◌&&◌, not, Bool, true, false, List, [], ◌∷◌, ◌++◌, refl, ap, sym, ◌∙◌, arith, map, fold, max, min, nat_le, Option, Some, None}
+use Rattle.std.proofs.Common.{ℕ, ◌≡◌, ◌<◌, ◌^◌, ◌||◌, ◌&&◌, not, Bool, true, false, List, [], ◌∷◌, ◌++◌, refl, ap}
+use Rattle.std.proofs.Common.{sym, ◌∙◌, arith, map, fold, max, min, nat_le, Option, Some, None}
 use Rattle.std.specs.List.{list_all, list_any, filter}
 use Rattle.std.proofs.lemmas.List.Elements.{filter-append}
 use Rattle.std.proofs.lemmas.Map.Views.{any-filter_same}
 use Rattle.px_expr.specs.Cells.{Cell}
 use Rattle.px_expr.specs.declared.node.Op.{Op}
-use Rattle.px_expr.specs.declared.node.Op.TheVariants as o
+use Rattle.px_expr.specs.Combinations.{combination_of, complement_of, opposite}
+use Rattle.px_expr.specs.declared.combination.Sense.{Sense}
+use Rattle.px_expr.specs.declared.combination.Sense.TheVariants.{Plain, Complement}
+use Rattle.px_expr.specs.declared.combination.Combination.{Combination}
+use Rattle.px_expr.specs.declared.combination.Combination.TheVariants.{Both, Either, EitherWay}
 use Rattle.px_normal.specs.declared.cell_box.CellBox.{CellBox}
 use Rattle.px_normal.specs.declared.set.SolidSet.{SolidSet}
 use Rattle.px_normal.specs.declared.product.Product.{Product}
 use Rattle.px_normal.specs.Sets.{has, joined, solids}
 use Rattle.px_normal.specs.Boxes.{lies_in, has_cell, common_part, everything, narrowed, is_in}
-use Rattle.px_normal.specs.Forms.{Forms, both, crossed, combined}
+use Rattle.px_normal.specs.Forms.{Forms, both, crossed, combined, sum_in, sum_when}
 use Rattle.px_normal.specs.NormalLaw.{holds, shows}
 use Rattle.px_normal.specs.Live.{is_void, box_of_all, has_some_cell, is_live, live}
 use Rattle.px_normal.specs.LiveLaw.{IsPlaceInBoxes, ShowTheSame}
@@ -52,7 +57,8 @@ module _ (x y z : ℕ) where
       and_mono (and_mono (and_mono (and_mono (and_mono (least_other a.x0 b.x0 x) (most_other a.x1 b.x1 x))
       (least_other a.y0 b.y0 y)) (most_other a.y1 b.y1 y)) (least_other a.z0 b.z0 z)) (most_other a.z1 b.z1 z) e
 
-  in_common_part : (a b : CellBox) → lies_in a x y z ≡ true → lies_in b x y z ≡ true → lies_in (common_part a b) x y z ≡ true
+  in_common_part : (a b : CellBox) → lies_in a x y z ≡ true → lies_in b x y z ≡ true
+      → lies_in (common_part a b) x y z ≡ true
   in_common_part a b e f = grind arith
 
   in_narrowed : (a b : Option CellBox) → is_in a x y z ≡ true → is_in b x y z ≡ true → is_in (narrowed a b) x y z ≡ true
@@ -60,7 +66,8 @@ module _ (x y z : ℕ) where
   in_narrowed (Some a) None e f = f
   in_narrowed None b e f = e
 
-  of_narrowed : (a b : Option CellBox) → is_in (narrowed a b) x y z ≡ true → (is_in a x y z ≡ true) × (is_in b x y z ≡ true)
+  of_narrowed : (a b : Option CellBox) → is_in (narrowed a b) x y z ≡ true → (is_in a x y z ≡ true)
+      × (is_in b x y z ≡ true)
   of_narrowed (Some a) (Some b) e = (in_first a b e, in_second a b e)
   of_narrowed (Some a) None e = absurd cc
   of_narrowed None b e = absurd cc
@@ -70,21 +77,28 @@ module _ (x y z : ℕ) where
   has_the_cell (Some b) e = grind arith
 
   module _ (boxes : ℕ → Option CellBox) where
-    in_all : (start : Option CellBox) (qs : List ℕ) → is_in start x y z ≡ true → list_all (λ q. is_in (boxes q) x y z) qs ≡ true
+    in_all : (start : Option CellBox) (qs : List ℕ) → is_in start x y z ≡ true → list_all (λ q. is_in (boxes q) x y z)
+        qs ≡ true
         → is_in (fold (λ part q. narrowed part (boxes q)) start qs) x y z ≡ true
     in_all start [] e f = e
     in_all start (q ∷ qs) e f =
         let rest = list_all (λ q. is_in (boxes q) x y z) qs
-        in in_all (narrowed start (boxes q)) qs (in_narrowed start (boxes q) e (left (is_in (boxes q) x y z) rest f)) (right (is_in (boxes q) x y z) rest f)
+        in in_all (narrowed start (boxes q)) qs (in_narrowed start (boxes q) e (left (is_in (boxes q) x y z) rest f))
+        (right (is_in (boxes q) x y z) rest f)
 
-    in_start : (start : Option CellBox) (qs : List ℕ) → is_in (fold (λ part q. narrowed part (boxes q)) start qs) x y z ≡ true → is_in start x y z ≡ true
+    in_start : (start : Option CellBox) (qs : List ℕ) → is_in (fold (λ part q. narrowed part (boxes q)) start qs) x y
+        z ≡ true → is_in start x y z ≡ true
     in_start start [] e = e
     in_start start (q ∷ qs) e = (of_narrowed start (boxes q) (in_start (narrowed start (boxes q)) qs e)).0
 
-    in_each : (start : Option CellBox) (qs : List ℕ) → is_in (fold (λ part q. narrowed part (boxes q)) start qs) x y z ≡ true → list_all (λ q. is_in (boxes q) x y z) qs ≡ true
+    in_each : (start : Option CellBox) (qs : List ℕ) → is_in (fold (λ part q. narrowed part (boxes q)) start qs) x y z
+        ≡ true → list_all (λ q. is_in (boxes q) x y z) qs ≡ true
     in_each start [] e = refl
     in_each start (q ∷ qs) e =
-        rw ((of_narrowed start (boxes q) (in_start (narrowed start (boxes q)) qs e)).1, in_each (narrowed start (boxes q)) qs e) refl
+        rw (
+          (of_narrowed start (boxes q) (in_start (narrowed start (boxes q)) qs e)).1,
+          in_each (narrowed start (boxes q)) qs e,
+        ) refl
 
 first_cell : (b : CellBox) → has_cell b ≡ true → lies_in b b.x0 b.y0 b.z0 ≡ true
 first_cell b some = grind arith
@@ -94,7 +108,8 @@ fewer_solids : (boxes : ℕ → Option CellBox) (few many : List ℕ)
     → ((test : ℕ → Bool) → list_all test many ≡ true → list_all test few ≡ true)
     → has_some_cell (box_of_all boxes many) ≡ true → has_some_cell (box_of_all boxes few) ≡ true
 fewer_solids boxes few many each some = at_first (box_of_all boxes many) refl some where
-  at_first : (box : Option CellBox) → box_of_all boxes many ≡ box → has_some_cell box ≡ true → has_some_cell (box_of_all boxes few) ≡ true
+  at_first : (box : Option CellBox) → box_of_all boxes many ≡ box → has_some_cell box ≡ true
+      → has_some_cell (box_of_all boxes few) ≡ true
   at_first None is none = absurd cc
   at_first (Some b) is some =
       let x = b.x0 in let y = b.y0 in let z = b.z0
@@ -105,49 +120,66 @@ fewer_solids boxes few many each some = at_first (box_of_all boxes many) refl so
 
 -- the boxes of two sets have a common cell where their common parts have one
 part_of_both : (boxes : ℕ → Option CellBox) (a b : SolidSet)
-    → has_some_cell (narrowed (box_of_all boxes (solids a)) (box_of_all boxes (solids b))) ≡ has_some_cell (box_of_all boxes (solids (joined a b)))
-part_of_both boxes a b = same_test _ _ (at_first (narrowed (box_of_all boxes (solids a)) (box_of_all boxes (solids b))) refl) (at_common (box_of_all boxes (solids (joined a b))) refl) where
-  same_test : (u v : Bool) → (u ≡ true → v ≡ true) → (v ≡ true → u ≡ true) → u ≡ v
-  same_test true v there back = sym (there refl)
-  same_test false true there back = back refl
-  same_test false false there back = refl
+    → has_some_cell (narrowed (box_of_all boxes (solids a)) (box_of_all boxes (solids b)))
+    ≡ has_some_cell (box_of_all boxes (solids (joined a b)))
+part_of_both boxes a b =
+    same_test _ _ (at_first (narrowed (box_of_all boxes (solids a)) (box_of_all boxes (solids b))) refl)
+    (at_common (box_of_all boxes (solids (joined a b))) refl) where
+      same_test : (u v : Bool) → (u ≡ true → v ≡ true) → (v ≡ true → u ≡ true) → u ≡ v
+      same_test true v there back = sym (there refl)
+      same_test false true there back = back refl
+      same_test false false there back = refl
 
-  at_first : (box : Option CellBox) → narrowed (box_of_all boxes (solids a)) (box_of_all boxes (solids b)) ≡ box → has_some_cell box ≡ true
-      → has_some_cell (box_of_all boxes (solids (joined a b))) ≡ true
-  at_first None is some = absurd cc
-  at_first (Some c) is some =
-      let x = c.x0 in let y = c.y0 in let z = c.z0
-      in let within = of_narrowed x y z (box_of_all boxes (solids a)) (box_of_all boxes (solids b)) (ap (λ box. is_in box x y z) is ∙ first_cell c some)
-      in let all : list_all (λ q. is_in (boxes q) x y z) (solids (joined a b)) ≡ true =
-      all-joined (λ q. is_in (boxes q) x y z) a b ∙ rw (in_each x y z boxes (Some everything) (solids a) within.0, in_each x y z boxes (Some everything) (solids b) within.1) refl
-      in has_the_cell x y z (box_of_all boxes (solids (joined a b)))
-      (in_all x y z boxes (Some everything) (solids (joined a b)) (in_start x y z boxes (Some everything) (solids a) within.0) all)
+      at_first : (box : Option CellBox) → narrowed (box_of_all boxes (solids a)) (box_of_all boxes (solids b)) ≡ box
+          → has_some_cell box ≡ true
+          → has_some_cell (box_of_all boxes (solids (joined a b))) ≡ true
+      at_first None is some = absurd cc
+      at_first (Some c) is some =
+          let x = c.x0 in let y = c.y0 in let z = c.z0
+          in let within = of_narrowed x y z (box_of_all boxes (solids a)) (box_of_all boxes (solids b))
+          (ap (λ box. is_in box x y z) is ∙ first_cell c some)
+          in let all : list_all (λ q. is_in (boxes q) x y z) (solids (joined a b)) ≡ true =
+          all-joined (λ q. is_in (boxes q) x y z) a b ∙ rw (
+            in_each x y z boxes (Some everything) (solids a) within.0,
+            in_each x y z boxes (Some everything) (solids b) within.1,
+          ) refl
+          in has_the_cell x y z (box_of_all boxes (solids (joined a b)))
+          (in_all x y z boxes (Some everything) (solids (joined a b)) (in_start x y z boxes (Some everything) (solids a)
+          within.0) all)
 
-  at_common : (box : Option CellBox) → box_of_all boxes (solids (joined a b)) ≡ box → has_some_cell box ≡ true
-      → has_some_cell (narrowed (box_of_all boxes (solids a)) (box_of_all boxes (solids b))) ≡ true
-  at_common None is some = absurd cc
-  at_common (Some c) is some =
-      let x = c.x0 in let y = c.y0 in let z = c.z0
-      in let within : is_in (box_of_all boxes (solids (joined a b))) x y z ≡ true = ap (λ box. is_in box x y z) is ∙ first_cell c some
-      in let start = in_start x y z boxes (Some everything) (solids (joined a b)) within
-      in let test = λ (q : ℕ). is_in (boxes q) x y z
-      in let all : list_all test (solids a) && list_all test (solids b) ≡ true = sym (all-joined test a b) ∙ in_each x y z boxes (Some everything) (solids (joined a b)) within
-      in has_the_cell x y z _ (in_narrowed x y z (box_of_all boxes (solids a)) (box_of_all boxes (solids b))
-      (in_all x y z boxes (Some everything) (solids a) start (left (list_all test (solids a)) (list_all test (solids b)) all))
-      (in_all x y z boxes (Some everything) (solids b) start (right (list_all test (solids a)) (list_all test (solids b)) all)))
+      at_common : (box : Option CellBox) → box_of_all boxes (solids (joined a b)) ≡ box → has_some_cell box ≡ true
+          → has_some_cell (narrowed (box_of_all boxes (solids a)) (box_of_all boxes (solids b))) ≡ true
+      at_common None is some = absurd cc
+      at_common (Some c) is some =
+          let x = c.x0 in let y = c.y0 in let z = c.z0
+          in let within : is_in (box_of_all boxes (solids (joined a b))) x y z ≡ true =
+          ap (λ box. is_in box x y z) is ∙ first_cell c some
+          in let start = in_start x y z boxes (Some everything) (solids (joined a b)) within
+          in let test = λ (q : ℕ). is_in (boxes q) x y z
+          in let all : list_all test (solids a) && list_all test (solids b) ≡ true =
+          sym (all-joined test a b) ∙ in_each x y z boxes (Some everything) (solids (joined a b)) within
+          in has_the_cell x y z _ (in_narrowed x y z (box_of_all boxes (solids a)) (box_of_all boxes (solids b))
+          (in_all x y z boxes (Some everything) (solids a) start
+          (left (list_all test (solids a)) (list_all test (solids b)) all))
+          (in_all x y z boxes (Some everything) (solids b) start
+          (right (list_all test (solids a)) (list_all test (solids b)) all)))
 
-pub live_by_parts : (boxes : ℕ → Option CellBox) (p q : Product) (first second : Option CellBox) → first ≡ box_of_all boxes (solids p.plain) → second ≡ box_of_all boxes (solids q.plain)
+pub live_by_parts : (boxes : ℕ → Option CellBox) (p q : Product) (first second : Option CellBox)
+    → first ≡ box_of_all boxes (solids p.plain) → second ≡ box_of_all boxes (solids q.plain)
     → not (is_void (both p q)) && has_some_cell (narrowed first second) ≡ is_live boxes (both p q)
 unfolding is_live
-live_by_parts boxes p q first second one other = rw (one, other) (ap (λ test. not (is_void (both p q)) && test) (part_of_both boxes p.plain q.plain))
+live_by_parts boxes p q first second one other =
+    rw (one, other) (ap (λ test. not (is_void (both p q)) && test) (part_of_both boxes p.plain q.plain))
 
 -- no solid is both plain and barred
-apart_from : (plain barred more others : SolidSet) → ((q : ℕ) → q < 256 → has plain q ≡ true → has more q ≡ true) → ((q : ℕ) → q < 256 → has barred q ≡ true → has others q ≡ true)
+apart_from : (plain barred more others : SolidSet) → ((q : ℕ) → q < 256 → has plain q ≡ true → has more q ≡ true)
+    → ((q : ℕ) → q < 256 → has barred q ≡ true → has others q ≡ true)
     → list_any (has others) (solids more) ≡ false → list_any (has barred) (solids plain) ≡ false
 apart_from plain barred more others within beyond apart =
     no_void plain (has barred)
     ∙ ap not ((all-each (λ q. not (has barred q)) plain).1
-    (λ q lt there. kept (has barred q) (has others q) (beyond q lt) ((all-each (λ q. not (has others q)) more).0 all q lt (within q lt there)))) where
+    (λ q lt there. kept (has barred q) (has others q) (beyond q lt) ((all-each (λ q. not (has others q)) more).0 all
+    q lt (within q lt there)))) where
       all : list_all (λ q. not (has others q)) (solids more) ≡ true
       all = turned (list_all (λ q. not (has others q)) (solids more)) (sym (no_void more (has others)) ∙ apart) where
         turned : (b : Bool) → not b ≡ false → b ≡ true
@@ -161,11 +193,14 @@ apart_from plain barred more others within beyond apart =
 
 module _ (boxes : ℕ → Option CellBox) where
   -- a product of some of the solids of a live one is live
-  live_of_more : (p more : Product) → ((q : ℕ) → q < 256 → has p.plain q ≡ true → has more.plain q ≡ true) → ((q : ℕ) → q < 256 → has p.barred q ≡ true → has more.barred q ≡ true)
+  live_of_more : (p more : Product) → ((q : ℕ) → q < 256 → has p.plain q ≡ true → has more.plain q ≡ true)
+      → ((q : ℕ) → q < 256 → has p.barred q ≡ true → has more.barred q ≡ true)
       → is_live boxes more ≡ true → is_live boxes p ≡ true
   unfolding is_live
   live_of_more p more plain barred live =
-      let apart : is_void p ≡ false = apart_from p.plain p.barred more.plain more.barred plain barred (turned (is_void more) (left (not (is_void more)) (has_some_cell (box_of_all boxes (solids more.plain))) live))
+      let apart : is_void p ≡ false = apart_from p.plain p.barred more.plain more.barred plain barred
+      (turned (is_void more)
+      (left (not (is_void more)) (has_some_cell (box_of_all boxes (solids more.plain))) live))
       in let some : has_some_cell (box_of_all boxes (solids p.plain)) ≡ true =
       fewer_solids boxes (solids p.plain) (solids more.plain)
       (λ test all. (all-each test p.plain).1 (λ q lt there. (all-each test more.plain).0 all q lt (plain q lt there)))
@@ -193,15 +228,18 @@ module _ (boxes : ℕ → Option CellBox) where
 -- lists by what is kept of them
 module _ (L : Product → Bool) where
   kept_more : (p : Product) (ps qs : List Product) → filter L ps ≡ filter L qs → filter L (p ∷ ps) ≡ filter L (p ∷ qs)
-  kept_more p ps qs same = filter-append L (p ∷ []) ps ∙ ap (λ rest. filter L (p ∷ []) ++ rest) same ∙ sym (filter-append L (p ∷ []) qs)
+  kept_more p ps qs same = filter-append L (p ∷ []) ps ∙ ap (λ rest. filter L (p ∷ []) ++ rest) same
+      ∙ sym (filter-append L (p ∷ []) qs)
 
-  kept_both : (ps qs rs ts : List Product) → filter L ps ≡ filter L rs → filter L qs ≡ filter L ts → filter L (ps ++ qs) ≡ filter L (rs ++ ts)
+  kept_both : (ps qs rs ts : List Product) → filter L ps ≡ filter L rs → filter L qs ≡ filter L ts
+      → filter L (ps ++ qs) ≡ filter L (rs ++ ts)
   kept_both ps qs rs ts first second = filter-append L ps qs ∙ cc (first, second) ∙ sym (filter-append L rs ts)
 
   kept_again : (ps : List Product) → filter L ps ≡ filter L (filter L ps)
   kept_again [] = refl
   kept_again (p ∷ ps) = step (L p) refl (kept_again ps) where
-    step : (b : Bool) → L p ≡ b → filter L ps ≡ filter L (filter L ps) → filter L (p ∷ ps) ≡ filter L (filter L (p ∷ ps))
+    step : (b : Bool) → L p ≡ b → filter L ps ≡ filter L (filter L ps) → filter L (p ∷ ps)
+        ≡ filter L (filter L (p ∷ ps))
     step true e rest = rw (e, e) (ap (λ qs. p ∷ qs) rest)
     step false e rest = rw e rest
 
@@ -209,7 +247,8 @@ module _ (L : Product → Bool) where
   kept_appended ps qs = kept_both ps qs (filter L ps) (filter L qs) (kept_again ps) (kept_again qs)
 
   -- where both are kept only of kept ones
-  module _ (first : (p q : Product) → L (both p q) ≡ true → L p ≡ true) (second : (p q : Product) → L (both p q) ≡ true → L q ≡ true) where
+  module _ (first : (p q : Product) → L (both p q) ≡ true → L p ≡ true) (second : (p q : Product) → L (both p q)
+      ≡ true → L q ≡ true) where
     dropped : (a b : Bool) → (a ≡ true → b ≡ true) → b ≡ false → a ≡ false
     dropped true b keeps none = absurd (never b (keeps refl) none) where
       never : (b : Bool) → b ≡ true → b ≡ false → ⊥
@@ -223,43 +262,60 @@ module _ (L : Product → Bool) where
     kept_with : (p : Product) (qs : List Product) → filter L (map (both p) qs) ≡ filter L (map (both p) (filter L qs))
     kept_with p [] = refl
     kept_with p (q ∷ qs) = step (L q) refl (kept_with p qs) where
-      step : (b : Bool) → L q ≡ b → filter L (map (both p) qs) ≡ filter L (map (both p) (filter L qs)) → filter L (map (both p) (q ∷ qs)) ≡ filter L (map (both p) (filter L (q ∷ qs)))
+      step : (b : Bool) → L q ≡ b → filter L (map (both p) qs) ≡ filter L (map (both p) (filter L qs))
+          → filter L (map (both p) (q ∷ qs)) ≡ filter L (map (both p) (filter L (q ∷ qs)))
       step true e rest = rw e (kept_more (both p q) (map (both p) qs) (map (both p) (filter L qs)) rest)
       step false e rest = rw (e, dropped (L (both p q)) (L q) (second p q) e) rest
 
     kept_crossed : (ps qs : List Product) → filter L (crossed ps qs) ≡ filter L (crossed (filter L ps) (filter L qs))
     kept_crossed [] qs = refl
     kept_crossed (p ∷ ps) qs = step (L p) refl (kept_crossed ps qs) where
-      step : (b : Bool) → L p ≡ b → filter L (crossed ps qs) ≡ filter L (crossed (filter L ps) (filter L qs)) → filter L (map (both p) qs ++ crossed ps qs) ≡ filter L (crossed (filter L (p ∷ ps)) (filter L qs))
-      step true e rest = rw e (kept_both (map (both p) qs) (crossed ps qs) (map (both p) (filter L qs)) (crossed (filter L ps) (filter L qs)) (kept_with p qs) rest)
-      step false e rest = rw e (kept_both (map (both p) qs) (crossed ps qs) [] (crossed (filter L ps) (filter L qs)) (none_with p e qs) rest)
+      step : (b : Bool) → L p ≡ b → filter L (crossed ps qs) ≡ filter L (crossed (filter L ps) (filter L qs))
+          → filter L (map (both p) qs ++ crossed ps qs) ≡ filter L (crossed (filter L (p ∷ ps)) (filter L qs))
+      step true e rest =
+          rw e (kept_both (map (both p) qs) (crossed ps qs) (map (both p) (filter L qs))
+          (crossed (filter L ps) (filter L qs)) (kept_with p qs) rest)
+      step false e rest = rw e (kept_both (map (both p) qs) (crossed ps qs) [] (crossed (filter L ps) (filter L qs))
+          (none_with p e qs) rest)
 
 module _ (boxes : ℕ → Option CellBox) where
-  of_either : (ps qs : List Product) → filter (is_live boxes) (ps ++ qs) ≡ filter (is_live boxes) (filter (is_live boxes) ps ++ filter (is_live boxes) qs)
+  of_either : (ps qs : List Product) → filter (is_live boxes) (ps ++ qs) ≡ filter (is_live boxes)
+      (filter (is_live boxes) ps ++ filter (is_live boxes) qs)
   of_either = kept_appended (is_live boxes)
 
-  of_both : (ps qs : List Product) → filter (is_live boxes) (crossed ps qs) ≡ filter (is_live boxes) (crossed (filter (is_live boxes) ps) (filter (is_live boxes) qs))
+  of_both : (ps qs : List Product) → filter (is_live boxes) (crossed ps qs) ≡ filter (is_live boxes)
+      (crossed (filter (is_live boxes) ps) (filter (is_live boxes) qs))
   of_both = kept_crossed (is_live boxes) (live_left boxes) (live_right boxes)
 
-  of_two : (ps qs rs ts : List Product) → filter (is_live boxes) (crossed ps qs ++ crossed rs ts)
-      ≡ filter (is_live boxes) (crossed (filter (is_live boxes) ps) (filter (is_live boxes) qs) ++ crossed (filter (is_live boxes) rs) (filter (is_live boxes) ts))
-  of_two ps qs rs ts = kept_both (is_live boxes) (crossed ps qs) (crossed rs ts) _ _ (of_both ps qs) (of_both rs ts)
+  kept_in : (sense : Sense) (x : Forms) → sum_in sense (live boxes x) ≡ filter (is_live boxes) (sum_in sense x)
+  kept_in Plain x = refl
+  kept_in Complement x = refl
 
-  forms_are : (a b c d : List Product) → a ≡ c → b ≡ d → ◌≡◌ {A = Forms} (record { products = a; complement = b }) (record { products = c; complement = d })
+  kept_when : (k : Combination) (x y : Forms) → filter (is_live boxes) (sum_when k x y)
+      ≡ filter (is_live boxes) (sum_when k (live boxes x) (live boxes y))
+  kept_when (Both s t) x y = rw (kept_in s x, kept_in t y) (of_both (sum_in s x) (sum_in t y))
+  kept_when (Either s t) x y = rw (kept_in s x, kept_in t y) (of_either (sum_in s x) (sum_in t y))
+  kept_when (EitherWay s) x y =
+      rw (kept_in s y, kept_in (opposite s) y)
+      (kept_both (is_live boxes) (crossed x.products (sum_in s y)) (crossed x.complement (sum_in (opposite s) y)) _ _
+      (of_both x.products (sum_in s y)) (of_both x.complement (sum_in (opposite s) y)))
+
+  forms_are : (a b c d : List Product) → a ≡ c → b ≡ d → ◌≡◌ {A = Forms} (record { products = a; complement = b })
+      (record { products = c; complement = d })
   forms_are a b c d first second = cc (first, second)
 
-  pub live_sides : (op : Op) (x y : Forms) → live boxes (combined op x y) ≡ live boxes (combined op (live boxes x) (live boxes y))
-  live_sides o.Union x y = forms_are _ _ _ _ (of_either x.products y.products) (of_both x.complement y.complement)
-  live_sides o.Meet x y = forms_are _ _ _ _ (of_both x.products y.products) (of_either x.complement y.complement)
-  live_sides o.Minus x y = forms_are _ _ _ _ (of_both x.products y.complement) (of_either x.complement y.products)
-  live_sides o.Differ x y = forms_are _ _ _ _ (of_two x.products y.complement x.complement y.products) (of_two x.products y.products x.complement y.complement)
+  pub live_sides : (op : Op) (x y : Forms) → live boxes (combined op x y)
+      ≡ live boxes (combined op (live boxes x) (live boxes y))
+  live_sides op x y =
+      forms_are _ _ _ _ (kept_when (combination_of op) x y) (kept_when (complement_of (combination_of op)) x y)
 
   -- a product that holds at a place in the boxes is live
   module _ (at : ℕ → Cell) (x y z : ℕ) (is : IsPlaceInBoxes boxes at x y z) where
     in_everything : x < 2 ^ 32 → y < 2 ^ 32 → z < 2 ^ 32 → lies_in everything x y z ≡ true
     in_everything p q r = grind arith
 
-    plain_boxed : (qs : List ℕ) → list_all (λ q. (at q).member) qs ≡ true → list_all (λ q. is_in (boxes q) x y z) qs ≡ true
+    plain_boxed : (qs : List ℕ) → list_all (λ q. (at q).member) qs ≡ true → list_all (λ q. is_in (boxes q) x y z)
+        qs ≡ true
     plain_boxed [] e = refl
     plain_boxed (q ∷ qs) e =
         let rest = list_all (λ q. (at q).member) qs
@@ -281,14 +337,17 @@ module _ (boxes : ℕ → Option CellBox) where
         in let apart : is_void p ≡ false =
         no_void p.plain (has p.barred)
         ∙ ap not ((all-each (λ q. not (has p.barred q)) p.plain).1
-        (λ q lt there. member_apart (at q).member (has p.barred q) ((all-each (λ q. (at q).member) p.plain).0 plain q lt there) (λ in_barred. (all-each (λ q. not (at q).member) p.barred).0 barred q lt in_barred)))
+        (λ q lt there. member_apart (at q).member (has p.barred q) ((all-each (λ q. (at q).member) p.plain).0 plain q
+        lt there) (λ in_barred. (all-each (λ q. not (at q).member) p.barred).0 barred q lt in_barred)))
         in let some : has_some_cell (box_of_all boxes (solids p.plain)) ≡ true =
         has_the_cell x y z (box_of_all boxes (solids p.plain))
-        (in_all x y z boxes (Some everything) (solids p.plain) (in_everything is.column is.row is.depth) (plain_boxed (solids p.plain) plain))
+        (in_all x y z boxes (Some everything) (solids p.plain) (in_everything is.column is.row is.depth)
+        (plain_boxed (solids p.plain) plain))
         in rw (apart, some) refl
 
     pub live_places : (ps : List Product) → ShowTheSame at ps (filter (is_live boxes) ps)
     live_places ps = record {
       members = any-filter_same (holds at) (is_live boxes) true live_here ps;
-      faces = λ face. any-filter_same (λ p. holds at p && shows at face p) (is_live boxes) true (λ p e. live_here p (left (holds at p) (shows at face p) e)) ps;
+      faces = λ face. any-filter_same (λ p. holds at p && shows at face p) (is_live boxes) true
+          (λ p e. live_here p (left (holds at p) (shows at face p) e)) ps;
     }

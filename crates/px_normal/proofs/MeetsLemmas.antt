@@ -1,5 +1,7 @@
 -- Sets have a solid in common where their words have a bit in common.
-use Rattle.std.proofs.Common.{ℕ, suc, zero, ◌≡◌, ◌<◌, ◌≤◌, ◌+◌, ◌*◌, ◌/◌, ◌%◌, ◌^◌, min, max, nat_eq, ◌==◌, ◌&&◌, ◌||◌, not, Bool, true, false, List, [], ◌∷◌, refl, ap, sym, ◌∙◌, arith, slice_index, bit_and, bit_or}
+use Rattle.std.proofs.Common.{ℕ, suc, zero, ◌≡◌, ◌<◌, ◌≤◌, ◌+◌, ◌*◌, ◌/◌, ◌%◌, ◌^◌, min, max, nat_eq, ◌==◌, ◌&&◌}
+use Rattle.std.proofs.Common.{◌||◌, not, Bool, true, false, List, [], ◌∷◌, refl, ap, sym, ◌∙◌, arith, slice_index}
+use Rattle.std.proofs.Common.{bit_and, bit_or}
 use Rattle.std.specs.List.{list_all, list_any}
 use Rattle.std.specs.Int.{bit_at}
 use Rattle.std.proofs.lemmas.Nat.Bits.{bit_at_and, bit_at_or, bit_at-lt, bit_at-zero, same_from_bits_below}
@@ -8,7 +10,8 @@ use Rattle.px_normal.specs.Sets.{has, solids}
 use Rattle.px_normal.proofs.SolidsLemmas.{all-each}
 
 -- no solid passes a test where each fails it
-pub no_void : (ps : SolidSet) (test : ℕ → Bool) → list_any test (solids ps) ≡ not (list_all (λ q. not (test q)) (solids ps))
+pub no_void : (ps : SolidSet) (test : ℕ → Bool) → list_any test (solids ps)
+    ≡ not (list_all (λ q. not (test q)) (solids ps))
 no_void ps test = none_fails (solids ps) where
   none_fails : (qs : List ℕ) → list_any test qs ≡ not (list_all (λ q. not (test q)) qs)
   none_fails [] = refl
@@ -60,15 +63,27 @@ module _ (a b : SolidSet) where
   word_apart apart k i few lt =
       let q = 64 * k + i
       in let here : has a q ≡ true → not (has b q) ≡ true = (all-each (λ q. not (has b q)) a).0 apart q (omega arith)
-      in none_shared _ _ (bit_at-lt (slice_index a.words k) i) (bit_at-lt (slice_index b.words k) i) (rw ((place k i lt).0, (place k i lt).1) at here)
+      in none_shared _ _ (bit_at-lt (slice_index a.words k) i) (bit_at-lt (slice_index b.words k) i)
+      (rw ((place k i lt).0, (place k i lt).1) at here)
 
   no_word : all_common < 2 ^ 64 → AreApart → all_common ≡ 0
   no_word small apart = same_from_bits_below 64 all_common 0 small (omega arith)
-      (λ i lt. some_shared i ∙ rw (word_apart apart 0 i (omega arith) lt, word_apart apart 1 i (omega arith) lt, word_apart apart 2 i (omega arith) lt, word_apart apart 3 i (omega arith) lt, bit_at-zero i) refl)
+      (λ i lt. some_shared i ∙ rw (
+        word_apart apart 0 i (omega arith) lt,
+        word_apart apart 1 i (omega arith) lt,
+        word_apart apart 2 i (omega arith) lt,
+        word_apart apart 3 i (omega arith) lt,
+        bit_at-zero i,
+      ) refl)
 
   are_apart : all_common ≡ 0 → AreApart
   are_apart none = (all-each (λ q. not (has b q)) a).1 (λ q lt there.
-      not_both _ _ (omega (arith, at_most (q / 64) (q % 64) (omega arith), ap (λ w. bit_at w (q % 64)) none, bit_at-zero (q % 64))) there)
+      not_both _ _ (omega (
+        arith,
+        at_most (q / 64) (q % 64) (omega arith),
+        ap (λ w. bit_at w (q % 64)) none,
+        bit_at-zero (q % 64),
+      )) there)
 
   pub meets_is : all_common < 2 ^ 64 → not (nat_eq all_common 0) ≡ list_any (has b) (solids a)
   meets_is small = step (list_all (λ q. not (has b q)) (solids a)) refl ∙ sym (no_void a (has b)) where
@@ -78,6 +93,7 @@ module _ (a b : SolidSet) where
     never : (x : Bool) → x ≡ false → x ≡ true → ⊥
     never x e f = grind arith
 
-    step : (x : Bool) → list_all (λ q. not (has b q)) (solids a) ≡ x → not (nat_eq all_common 0) ≡ not (list_all (λ q. not (has b q)) (solids a))
+    step : (x : Bool) → list_all (λ q. not (has b q)) (solids a) ≡ x → not (nat_eq all_common 0)
+        ≡ not (list_all (λ q. not (has b q)) (solids a))
     step true e = rw (e, no_word small e) refl
     step false e = rw e (some_word all_common (λ none. never _ e (are_apart none)))

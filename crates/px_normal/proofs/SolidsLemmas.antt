@@ -1,45 +1,62 @@
 -- All and some solids of a set.
-use Rattle.std.proofs.Common.{ℕ, suc, zero, ◌≡◌, ◌<◌, ◌↔◌, ◌==◌, ◌||◌, ◌&&◌, not, Bool, true, false, List, [], ◌∷◌, ◌++◌, refl, ap, ◌∙◌, arith, inl, inr}
+use Rattle.std.proofs.Common.{ℕ, suc, zero, ◌≡◌, ◌<◌, ◌↔◌, ◌==◌, ◌||◌, ◌&&◌, not, Bool, true, false, List, [], ◌∷◌}
+use Rattle.std.proofs.Common.{◌++◌, refl, ap, ◌∙◌, arith, inl, inr}
 use Rattle.std.specs.List.{list_all, list_any, filter}
 use Rattle.std.proofs.lemmas.Bool.{cases_eq}
 use Rattle.px_normal.specs.declared.set.SolidSet.{SolidSet}
 use Rattle.px_normal.specs.Sets.{has, empty, one, joined, below, solids}
 use Rattle.px_normal.proofs.BitsLemmas.{has-joined, has-one, has-empty, same_test, other_test}
 
-all_last : (P h : ℕ → Bool) (xs : List ℕ) (n : ℕ) → list_all P (filter h (xs ++ n ∷ [])) ≡ list_all P (filter h xs) && (not (h n) || P n)
+all_last : (P h : ℕ → Bool) (xs : List ℕ) (n : ℕ) → list_all P (filter h (xs ++ n ∷ [])) ≡ list_all P (filter h xs)
+    && (not (h n) || P n)
 all_last P h [] n = last (h n) refl where
   last : (b : Bool) → h n ≡ b → list_all P (filter h (n ∷ [])) ≡ not (h n) || P n
   last true e = grind arith
   last false e = grind arith
 all_last P h (x ∷ xs) n = step (h x) refl (all_last P h xs n) where
-  step : (b : Bool) → h x ≡ b → list_all P (filter h (xs ++ n ∷ [])) ≡ list_all P (filter h xs) && (not (h n) || P n) → list_all P (filter h (x ∷ (xs ++ n ∷ []))) ≡ list_all P (filter h (x ∷ xs)) && (not (h n) || P n)
+  step : (b : Bool) → h x ≡ b → list_all P (filter h (xs ++ n ∷ [])) ≡ list_all P (filter h xs) && (not (h n) || P n)
+      → list_all P (filter h (x ∷ (xs ++ n ∷ []))) ≡ list_all P (filter h (x ∷ xs)) && (not (h n) || P n)
   step true e ih = grind arith
   step false e ih = grind arith
 
-any_last : (P h : ℕ → Bool) (xs : List ℕ) (n : ℕ) → list_any P (filter h (xs ++ n ∷ [])) ≡ list_any P (filter h xs) || (h n && P n)
+any_last : (P h : ℕ → Bool) (xs : List ℕ) (n : ℕ) → list_any P (filter h (xs ++ n ∷ [])) ≡ list_any P (filter h xs)
+    || (h n && P n)
 any_last P h [] n = last (h n) refl where
   last : (b : Bool) → h n ≡ b → list_any P (filter h (n ∷ [])) ≡ h n && P n
   last true e = grind arith
   last false e = grind arith
 any_last P h (x ∷ xs) n = step (h x) refl (any_last P h xs n) where
-  step : (b : Bool) → h x ≡ b → list_any P (filter h (xs ++ n ∷ [])) ≡ list_any P (filter h xs) || (h n && P n) → list_any P (filter h (x ∷ (xs ++ n ∷ []))) ≡ list_any P (filter h (x ∷ xs)) || (h n && P n)
+  step : (b : Bool) → h x ≡ b → list_any P (filter h (xs ++ n ∷ [])) ≡ list_any P (filter h xs) || (h n && P n)
+      → list_any P (filter h (x ∷ (xs ++ n ∷ []))) ≡ list_any P (filter h (x ∷ xs)) || (h n && P n)
   step true e ih = grind arith
   step false e ih = grind arith
 
 -- the test of a join
 module _ (P h f g : ℕ → Bool) where
-  all_joined : (n : ℕ) → ((q : ℕ) → q < n → h q ≡ f q || g q) → list_all P (filter h (below n)) ≡ list_all P (filter f (below n)) && list_all P (filter g (below n))
+  all_joined : (n : ℕ) → ((q : ℕ) → q < n → h q ≡ f q || g q) → list_all P (filter h (below n))
+      ≡ list_all P (filter f (below n)) && list_all P (filter g (below n))
   all_joined zero e = refl
   all_joined (suc n) e =
-      all_last P h (below n) n ∙ rw (all_joined n (λ q lt. e q (omega arith)), e n (omega arith), all_last P f (below n) n, all_last P g (below n) n)
+      all_last P h (below n) n ∙ rw (
+        all_joined n (λ q lt. e q (omega arith)),
+        e n (omega arith),
+        all_last P f (below n) n,
+        all_last P g (below n) n,
+      )
       (mixed (list_all P (filter f (below n))) (list_all P (filter g (below n))) (f n) (g n) (P n)) where
         mixed : (a b f g p : Bool) → (a && b) && (not (f || g) || p) ≡ (a && (not f || p)) && (b && (not g || p))
         mixed a b f g p = grind arith
 
-  any_joined : (n : ℕ) → ((q : ℕ) → q < n → h q ≡ f q || g q) → list_any P (filter h (below n)) ≡ list_any P (filter f (below n)) || list_any P (filter g (below n))
+  any_joined : (n : ℕ) → ((q : ℕ) → q < n → h q ≡ f q || g q) → list_any P (filter h (below n))
+      ≡ list_any P (filter f (below n)) || list_any P (filter g (below n))
   any_joined zero e = refl
   any_joined (suc n) e =
-      any_last P h (below n) n ∙ rw (any_joined n (λ q lt. e q (omega arith)), e n (omega arith), any_last P f (below n) n, any_last P g (below n) n)
+      any_last P h (below n) n ∙ rw (
+        any_joined n (λ q lt. e q (omega arith)),
+        e n (omega arith),
+        any_last P f (below n) n,
+        any_last P g (below n) n,
+      )
       (mixed (list_any P (filter f (below n))) (list_any P (filter g (below n))) (f n) (g n) (P n)) where
         mixed : (a b f g p : Bool) → (a || b) || ((f || g) && p) ≡ (a || (f && p)) || (b || (g && p))
         mixed a b f g p = grind arith
@@ -80,7 +97,8 @@ module _ (P h : ℕ → Bool) where
       let both : list_all P (filter h (below n)) && (not (h n) || P n) ≡ true = rw (← all_last P h (below n) n) all
       in elim (cases_eq q n) [
         | inl last ↦ rw last (of_last (list_all P (filter h (below n))) (h n) (P n) both (rw last at there))
-        | inr before ↦ each_passes n (of_rest (list_all P (filter h (below n))) (not (h n) || P n) both) q (omega arith) there
+        | inr before ↦ each_passes n (of_rest (list_all P (filter h (below n))) (not (h n) || P n) both) q
+            (omega arith) there
       ] where
         of_last : (a b p : Bool) → a && (not b || p) ≡ true → b ≡ true → p ≡ true
         of_last a b p e f = grind arith
@@ -90,10 +108,11 @@ module _ (P h : ℕ → Bool) where
 
   all_pass : (n : ℕ) → ((q : ℕ) → q < n → h q ≡ true → P q ≡ true) → list_all P (filter h (below n)) ≡ true
   all_pass zero each = refl
-  all_pass (suc n) each = all_last P h (below n) n ∙ rw (all_pass n (λ q lt. each q (omega arith))) (last (h n) (P n) (each n (omega arith))) where
-    last : (b p : Bool) → (b ≡ true → p ≡ true) → true && (not b || p) ≡ true
-    last true p e = e refl
-    last false p e = refl
+  all_pass (suc n) each = all_last P h (below n) n
+      ∙ rw (all_pass n (λ q lt. each q (omega arith))) (last (h n) (P n) (each n (omega arith))) where
+        last : (b p : Bool) → (b ≡ true → p ≡ true) → true && (not b || p) ≡ true
+        last true p e = e refl
+        last false p e = refl
 
 module _ (P : ℕ → Bool) where
   pub all-each : (s : SolidSet) → (list_all P (solids s) ≡ true) ↔ ((q : ℕ) → q < 256 → has s q ≡ true → P q ≡ true)

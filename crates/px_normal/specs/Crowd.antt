@@ -2,7 +2,11 @@
 use Rattle.std.specs.Prelude.{ℕ, ◌||◌, Bool, true, false, List, [], ◌∷◌, ◌++◌, length, Option, Some, None, nat_lt, if◌then◌else◌}
 use Rattle.px_expr.specs.Tree.{Tree, leaf, join}
 use Rattle.px_expr.specs.declared.node.Op.{Op}
-use Rattle.px_expr.specs.declared.node.Op.TheVariants as o
+use Rattle.px_expr.specs.Combinations.{combination_of}
+use Rattle.px_expr.specs.declared.combination.Sense.{Sense}
+use Rattle.px_expr.specs.declared.combination.Sense.TheVariants.{Plain, Complement}
+use Rattle.px_expr.specs.declared.combination.Combination.{Combination}
+use Rattle.px_expr.specs.declared.combination.Combination.TheVariants.{Both, Either, EitherWay}
 use Rattle.px_normal.specs.declared.cell_box.CellBox.{CellBox}
 use Rattle.px_normal.specs.declared.product.Product.{Product}
 use Rattle.px_normal.specs.declared.step.Wanted.{Wanted}
@@ -21,18 +25,27 @@ of_either wanted = record {
   complement = wanted.products || wanted.complement;
 }
 
+-- of a side that is taken by its complement the two lists change over
+abbrev pub wanted_in : Sense → Wanted → Wanted
+wanted_in Plain wanted = wanted
+wanted_in Complement wanted = record { products = wanted.complement; complement = wanted.products }
+
 -- the lists of a left and of a right side that a node's lists are made of
+abbrev pub left_when : Combination → Wanted → Wanted
+left_when (Both first second) wanted = wanted_in first wanted
+left_when (Either first second) wanted = wanted_in first wanted
+left_when (EitherWay sense) wanted = of_either wanted
+
+abbrev pub right_when : Combination → Wanted → Wanted
+right_when (Both first second) wanted = wanted_in second wanted
+right_when (Either first second) wanted = wanted_in second wanted
+right_when (EitherWay sense) wanted = of_either wanted
+
 abbrev pub of_left : Op → Wanted → Wanted
-of_left o.Union wanted = wanted
-of_left o.Meet wanted = wanted
-of_left o.Minus wanted = wanted
-of_left o.Differ wanted = of_either wanted
+of_left op wanted = left_when (combination_of op) wanted
 
 abbrev pub of_right : Op → Wanted → Wanted
-of_right o.Union wanted = wanted
-of_right o.Meet wanted = wanted
-of_right o.Minus wanted = record { products = wanted.complement; complement = wanted.products }
-of_right o.Differ wanted = of_either wanted
+of_right op wanted = right_when (combination_of op) wanted
 
 abbrev pub where_wanted : Bool → List Product → List Product
 where_wanted wanted list = if wanted then list else []

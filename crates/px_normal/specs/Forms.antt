@@ -2,7 +2,11 @@
 use Rattle.std.specs.Prelude.{ℕ, ◌<◌, List, [], ◌∷◌, ◌++◌, map, length, flat_map}
 use Rattle.px_expr.specs.Tree.{Tree, leaf, join}
 use Rattle.px_expr.specs.declared.node.Op.{Op}
-use Rattle.px_expr.specs.declared.node.Op.TheVariants as o
+use Rattle.px_expr.specs.Combinations.{combination_of, complement_of, opposite}
+use Rattle.px_expr.specs.declared.combination.Sense.{Sense}
+use Rattle.px_expr.specs.declared.combination.Sense.TheVariants.{Plain, Complement}
+use Rattle.px_expr.specs.declared.combination.Combination.{Combination}
+use Rattle.px_expr.specs.declared.combination.Combination.TheVariants.{Both, Either, EitherWay}
 use Rattle.px_normal.specs.declared.product.Product.{Product}
 use Rattle.px_normal.specs.Sets.{empty, one, joined, solids, IsBelow}
 
@@ -25,36 +29,25 @@ pub record Forms : Type 0 where
   pub products : List Product
   pub complement : List Product
 
-abbrev pub united : Forms → Forms → Forms
-united x y = record {
-  products = x.products ++ y.products;
-  complement = crossed x.complement y.complement;
-}
+-- the products of a side in its sense: its own, or its complement's
+abbrev pub sum_in : Sense → Forms → List Product
+sum_in Plain side = side.products
+sum_in Complement side = side.complement
 
-abbrev pub met : Forms → Forms → Forms
-met x y = record {
-  products = crossed x.products y.products;
-  complement = x.complement ++ y.complement;
-}
-
-abbrev pub subtracted : Forms → Forms → Forms
-subtracted x y = record {
-  products = crossed x.products y.complement;
-  complement = x.complement ++ y.products;
-}
-
--- one side and not the other, either way round; for the complement both or neither
-abbrev pub differed : Forms → Forms → Forms
-differed x y = record {
-  products = crossed x.products y.complement ++ crossed x.complement y.products;
-  complement = crossed x.products y.products ++ crossed x.complement y.complement;
-}
+-- where both sides are needed, each product of the one with each of the other; of either, those
+-- of the one and then those of the other; either way, the left side's with those of the right one
+-- in its sense, and then those of the left side's complement with the right one's others
+abbrev pub sum_when : Combination → Forms → Forms → List Product
+sum_when (Both first second) x y = crossed (sum_in first x) (sum_in second y)
+sum_when (Either first second) x y = sum_in first x ++ sum_in second y
+sum_when (EitherWay sense) x y =
+    crossed x.products (sum_in sense y) ++ crossed x.complement (sum_in (opposite sense) y)
 
 abbrev pub combined : Op → Forms → Forms → Forms
-combined o.Union x y = united x y
-combined o.Meet x y = met x y
-combined o.Minus x y = subtracted x y
-combined o.Differ x y = differed x y
+combined op x y = record {
+  products = sum_when (combination_of op) x y;
+  complement = sum_when (complement_of (combination_of op)) x y;
+}
 
 abbrev pub forms : Tree → Forms
 forms (leaf solid) = record {

@@ -3,11 +3,11 @@ ghost use Rattle.std.specs.Prelude.{◌≡◌, ◌≤◌, ◌+◌, ◌*◌, leng
 ghost use Rattle.arrayvec.specs.ArrayVec.{array_vec_len};
 ghost use Rattle.px_expr.specs.Shapes.{joined, put, CanPlace};
 ghost use Rattle.px_normal.specs.Counting.{capped};
-ghost use Rattle.px_normal.specs.FormCounts.{leaf_counts, combined_counts};
+ghost use Rattle.px_normal.specs.FormCounts.{leaf_counts, combined_counts, count_in, count_when};
 ghost use Rattle.px_normal.specs.Forms.{sum_of_products};
 
 use arrayvec::ArrayVec;
-use px_expr::{Expr, Op, Shape};
+use px_expr::{Combination, Expr, MAX_WAITING, Op, Sense, Shape};
 
 /// How many products an expression and its complement have, each at most `2^32`.
 #[derive(Clone, Copy, Debug, Default, PartialEq, Eq)]
@@ -20,7 +20,7 @@ struct Counts {
 pub fn count_products(expr: &Expr) -> u64
     ensures { result ≡ capped (length (sum_of_products expr.now)) }
 {
-    let mut stack = ArrayVec::<Counts, 65>::new();
+    let mut stack = ArrayVec::<Counts, MAX_WAITING>::new();
     for node in expr.nodes() {
         count(&mut stack, node.shape());
     }
@@ -28,7 +28,7 @@ pub fn count_products(expr: &Expr) -> u64
 }
 
 /// Puts the counts of a shape down, in place of its sides' where it has them.
-fn count(stack: &mut ArrayVec<Counts, 65>, shape: Shape)
+fn count(stack: &mut ArrayVec<Counts, MAX_WAITING>, shape: Shape)
     requires { CanPlace (array_vec_len stack.old) shape }
     ensures { reverse stack.new.items
         ≡ put leaf_counts combined_counts (reverse stack.old.items) shape }
@@ -43,9 +43,9 @@ fn count(stack: &mut ArrayVec<Counts, 65>, shape: Shape)
 }
 
 /// The last two become one.
-fn combine(stack: &mut ArrayVec<Counts, 65>, op: Op)
+fn combine(stack: &mut ArrayVec<Counts, MAX_WAITING>, op: Op)
     requires two { 2 ≤ array_vec_len stack.old }
-    requires few { array_vec_len stack.old ≤ 65 }
+    requires few { array_vec_len stack.old ≤ MAX_WAITING }
     ensures { reverse stack.new.items ≡ joined combined_counts op (reverse stack.old.items) }
 {
     let right = stack.pop().unwrap();
@@ -57,33 +57,41 @@ fn combine(stack: &mut ArrayVec<Counts, 65>, op: Op)
 fn combined(op: Op, left: &Counts, right: &Counts) -> Counts
     ensures { result ≡ combined_counts op left.now right.now }
 {
-    match op {
-        Op::Union => Counts {
-            products: capped_sum(left.products, right.products),
-            complement: capped_product(left.complement, right.complement),
-        },
-        Op::Meet => Counts {
-            products: capped_product(left.products, right.products),
-            complement: capped_sum(left.complement, right.complement),
-        },
-        Op::Minus => Counts {
-            products: capped_product(left.products, right.complement),
-            complement: capped_sum(left.complement, right.products),
-        },
-        Op::Differ => Counts {
-            products: capped_two(
-                left.products,
-                right.complement,
-                left.complement,
-                right.products,
-            ),
-            complement: capped_two(
-                left.products,
-                right.products,
-                left.complement,
-                right.complement,
-            ),
-        },
+    let combination = op.combination();
+    Counts {
+        products: counted(combination, left, right),
+        complement: counted(combination.complement(), left, right),
+    }
+}
+
+/// How many products a combination makes of those of two sides.
+fn counted(combination: Combination, left: &Counts, right: &Counts) -> u64
+    ensures { result ≡ count_when combination left.now right.now }
+{
+    match combination {
+        Combination::Both(first, second) => {
+            capped_product(left.in_sense(first), right.in_sense(second))
+        }
+        Combination::Either(first, second) => {
+            capped_sum(left.in_sense(first), right.in_sense(second))
+        }
+        Combination::EitherWay(sense) => capped_two(
+            left.products,
+            right.in_sense(sense),
+            left.complement,
+            right.in_sense(sense.opposite()),
+        ),
+    }
+}
+
+impl Counts {
+    fn in_sense(&self, sense: Sense) -> u64
+        ensures { result ≡ count_in sense self.now }
+    {
+        match sense {
+            Sense::Plain => self.products,
+            Sense::Complement => self.complement,
+        }
     }
 }
 

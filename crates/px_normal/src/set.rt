@@ -1,5 +1,5 @@
 //! Sets of solids.
-ghost use Rattle.std.specs.Prelude.{◌≡◌, ◌<◌, ◌||◌, ◌==◌, ◌^◌, ℕ, false, not, nat_eq};
+ghost use Rattle.std.specs.Prelude.{◌≡◌, ◌<◌, ◌≤◌, ◌||◌, ◌==◌, ◌^◌, ℕ, false, not, nat_eq};
 ghost use Rattle.std.specs.List.{list_any};
 ghost use Rattle.px_normal.specs.Sets.{has, empty, one, joined, solids};
 ghost use Rattle.px_normal.specs.SetLaws.{LawsOfSets};
@@ -54,12 +54,29 @@ impl SolidSet {
         ensures { result.items ≡ solids self.now }
     {
         let mut list = ArrayVec::new();
-        for solid in 0..=u8::MAX {
-            if self.has(solid) {
-                list.push(solid);
+        for solid in 0..self.end() {
+            if self.has(solid as u8) {
+                list.push(solid as u8);
             }
         }
         list
+    }
+
+    /// One more than the greatest solid of the set, or 0.
+    fn end(&self) -> usize
+        ensures most { result ≤ 256 }
+        ensures past { (q : ℕ) → q < 256 → result ≤ q → has self.now q ≡ false }
+    {
+        let [a, b, c, d] = self.words;
+        if d != 0 {
+            192 + used_bits(d)
+        } else if c != 0 {
+            128 + used_bits(c)
+        } else if b != 0 {
+            64 + used_bits(b)
+        } else {
+            used_bits(a)
+        }
     }
 
     /// No solid.
@@ -77,6 +94,14 @@ impl SolidSet {
         words[usize::from(solid / 64)] = 1 << (solid % 64);
         SolidSet { words }
     }
+}
+
+/// The bits of a word up to its highest 1.
+fn used_bits(word: u64) -> usize
+    ensures most { result ≤ 64 }
+    ensures past { word < 2 ^ result }
+{
+    (u64::BITS - word.leading_zeros()) as usize
 }
 
 /// Whether a word has a bit: its range, which sets of numbers do not show, is told besides.

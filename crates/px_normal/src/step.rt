@@ -1,9 +1,9 @@
 //! The steps that make the live products of an expression.
 ghost use Rattle.std.specs.Prelude.{◌≡◌, ◌++◌, reverse, IfOk, OnOk};
-ghost use Rattle.px_normal.specs.Crowd.{of_root, of_either, of_left, of_right};
+ghost use Rattle.px_normal.specs.Crowd.{of_root, of_either, wanted_in, left_when, right_when};
 ghost use Rattle.px_normal.specs.Building.{steps_of, shape_step, sides_wanted};
 
-use px_expr::{Expr, Op, Shape};
+use px_expr::{Combination, Expr, Op, Sense, Shape};
 use std::alloc::{AllocError, Global};
 
 /// Which lists of a node are wanted: its products, and those of its complement.
@@ -41,27 +41,37 @@ impl Wanted {
         }
     }
 
-    /// What a node's lists take of its left side.
-    fn of_left(self, op: Op) -> Wanted
-        ensures { result ≡ of_left op self }
+    /// What is wanted of a side in a sense: of one that is taken by its complement the lists change
+    /// over.
+    fn in_sense(self, sense: Sense) -> Wanted
+        ensures { result ≡ wanted_in sense self }
     {
-        match op {
-            Op::Union | Op::Meet | Op::Minus => self,
-            Op::Differ => self.of_either(),
-        }
-    }
-
-    /// What a node's lists take of its right side: what is subtracted changes its lists over.
-    fn of_right(self, op: Op) -> Wanted
-        ensures { result ≡ of_right op self }
-    {
-        match op {
-            Op::Union | Op::Meet => self,
-            Op::Minus => Wanted {
+        match sense {
+            Sense::Plain => self,
+            Sense::Complement => Wanted {
                 products: self.complement,
                 complement: self.products,
             },
-            Op::Differ => self.of_either(),
+        }
+    }
+
+    /// What a node's lists take of its left side.
+    fn of_left(self, combination: Combination) -> Wanted
+        ensures { result ≡ left_when combination self }
+    {
+        match combination {
+            Combination::Both(first, _) | Combination::Either(first, _) => self.in_sense(first),
+            Combination::EitherWay(_) => self.of_either(),
+        }
+    }
+
+    /// What a node's lists take of its right side.
+    fn of_right(self, combination: Combination) -> Wanted
+        ensures { result ≡ right_when combination self }
+    {
+        match combination {
+            Combination::Both(_, second) | Combination::Either(_, second) => self.in_sense(second),
+            Combination::EitherWay(_) => self.of_either(),
         }
     }
 }
@@ -106,7 +116,8 @@ fn want_sides(stack: &mut Vec<Wanted>, shape: Shape, wanted: Wanted) -> Result<(
     match shape {
         Shape::Leaf(_) => Ok(()),
         Shape::Join(op, ..) => {
-            stack.extend_from_slice(&[wanted.of_left(op), wanted.of_right(op)])
+            let combination = op.combination();
+            stack.extend_from_slice(&[wanted.of_left(combination), wanted.of_right(combination)])
         }
     }
 }

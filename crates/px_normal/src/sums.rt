@@ -1,15 +1,15 @@
 //! The live products of a node and of its complement.
 ghost use Rattle.std.specs.Prelude.{◌≡◌, ◌<◌, ◌≤◌, ◌^◌, ◌∷◌, ◌++◌, [], ℕ, Some, None, filter, length, reverse, vec_len, OnOk, OnErr, IfOk};
 ghost use Rattle.px_expr.specs.Tree.{leaf};
-ghost use Rattle.px_normal.specs.Forms.{forms, combined, crossed};
-ghost use Rattle.px_normal.specs.Live.{boxes_in, is_live, live};
+ghost use Rattle.px_normal.specs.Forms.{forms, combined, crossed, sum_in, sum_when};
+ghost use Rattle.px_normal.specs.Live.{boxes_in, is_live};
 ghost use Rattle.px_normal.specs.Crowd.{both_lists, first_past_limit, wanted_forms, where_wanted};
 ghost use Rattle.px_normal.specs.Building.{built, newest_lists, CanBuild};
 
 use crate::live::{count_crossed, count_live, is_live, push_crossed, push_live};
 use crate::step::{Step, Wanted};
 use crate::{CellBox, MAX_PRODUCTS, NormalFault, Product};
-use px_expr::Op;
+use px_expr::{Combination, Op, Sense};
 use std::alloc::{AllocError, Global};
 use std::marker::Model;
 
@@ -113,6 +113,17 @@ impl Sums {
         self.complement.as_slice()
     }
 
+    /// The products of a side in its sense.
+    fn in_sense(&self, sense: Sense) -> &[Product]
+        ensures list { result.now ≡ sum_in sense self.now }
+        ensures few { length result.now ≤ MAX_PRODUCTS }
+    {
+        match sense {
+            Sense::Plain => self.products(),
+            Sense::Complement => self.complement(),
+        }
+    }
+
     /// The lists of a solid.
     fn of_solid(
         alloc: Global,
@@ -148,9 +159,11 @@ impl Sums {
             (wanted_forms (boxes_in boxes.now) wanted (combined op left.now right.now)))
             ≡ Some count }
     {
+        let own = op.combination();
+        let others = own.complement();
         Ok(Sums {
-            products: products_of(alloc, boxes, op, wanted.products, left, right)?,
-            complement: complement_of(alloc, boxes, op, wanted.complement, left, right)?,
+            products: list_of(alloc, boxes, own, wanted.products, left, right)?,
+            complement: list_of(alloc, boxes, others, wanted.complement, left, right)?,
         })
     }
 }
@@ -173,59 +186,41 @@ fn one_live(
     Ok(list)
 }
 
-/// The live products of a node, where they are wanted.
-fn products_of(
+/// The live products that a combination makes of those of two sides, where they are wanted.
+fn list_of(
     alloc: Global,
     boxes: &[Option<CellBox>],
-    op: Op,
+    combination: Combination,
     wanted: bool,
     left: &Sums,
     right: &Sums,
 ) -> Result<Vec<Product>, NormalFault>
     ensures list { IfOk result (λ list. list.items ≡ where_wanted wanted
-        (live (boxes_in boxes.now) (combined op left.now right.now)).products) }
+        (filter (is_live (boxes_in boxes.now)) (sum_when combination left.now right.now))) }
     ensures few { IfOk result (λ list. length list.items ≤ MAX_PRODUCTS) }
     ensures small { (count : ℕ) → result ≡ Err (NormalFault.TooMany count) → count ≤ 2 ^ 21 }
     ensures many { (count : ℕ) → result ≡ Err (NormalFault.TooMany count) → first_past_limit
-        (where_wanted wanted (live (boxes_in boxes.now) (combined op left.now right.now)).products
+        (where_wanted wanted
+        (filter (is_live (boxes_in boxes.now)) (sum_when combination left.now right.now))
         ∷ []) ≡ Some count }
 {
     if !wanted {
         return Ok(Vec::new(alloc));
     }
-    match op {
-        Op::Union => either(alloc, boxes, left.products(), right.products()),
-        Op::Meet => both(alloc, boxes, left.products(), right.products()),
-        Op::Minus => both(alloc, boxes, left.products(), right.complement()),
-        Op::Differ => either_way(alloc, boxes, left, right.complement(), right.products()),
-    }
-}
-
-/// The live products of a node's complement, where they are wanted.
-fn complement_of(
-    alloc: Global,
-    boxes: &[Option<CellBox>],
-    op: Op,
-    wanted: bool,
-    left: &Sums,
-    right: &Sums,
-) -> Result<Vec<Product>, NormalFault>
-    ensures list { IfOk result (λ list. list.items ≡ where_wanted wanted
-        (live (boxes_in boxes.now) (combined op left.now right.now)).complement) }
-    ensures few { IfOk result (λ list. length list.items ≤ MAX_PRODUCTS) }
-    ensures small { (count : ℕ) → result ≡ Err (NormalFault.TooMany count) → count ≤ 2 ^ 21 }
-    ensures many { (count : ℕ) → result ≡ Err (NormalFault.TooMany count) → first_past_limit
-        (where_wanted wanted (live (boxes_in boxes.now) (combined op left.now right.now)).complement
-        ∷ []) ≡ Some count }
-{
-    if !wanted {
-        return Ok(Vec::new(alloc));
-    }
-    match op {
-        Op::Union => both(alloc, boxes, left.complement(), right.complement()),
-        Op::Meet => either(alloc, boxes, left.complement(), right.complement()),
-        Op::Minus => either(alloc, boxes, left.complement(), right.products()),
-        Op::Differ => either_way(alloc, boxes, left, right.products(), right.complement()),
+    match combination {
+        Combination::Both(first, second) => {
+            both(alloc, boxes, left.in_sense(first), right.in_sense(second))
+        }
+        Combination::Either(first, second) => {
+            either(alloc, boxes, left.in_sense(first), right.in_sense(second))
+        }
+        Combination::EitherWay(sense) => either_way(
+            alloc,
+            boxes,
+            left,
+            right.in_sense(sense),
+            right.in_sense(sense.opposite()),
+        ),
     }
 }
 

@@ -8,12 +8,14 @@ use Rattle.px_normal.proofs.CountingLemmas.{counts_join}
 use Rattle.px_normal.proofs.count.count_products.Goals as goal
 
 pub count-requires : goal.count-requires
-count-requires c = rw (c.shape.ensures, values_length counts_of _ _ c.loop-node.invariant) (c.nodes-node-items.ensures.places _ _ c.loop-node-test.true)
+count-requires c = rw (c.shape.ensures, values_length counts_of _ _ c.loop-node.invariant)
+    (c.nodes-node-items.ensures.places _ _ c.loop-node-test.true)
 
 pub loop-node-preserved : goal.loop-node-preserved
 loop-node-preserved c =
     values_more counts_of leaf_counts combined_counts (λ solid. refl) counts_join _ _ (n.Leaf 0) _ _
-    c.loop-node-test.true c.loop-node.invariant (c.count.ensures ∙ ap (put leaf_counts combined_counts _) c.shape.ensures)
+    c.loop-node-test.true c.loop-node.invariant (c.count.ensures
+    ∙ ap (put leaf_counts combined_counts _) c.shape.ensures)
 
 pub unwrap-requires : goal.unwrap-requires
 unwrap-requires c =
@@ -22,4 +24,5 @@ unwrap-requires c =
 
 pub returns : goal.returns
 returns c =
-    ap (λ counts. counts.products) (value_popped _ _ _ _ _ (values_last _ _ _ _ _ c.loop-node-test.false c.nodes-node-items.ensures.tree c.loop-node.invariant) c.pop.ensures.items c.unwrap.ensures)
+    ap (λ counts. counts.products) (value_popped _ _ _ _ _ (values_last _ _ _ _ _ c.loop-node-test.false
+    c.nodes-node-items.ensures.tree c.loop-node.invariant) c.pop.ensures.items c.unwrap.ensures)

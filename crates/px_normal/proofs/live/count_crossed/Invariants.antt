@@ -8,6 +8,7 @@ use Rattle.px_normal.specs.declared.product.TheConstants.{MAX_PRODUCTS}
 
 abbrev pub invariant-loop-p : goal.invariant-loop-p
 invariant-loop-p l = record {
-  count : l.count ≡ length (filter (is_live (boxes_in l.boxes)) (crossed (take l.p-index l.first) (products_in l.second.items)));
+  count : l.count
+      ≡ length (filter (is_live (boxes_in l.boxes)) (crossed (take l.p-index l.first) (products_in l.second.items)));
   most : l.count ≤ MAX_PRODUCTS * l.p-index;
 }

@@ -7,6 +7,7 @@ use Rattle.px_normal.proofs.live.count_with.Given as goal
 
 abbrev pub invariant-loop-q : goal.invariant-loop-q
 invariant-loop-q l = record {
-  count : l.count ≡ length (filter (is_live (boxes_in l.boxes)) (map (both l.p.product) (products_in (take l.q-index l.second))));
+  count : l.count
+      ≡ length (filter (is_live (boxes_in l.boxes)) (map (both l.p.product) (products_in (take l.q-index l.second))));
   most : l.count ≤ l.q-index;
 }

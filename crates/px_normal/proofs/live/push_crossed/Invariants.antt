@@ -6,4 +6,5 @@ use Rattle.px_normal.specs.Boxed.{products_in}
 use Rattle.px_normal.proofs.live.push_crossed.Given as goal
 
 abbrev pub invariant-loop-p : goal.invariant-loop-p
-invariant-loop-p l = l.list.items ≡ l.initial.list.items ++ filter (is_live (boxes_in l.boxes)) (crossed (take l.p-index l.first) (products_in l.second.items))
+invariant-loop-p l = l.list.items ≡ l.initial.list.items ++ filter (is_live (boxes_in l.boxes))
+    (crossed (take l.p-index l.first) (products_in l.second.items))

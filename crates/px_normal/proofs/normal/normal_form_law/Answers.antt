@@ -9,4 +9,6 @@ pub returns-clause-plain : goal.returns-clause-plain
 returns-clause-plain c = All-filter _ HasPlain _ (c.laws_of_normal_forms.ensures.plain _ c.nodes.ensures.lawful.solids)
 
 pub returns-clause-known : goal.returns-clause-known
-returns-clause-known c count below = All-filter _ (HasSolidsBelow count) _ (c.laws_of_normal_forms.ensures.known count _ c.nodes.ensures.lawful.solids below)
+returns-clause-known c count below =
+    All-filter _ (HasSolidsBelow count) _ (c.laws_of_normal_forms.ensures.known count _
+    c.nodes.ensures.lawful.solids below)

@@ -9,9 +9,12 @@ use Rattle.px_normal.specs.Building.{walked, steps_of}
 use Rattle.px_normal.proofs.BuildingLemmas.{walked_all}
 use Rattle.px_normal.proofs.step.steps.Goals as goal
 
-started : (nodes : List Node) (tree : Tree) (before wanted : List Wanted) (first : Wanted) (known : List Step) → before ≡ [] → wanted ≡ before ++ first ∷ [] → first ≡ of_root → known ≡ [] → nodes ≡ nodes_of tree
+started : (nodes : List Node) (tree : Tree) (before wanted : List Wanted) (first : Wanted) (known : List Step)
+    → before ≡ [] → wanted ≡ before ++ first ∷ [] → first ≡ of_root → known ≡ [] → nodes ≡ nodes_of tree
     → walked (reverse nodes) (reverse wanted) (reverse known) ≡ steps_of of_root tree
-started nodes tree before wanted first known none one root unknown is = rw (one, none, root, unknown) (walked_all nodes tree is)
+started nodes tree before wanted first known none one root unknown is =
+    rw (one, none, root, unknown) (walked_all nodes tree is)
 
 pub loop-node-init : goal.loop-node-init
-loop-node-init c = started _ c.args.expr.now _ _ _ _ c.new-wanted.ensures.items c.in_ok-push.ensures.items c.of_root.ensures c.new-steps.ensures.items c.nodes-rest.ensures.nodes
+loop-node-init c = started _ c.args.expr.now _ _ _ _ c.new-wanted.ensures.items c.in_ok-push.ensures.items
+    c.of_root.ensures c.new-steps.ensures.items c.nodes-rest.ensures.nodes
