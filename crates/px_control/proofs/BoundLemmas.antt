@@ -1,5 +1,7 @@
 -- A scene of few products takes less than 2 ^ 43 clocks, and at least one for each operation.
-use Rattle.std.proofs.Common.{◌≡◌, ℕ, suc, zero, ◌+◌, ◌-◌, ◌*◌, ◌^◌, ◌==◌, ◌<◌, ◌≤◌, Bool, true, false, not, cond, List, [], ◌∷◌, ◌++◌, Option, Some, None, length, map, drop, get_or, refl, ap, sym, ◌∙◌, arith}
+use Rattle.std.proofs.Common.{◌≡◌, ℕ, suc, zero, ◌+◌, ◌-◌, ◌*◌, ◌^◌, ◌==◌, ◌<◌, ◌≤◌, Bool, true, false, not, cond}
+use Rattle.std.proofs.Common.{List, [], ◌∷◌, ◌++◌, Option, Some, None, length, map, drop, get_or, refl, ap, sym, ◌∙◌}
+use Rattle.std.proofs.Common.{arith}
 use Rattle.std.specs.List.{All, filter, filter_map, flat_map, list_any, range_with_len, sum_by}
 use Rattle.std.proofs.lemmas.Bool.Decides.{nat_tests}
 use Rattle.std.proofs.lemmas.List.FromFn.{length-range_with_len}
@@ -12,7 +14,8 @@ use Rattle.px_face.specs.Edges.{edges}
 use Rattle.px_face.specs.Faces.{face_count, plane_of}
 use Rattle.px_macro.specs.declared.operation.Macro.{Macro}
 use Rattle.px_macro.specs.declared.operation.Macro.TheVariants as m
-use Rattle.px_expr.specs.Tree.{HasLeavesBelow, Tree, join, leaf}
+use Rattle.px_expr.specs.Tree.{HasLeavesBelow, Tree}
+use Rattle.px_expr.proofs.LeafLaws.{leaves_below}
 use Rattle.px_normal.specs.declared.product.Product.{Product}
 use Rattle.px_normal.specs.Forms.{HasSolidsBelow, sum_of_products}
 use Rattle.px_prune.specs.Bounding.{bounding_box}
@@ -24,12 +27,18 @@ use Rattle.px_model.specs.Scenes.{IsLawfulScene, SceneView, faces_of}
 use Rattle.px_model.specs.Solids.{IsLawfulSolid, SolidView, faces_in}
 use Rattle.px_sched.specs.declared.literal.Literal.{Literal}
 use Rattle.px_sched.specs.Layouts.{layout_with}
-use Rattle.px_sched.specs.Passes.{candidate, candidate_faces, confirm, drop_behind, literal_passes, literals, merge, no_solid, others, passes, passes_with, solid_of, turn}
+use Rattle.px_sched.specs.Passes.{candidate, candidate_faces, confirm, drop_behind, literal_passes, literals, merge}
+use Rattle.px_sched.specs.Passes.{no_solid, others, passes, passes_with, solid_of, turn}
 use Rattle.px_control.specs.declared.costs.Costs.{Costs}
 use Rattle.px_control.specs.declared.costs.Lengths.{Lengths}
-use Rattle.px_control.specs.Costs.{AreShort, clearing, confirming, cost_of, lengths_of, own_passes, passes_against, plus, product_passes, share, times}
+use Rattle.px_control.specs.Costs.{AreShort, clearing, confirming, cost_of, lengths_of, own_passes, passes_against}
+use Rattle.px_control.specs.Costs.{plus, product_passes, share, times}
 use Rattle.px_control.specs.Program.{columns_of, program, rows_of, total}
-use Rattle.px_control.proofs.CostLemmas.{barred_costs, candidate_costs, candidate_more, candidate_weight, classify_costs, clocked, clocks_on, counted, covered_costs, drop_costs, drop_weight, five, flat_weight, layout_of_lengths, no_clearing, not_confirmed, number_few, one, ones, own_costs, own_more, plain_costs, some_clearing, turn_costs, turn_more, turn_weight}
+use Rattle.px_control.proofs.CostLemmas.{barred_costs, candidate_costs, candidate_more, candidate_weight}
+use Rattle.px_control.proofs.CostLemmas.{classify_costs, clocked, clocks_on, counted, covered_costs, drop_costs}
+use Rattle.px_control.proofs.CostLemmas.{drop_weight, five, flat_weight, layout_of_lengths, no_clearing}
+use Rattle.px_control.proofs.CostLemmas.{not_confirmed, number_few, one, ones, own_costs, own_more, plain_costs}
+use Rattle.px_control.proofs.CostLemmas.{some_clearing, turn_costs, turn_more, turn_weight}
 use Rattle.px_control.proofs.GridLemmas.{exponent_between}
 use Rattle.px_control.proofs.ProductLemmas.{literal_weight, literals_length, passes_weight, product_costs, solids_range}
 use Rattle.px_normal.specs.declared.product.TheConstants.{MAX_PRODUCTS}
@@ -45,11 +54,6 @@ kept_option {B = B} f (x ∷ xs) = step (f x) refl (kept_option f xs) where
 
 pub kept_few : (scene : SceneView) (products : List Product) → length (kept_of scene products) ≤ length products
 kept_few scene products = kept_option (pruned (bounding_box scene)) products
-
-leaves_below : (count more : ℕ) → count ≤ more → (tree : Tree) → HasLeavesBelow count tree → HasLeavesBelow more tree
-leaves_below count more low (leaf solid) known = omega arith
-leaves_below count more low (join op left right) known =
-    (leaves_below count more low left known.0, leaves_below count more low right known.1)
 
 -- what the lower crates know of the solids of products
 pub record AreKnown : Type 0 where
@@ -210,7 +214,8 @@ module _ (lengths : Lengths) (d : Depths) (s : SolidView) where
         )
 
 -- what the solids of a product add is at most what all solids do
-drop_less : (w : SolidView → ℕ) (ss : List SolidView) (from : ℕ) → sum_by w (drop (suc from) ss) ≤ sum_by w (drop from ss)
+drop_less : (w : SolidView → ℕ) (ss : List SolidView) (from : ℕ) → sum_by w (drop (suc from) ss)
+    ≤ sum_by w (drop from ss)
 drop_less w [] zero = omega arith
 drop_less w [] (suc from) = omega arith
 drop_less w (s ∷ ss) zero = omega (arith, sum_by-cons w s ss)
@@ -362,7 +367,8 @@ module _ (scene : SceneView) (lawful : IsLawfulScene scene) (each : All IsLawful
       )
 
 -- at least a clock for each operation
-module _ (lengths : Lengths) (some : 1 ≤ lengths.depth) (scene : SceneView) (same : scene.fraction_bits ≡ lengths.fraction) where
+module _ (lengths : Lengths) (some : 1 ≤ lengths.depth) (scene : SceneView) (same : scene.fraction_bits
+    ≡ lengths.fraction) where
   abbrev Pays : List Macro → Type 0
   Pays ms = sum_by one ms ≤ sum_by (clocks_on lengths) ms
 
@@ -491,7 +497,8 @@ module _ (lengths : Lengths) (some : 1 ≤ lengths.depth) (scene : SceneView) (s
         pays_own (solid_of scene q.solid) q.plain,
         sum_by-le-sum_by
             (λ r. sum_by one (passes_against lengths (end_of (depths_of scene)) (solid_of scene r.solid) r.plain))
-            (λ r. sum_by (clocks_on lengths) (passes_against lengths (end_of (depths_of scene)) (solid_of scene r.solid) r.plain))
+            (λ r. sum_by (clocks_on lengths) (passes_against lengths (end_of (depths_of scene))
+            (solid_of scene r.solid) r.plain))
             (others q product)
             (λ r. pays_against (solid_of scene r.solid) r.plain),
       )
@@ -507,7 +514,8 @@ module _ (lengths : Lengths) (some : 1 ≤ lengths.depth) (scene : SceneView) (s
             (λ product. sum_by one (product_passes lengths scene product))
             (λ product. sum_by (clocks_on lengths) (product_passes lengths scene product))
             products
-            (λ product. pays_flat (literal_passes scene (layout_with lengths.depth lengths.fraction lengths.number) product)
+            (λ product. pays_flat (literal_passes scene (layout_with lengths.depth lengths.fraction lengths.number)
+            product)
             (pays_literal product) (literals product)),
       )
 

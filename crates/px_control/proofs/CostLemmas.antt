@@ -1,5 +1,7 @@
 -- What the passes of faces and literals cost, as sums over their operations.
-use Rattle.std.proofs.Common.{◌≡◌, ◌≢◌, ℕ, suc, zero, ◌+◌, ◌-◌, ◌*◌, ◌<◌, ◌≤◌, ◌^◌, ◌==◌, Bool, true, false, not, nat_le, if◌then◌else◌, List, [], ◌∷◌, ◌++◌, length, map, get_or, refl, ap, sym, ◌∙◌, arith}
+use Rattle.std.proofs.Common.{◌≡◌, ◌≢◌, ℕ, suc, zero, ◌+◌, ◌-◌, ◌*◌, ◌<◌, ◌≤◌, ◌^◌, ◌==◌, Bool, true, false, not}
+use Rattle.std.proofs.Common.{nat_le, if◌then◌else◌, List, [], ◌∷◌, ◌++◌, length, map, get_or, refl, ap, sym, ◌∙◌}
+use Rattle.std.proofs.Common.{arith}
 use Rattle.std.specs.List.{count_by, flat_map, range_with_len, sum_by}
 use Rattle.std.proofs.lemmas.Bool.Decides.{nat_tests}
 use Rattle.std.proofs.lemmas.List.{length-append, length-drop, length-map, length-take}
@@ -20,7 +22,8 @@ use Rattle.px_model.specs.declared.solid.Face.{Face}
 use Rattle.px_model.specs.Scenes.{SceneView}
 use Rattle.px_model.specs.Solids.{SolidView}
 use Rattle.px_sched.specs.Layouts.{LayoutView, bit_length, deep_part, fraction_part, layout_with, number_part}
-use Rattle.px_sched.specs.Passes.{candidate, candidate_faces, classify, confirm, drop_behind, keep_covered, merge, passes_with, turn}
+use Rattle.px_sched.specs.Passes.{candidate, candidate_faces, classify, confirm, drop_behind, keep_covered, merge}
+use Rattle.px_sched.specs.Passes.{passes_with, turn}
 use Rattle.px_control.specs.declared.costs.Costs.{Costs}
 use Rattle.px_control.specs.declared.costs.Lengths.{Lengths}
 use Rattle.px_control.specs.Costs.{IsAtMost, clearing, confirming, cost_of, own_passes, plus, times}
@@ -43,7 +46,8 @@ fronts_length : (fronts : List Face) → length (front_planes fronts) ≡ length
 fronts_length fronts = omega (arith, length-map fronts (λ f. f.plane))
 
 backs_length : (backs : List Face) (far : ℕ) → length (back_planes backs far) ≡ length backs + 1
-backs_length backs far = omega (arith, length-map backs (λ f. f.plane), length-append (planes_of backs) (level far ∷ []))
+backs_length backs far =
+    omega (arith, length-map backs (λ f. f.plane), length-append (planes_of backs) (level far ∷ []))
 
 front_edges_length : (s : SolidView) (far i : ℕ) → i ≤ length s.fronts →
     length (front_edges s far i) + 1 ≡ length s.sides + face_count s
@@ -134,7 +138,8 @@ module _ (w : Macro → ℕ) where
       = omega (arith, edges_length s far face there)
       in signs_weight sign each (edges s far face) ∙ ap (λ n. n * sign) count
 
-  pub turn_weight : (lengths : Lengths) (end : ℕ) (s : SolidView) (face : ℕ) (form : Linear) → let l = layout_of_lengths lengths in
+  pub turn_weight : (lengths : Lengths) (end : ℕ) (s : SolidView) (face : ℕ) (form : Linear) → let l =
+      layout_of_lengths lengths in
       sum_by w (turn l end s face form)
       ≡ sum_by w (keep_covered end s face)
       + (w m.All + w (m.KeepBit l.alive true) + w (m.KeepAtMost form (deep_part l l.key_t))
@@ -162,7 +167,8 @@ module _ (w : Macro → ℕ) where
         sum_by-append w (m.All ∷ m.KeepBit l.alive true ∷ []) (keep_covered end s face),
       )
 
-  pub candidate_weight : (lengths : Lengths) (d : Depths) (s : SolidView) (face : ℕ) → let l = layout_of_lengths lengths in
+  pub candidate_weight : (lengths : Lengths) (d : Depths) (s : SolidView) (face : ℕ) → let l =
+      layout_of_lengths lengths in
       sum_by w (candidate l d s face)
       ≡ sum_by w (keep_covered (end_of d) s face) + sum_by w (clearing lengths d)
       + (w m.All
@@ -170,7 +176,8 @@ module _ (w : Macro → ℕ) where
       + w (m.LoadConst (number_part l l.key_t) (number_of s face)) + w (m.SetBit l.alive true))
   candidate_weight lengths d s face =
       let l = layout_of_lengths lengths
-      in let load = m.LoadLinear (forms.plus (plane_of s (end_of d) face) (2 ^ d.fraction_bits - 1)) (deep_part l l.key_t)
+      in let load =
+      m.LoadLinear (forms.plus (plane_of s (end_of d) face) (2 ^ d.fraction_bits - 1)) (deep_part l l.key_t)
       in let back = m.LoadConst (number_part l l.key_t) (number_of s face) ∷ m.SetBit l.alive true ∷ []
       in let kept = keep_covered (end_of d) s face
       in omega (
@@ -183,7 +190,8 @@ module _ (w : Macro → ℕ) where
         sum_by-append w (load ∷ clearing lengths d) back,
       )
 
-  pub classify_weight : (lengths : Lengths) (end : ℕ) (s : SolidView) (plain : Bool) (value : ℕ) → let l = layout_of_lengths lengths in
+  pub classify_weight : (lengths : Lengths) (end : ℕ) (s : SolidView) (plain : Bool) (value : ℕ) → let l =
+      layout_of_lengths lengths in
       ((face : ℕ) → face < face_count s → sum_by w (turn l end s face (plane_of s end face)) ≡ value) →
       sum_by w (classify l end s plain)
       ≡ face_count s * value
@@ -208,10 +216,12 @@ module _ (w : Macro → ℕ) where
   plain_weight lengths d s value each =
       let l = layout_of_lengths lengths
       in flat_weight (drop_behind l (end_of d) s) (range_with_len (length s.fronts + 1) (length s.backs + 1))
-      ∙ sum_by-same (λ face. sum_by w (drop_behind l (end_of d) s face)) value (length s.fronts + 1) (length s.backs + 1)
+      ∙ sum_by-same (λ face. sum_by w (drop_behind l (end_of d) s face)) value (length s.fronts + 1)
+      (length s.backs + 1)
       (λ face below. each face (omega arith))
 
-  pub barred_weight : (lengths : Lengths) (d : Depths) (s : SolidView) (value : ℕ) → let l = layout_of_lengths lengths in
+  pub barred_weight : (lengths : Lengths) (d : Depths) (s : SolidView) (value : ℕ) → let l =
+      layout_of_lengths lengths in
       ((face : ℕ) (form : Linear) → face < face_count s → sum_by w (turn l (end_of d) s face form) ≡ value) →
       sum_by w (confirm l d s false)
       ≡ (length s.fronts + 1) * value
@@ -231,7 +241,8 @@ module _ (w : Macro → ℕ) where
             (λ face below. each face (forms.plus (plane_of s (end_of d) face) (2 ^ d.fraction_bits)) (omega arith)),
       )
 
-  faces_weight : (lengths : Lengths) (d : Depths) (s : SolidView) (plain : Bool) (value : ℕ) → let l = layout_of_lengths lengths in
+  faces_weight : (lengths : Lengths) (d : Depths) (s : SolidView) (plain : Bool) (value : ℕ) → let l =
+      layout_of_lengths lengths in
       ((face : ℕ) → face < face_count s → sum_by w (candidate l d s face) ≡ value) →
       sum_by w (flat_map (candidate l d s) (candidate_faces s plain))
       ≡ length (candidate_faces s plain) * value

@@ -1,5 +1,6 @@
 -- The exponents of a grid: the least power of 2 for a size.
-use Rattle.std.proofs.Common.{◌≡◌, ℕ, suc, zero, ◌+◌, ◌^◌, ◌≤◌, ◌≢◌, Bool, true, false, if◌then◌else◌, nat_le, refl, arith}
+use Rattle.std.proofs.Common.{◌≡◌, ℕ, suc, zero, ◌+◌, ◌^◌, ◌≤◌, ◌≢◌, Bool, true, false, if◌then◌else◌, nat_le, refl}
+use Rattle.std.proofs.Common.{arith}
 use Rattle.std.proofs.lemmas.Bool.Decides.{nat_tests}
 use Rattle.px_model.specs.Scenes.{IsGridExponent}
 use Rattle.px_control.specs.Program.{exponent_from, exponent_of}
@@ -24,7 +25,8 @@ exponent_found size from (suc count) some enough least =
         by_place = let low = least m positive fits in let other = not_there in omega arith
 
       by_test : (b : Bool) → nat_le size (2 ^ from) ≡ b
-          → (((m : ℕ) → 1 ≤ m → size ≤ 2 ^ m → from + 1 ≤ m) → IsGridExponent size (exponent_from size (from + 1) count))
+          → (((m : ℕ) → 1 ≤ m → size ≤ 2 ^ m → from + 1 ≤ m)
+          → IsGridExponent size (exponent_from size (from + 1) count))
           → IsGridExponent size (if b then from else exponent_from size (from + 1) count)
       by_test true enough_here rest = record { positive = some; enough = grind (arith, nat_tests); least = least }
       by_test false above rest = rest (later above)

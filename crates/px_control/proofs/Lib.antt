@@ -1,3 +1,4 @@
+pub mod ArrayLaws
 pub mod BoundLemmas
 pub mod CostLemmas
 pub mod EndLemmas

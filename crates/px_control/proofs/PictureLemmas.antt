@@ -2,7 +2,6 @@
 use Rattle.std.proofs.Common.{◌≡◌, ℕ, ◌+◌, ◌*◌, ◌^◌, ◌<◌, ◌≤◌, false, length, replicate, get_or, refl, ap, ◌∙◌, arith}
 use Rattle.std.specs.Prelude.{All}
 use Rattle.std.proofs.lemmas.List.{get_or-replicate, length-replicate, take_all}
-use Rattle.std.proofs.lemmas.Nat.{pow-add}
 use Rattle.std.proofs.lemmas.List.Elements.{All-weaker}
 use Rattle.px_array.specs.Arrays.{HasGrid, no_pixel, pixel_of, zero_state}
 use Rattle.px_array.specs.Clocks.{after_clocks}
@@ -13,6 +12,7 @@ use Rattle.px_pixel.specs.Pixels.{zero_pixel}
 use Rattle.px_model.specs.Scenes.{IsLawfulScene, SceneView}
 use Rattle.px_model.specs.Solids.{IsLawfulSolid}
 use Rattle.px_tree.specs.Nodes.{IsGrid}
+use Rattle.px_tree.proofs.PlaceLaws.{index_below}
 use Rattle.px_sched.specs.Layouts.{layout_of, need_of}
 use Rattle.px_sched.specs.Passes.{passes}
 use Rattle.px_sched.specs.PassesFacts.{PassesAreLawful}
@@ -24,13 +24,15 @@ use Rattle.px_control.proofs.GridLemmas.{exponent_between, exponent_is}
 pub scene_grid : (scene : SceneView) → IsLawfulScene scene → IsGrid (columns_of scene) (rows_of scene)
 scene_grid scene lawful = (exponent_between scene.width lawful.width, exponent_between scene.height lawful.height)
 
-pub lawful_in : IsLawfulInMore → PassesAreLawful → (bits : ℕ) (scene : SceneView) → IsLawfulScene scene → All IsLawfulSolid scene.solids →
+pub lawful_in : IsLawfulInMore → PassesAreLawful → (bits : ℕ) (scene : SceneView) → IsLawfulScene scene
+    → All IsLawfulSolid scene.solids →
     need_of (layout_of scene) ≤ bits → All (λ m. IsLawful m bits) (passes scene)
 lawful_in more lawful bits scene h solids enough =
     All-weaker (λ m. IsLawful m (need_of (layout_of scene))) (λ m. IsLawful m bits)
     (λ m small. more m (need_of (layout_of scene)) bits enough small) (passes scene) (lawful scene h solids)
 
-zero_pixel_at : (bits count place : ℕ) → place < count → get_or (replicate count (zero_pixel bits)) place no_pixel ≡ zero_pixel bits
+zero_pixel_at : (bits count place : ℕ) → place < count → get_or (replicate count (zero_pixel bits)) place no_pixel
+    ≡ zero_pixel bits
 zero_pixel_at bits count place h = get_or-replicate count place (zero_pixel bits) no_pixel h
 
 zero_grid : (bits nx ny : ℕ) → HasGrid bits nx ny (zero_state bits nx ny)
@@ -42,12 +44,11 @@ zero_grid bits nx ny = record {
 }
 
 -- the state after the whole program
-whole : (bits : ℕ) (scene : SceneView) → (array_after bits scene (total scene)).state ≡ after_clocks (all_micros (passes scene) (columns_of scene) (rows_of scene)) (zero_state bits (columns_of scene) (rows_of scene))
+whole : (bits : ℕ) (scene : SceneView) → (array_after bits scene (total scene)).state ≡ after_clocks
+    (all_micros (passes scene) (columns_of scene) (rows_of scene)) (zero_state bits (columns_of scene) (rows_of scene))
 unfolding array_after program
-whole bits scene = ap (λ ms. after_clocks ms (zero_state bits (columns_of scene) (rows_of scene))) (take_all (length (program scene)) (program scene) (omega arith))
-
-place_below : (nx ny x y : ℕ) → x < 2 ^ nx → y < 2 ^ ny → x * 2 ^ ny + y < 2 ^ (nx + ny)
-place_below nx ny x y column row = rw (pow-add 2 nx ny) (grind (arith, column, row))
+whole bits scene = ap (λ ms. after_clocks ms (zero_state bits (columns_of scene) (rows_of scene)))
+    (take_all (length (program scene)) (program scene) (omega arith))
 
 pub picture_law : IsLawfulInMore → LeaveTheMeanings → PassesAreLawful → PassesLaw → PictureLaw
 picture_law more meanings lawful shown bits scene device law solids at x y left up =
@@ -56,9 +57,15 @@ picture_law more meanings lawful shown bits scene device law solids at x y left 
     in let start = zero_state bits nx ny
     in let column : x < 2 ^ nx = omega (arith, (exponent_is scene.width law.width).enough)
     in let row : y < 2 ^ ny = omega (arith, (exponent_is scene.height law.height).enough)
-    in let pixel : pixel_of start x y ≡ zero_pixel bits = zero_pixel_at bits (2 ^ (nx + ny)) (x * 2 ^ ny + y) (place_below nx ny x y column row)
-    in let left_there = meanings bits nx ny (scene_grid scene law) (passes scene) (lawful_in more lawful bits scene law solids at.enough) start (zero_grid bits nx ny) x y column row
-    in let state : device.state ≡ after_clocks (all_micros (passes scene) nx ny) start = ap (λ d. d.state) at.reached ∙ whole bits scene
-    in let memory : (pixel_of device.state x y).memory ≡ (after_macros (passes scene) x y (bits_of (zero_pixel bits))).memory =
-    ap (λ s. (pixel_of s x y).memory) state ∙ ap (λ p. p.memory) left_there ∙ ap (λ p. (after_macros (passes scene) x y (bits_of p)).memory) pixel
-    in rw memory (shown scene law solids x y left up (bits_of (zero_pixel bits)) (omega (arith, at.enough, length-replicate bits false)))
+    in let pixel : pixel_of start x y ≡ zero_pixel bits =
+    zero_pixel_at bits (2 ^ (nx + ny)) (x * 2 ^ ny + y) (index_below nx ny x y column row)
+    in let left_there = meanings bits nx ny (scene_grid scene law) (passes scene)
+    (lawful_in more lawful bits scene law solids at.enough) start (zero_grid bits nx ny) x y column row
+    in let state : device.state ≡ after_clocks (all_micros (passes scene) nx ny) start =
+    ap (λ d. d.state) at.reached ∙ whole bits scene
+    in let memory : (pixel_of device.state x y).memory
+    ≡ (after_macros (passes scene) x y (bits_of (zero_pixel bits))).memory =
+    ap (λ s. (pixel_of s x y).memory) state ∙ ap (λ p. p.memory) left_there
+    ∙ ap (λ p. (after_macros (passes scene) x y (bits_of p)).memory) pixel
+    in rw memory (shown scene law solids x y left up (bits_of (zero_pixel bits))
+    (omega (arith, at.enough, length-replicate bits false)))

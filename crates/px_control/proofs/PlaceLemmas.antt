@@ -1,5 +1,6 @@
 -- Where a job stands, one broadcast after another.
-use Rattle.std.proofs.Common.{◌≡◌, ℕ, ◌+◌, ◌-◌, ◌<◌, ◌≤◌, min, List, ◌∷◌, length, get_or, Option, Some, None, refl, inl, inr, sym, ap, ◌∙◌, arith}
+use Rattle.std.proofs.Common.{◌≡◌, ℕ, ◌+◌, ◌-◌, ◌<◌, ◌≤◌, min, List, ◌∷◌, length, get_or, Option, Some, None, refl}
+use Rattle.std.proofs.Common.{inl, inr, sym, ap, ◌∙◌, arith}
 use Rattle.std.specs.List.{slice_get}
 use Rattle.std.specs.Prelude.{IfNone, OnSome}
 use Rattle.std.proofs.lemmas.Option.{slice_get_cases, slice_get_within, slice_get-get_or}
@@ -15,11 +16,13 @@ use Rattle.px_sched.specs.Cursors.{Stands}
 use Rattle.px_sched.specs.Layouts.{layout_of, need_of}
 use Rattle.px_sched.specs.Passes.{passes}
 use Rattle.px_control.specs.declared.place.Place.{Place}
-use Rattle.px_control.specs.Program.{IsAt, array_after, columns_of, cycles_in, ends_after, micro_at_clock, operation_at, operation_ends, program, rows_of, start_of, total}
+use Rattle.px_control.specs.Program.{IsAt, array_after, columns_of, cycles_in, ends_after, micro_at_clock}
+use Rattle.px_control.specs.Program.{operation_at, operation_ends, program, rows_of, start_of, total}
 use Rattle.px_control.specs.ProgramLaws.{AreLawful, HaveClocks}
 use Rattle.px_control.specs.Standing.{IsWithin, StandsFor}
 use Rattle.px_control.proofs.EndLemmas.{next_end_here, operation_here, start_all, start_within}
-use Rattle.px_control.proofs.StepLemmas.{below_total, columns_at, lawful_here, micro_here, start_more}
+use Rattle.px_control.proofs.ArrayLaws.{columns_at}
+use Rattle.px_control.proofs.StepLemmas.{below_total, lawful_here, micro_here, start_more}
 
 pub record Here (scene : SceneView) (p : Place) (m : Macro) : Type 0 where
   pub at : slice_get (passes scene) p.operation ≡ Some m
@@ -28,14 +31,16 @@ pub record Here (scene : SceneView) (p : Place) (m : Macro) : Type 0 where
   pub below : p.clock < total scene
   pub next : start_of scene (p.operation + 1) ≡ start_of scene p.operation + cycles_in scene m
 
-pub here_of : (scene : SceneView) (p : Place) (m : Macro) → AreLawful scene → StandsFor scene p → p.current ≡ Some m → Here scene p m
+pub here_of : (scene : SceneView) (p : Place) (m : Macro) → AreLawful scene → StandsFor scene p → p.current ≡ Some m
+    → Here scene p m
 unfolding program
 here_of scene p m lawful stands e =
     let nx = columns_of scene
     in let ny = rows_of scene
     in let at : slice_get (passes scene) p.operation ≡ Some m = stands.current ∙ e
     in let micro : p.micro < cycles_in scene m = rw e at stands.micro
-    in let below : start_of scene p.operation + p.micro < total scene = below_total (passes scene) nx ny p.operation p.micro m at micro
+    in let below : start_of scene p.operation + p.micro < total scene =
+    below_total (passes scene) nx ny p.operation p.micro m at micro
     in record {
       at = at;
       micro = micro;
@@ -44,41 +49,29 @@ here_of scene p m lawful stands e =
       next = start_more (passes scene) nx ny p.operation m at;
     }
 
-zero_within : (scene : SceneView) (k : ℕ) (o : Option Macro) → AreLawful scene → HaveClocks scene → slice_get (passes scene) k ≡ o → IsWithin scene 0 o
+zero_within : (scene : SceneView) (k : ℕ) (o : Option Macro) → AreLawful scene → HaveClocks scene
+    → slice_get (passes scene) k ≡ o → IsWithin scene 0 o
 zero_within scene k None lawful some e = refl
-zero_within scene k (Some m) lawful some e = some m (lawful_here (need_of (layout_of scene)) (passes scene) k m e lawful)
+zero_within scene k (Some m) lawful some e =
+    some m (lawful_here (need_of (layout_of scene)) (passes scene) k m e lawful)
 
 past : (xs : List Macro) (k : ℕ) → slice_get xs k ≡ None → length xs ≤ k
-past xs k e = elim (slice_get_cases xs k).1 [ inl w ↦ absurd (let t : Some w.0 ≡ None = sym w.2 ∙ e in cc) | inr w ↦ w.0 ]
+past xs k e = elim (slice_get_cases xs k).1 [
+  | inl w ↦ absurd (let t : Some w.0 ≡ None = sym w.2 ∙ e in cc)
+  | inr w ↦ w.0
+]
 
 given_next : (ms : List Macro) (j old new : ℕ) (o : Option Macro) → j ≤ length ms → old ≡ j → slice_get ms j ≡ o →
     OnSome o (new ≡ old + 1) → IfNone o (new ≡ old) → new ≡ min (j + 1) (length ms)
 given_next ms j old new None h g e more stays = let l = past ms j e in omega arith
 given_next ms j old new (Some m) h g e more stays = let l = slice_get_within ms j m e in omega arith
 
--- the place before the first broadcast
-pub stands_first : (scene : SceneView) (old new : Cursor) (o : Option Macro) → AreLawful scene → HaveClocks scene → old.given ≡ 0 →
-    o ≡ slice_get (passes scene) old.given → Stands scene new → OnSome o (new.given ≡ old.given + 1) → IfNone o (new ≡ old) →
-    StandsFor scene record { cursor = new; clock = 0; operation = 0; micro = 0; current = o }
-stands_first scene old new o lawful some z is cursor more stays =
-    let here : slice_get (passes scene) 0 ≡ o = rw z at (sym is)
-    in record {
-      cursor = cursor;
-      given = given_next (passes scene) 0 old.given new.given o (omega arith) z here more (same o stays);
-      operation = omega arith;
-      current = here;
-      clock = refl;
-      micro = zero_within scene 0 o lawful some here;
-    }
-  where
-    same : (o : Option Macro) → IfNone o (new ≡ old) → IfNone o (new.given ≡ old.given)
-    same None e = ap (λ (c : Cursor). c.given) e
-    same (Some m) e = e
-
 -- the place behind the last micro of an operation
-pub stands_next : (scene : SceneView) (p : Place) (m : Macro) (new : Cursor) (o : Option Macro) (clock : ℕ) → AreLawful scene → HaveClocks scene →
+pub stands_next : (scene : SceneView) (p : Place) (m : Macro) (new : Cursor) (o : Option Macro) (clock : ℕ)
+    → AreLawful scene → HaveClocks scene →
     StandsFor scene p → p.current ≡ Some m → clock ≡ p.clock + (cycles_in scene m - p.micro) →
-    o ≡ slice_get (passes scene) p.cursor.given → Stands scene new → OnSome o (new.given ≡ p.cursor.given + 1) → IfNone o (new ≡ p.cursor) →
+    o ≡ slice_get (passes scene) p.cursor.given → Stands scene new → OnSome o (new.given ≡ p.cursor.given + 1)
+    → IfNone o (new ≡ p.cursor) →
     StandsFor scene record { cursor = new; clock = clock; operation = p.operation + 1; micro = 0; current = o }
 stands_next scene p m new o clock lawful some stands e end is cursor more stays =
     let h = here_of scene p m lawful stands e
@@ -87,7 +80,8 @@ stands_next scene p m new o clock lawful some stands e end is cursor more stays 
     in let here : slice_get (passes scene) (p.operation + 1) ≡ o = rw given at (sym is)
     in record {
       cursor = cursor;
-      given = given_next (passes scene) (p.operation + 1) p.cursor.given new.given o (omega arith) given here more (same o stays);
+      given = given_next (passes scene) (p.operation + 1) p.cursor.given new.given o (omega arith) given here more
+          (same o stays);
       operation = omega arith;
       current = here;
       clock = omega (arith, stands.clock, h.next, h.micro);
@@ -98,32 +92,23 @@ stands_next scene p m new o clock lawful some stands e end is cursor more stays 
     same None e = ap (λ (c : Cursor). c.given) e
     same (Some m) e = e
 
--- the place before another micro of it
-pub stands_on : (scene : SceneView) (p : Place) (m : Macro) (clock to : ℕ) → StandsFor scene p → p.current ≡ Some m → p.micro ≤ to → to < cycles_in scene m →
-    clock ≡ p.clock + (to - p.micro) → StandsFor scene record p { clock = clock; micro = to }
-stands_on scene p m clock to stands e low below is = record {
-  cursor = stands.cursor;
-  given = stands.given;
-  operation = stands.operation;
-  current = stands.current;
-  clock = omega (arith, stands.clock);
-  micro = rw e below;
-}
-
 -- the broadcast at a place
-pub next_broadcast : (scene : SceneView) (p : Place) (m : Macro) → AreLawful scene → StandsFor scene p → p.current ≡ Some m → (d : Micro) →
+pub next_broadcast : (scene : SceneView) (p : Place) (m : Macro) → AreLawful scene → StandsFor scene p
+    → p.current ≡ Some m → (d : Micro) →
     get_or (program scene) p.clock d ≡ micro_at m (columns_of scene) (rows_of scene) p.micro
 unfolding program
 next_broadcast scene p m lawful stands e d =
     let h = here_of scene p m lawful stands e
-    in rw stands.clock (micro_here (passes scene) (columns_of scene) (rows_of scene) p.operation p.micro m d h.at h.micro)
+    in rw stands.clock (micro_here (passes scene) (columns_of scene) (rows_of scene) p.operation p.micro m d h.at
+    h.micro)
 
 pub next_is : (scene : SceneView) (p : Place) (m : Macro) → AreLawful scene → StandsFor scene p → p.current ≡ Some m →
     slice_get (program scene) p.clock ≡ Some (micro_at m (columns_of scene) (rows_of scene) p.micro)
 next_is scene p m lawful stands e =
     let h = here_of scene p m lawful stands e
     in let d = micro_at m (columns_of scene) (rows_of scene) p.micro
-    in slice_get-get_or (program scene) p.clock d h.below ∙ ap (λ x. Some x) (next_broadcast scene p m lawful stands e d)
+    in slice_get-get_or (program scene) p.clock d h.below
+    ∙ ap (λ x. Some x) (next_broadcast scene p m lawful stands e d)
 
 -- where no operation is left all broadcasts were made
 pub at_end : (scene : SceneView) (p : Place) → StandsFor scene p → p.current ≡ None → p.clock ≡ total scene
@@ -134,7 +119,8 @@ at_end scene p stands e =
     in let a = start_all scene (passes scene) p.operation l
     in omega (arith, stands.clock)
 
-within_total : (scene : SceneView) (p : Place) (o : Option Macro) → AreLawful scene → StandsFor scene p → p.current ≡ o → p.clock ≤ total scene
+within_total : (scene : SceneView) (p : Place) (o : Option Macro) → AreLawful scene → StandsFor scene p
+    → p.current ≡ o → p.clock ≤ total scene
 within_total scene p None lawful stands e = omega (arith, at_end scene p stands e)
 within_total scene p (Some m) lawful stands e = let h = here_of scene p m lawful stands e in omega (arith, h.below)
 
@@ -144,12 +130,14 @@ clock_within scene p lawful stands = within_total scene p p.current lawful stand
 pub operation_is : (scene : SceneView) (p : Place) → StandsFor scene p → p.operation ≡ operation_at scene p.clock
 unfolding operation_ends
 operation_is scene p stands =
-    sym (operation_here scene (passes scene) p.operation p.micro 0 p.clock p.current stands.current stands.micro (omega (arith, stands.clock)) stands.operation)
+    sym (operation_here scene (passes scene) p.operation p.micro 0 p.clock p.current stands.current stands.micro
+    (omega (arith, stands.clock)) stands.operation)
 
 pub micro_is : (scene : SceneView) (p : Place) → StandsFor scene p → p.micro ≡ micro_at_clock scene p.clock
 micro_is scene p stands = rw (← operation_is scene p stands) (omega (arith, stands.clock))
 
-pub next_end_is : (scene : SceneView) (p : Place) (m : Macro) (e : ℕ) → AreLawful scene → HaveClocks scene → StandsFor scene p → p.current ≡ Some m →
+pub next_end_is : (scene : SceneView) (p : Place) (m : Macro) (e : ℕ) → AreLawful scene → HaveClocks scene
+    → StandsFor scene p → p.current ≡ Some m →
     e ≡ p.clock - p.micro + cycles_in scene m → ends_after scene p.clock ≡ e ∷ ends_after scene e
 unfolding operation_ends
 next_end_is scene p m e lawful some stands c is =
@@ -157,7 +145,8 @@ next_end_is scene p m e lawful some stands c is =
     in next_end_here scene (passes scene) p.operation p.micro p.clock e m h.at h.micro h.next
     (zero_within scene (p.operation + 1) (slice_get (passes scene) (p.operation + 1)) lawful some refl) stands.clock is
 
-pub next_end_within : (scene : SceneView) (p : Place) (m : Macro) (e : ℕ) → AreLawful scene → StandsFor scene p → p.current ≡ Some m →
+pub next_end_within : (scene : SceneView) (p : Place) (m : Macro) (e : ℕ) → AreLawful scene → StandsFor scene p
+    → p.current ≡ Some m →
     e ≡ p.clock - p.micro + cycles_in scene m → e ≤ total scene
 unfolding program
 next_end_within scene p m e lawful stands c is =
@@ -166,8 +155,10 @@ next_end_within scene p m e lawful stands c is =
     in omega (arith, stands.clock, h.next, h.micro, b)
 
 -- an array that the program is made on is open
-pub is_open : (bits : ℕ) (scene : SceneView) (n : ℕ) (device : Device) → IsGrid (columns_of scene) (rows_of scene) → IsAt bits scene n device → IsOpen device
-is_open bits scene n device grid at = omega (arith, ap (λ d. d.state.tree.nx) at.reached, columns_at bits scene n, grid.0.0)
+pub is_open : (bits : ℕ) (scene : SceneView) (n : ℕ) (device : Device) → IsGrid (columns_of scene) (rows_of scene)
+    → IsAt bits scene n device → IsOpen device
+is_open bits scene n device grid at =
+    omega (arith, ap (λ d. d.state.tree.nx) at.reached, columns_at bits scene n, grid.0.0)
 
 pub clocks_at : (bits : ℕ) (scene : SceneView) (n : ℕ) (device : Device) → IsAt bits scene n device → device.clocks ≡ n
 unfolding array_after

@@ -1,5 +1,6 @@
 -- What the literals of a product cost: each is compared with each of the others, so each classifies for all but itself.
-use Rattle.std.proofs.Common.{◌≡◌, ◌≢◌, ℕ, suc, zero, ◌+◌, ◌-◌, ◌*◌, ◌^◌, ◌<◌, ◌==◌, ◌||◌, Bool, true, false, not, cond, List, [], ◌∷◌, ◌++◌, length, map, refl, ap, sym, ◌∙◌, arith}
+use Rattle.std.proofs.Common.{◌≡◌, ◌≢◌, ℕ, suc, zero, ◌+◌, ◌-◌, ◌*◌, ◌^◌, ◌<◌, ◌==◌, ◌||◌, Bool, true, false, not}
+use Rattle.std.proofs.Common.{cond, List, [], ◌∷◌, ◌++◌, length, map, refl, ap, sym, ◌∙◌, arith}
 use Rattle.std.specs.List.{All, filter, flat_map, list_any, range_with_len, sum_by}
 use Rattle.std.proofs.lemmas.Bool.Decides.{nat_tests}
 use Rattle.std.proofs.lemmas.List.{length-append, length-map}
@@ -16,7 +17,8 @@ use Rattle.px_model.specs.Cells.{depths_of, end_of}
 use Rattle.px_model.specs.Scenes.{SceneView}
 use Rattle.px_sched.specs.declared.literal.Literal.{Literal}
 use Rattle.px_sched.specs.Layouts.{layout_with}
-use Rattle.px_sched.specs.Passes.{candidate, candidate_faces, classify, literal_passes, literals, merge, others, passes_with, solid_of}
+use Rattle.px_sched.specs.Passes.{candidate, candidate_faces, classify, literal_passes, literals, merge, others}
+use Rattle.px_sched.specs.Passes.{passes_with, solid_of}
 use Rattle.px_control.specs.declared.costs.Costs.{Costs}
 use Rattle.px_control.specs.declared.costs.Lengths.{Lengths}
 use Rattle.px_control.specs.Costs.{confirming, cost_of, own_passes, passes_against, plus, product_passes, share, sum_of}
@@ -242,9 +244,11 @@ module _ (w : Macro → ℕ) (lengths : Lengths) (scene : SceneView) (product : 
   literal_weight q =
       let l = layout_with lengths.depth lengths.fraction lengths.number
       in let found = m.All ∷ m.SetBit l.alive false
-      ∷ flat_map (candidate l (depths_of scene) (solid_of scene q.solid)) (candidate_faces (solid_of scene q.solid) q.plain)
+      ∷ flat_map (candidate l (depths_of scene) (solid_of scene q.solid)) (candidate_faces (solid_of scene q.solid)
+      q.plain)
       in let confirmed = confirming lengths (depths_of scene) (solid_of scene q.solid) q.plain
-      in let judged = flat_map (λ r. classify l (end_of (depths_of scene)) (solid_of scene r.solid) r.plain) (others q product)
+      in let judged =
+      flat_map (λ r. classify l (end_of (depths_of scene)) (solid_of scene r.solid) r.plain) (others q product)
       in omega (
         arith,
         sum_by-append w (found ++ confirmed ++ judged) (merge l),
@@ -254,7 +258,8 @@ module _ (w : Macro → ℕ) (lengths : Lengths) (scene : SceneView) (product : 
       )
 
   pub product_weight : AreApart (literals product) →
-      sum_by w (flat_map (literal_passes scene (layout_with lengths.depth lengths.fraction lengths.number) product) (literals product))
+      sum_by w (flat_map (literal_passes scene (layout_with lengths.depth lengths.fraction lengths.number) product)
+      (literals product))
       ≡ sum_by (λ q. own q + (length (literals product) - 1) * against q) (literals product)
   product_weight apart =
       let passes_of = literal_passes scene (layout_with lengths.depth lengths.fraction lengths.number) product
@@ -281,7 +286,8 @@ module _ (lengths : Lengths) (scene : SceneView) (product : Product) (count : �
       = λ plain solid. v (own_passes lengths (depths_of scene) (solid_of scene solid) plain)
       + count * v (passes_against lengths (end_of (depths_of scene)) (solid_of scene solid) plain)
       in sum_by (added true) (solids product.plain) + sum_by (added false) (solids product.barred)
-      ≡ sum_by w (flat_map (literal_passes scene (layout_with lengths.depth lengths.fraction lengths.number) product) (literals product))
+      ≡ sum_by w (flat_map (literal_passes scene (layout_with lengths.depth lengths.fraction lengths.number) product)
+      (literals product))
   shares_weight w v same all apart =
       let d = depths_of scene
       in let weighed : Literal → ℕ
@@ -308,10 +314,12 @@ module _ (lengths : Lengths) (scene : SceneView) (product : Product) (count : �
 
   pub product_costs : count ≡ length (literals product) - 1 → is_void product ≡ false →
       plus (sum_of (shares_of true) (solids product.plain)) (sum_of (shares_of false) (solids product.barred))
-      ≡ cost_of lengths (flat_map (literal_passes scene (layout_with lengths.depth lengths.fraction lengths.number) product)
+      ≡ cost_of lengths (flat_map (literal_passes scene (layout_with lengths.depth lengths.fraction lengths.number)
+      product)
       (literals product))
   product_costs all apart =
-      cost_is lengths _ (flat_map (literal_passes scene (layout_with lengths.depth lengths.fraction lengths.number) product)
+      cost_is lengths _ (flat_map (literal_passes scene (layout_with lengths.depth lengths.fraction lengths.number)
+      product)
       (literals product))
       (shares_weight one length ones all (literals_apart product apart))
       (shares_weight (clocks_on lengths) (λ ms. length (all_micros ms lengths.columns lengths.rows))
@@ -330,7 +338,8 @@ literals_length product =
 
 -- the passes of products are the background's, and then those of each product
 module _ (lengths : Lengths) (scene : SceneView) where
-  pub passes_weight : (w : Macro → ℕ) (products : List Product) → let l = layout_with lengths.depth lengths.fraction lengths.number in
+  pub passes_weight : (w : Macro → ℕ) (products : List Product) → let l =
+      layout_with lengths.depth lengths.fraction lengths.number in
       sum_by w (passes_with scene l products)
       ≡ w m.All + w (m.LoadConst l.key_b (end_of (depths_of scene) * 2 ^ l.number_bits))
       + sum_by (λ product. sum_by w (product_passes lengths scene product)) products
@@ -355,7 +364,8 @@ module _ (lengths : Lengths) (scene : SceneView) where
         sum_by_push (λ p. sum_by w (product_passes lengths scene p)) products product,
       )
 
-  pub passes_more : (products : List Product) (product : Product) → let l = layout_with lengths.depth lengths.fraction lengths.number in
+  pub passes_more : (products : List Product) (product : Product) → let l =
+      layout_with lengths.depth lengths.fraction lengths.number in
       plus (cost_of lengths (passes_with scene l products)) (cost_of lengths (product_passes lengths scene product))
       ≡ cost_of lengths (passes_with scene l (products ++ product ∷ []))
   passes_more products product =

@@ -2,7 +2,8 @@
 use Rattle.std.proofs.Common.{ℕ, ◌≤◌, arith}
 use Rattle.px_macro.specs.Macros.{IsLawful}
 use Rattle.px_macro.specs.declared.operation.Macro.{Macro}
-use Rattle.px_macro.specs.declared.operation.Macro.TheVariants.{All, KeepSign, KeepBit, LoadLinear, KeepAtMost, AddLinear, LoadConst, SetBit, Toggle, Copy, KeepLess}
+use Rattle.px_macro.specs.declared.operation.Macro.TheVariants.{All, KeepSign, KeepBit, LoadLinear, KeepAtMost}
+use Rattle.px_macro.specs.declared.operation.Macro.TheVariants.{AddLinear, LoadConst, SetBit, Toggle, Copy, KeepLess}
 use Rattle.px_asm.specs.Micros.{cycles}
 use Rattle.px_model.specs.Scenes.{SceneView}
 use Rattle.px_sched.specs.Layouts.{layout_of, need_of}
@@ -38,7 +39,8 @@ few_cycles (Toggle at) bits nx ny c r h = omega arith
 few_cycles (Copy f g) bits nx ny c r h = omega (arith, h.0.fields.0.to_forty)
 few_cycles (KeepLess f g) bits nx ny c r h = omega (arith, h.fields.0.to_forty)
 
-pub good_program : LayoutsAreLawful → PassesAreLawful → ClockBound → EachTakesAClock → (scene : SceneView) → CanRun scene → IsGoodProgram scene
+pub good_program : LayoutsAreLawful → PassesAreLawful → ClockBound → EachTakesAClock → (scene : SceneView)
+    → CanRun scene → IsGoodProgram scene
 good_program layouts lawful bound some scene can =
     let grid = scene_grid scene can.lawful
     in let layout = layouts scene can.lawful

@@ -1,5 +1,6 @@
 -- One broadcast of a program after another.
-use Rattle.std.proofs.Common.{◌≡◌, ℕ, ◌+◌, ◌<◌, ◌≤◌, List, [], ◌∷◌, length, take, get_or, Some, refl, ap, ◌∙◌, arith, length-append}
+use Rattle.std.proofs.Common.{◌≡◌, ℕ, ◌+◌, ◌<◌, ◌≤◌, List, [], ◌∷◌, length, take, get_or, Some, ap, ◌∙◌, arith}
+use Rattle.std.proofs.Common.{length-append}
 use Rattle.std.specs.List.{slice_get}
 use Rattle.std.specs.Prelude.{All}
 use Rattle.std.proofs.lemmas.List.Elements.{All-get_or}
@@ -9,42 +10,13 @@ use Rattle.std.proofs.lemmas.List.Concat.{flat_map-cons, flat_map-append, get_or
 use Rattle.std.proofs.lemmas.List.Folds.{length-flat_map-take}
 use Rattle.px_num.proofs.ListLaws.{get_or-tabulate, length-tabulate}
 use Rattle.px_array.specs.declared.micro.Micro.{Micro}
-use Rattle.px_array.specs.declared.micro.TreeOp.{TreeOp}
-use Rattle.px_array.specs.declared.micro.TreeOp.TheVariants.{Hold, Clear, Feed}
-use Rattle.px_array.specs.Arrays.{Device, State, opened, zero_state}
-use Rattle.px_array.specs.Clocks.{after_clock, after_clocks, after_tree_op}
+use Rattle.px_array.specs.Arrays.{Device, opened}
 use Rattle.px_asm.specs.Micros.{all_micros, cycles, micro_at, micros}
 use Rattle.px_macro.specs.Macros.{IsLawful}
 use Rattle.px_macro.specs.declared.operation.Macro.{Macro}
 use Rattle.px_model.specs.Scenes.{SceneView}
 use Rattle.px_sched.specs.Layouts.{layout_of, need_of}
-use Rattle.px_control.specs.Program.{IsAt, array_after, columns_of, program, rows_of}
-
-columns_stay : (op : TreeOp) (t : _) → (after_tree_op op t).nx ≡ t.nx
-columns_stay Hold t = refl
-columns_stay Clear t = refl
-columns_stay (Feed a b c) t = refl
-
-pub run_columns : (ms : List Micro) (s : State) → (after_clocks ms s).tree.nx ≡ s.tree.nx
-run_columns [] s = refl
-run_columns (m ∷ ms) s = run_columns ms (after_clock m s) ∙ columns_stay m.tree s.tree
-
-pub columns_at : (bits : ℕ) (scene : SceneView) (n : ℕ) → (array_after bits scene n).state.tree.nx ≡ columns_of scene
-unfolding array_after
-columns_at bits scene n = run_columns (take n (program scene)) (zero_state bits (columns_of scene) (rows_of scene))
-
-rows_stay : (op : TreeOp) (t : _) → (after_tree_op op t).ny ≡ t.ny
-rows_stay Hold t = refl
-rows_stay Clear t = refl
-rows_stay (Feed a b c) t = refl
-
-run_rows : (ms : List Micro) (s : State) → (after_clocks ms s).tree.ny ≡ s.tree.ny
-run_rows [] s = refl
-run_rows (m ∷ ms) s = run_rows ms (after_clock m s) ∙ rows_stay m.tree s.tree
-
-pub rows_at : (bits : ℕ) (scene : SceneView) (n : ℕ) → (array_after bits scene n).state.tree.ny ≡ rows_of scene
-unfolding array_after
-rows_at bits scene n = run_rows (take n (program scene)) (zero_state bits (columns_of scene) (rows_of scene))
+use Rattle.px_control.specs.Program.{IsAt, array_after, columns_of, rows_of}
 
 one_operation : (m : Macro) (nx ny : ℕ) → length (all_micros (m ∷ []) nx ny) ≡ cycles m nx ny
 one_operation m nx ny = simp (flat_map-cons, length-append, length-tabulate) (omega arith)
@@ -54,7 +26,11 @@ pub start_more : (ms : List Macro) (nx ny k : ℕ) (m : Macro) → slice_get ms 
     length (all_micros (take (k + 1) ms) nx ny) ≡ length (all_micros (take k ms) nx ny) + cycles m nx ny
 start_more ms nx ny k m e =
     let f : Macro → List Micro = λ m. micros m nx ny
-    in rw (take_more ms k m (slice_get_within ms k m e), get_or_from_slice_get ms k m m e, flat_map-append f (take k ms) (m ∷ []))
+    in rw (
+      take_more ms k m (slice_get_within ms k m e),
+      get_or_from_slice_get ms k m m e,
+      flat_map-append f (take k ms) (m ∷ []),
+    )
     (length-append (all_micros (take k ms) nx ny) (all_micros (m ∷ []) nx ny)
     ∙ ap (λ n. length (all_micros (take k ms) nx ny) + n) (one_operation m nx ny))
 
@@ -67,15 +43,18 @@ below_total ms nx ny k i m e h =
     in omega (arith, rw (g, length-tabulate) at s)
 
 -- micro i of operation k is the broadcast at its clock
-pub micro_here : (ms : List Macro) (nx ny k i : ℕ) (m : Macro) (d : Micro) → slice_get ms k ≡ Some m → i < cycles m nx ny →
+pub micro_here : (ms : List Macro) (nx ny k i : ℕ) (m : Macro) (d : Micro) → slice_get ms k ≡ Some m
+    → i < cycles m nx ny →
     get_or (all_micros ms nx ny) (length (all_micros (take k ms) nx ny) + i) d ≡ micro_at m nx ny i
 micro_here ms nx ny k i m d e h =
     let f : Macro → List Micro = λ m. micros m nx ny
     in let g = get_or_from_slice_get ms k m m e
     in let w : i < length (f (get_or ms k m)) = rw (g, length-tabulate) h
-    in get_or-flat_map f ms k i m d (slice_get_within ms k m e) w ∙ rw g (get_or-tabulate (cycles m nx ny) (micro_at m nx ny) i d h)
+    in get_or-flat_map f ms k i m d (slice_get_within ms k m e) w
+    ∙ rw g (get_or-tabulate (cycles m nx ny) (micro_at m nx ny) i d h)
 
-pub lawful_here : (bits : ℕ) (ms : List Macro) (k : ℕ) (m : Macro) → slice_get ms k ≡ Some m → All (λ m. IsLawful m bits) ms → IsLawful m bits
+pub lawful_here : (bits : ℕ) (ms : List Macro) (k : ℕ) (m : Macro) → slice_get ms k ≡ Some m
+    → All (λ m. IsLawful m bits) ms → IsLawful m bits
 lawful_here bits ms k m e h =
     rw (get_or_from_slice_get ms k m m e) at (All-get_or (λ m. IsLawful m bits) ms k m (slice_get_within ms k m e) h)
 

@@ -6,6 +6,7 @@ use Rattle.px_model.specs.Scenes.{SceneView}
 use Rattle.px_tree.specs.Nodes.{IsGrid}
 use Rattle.px_sched.specs.Layouts.{layout_of, need_of}
 use Rattle.px_sched.specs.Passes.{passes}
+use Rattle.px_control.specs.declared.law.TheConstants.{MAX_LAYOUT_BITS}
 use Rattle.px_control.specs.Program.{columns_of, cycles_in, rows_of, total}
 
 -- pixels that have bits enough can carry every operation out
@@ -18,7 +19,7 @@ HaveClocks scene = (m : Macro) → IsLawful m (need_of (layout_of scene)) → 1 
 
 pub record IsGoodProgram (scene : SceneView) : Type 0 where
   pub grid : IsGrid (columns_of scene) (rows_of scene)
-  pub bits : need_of (layout_of scene) ≤ 74
+  pub bits : need_of (layout_of scene) ≤ MAX_LAYOUT_BITS
   pub lawful : AreLawful scene
   pub some : HaveClocks scene
   pub few : (m : Macro) → IsLawful m (need_of (layout_of scene)) → cycles_in scene m ≤ 82

@@ -19,7 +19,7 @@ ghost use Rattle.px_control.specs.Standing.{JobView, LeavesOnRefusal, StandsFor}
 ghost use Rattle.px_control.specs.declared.fault.JobFault.{JobFault};
 
 use crate::fault::JobFault;
-use crate::law::{law_of_needs, law_of_pictures};
+use crate::law::{MAX_LAYOUT_BITS, law_of_needs, law_of_pictures};
 use crate::place::Place;
 use crate::program::Program;
 use px_array::{Array, Micro};
@@ -27,9 +27,6 @@ use px_model::Scene;
 use px_sched::Layout;
 use std::alloc::Global;
 use std::marker::Model;
-
-/// No scene needs more bits of memory in a pixel.
-const MOST_BITS: usize = 74;
 
 /// A scene's broadcasts, and where they stand (docs/PASSES.md, "Clocks").
 #[derive(Drop)]
@@ -231,5 +228,5 @@ fn memory_bits<A: Array>(scene: &Scene) -> u32
     ensures enough { need_of (layout_of scene.now) ≤ A.BITS → need_of (layout_of scene.now) ≤ result }
 {
     law_of_needs(scene);
-    A::BITS.min(MOST_BITS) as u32
+    A::BITS.min(MAX_LAYOUT_BITS) as u32
 }

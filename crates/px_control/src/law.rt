@@ -2,6 +2,7 @@
 ghost use Rattle.std.specs.Prelude.{◌≤◌};
 ghost use Rattle.px_macro.specs.Macros.{IsLawfulInMore};
 ghost use Rattle.px_sched.specs.Layouts.{layout_of, need_of};
+ghost use Rattle.px_control.specs.declared.law.TheConstants.{MAX_LAYOUT_BITS};
 ghost use Rattle.px_control.specs.GridLaw.{GridLaw, LeastGridLaw, SizeLaw};
 ghost use Rattle.px_control.specs.PictureLaw.{PictureLaw};
 ghost use Rattle.px_control.specs.Program.{CanRun};
@@ -12,6 +13,9 @@ use px_asm::law_of_microprograms;
 use px_macro::laws_of_operations;
 use px_model::{Scene, laws_of_scenes};
 use px_sched::laws_of_passes;
+
+/// No scene's passes need more bits of memory in a pixel.
+pub const MAX_LAYOUT_BITS: usize = 74;
 
 /// The keys that an array stores after the whole program of a scene are the picture.
 pub fn law_of_pictures()
@@ -34,9 +38,9 @@ pub fn law_of_sizes()
     ensures { SizeLaw }
 {}
 
-/// No scene needs more than 74 bits of memory in a pixel.
+/// No scene needs more than these bits.
 pub(crate) fn law_of_needs(scene: &Scene)
-    ensures { need_of (layout_of scene.now) ≤ 74 }
+    ensures { need_of (layout_of scene.now) ≤ MAX_LAYOUT_BITS }
 {
     laws_of_scenes(scene);
     laws_of_passes();

@@ -1,25 +1,35 @@
 -- A pixel shows a face of the scene where it has a first cell, and face 0 elsewhere.
-use Rattle.std.proofs.Common.{◌≡◌, ◌<◌, ◌≤◌, ◌+◌, ◌&&◌, ◌==◌, ℕ, zero, suc, ℤ, pos, Bool, true, false, not, List, [], ◌∷◌, ◌++◌, length, min, Option, Some, None, refl, sym, subst, arith, inl, inr, ◌⊎◌, ◌↔◌, if◌then◌else◌}
+use Rattle.std.proofs.Common.{◌≡◌, ◌<◌, ◌≤◌, ◌+◌, ◌&&◌, ◌==◌, ℕ, zero, suc, ℤ, pos, Bool, true, false, List, []}
+use Rattle.std.proofs.Common.{◌∷◌, ◌++◌, length, min, Option, Some, None, refl, sym, subst, arith, inl, inr, ◌⊎◌, ◌↔◌}
+use Rattle.std.proofs.Common.{if◌then◌else◌}
 use Rattle.std.specs.List.{All}
 use Rattle.std.specs.Ordering.{int_eq}
 use Rattle.std.proofs.lemmas.Bool.{cases_eq}
 use Rattle.std.proofs.lemmas.List.Elements.{All-nil, All-cons, All-append, All-filter, All-map}
 use Rattle.std.proofs.lemmas.List.Sums.{sum_by-cons}
 use Rattle.px_num.specs.Forms.{value_at}
-use Rattle.px_expr.specs.Cells.{Cell, cell, combined, own_faces}
+use Rattle.px_expr.specs.Cells.{Cell, cell, combined, shown_in, shown_when, own_faces}
+use Rattle.px_expr.specs.Combinations.{combination_of, complement_of, truth_in}
 use Rattle.px_expr.specs.Tree.{Tree, join, leaf}
 use Rattle.px_expr.specs.declared.node.Op.{Op}
-use Rattle.px_expr.specs.declared.node.Op.TheVariants as o
+use Rattle.px_expr.specs.declared.combination.Sense.{Sense}
+use Rattle.px_expr.specs.declared.combination.Sense.TheVariants.{Plain, Complement}
+use Rattle.px_expr.specs.declared.combination.Combination.{Combination}
+use Rattle.px_expr.specs.declared.combination.Combination.TheVariants.{Both, Either, EitherWay}
 use Rattle.px_model.specs.declared.solid.Face.{Face}
 use Rattle.px_model.specs.Solids.{IsLawfulSolid, SolidView, faces_in}
 use Rattle.px_model.specs.Scenes.{AreNumberedFrom, IsLawfulScene, SceneView, faces_of}
-use Rattle.px_model.specs.Cells.{Depths, cell_of, depths_of, end_of, enters_at, faces_at, far_of, first, first_cell, first_or, is_inside_before, is_member_at, leaf_cell, least, leaves_at, scene_cell, sight_at, solid_cell}
-use Rattle.px_face.specs.Surfaces.{IsFirst, IsFirstOf, FirstCellsAreFirst, PicturesShowBackground, PicturesShowFaces, ScenesHaveSurfaces, scene_before}
+use Rattle.px_model.specs.Cells.{Depths, cell_of, depths_of, end_of, enters_at, faces_at, far_of, first, first_cell}
+use Rattle.px_model.specs.Cells.{first_or, is_inside_before, is_member_at, leaf_cell, least, leaves_at, scene_cell}
+use Rattle.px_model.specs.Cells.{sight_at, solid_cell}
+use Rattle.px_face.specs.Surfaces.{IsFirst, IsFirstOf, FirstCellsAreFirst, PicturesShowBackground, PicturesShowFaces}
+use Rattle.px_face.specs.Surfaces.{ScenesHaveSurfaces, scene_before}
 
 first_tells : (test : ℕ → Bool) (limit : ℕ) → IsFirstOf test limit (first test limit)
 first_tells test zero = λ n h. absurd (omega arith)
 first_tells test (suc limit) = next (first test limit) (first_tells test limit) where
-  by_test : (b : Bool) → test limit ≡ b → ((n : ℕ) → n < limit → test n ≡ false) → IsFirstOf test (suc limit) (if b then Some limit else None)
+  by_test : (b : Bool) → test limit ≡ b → ((n : ℕ) → n < limit → test n ≡ false)
+      → IsFirstOf test (suc limit) (if b then Some limit else None)
   by_test true e none = record { below = omega arith; passes = e; none_before = none }
   by_test false e none = λ n h. elim (cases_eq n limit) [ inl same ↦ rw same e | inr other ↦ none n (omega arith) ]
 
@@ -51,22 +61,21 @@ module _ (Is : ℕ → Type 0) where
     by_test true = faces.shown
     by_test false = faces.hidden
 
+  all_in : (sense : Sense) (c : Cell) → HasFaces c → AreAll (shown_in sense c)
+  all_in Plain c faces = faces.shown
+  all_in Complement c faces = faces.hidden
+
+  all_when : (k : Combination) (a b : Cell) → HasFaces a → HasFaces b → AreAll (shown_when k a b)
+  all_when (Both s t) a b left right = all_both _ _ (all_in s a left) (all_in t b right)
+  all_when (Either s t) a b left right =
+      all_both _ _ (all_where (truth_in s a.member) _ (all_in s a left)) (all_where (truth_in t b.member) _
+      (all_in t b right))
+  all_when (EitherWay s) a b left right = all_both _ _ (all_own a left) (all_own b right)
+
   all_combined : (op : Op) (a b : Cell) → HasFaces a → HasFaces b → HasFaces (combined op a b)
-  all_combined o.Union a b left right = record {
-    shown = all_both _ _ (all_where a.member a.shown left.shown) (all_where b.member b.shown right.shown);
-    hidden = all_both a.hidden b.hidden left.hidden right.hidden;
-  }
-  all_combined o.Meet a b left right = record {
-    shown = all_both a.shown b.shown left.shown right.shown;
-    hidden = all_both _ _ (all_where (not a.member) a.hidden left.hidden) (all_where (not b.member) b.hidden right.hidden);
-  }
-  all_combined o.Minus a b left right = record {
-    shown = all_both a.shown b.hidden left.shown right.hidden;
-    hidden = all_both _ _ (all_where (not a.member) a.hidden left.hidden) (all_where b.member b.shown right.shown);
-  }
-  all_combined o.Differ a b left right = record {
-    shown = all_both (own_faces a) (own_faces b) (all_own a left) (all_own b right);
-    hidden = all_both (own_faces a) (own_faces b) (all_own a left) (all_own b right);
+  all_combined op a b left right = record {
+    shown = all_when (combination_of op) a b left right;
+    hidden = all_when (complement_of (combination_of op)) a b left right;
   }
 
   all_cell : (cells : ℕ → Cell) → ((solid : ℕ) → HasFaces (cells solid)) → (tree : Tree) → HasFaces (cell cells tree)
@@ -86,7 +95,8 @@ module _ (Is : ℕ → Type 0) where
         shown = all_where (cell_of d enters == z) _ (all_both _ _
             (all_where (int_eq (pos 0) enters) (s.near_number ∷ []) (All-cons Is s.near_number [] near (All-nil Is)))
             (all_faces s.fronts x y enters fronts));
-        hidden = all_where (is_inside_before s d x y z && (cell_of d leaves == z)) _ (all_faces s.backs x y leaves backs);
+        hidden = all_where (is_inside_before s d x y z && (cell_of d leaves == z)) _
+            (all_faces s.backs x y leaves backs);
       }
 
   none_at : HasFaces (record { member = false; shown = []; hidden = [] })
@@ -110,25 +120,30 @@ leaf_below : (solids : List SolidView) (first bound : ℕ) (d : Depths) (x y z s
 leaf_below [] first bound d x y z solid numbered le = none_at (λ n. n < bound)
 leaf_below (s ∷ ss) first bound d x y z zero numbered le =
     let fits : first + faces_in s ≤ bound = omega (arith, le, sum_by-cons faces_in s ss) in
-    all_solid (λ n. n < bound) s d x y z (omega (arith, numbered.0.near, fits)) (raised s.fronts fits numbered.0.fronts) (raised s.backs fits numbered.0.backs)
+    all_solid (λ n. n < bound) s d x y z (omega (arith, numbered.0.near, fits))
+    (raised s.fronts fits numbered.0.fronts) (raised s.backs fits numbered.0.backs)
   where
-    raised : (faces : List Face) → first + faces_in s ≤ bound → All (λ f. f.number < first + faces_in s) faces → All (λ f. f.number < bound) faces
+    raised : (faces : List Face) → first + faces_in s ≤ bound → All (λ f. f.number < first + faces_in s) faces
+        → All (λ f. f.number < bound) faces
     raised faces fits all = λ k any lt. let one = all k any lt in omega (arith, one, fits)
 leaf_below (s ∷ ss) first bound d x y z (suc solid) numbered le =
     leaf_below ss (first + faces_in s) bound d x y z solid numbered.1 (omega (arith, le, sum_by-cons faces_in s ss))
 
 -- no face has the number 0
-leaf_some : (solids : List SolidView) (first : ℕ) (d : Depths) (x y z solid : ℕ) → 0 < first → AreNumberedFrom first solids
+leaf_some : (solids : List SolidView) (first : ℕ) (d : Depths) (x y z solid : ℕ) → 0 < first
+    → AreNumberedFrom first solids
     → All IsLawfulSolid solids → HasFaces (λ n. 0 < n) (leaf_cell solids d x y z solid)
 leaf_some [] first d x y z solid some numbered lawful = none_at (λ n. 0 < n)
 leaf_some (s ∷ ss) first d x y z zero some numbered lawful =
     let one = lawful 0 s (omega arith) in
-    all_solid (λ n. 0 < n) s d x y z (omega (arith, numbered.0.near, some)) (raised s.fronts one.fronts.numbers) (raised s.backs one.backs.numbers)
+    all_solid (λ n. 0 < n) s d x y z (omega (arith, numbered.0.near, some)) (raised s.fronts one.fronts.numbers)
+    (raised s.backs one.backs.numbers)
   where
     raised : (faces : List Face) → All (λ f. s.near_number < f.number) faces → All (λ f. 0 < f.number) faces
     raised faces all = λ k any lt. let one = all k any lt in omega (arith, one)
 leaf_some (s ∷ ss) first d x y z (suc solid) some numbered lawful =
-    leaf_some ss (first + faces_in s) d x y z solid (omega (arith, some)) numbered.1 (λ k any lt. lawful (suc k) any (omega arith))
+    leaf_some ss (first + faces_in s) d x y z solid (omega (arith, some)) numbered.1
+    (λ k any lt. lawful (suc k) any (omega arith))
 
 module _ (surfaces : ScenesHaveSurfaces) (scene : SceneView) (lawful : IsLawfulScene scene) (x y : ℕ) where
   abbrev d : Depths
@@ -154,7 +169,8 @@ module _ (surfaces : ScenesHaveSurfaces) (scene : SceneView) (lawful : IsLawfulS
       let bound = 1 + faces_of scene.solids in
       let each = λ (solid : ℕ). leaf_below scene.solids 1 bound d x y z solid lawful.numbers (omega arith) in
       let all = all_cell (λ n. n < bound) (leaf_cell scene.solids d x y z) each scene.show in
-      let low : least (scene_cell scene x y z).shown < bound = least_is (λ n. n < bound) (scene_cell scene x y z).shown (begins z r) all.shown in
+      let low : least (scene_cell scene x y z).shown < bound =
+      least_is (λ n. n < bound) (scene_cell scene x y z).shown (begins z r) all.shown in
       omega (arith, low)
 
   face_some : (z : ℕ) → All IsLawfulSolid scene.solids → IsFirst test far z → 0 < (sight_at scene x y (Some z)).face
@@ -163,7 +179,8 @@ module _ (surfaces : ScenesHaveSurfaces) (scene : SceneView) (lawful : IsLawfulS
       let all = all_cell (λ n. 0 < n) (leaf_cell scene.solids d x y z) each scene.show in
       least_is (λ n. 0 < n) (scene_cell scene x y z).shown (begins z r) all.shown
 
-  face_none : All IsLawfulSolid scene.solids → (found : Option ℕ) → IsFirstOf test far found → ((sight_at scene x y found).face ≡ 0) ↔ (found ≡ None)
+  face_none : All IsLawfulSolid scene.solids → (found : Option ℕ) → IsFirstOf test far found
+      → ((sight_at scene x y found).face ≡ 0) ↔ (found ≡ None)
   face_none solids None r = (λ e. refl, λ e. refl)
   face_none solids (Some z) r = (λ e. absurd (omega (arith, e, face_some z solids r)), λ e. absurd cc)
 
@@ -172,7 +189,8 @@ module _ (surfaces : ScenesHaveSurfaces) (scene : SceneView) (lawful : IsLawfulS
   depth_none (Some z) r = (λ e. absurd (omega (arith, e, r.below)), λ e. absurd cc)
 
 pub shows_faces : ScenesHaveSurfaces → PicturesShowFaces
-shows_faces surfaces scene lawful x y = face_below surfaces scene lawful x y (first_cell scene x y) (first_cells scene x y)
+shows_faces surfaces scene lawful x y =
+    face_below surfaces scene lawful x y (first_cell scene x y) (first_cells scene x y)
 
 pub shows_background : ScenesHaveSurfaces → PicturesShowBackground
 shows_background surfaces scene lawful solids x y = record {

@@ -34,7 +34,8 @@ module _ (s : SolidView) (d : Depths) (x y : ℕ) where
       ∙ rw (cell_is_first d (enters_at s x y) z, cell_is_least d (leaves_at s end x y) z) refl
 
   pub in_order : is_met s end x y ≡ true → first ≤ last
-  in_order met = cells_grow d (enters_at s x y) (leaves_at s end x y) (omega (arith, ints, (depths_are s end x y met).1))
+  in_order met =
+      cells_grow d (enters_at s x y) (leaves_at s end x y) (omega (arith, ints, (depths_are s end x y met).1))
 
   pub has_cells : HasCells s d x y
   has_cells = record {

@@ -1,5 +1,7 @@
 -- The covering law: one front and one back cover a pixel where the solid has a cell there.
-use Rattle.std.proofs.Common.{◌≡◌, ◌<◌, ◌≤◌, ◌+◌, ◌-◌, ℕ, zero, suc, ℤ, pos, neg_ℤ, ◌-ℤ◌, Bool, true, false, ◌&&◌, List, [], ◌∷◌, ◌++◌, length, map, take, drop, get_or, eqb, nat_lt, refl, ap, sym, ◌∙◌, arith, inl, inr, add-one}
+use Rattle.std.proofs.Common.{◌≡◌, ◌<◌, ◌≤◌, ◌+◌, ◌-◌, ℕ, zero, suc, ℤ, pos, neg_ℤ, ◌-ℤ◌, Bool, true, false, ◌&&◌}
+use Rattle.std.proofs.Common.{List, [], ◌∷◌, ◌++◌, length, map, take, drop, get_or, eqb, nat_lt, refl, ap, sym, ◌∙◌}
+use Rattle.std.proofs.Common.{arith, inl, inr, add-one}
 use Rattle.std.specs.List.{list_all}
 use Rattle.std.proofs.lemmas.Int.{ints}
 use Rattle.std.proofs.lemmas.Bool.{cases_lt}
@@ -16,8 +18,10 @@ use Rattle.px_model.specs.Cells.{enters_at, leaves_at}
 use Rattle.px_face.specs.Covering.{IsCoveredOnce, covering_back, covering_front, greatest_place, is_met}
 use Rattle.px_face.specs.Edges.{above, hold_at, at_least, back_edges, covers, front_edges}
 use Rattle.px_face.specs.Faces.{back_planes, face_count, front_planes, is_front, level, number_of, numbers_of, plane_of}
-use Rattle.px_face.proofs.DepthLemmas.{backs_over, cells_are, depths_are, fronts_below, fronts_under, list_all_same, turned_backs}
-use Rattle.px_face.proofs.PlaceLemmas.{and_false, and_true, greatest_bounds, greatest_first, greatest_only, greatest_there, is_first_greatest}
+use Rattle.px_face.proofs.DepthLemmas.{backs_over, cells_are, depths_are, fronts_below, fronts_under, list_all_same}
+use Rattle.px_face.proofs.DepthLemmas.{turned_backs}
+use Rattle.px_face.proofs.PlaceLemmas.{and_false, and_true, greatest_bounds, greatest_first, greatest_only}
+use Rattle.px_face.proofs.PlaceLemmas.{greatest_there, is_first_greatest}
 use Rattle.px_face.proofs.RangeLemmas.{backs_size, fronts_size, lt_false, lt_true}
 
 above_test : (u v : ℤ) → le_z (pos 0) ((u -ℤ v) -ℤ pos 1) ≡ lt_z v u
@@ -60,28 +64,34 @@ pub from_lt : (i n : ℕ) → nat_lt i n ≡ false → n ≤ i
 from_lt i n h = grind (arith, nat_tests)
 
 -- forms as a test of the values that they compare
-part : (f : Linear → Linear) (v : Linear → ℤ) (t : ℤ → Bool) (x y : ℕ) → ((q : Linear) → le_z (pos 0) (value_at (f q) x y) ≡ t (v q)) → (qs : List Linear) → hold_at (map f qs) x y ≡ list_all t (map v qs)
+part : (f : Linear → Linear) (v : Linear → ℤ) (t : ℤ → Bool) (x y : ℕ)
+    → ((q : Linear) → le_z (pos 0) (value_at (f q) x y) ≡ t (v q)) → (qs : List Linear) → hold_at (map f qs) x y
+    ≡ list_all t (map v qs)
 part f v t x y same qs =
     list_all-map (λ e. le_z (pos 0) (value_at e x y)) f qs
     ∙ list_all_same (λ q. le_z (pos 0) (value_at (f q) x y)) (λ q. t (v q)) same qs
     ∙ sym (list_all-map t v qs)
 
-kept_parts : (a b c d : List Linear) (x y : ℕ) → hold_at (a ++ (b ++ c) ++ d) x y ≡ (hold_at a x y && (hold_at b x y && hold_at c x y)) && hold_at d x y
+kept_parts : (a b c d : List Linear) (x y : ℕ) → hold_at (a ++ (b ++ c) ++ d) x y
+    ≡ (hold_at a x y && (hold_at b x y && hold_at c x y)) && hold_at d x y
 kept_parts a b c d x y =
     let kept : Linear → Bool = λ e. le_z (pos 0) (value_at e x y) in
     rw (list_all-append kept (a ++ (b ++ c)) d, list_all-append kept a (b ++ c), list_all-append kept b c) refl
 
-one_place : (sides first others met here : Bool) → first ≡ here → (here ≡ true → others ≡ met) → (sides && first) && others ≡ (sides && met) && here
+one_place : (sides first others met here : Bool) → first ≡ here → (here ≡ true → others ≡ met) → (sides && first)
+    && others ≡ (sides && met) && here
 one_place false first others met here e is = refl
 one_place true false others met here e is = rw (← e) (sym (and_false met))
 one_place true true others met here e is = is (sym e) ∙ rw (← e) (sym (and_true met))
 
 -- the place that leads, of values of planes
 lead_is : (v : Linear → ℤ) (ps : List Linear) (i : ℕ) → i < length ps →
-    is_first_greatest (map v (take i ps)) (v (get_or ps i (level 0))) (map v (drop (i + 1) ps)) ≡ eqb i (greatest_place (map v ps))
+    is_first_greatest (map v (take i ps)) (v (get_or ps i (level 0))) (map v (drop (i + 1) ps))
+    ≡ eqb i (greatest_place (map v ps))
 lead_is v ps i low =
     let room : i < length (map v ps) = simp length-map low in
-    rw (← take-map v i ps, ← drop-map v (i + 1) ps, ← get_or-map v ps i (level 0) (pos 0) low, add-one) (greatest_only (map v ps) i (pos 0) room)
+    rw (← take-map v i ps, ← drop-map v (i + 1) ps, ← get_or-map v ps i (level 0) (pos 0) low, add-one)
+    (greatest_only (map v ps) i (pos 0) room)
 
 some_values : (v : Linear → ℤ) (ps : List Linear) (n : ℕ) → length ps ≡ n + 1 → length (map v ps) ≡ n + 1
 some_values v ps n e = length-map ps v ∙ e
@@ -90,7 +100,8 @@ number_at : (fs : List Face) (i : ℕ) (f : Face) → i < length fs → get_or (
 number_at fs i f low = get_or-map (λ g. g.number) fs i f 0 low
 
 -- the numbers of the near face and the fronts grow with their places
-numbers_grow : (near : ℕ) (fs : List Face) (i j : ℕ) → AreFaces near fs → i ≤ j → j ≤ length fs → get_or (near ∷ numbers_of fs) i 0 ≤ get_or (near ∷ numbers_of fs) j 0
+numbers_grow : (near : ℕ) (fs : List Face) (i j : ℕ) → AreFaces near fs → i ≤ j → j ≤ length fs
+    → get_or (near ∷ numbers_of fs) i 0 ≤ get_or (near ∷ numbers_of fs) j 0
 numbers_grow near fs zero zero are le there = omega arith
 numbers_grow near [] i (suc j) are le there = absurd (omega arith)
 numbers_grow near (f ∷ fs) zero (suc j) are le there =
@@ -101,7 +112,8 @@ numbers_grow near (f ∷ fs) (suc i) (suc j) are le there =
     let here = number_at (f ∷ fs) i f (omega arith) in
     let later = number_at (f ∷ fs) j f (omega arith) in
     elim (cases_lt i j) [
-      | inl before ↦ let above : (get_or (f ∷ fs) i f).number < (get_or (f ∷ fs) j f).number = are.order i j f before (omega arith) in omega (arith, here, later, above)
+      | inl before ↦ let above : (get_or (f ∷ fs) i f).number < (get_or (f ∷ fs) j f).number =
+          are.order i j f before (omega arith) in omega (arith, here, later, above)
       | inr same ↦ let one : i ≡ j = omega arith in rw one (omega arith)
     ]
 
@@ -139,8 +151,11 @@ module _ (s : SolidView) (end x y : ℕ) where
       let n = some_values at (front_planes s.fronts) (length s.fronts) (fronts_size s) in
       let room : front_place < length (front_planes s.fronts) = omega (arith, front_low, fronts_size s) in
       let v = at (get_or (front_planes s.fronts) front_place (level 0)) in
-      let here : get_or (map at (front_planes s.fronts)) front_place (pos 0) ≡ v = get_or-map at (front_planes s.fronts) front_place (level 0) (pos 0) room in
-      let bound : (z : ℤ) → le_z v z ≡ le_z (enters_at s x y) z = λ z. rw (← here) (greatest_bounds (map at (front_planes s.fronts)) (pos 0) z (omega (arith, n)) ∙ fronts_below s end x y z) in
+      let here : get_or (map at (front_planes s.fronts)) front_place (pos 0) ≡ v =
+      get_or-map at (front_planes s.fronts) front_place (level 0) (pos 0) room in
+      let bound : (z : ℤ) → le_z v z ≡ le_z (enters_at s x y) z =
+      λ z. rw (← here) (greatest_bounds (map at (front_planes s.fronts)) (pos 0) z (omega (arith, n))
+      ∙ fronts_below s end x y z) in
       le_ext v (enters_at s x y) (bound v) (bound (enters_at s x y))
 
   back_value : at (get_or (back_planes s.backs end) back_place (level 0)) ≡ leaves_at s end x y
@@ -148,9 +163,11 @@ module _ (s : SolidView) (end x y : ℕ) where
       let n = some_values turned (back_planes s.backs end) (length s.backs) (backs_size s end) in
       let room : back_place < length (back_planes s.backs end) = omega (arith, back_low, backs_size s end) in
       let v : ℤ = at (get_or (back_planes s.backs end) back_place (level 0)) in
-      let here : get_or (map turned (back_planes s.backs end)) back_place (pos 0) ≡ neg_ℤ v = get_or-map turned (back_planes s.backs end) back_place (level 0) (pos 0) room in
+      let here : get_or (map turned (back_planes s.backs end)) back_place (pos 0) ≡ neg_ℤ v =
+      get_or-map turned (back_planes s.backs end) back_place (level 0) (pos 0) room in
       let bound : (z : ℤ) → lt_z z v ≡ lt_z z (leaves_at s end x y) =
-      λ z. sym (before_turned z v) ∙ rw (← here) (greatest_bounds (map turned (back_planes s.backs end)) (pos 0) (neg_ℤ z -ℤ pos 1) (omega (arith, n)) ∙ turned_backs s end x y z) in
+      λ z. sym (before_turned z v) ∙ rw (← here) (greatest_bounds (map turned (back_planes s.backs end)) (pos 0)
+      (neg_ℤ z -ℤ pos 1) (omega (arith, n)) ∙ turned_backs s end x y z) in
       lt_ext v (leaves_at s end x y) (bound v) (bound (leaves_at s end x y))
 
   front_is : (i : ℕ) → i ≤ length s.fronts → hold_at (front_edges s end i) x y ≡ (is_met s end x y && eqb i front_place)
@@ -158,78 +175,108 @@ module _ (s : SolidView) (end x y : ℕ) where
       let ps = front_planes s.fronts in
       let p = get_or ps i (level 0) in
       let room : i < length ps = omega (arith, fronts_size s) in
-      kept_parts s.sides (map (λ q. above p q) (take i ps)) (map (λ q. at_least p q) (drop (i + 1) ps)) (map (λ q. above q p) (back_planes s.backs end)) x y
+      kept_parts s.sides (map (λ q. above p q) (take i ps)) (map (λ q. at_least p q) (drop (i + 1) ps))
+      (map (λ q. above q p) (back_planes s.backs end)) x y
       ∙ rw (
         part (λ q. above p q) at (λ u. lt_z u (at p)) x y (λ q. above_is p q) (take i ps),
         part (λ q. at_least p q) at (λ u. le_z u (at p)) x y (λ q. at_least_is p q) (drop (i + 1) ps),
         part (λ q. above q p) at (λ u. lt_z (at p) u) x y (λ q. above_is q p) (back_planes s.backs end),
       )
       (one_place (hold_at s.sides x y) (is_first_greatest (map at (take i ps)) (at p) (map at (drop (i + 1) ps)))
-      (list_all (λ u. lt_z (at p) u) (map at (back_planes s.backs end))) (lt_z (enters_at s x y) (leaves_at s end x y)) (eqb i front_place)
+      (list_all (λ u. lt_z (at p) u) (map at (back_planes s.backs end)))
+      (lt_z (enters_at s x y) (leaves_at s end x y)) (eqb i front_place)
       (lead_is at ps i room)
-      (λ e. backs_over s end x y (at p) ∙ ap (λ v. lt_z v (leaves_at s end x y)) (ap (λ j. at (get_or ps j (level 0))) (same_place i front_place e) ∙ front_value)))
+      (λ e. backs_over s end x y (at p) ∙ ap (λ v. lt_z v (leaves_at s end x y))
+      (ap (λ j. at (get_or ps j (level 0))) (same_place i front_place e) ∙ front_value)))
 
   back_is : (i : ℕ) → i ≤ length s.backs → hold_at (back_edges s end i) x y ≡ (is_met s end x y && eqb i back_place)
   back_is i low =
       let ps = back_planes s.backs end in
       let p = get_or ps i (level 0) in
       let room : i < length ps = omega (arith, backs_size s end) in
-      kept_parts s.sides (map (λ q. above q p) (take i ps)) (map (λ q. at_least q p) (drop (i + 1) ps)) (map (λ q. above p q) (front_planes s.fronts)) x y
+      kept_parts s.sides (map (λ q. above q p) (take i ps)) (map (λ q. at_least q p) (drop (i + 1) ps))
+      (map (λ q. above p q) (front_planes s.fronts)) x y
       ∙ rw (
-        part (λ q. above q p) turned (λ u. lt_z u (turned p)) x y (λ q. above_is q p ∙ lt_turned (at p) (at q)) (take i ps),
-        part (λ q. at_least q p) turned (λ u. le_z u (turned p)) x y (λ q. at_least_is q p ∙ le_turned (at p) (at q)) (drop (i + 1) ps),
+        part (λ q. above q p) turned (λ u. lt_z u (turned p)) x y (λ q. above_is q p ∙ lt_turned (at p) (at q))
+            (take i ps),
+        part (λ q. at_least q p) turned (λ u. le_z u (turned p)) x y (λ q. at_least_is q p ∙ le_turned (at p) (at q))
+            (drop (i + 1) ps),
         part (λ q. above p q) at (λ u. lt_z u (at p)) x y (λ q. above_is p q) (front_planes s.fronts),
       )
-      (one_place (hold_at s.sides x y) (is_first_greatest (map turned (take i ps)) (turned p) (map turned (drop (i + 1) ps)))
-      (list_all (λ u. lt_z u (at p)) (map at (front_planes s.fronts))) (lt_z (enters_at s x y) (leaves_at s end x y)) (eqb i back_place)
+      (one_place (hold_at s.sides x y) (is_first_greatest (map turned (take i ps)) (turned p)
+      (map turned (drop (i + 1) ps)))
+      (list_all (λ u. lt_z u (at p)) (map at (front_planes s.fronts))) (lt_z (enters_at s x y) (leaves_at s end x y))
+      (eqb i back_place)
       (lead_is turned ps i room)
-      (λ e. fronts_under s end x y (at p) ∙ ap (λ v. lt_z (enters_at s x y) v) (ap (λ j. at (get_or ps j (level 0))) (same_place i back_place e) ∙ back_value)))
+      (λ e. fronts_under s end x y (at p) ∙ ap (λ v. lt_z (enters_at s x y) v)
+      (ap (λ j. at (get_or ps j (level 0))) (same_place i back_place e) ∙ back_value)))
 
-  plane_front : (face : ℕ) → face ≤ length s.fronts → plane_of s end face ≡ get_or (front_planes s.fronts) face (level 0)
-  plane_front face low = get_or_append_left (front_planes s.fronts) (back_planes s.backs end) (level 0) face (omega (arith, fronts_size s))
+  plane_front : (face : ℕ) → face ≤ length s.fronts → plane_of s end face ≡ get_or (front_planes s.fronts) face
+      (level 0)
+  plane_front face low =
+      get_or_append_left (front_planes s.fronts) (back_planes s.backs end) (level 0) face (omega (arith, fronts_size s))
 
-  plane_back : (face : ℕ) → length s.fronts + 1 ≤ face → plane_of s end face ≡ get_or (back_planes s.backs end) (face - (length s.fronts + 1)) (level 0)
-  plane_back face high = get_or-append_right (front_planes s.fronts) (back_planes s.backs end) (length s.fronts + 1) face (level 0) (fronts_size s) high
+  plane_back : (face : ℕ) → length s.fronts + 1 ≤ face → plane_of s end face ≡ get_or (back_planes s.backs end)
+      (face - (length s.fronts + 1)) (level 0)
+  plane_back face high = get_or-append_right (front_planes s.fronts) (back_planes s.backs end) (length s.fronts + 1)
+      face (level 0) (fronts_size s) high
 
-  fronts_cover : (face : ℕ) → is_front s face ≡ true → covers s end face x y ≡ (is_met s end x y && eqb face (covering_front s x y))
+  fronts_cover : (face : ℕ) → is_front s face ≡ true → covers s end face x y
+      ≡ (is_met s end x y && eqb face (covering_front s x y))
   fronts_cover face front =
       let low = below_lt face (length s.fronts + 1) front in
       rw front (front_is face (omega arith))
 
-  backs_cover : (face : ℕ) → face < face_count s → is_front s face ≡ false → covers s end face x y ≡ (is_met s end x y && eqb face (covering_back s end x y))
+  backs_cover : (face : ℕ) → face < face_count s → is_front s face ≡ false → covers s end face x y
+      ≡ (is_met s end x y && eqb face (covering_back s end x y))
   backs_cover face there back =
       let n = length s.fronts + 1 in
       let high : n ≤ face = from_lt face (length s.fronts + 1) back in
       rw (back, back_is (face - n) (omega arith), moved_place n face back_place high) refl
 
-  least_index : (face : ℕ) → face < face_count s → is_front s face ≡ false → value_at (plane_of s end face) x y ≡ leaves_at s end x y → covering_back s end x y ≤ face
+  least_index : (face : ℕ) → face < face_count s → is_front s face ≡ false → value_at (plane_of s end face) x y
+      ≡ leaves_at s end x y → covering_back s end x y ≤ face
   least_index face there back same =
       let n = length s.fronts + 1 in
       let high : n ≤ face = from_lt face (length s.fronts + 1) back in
       let i = face - n in
       let v : ℤ = leaves_at s end x y in
       let room : i < length (back_planes s.backs end) = omega (arith, backs_size s end) in
-      let place : i < length (map turned (back_planes s.backs end)) = omega (arith, some_values turned (back_planes s.backs end) (length s.backs) (backs_size s end)) in
+      let place : i < length (map turned (back_planes s.backs end)) =
+      omega (arith, some_values turned (back_planes s.backs end) (length s.backs) (backs_size s end)) in
       let here : get_or (map turned (back_planes s.backs end)) i (pos 0) ≡ neg_ℤ v =
-      get_or-map turned (back_planes s.backs end) i (level 0) (pos 0) room ∙ ap neg_ℤ (sym (ap at (plane_back face high)) ∙ same) in
+      get_or-map turned (back_planes s.backs end) i (level 0) (pos 0) room
+      ∙ ap neg_ℤ (sym (ap at (plane_back face high)) ∙ same) in
       let least : neg_ℤ (v -ℤ pos 1) -ℤ pos 1 ≡ neg_ℤ v = omega (arith, ints) in
       let all : list_all (λ u. le_z u (neg_ℤ v)) (map turned (back_planes s.backs end)) ≡ true =
-      ap (λ w. list_all (λ u. le_z u w) (map turned (back_planes s.backs end))) (sym least) ∙ turned_backs s end x y (v -ℤ pos 1) ∙ lt_before v in
-      omega (arith, greatest_first (map turned (back_planes s.backs end)) i (pos 0) place (ap (λ w. list_all (λ u. le_z u w) (map turned (back_planes s.backs end))) here ∙ all))
+      ap (λ w. list_all (λ u. le_z u w) (map turned (back_planes s.backs end))) (sym least)
+      ∙ turned_backs s end x y (v -ℤ pos 1) ∙ lt_before v in
+      omega (
+        arith,
+        greatest_first (map turned (back_planes s.backs end)) i (pos 0) place
+            (ap (λ w. list_all (λ u. le_z u w) (map turned (back_planes s.backs end))) here ∙ all),
+      )
 
-  first_index : (face : ℕ) → face ≤ length s.fronts → value_at (plane_of s end face) x y ≡ enters_at s x y → front_place ≤ face
+  first_index : (face : ℕ) → face ≤ length s.fronts → value_at (plane_of s end face) x y ≡ enters_at s x y
+      → front_place ≤ face
   first_index face low same =
       let v : ℤ = enters_at s x y in
       let room : face < length (front_planes s.fronts) = omega (arith, fronts_size s) in
-      let place : face < length (map at (front_planes s.fronts)) = omega (arith, some_values at (front_planes s.fronts) (length s.fronts) (fronts_size s)) in
+      let place : face < length (map at (front_planes s.fronts)) =
+      omega (arith, some_values at (front_planes s.fronts) (length s.fronts) (fronts_size s)) in
       let here : get_or (map at (front_planes s.fronts)) face (pos 0) ≡ v =
       get_or-map at (front_planes s.fronts) face (level 0) (pos 0) room ∙ sym (ap at (plane_front face low)) ∙ same in
-      greatest_first (map at (front_planes s.fronts)) face (pos 0) place (ap (λ w. list_all (λ u. le_z u w) (map at (front_planes s.fronts))) here ∙ fronts_below s end x y v ∙ le_same v)
+      greatest_first (map at (front_planes s.fronts)) face (pos 0) place
+      (ap (λ w. list_all (λ u. le_z u w) (map at (front_planes s.fronts))) here ∙ fronts_below s end x y v
+      ∙ le_same v)
 
-  number_front : (face : ℕ) → face ≤ length s.fronts → number_of s face ≡ get_or (s.near_number ∷ numbers_of s.fronts) face 0
-  number_front face low = get_or_append_left (s.near_number ∷ numbers_of s.fronts) (numbers_of s.backs ++ 0 ∷ []) 0 face (omega (arith, length-map s.fronts (λ f. f.number)))
+  number_front : (face : ℕ) → face ≤ length s.fronts → number_of s face
+      ≡ get_or (s.near_number ∷ numbers_of s.fronts) face 0
+  number_front face low = get_or_append_left (s.near_number ∷ numbers_of s.fronts) (numbers_of s.backs ++ 0 ∷ []) 0
+      face (omega (arith, length-map s.fronts (λ f. f.number)))
 
-  least_number : IsLawfulSolid s → (face : ℕ) → is_front s face ≡ true → value_at (plane_of s end face) x y ≡ enters_at s x y → number_of s (covering_front s x y) ≤ number_of s face
+  least_number : IsLawfulSolid s → (face : ℕ) → is_front s face ≡ true → value_at (plane_of s end face) x y
+      ≡ enters_at s x y → number_of s (covering_front s x y) ≤ number_of s face
   least_number lawful face front same =
       let there = below_lt face (length s.fronts + 1) front in
       let low : face ≤ length s.fronts = omega arith in
@@ -248,7 +295,8 @@ module _ (s : SolidView) (end x y : ℕ) where
         back_there = omega (arith, back_low);
         back_behind = lt_false (n + back_place) n high;
         front_value = ap at (plane_front front_place front_low) ∙ front_value;
-        back_value = ap at (plane_back (n + back_place) high) ∙ ap (λ j. at (get_or (back_planes s.backs end) j (level 0))) moved ∙ back_value;
+        back_value = ap at (plane_back (n + back_place) high)
+            ∙ ap (λ j. at (get_or (back_planes s.backs end) j (level 0))) moved ∙ back_value;
         least_number = least_number;
         least_index = least_index;
         values = cells_are s end x y;

@@ -1,5 +1,6 @@
 -- Where a ray enters a solid and leaves it: the greatest front and the least back, as tests of all fronts and backs.
-use Rattle.std.proofs.Common.{◌≡◌, ◌-ℤ◌, ◌≤ℤ◌, ◌<ℤ◌, ℕ, ℤ, pos, neg_ℤ, Bool, true, false, ◌&&◌, List, [], ◌∷◌, map, nat_lt, refl, ap, sym, ◌∙◌, arith}
+use Rattle.std.proofs.Common.{◌≡◌, ◌-ℤ◌, ◌≤ℤ◌, ◌<ℤ◌, ℕ, ℤ, pos, neg_ℤ, Bool, true, false, ◌&&◌, List, [], ◌∷◌, map}
+use Rattle.std.proofs.Common.{nat_lt, refl, ap, sym, ◌∙◌, arith}
 use Rattle.std.specs.List.{fold, list_all}
 use Rattle.std.specs.Int.{int_max, int_min}
 use Rattle.std.proofs.lemmas.Int.{fold-int_max_bounds, fold-int_min_bounds, ints}
@@ -18,7 +19,8 @@ use Rattle.px_face.proofs.PlaceLemmas.{and_both, and_right, and_true}
 pub value_at-level : (n x y : ℕ) → value_at (level n) x y ≡ pos n
 value_at-level n x y = omega (arith, ints, zero-*ℤ (pos x), zero-*ℤ (pos y))
 
-pub list_all_same : {X : Type 0} (p q : X → Bool) → ((x : X) → p x ≡ q x) → (xs : List X) → list_all p xs ≡ list_all q xs
+pub list_all_same : {X : Type 0} (p q : X → Bool) → ((x : X) → p x ≡ q x) → (xs : List X) → list_all p xs
+    ≡ list_all q xs
 list_all_same p q same [] = refl
 list_all_same p q same (x ∷ xs) = rw (same x, list_all_same p q same xs) refl
 
@@ -28,14 +30,16 @@ and_max a b z = grind (arith, ints)
 and_min : (a b z : ℤ) → lt_z z (int_min a b) ≡ (lt_z z a && lt_z z b)
 and_min a b z = grind (arith, ints)
 
-pub all_max : {X : Type 0} (v : X → ℤ) (xs : List X) (m z : ℤ) → le_z (fold int_max m (map v xs)) z ≡ (le_z m z && list_all (λ x. le_z (v x) z) xs)
+pub all_max : {X : Type 0} (v : X → ℤ) (xs : List X) (m z : ℤ) → le_z (fold int_max m (map v xs)) z
+    ≡ (le_z m z && list_all (λ x. le_z (v x) z) xs)
 all_max v [] m z = sym (and_true (le_z m z))
 all_max v (x ∷ xs) m z =
     all_max v xs (int_max m (v x)) z
     ∙ ap (λ b. b && list_all (λ w. le_z (v w) z) xs) (and_max m (v x) z)
     ∙ and_both (le_z m z) (le_z (v x) z) (list_all (λ w. le_z (v w) z) xs)
 
-pub all_min : {X : Type 0} (v : X → ℤ) (xs : List X) (m z : ℤ) → lt_z z (fold int_min m (map v xs)) ≡ (lt_z z m && list_all (λ x. lt_z z (v x)) xs)
+pub all_min : {X : Type 0} (v : X → ℤ) (xs : List X) (m z : ℤ) → lt_z z (fold int_min m (map v xs))
+    ≡ (lt_z z m && list_all (λ x. lt_z z (v x)) xs)
 all_min v [] m z = sym (and_true (lt_z z m))
 all_min v (x ∷ xs) m z =
     all_min v xs (int_min m (v x)) z
@@ -66,7 +70,8 @@ in_order near false true true b e = rw e refl
 in_order near false true false b e = rw e refl
 in_order near false false f b e = refl
 
-some_cell : (sides : Bool) (e l z : ℤ) → (sides && (le_z e z && lt_z z l)) ≡ ((sides && lt_z e l) && le_z e z && lt_z z l)
+some_cell : (sides : Bool) (e l z : ℤ) → (sides && (le_z e z && lt_z z l))
+    ≡ ((sides && lt_z e l) && le_z e z && lt_z z l)
 some_cell false e l z = refl
 some_cell true e l z = grind (arith, ints)
 
@@ -79,7 +84,8 @@ module _ (s : SolidView) (end x y : ℕ) where
 
   pub fronts_below : (z : ℤ) → list_all (λ u. le_z u z) (map at (front_planes s.fronts)) ≡ le_z (enters_at s x y) z
   fronts_below z =
-      both_same (le_z (at (level 0)) z) (le_z (pos 0) z) (list_all (λ u. le_z u z) (map at (planes_of s.fronts))) (list_all (λ f. le_z (value_at f.plane x y) z) s.fronts)
+      both_same (le_z (at (level 0)) z) (le_z (pos 0) z) (list_all (λ u. le_z u z) (map at (planes_of s.fronts)))
+      (list_all (λ f. le_z (value_at f.plane x y) z) s.fronts)
       (ap (λ v. le_z v z) (value_at-level 0 x y))
       (list_all-map (λ u. le_z u z) at (planes_of s.fronts) ∙ list_all-map (λ q. le_z (at q) z) (λ f. f.plane) s.fronts)
       ∙ sym (all_max (λ f. value_at f.plane x y) s.fronts (pos 0) z)
@@ -98,24 +104,36 @@ module _ (s : SolidView) (end x y : ℕ) where
         list_all-map (λ q. lt_z z (at q)) (λ f. f.plane) s.backs,
         value_at-level end x y,
       )
-      (swapped (list_all (λ f. lt_z z (value_at f.plane x y)) s.backs) (lt_z z (pos end)) ∙ sym (all_min (λ f. value_at f.plane x y) s.backs (pos end) z))
+      (swapped (list_all (λ f. lt_z z (value_at f.plane x y)) s.backs) (lt_z z (pos end))
+      ∙ sym (all_min (λ f. value_at f.plane x y) s.backs (pos end) z))
 
-  pub turned_backs : (z : ℤ) → list_all (λ u. le_z u (neg_ℤ z -ℤ pos 1)) (map turned (back_planes s.backs end)) ≡ lt_z z (leaves_at s end x y)
+  pub turned_backs : (z : ℤ) → list_all (λ u. le_z u (neg_ℤ z -ℤ pos 1)) (map turned (back_planes s.backs end))
+      ≡ lt_z z (leaves_at s end x y)
   turned_backs z =
       list_all-map (λ u. le_z u (neg_ℤ z -ℤ pos 1)) turned (back_planes s.backs end)
-      ∙ list_all_same (λ q. le_z (turned q) (neg_ℤ z -ℤ pos 1)) (λ q. lt_z z (at q)) (λ q. before_turned z (at q)) (back_planes s.backs end)
+      ∙ list_all_same (λ q. le_z (turned q) (neg_ℤ z -ℤ pos 1)) (λ q. lt_z z (at q)) (λ q. before_turned z (at q))
+      (back_planes s.backs end)
       ∙ sym (list_all-map (λ u. lt_z z u) at (back_planes s.backs end))
       ∙ backs_over z
 
-  pub cells_are : (z : ℕ) → is_inside_at s end x y z ≡ (is_met s end x y && le_z (enters_at s x y) (pos z) && lt_z (pos z) (leaves_at s end x y))
+  pub cells_are : (z : ℕ) → is_inside_at s end x y z ≡ (is_met s end x y && le_z (enters_at s x y) (pos z)
+      && lt_z (pos z) (leaves_at s end x y))
   cells_are z =
-      in_order (le_z (pos 0) (pos z)) (nat_lt z end) (hold_at s.sides x y) (list_all (λ f. le_z (value_at f.plane x y) (pos z)) s.fronts) (list_all (λ f. lt_z (pos z) (value_at f.plane x y)) s.backs) (grind (arith, ints))
-      ∙ rw (← all_max (λ f. value_at f.plane x y) s.fronts (pos 0) (pos z), ← all_min (λ f. value_at f.plane x y) s.backs (pos end) (pos z))
+      in_order (le_z (pos 0) (pos z)) (nat_lt z end) (hold_at s.sides x y)
+      (list_all (λ f. le_z (value_at f.plane x y) (pos z)) s.fronts)
+      (list_all (λ f. lt_z (pos z) (value_at f.plane x y)) s.backs) (grind (arith, ints))
+      ∙ rw (
+        ← all_max (λ f. value_at f.plane x y) s.fronts (pos 0) (pos z),
+        ← all_min (λ f. value_at f.plane x y)
+            s.backs (pos end) (pos z),
+      )
       (some_cell (hold_at s.sides x y) (enters_at s x y) (leaves_at s end x y) (pos z))
 
-  pub depths_are : is_met s end x y ≡ true → (pos 0 ≤ℤ enters_at s x y) × (enters_at s x y <ℤ leaves_at s end x y) × (leaves_at s end x y ≤ℤ pos end)
+  pub depths_are : is_met s end x y ≡ true → (pos 0 ≤ℤ enters_at s x y) × (enters_at s x y <ℤ leaves_at s end x y)
+      × (leaves_at s end x y ≤ℤ pos end)
   depths_are met =
-      let some : lt_z (enters_at s x y) (leaves_at s end x y) ≡ true = and_right (hold_at s.sides x y) (lt_z (enters_at s x y) (leaves_at s end x y)) met in
+      let some : lt_z (enters_at s x y) (leaves_at s end x y) ≡ true =
+      and_right (hold_at s.sides x y) (lt_z (enters_at s x y) (leaves_at s end x y)) met in
       let low = fold-int_max_bounds (pos 0) (map (λ f. value_at f.plane x y) s.fronts) (enters_at s x y) refl in
       let high = fold-int_min_bounds (pos end) (map (λ f. value_at f.plane x y) s.backs) (leaves_at s end x y) refl in
       (low.0, grind (arith, ints), high.0)

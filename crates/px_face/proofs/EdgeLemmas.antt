@@ -1,7 +1,9 @@
 -- The edges of a face one by one, how many there are, and their range.
-use Rattle.std.proofs.Common.{◌≡◌, ◌<◌, ◌≤◌, ◌+◌, ◌-◌, ◌^◌, All, ℕ, List, [], ◌∷◌, ◌++◌, length, map, take, drop, get_or, refl, ap, sym, ◌∙◌, arith, append_assoc, length-append, inl, inr}
+use Rattle.std.proofs.Common.{◌≡◌, ◌<◌, ◌≤◌, ◌+◌, ◌-◌, ◌^◌, All, ℕ, List, [], ◌∷◌, ◌++◌, length, map, take, drop}
+use Rattle.std.proofs.Common.{get_or, refl, ap, sym, ◌∙◌, arith, append_assoc, length-append, inl, inr}
 use Rattle.std.proofs.lemmas.Bool.{cases_lt}
-use Rattle.std.proofs.lemmas.List.{length-map, length-drop, length-take-le, get_or_append_left, get_or-append_right, get_or-drop, get_or-map, get_or-take, take_all, take_more}
+use Rattle.std.proofs.lemmas.List.{length-map, length-drop, length-take-le, get_or_append_left, get_or-append_right}
+use Rattle.std.proofs.lemmas.List.{get_or-drop, get_or-map, get_or-take, take_all, take_more}
 use Rattle.std.proofs.lemmas.List.Elements.{All-get_or}
 use Rattle.px_num.specs.declared.linear.Linear.{Linear}
 use Rattle.px_num.specs.Forms.{IsInTreeRange}
@@ -35,7 +37,8 @@ module _ (f g h : Linear → Linear) (ps qs : List Linear) (n i : ℕ) (size : l
       ∙ get_or-map f (take i ps) k d d (omega (arith, length-take-le i ps (omega (arith, size))))
       ∙ ap f (get_or-take i ps k d low)
 
-  pub form_after : (k : ℕ) (d : Linear) → i ≤ k → k < n → get_or (before ++ after ++ map h qs) k d ≡ g (get_or ps (k + 1) d)
+  pub form_after : (k : ℕ) (d : Linear) → i ≤ k → k < n → get_or (before ++ after ++ map h qs) k d
+      ≡ g (get_or ps (k + 1) d)
   form_after k d low high =
       let moved : i + 1 + (k - i) ≡ k + 1 = omega arith in
       get_or_append_left (before ++ after) (map h qs) d k (omega (arith, kind_size))
@@ -43,69 +46,90 @@ module _ (f g h : Linear → Linear) (ps qs : List Linear) (n i : ℕ) (size : l
       ∙ get_or-map g (drop (i + 1) ps) (k - i) d d (omega (arith, length-drop (i + 1) ps, size))
       ∙ ap g (get_or-drop (i + 1) ps (k - i) d ∙ ap (λ j. get_or ps j d) moved)
 
-  pub form_beyond : (k : ℕ) (d : Linear) → n ≤ k → k < n + length qs → get_or (before ++ after ++ map h qs) k d ≡ h (get_or qs (k - n) d)
+  pub form_beyond : (k : ℕ) (d : Linear) → n ≤ k → k < n + length qs → get_or (before ++ after ++ map h qs) k d
+      ≡ h (get_or qs (k - n) d)
   form_beyond k d low high =
       get_or-append_right (before ++ after) (map h qs) n k d kind_size low
       ∙ get_or-map h qs (k - n) d d (omega arith)
 
 -- one form of a front, or of a back, from what was compared
 module _ (s : SolidView) (end i k : ℕ) (r p q : Linear) where
-  pub front_form_beyond : i ≤ length s.fronts → length s.fronts ≤ k → k < length s.fronts + length s.backs + 1 → p ≡ get_or (front_planes s.fronts) i (level 0)
-      → q ≡ get_or (back_planes s.backs end) (k - length s.fronts) (level 0) → r ≡ above q p → r ≡ get_or (front_orders s end i) k (level 0)
+  pub front_form_beyond : i ≤ length s.fronts → length s.fronts ≤ k → k < length s.fronts + length s.backs + 1
+      → p ≡ get_or (front_planes s.fronts) i (level 0)
+      → q ≡ get_or (back_planes s.backs end) (k - length s.fronts) (level 0) → r ≡ above q p
+      → r ≡ get_or (front_orders s end i) k (level 0)
   front_form_beyond there low high e f g =
       let o = get_or (front_planes s.fronts) i (level 0) in
       rw (g, f, e)
-      (sym (form_beyond (λ q. above o q) (λ q. at_least o q) (λ q. above q o) (front_planes s.fronts) (back_planes s.backs end) (length s.fronts) i (fronts_size s) there k (level 0) low (omega (arith, backs_size s end))))
+      (sym (form_beyond (λ q. above o q) (λ q. at_least o q) (λ q. above q o) (front_planes s.fronts)
+      (back_planes s.backs end) (length s.fronts) i (fronts_size s) there k (level 0) low
+      (omega (arith, backs_size s end))))
 
   pub front_form_before : i ≤ length s.fronts → k < i → p ≡ get_or (front_planes s.fronts) i (level 0)
       → q ≡ get_or (front_planes s.fronts) k (level 0) → r ≡ above p q → r ≡ get_or (front_orders s end i) k (level 0)
   front_form_before there low e f g =
       let o = get_or (front_planes s.fronts) i (level 0) in
       rw (g, f, e)
-      (sym (form_before (λ q. above o q) (λ q. at_least o q) (λ q. above q o) (front_planes s.fronts) (back_planes s.backs end) (length s.fronts) i (fronts_size s) there k (level 0) low))
+      (sym (form_before (λ q. above o q) (λ q. at_least o q) (λ q. above q o) (front_planes s.fronts)
+      (back_planes s.backs end) (length s.fronts) i (fronts_size s) there k (level 0) low))
 
-  pub front_form_after : i ≤ length s.fronts → i ≤ k → k < length s.fronts → p ≡ get_or (front_planes s.fronts) i (level 0)
-      → q ≡ get_or (front_planes s.fronts) (k + 1) (level 0) → r ≡ at_least p q → r ≡ get_or (front_orders s end i) k (level 0)
+  pub front_form_after : i ≤ length s.fronts → i ≤ k → k < length s.fronts → p ≡ get_or (front_planes s.fronts) i
+      (level 0)
+      → q ≡ get_or (front_planes s.fronts) (k + 1) (level 0) → r ≡ at_least p q → r ≡ get_or (front_orders s end i) k
+      (level 0)
   front_form_after there low high e f g =
       let o = get_or (front_planes s.fronts) i (level 0) in
       rw (g, f, e)
-      (sym (form_after (λ q. above o q) (λ q. at_least o q) (λ q. above q o) (front_planes s.fronts) (back_planes s.backs end) (length s.fronts) i (fronts_size s) there k (level 0) low high))
+      (sym (form_after (λ q. above o q) (λ q. at_least o q) (λ q. above q o) (front_planes s.fronts)
+      (back_planes s.backs end) (length s.fronts) i (fronts_size s) there k (level 0) low high))
 
-  pub back_form_beyond : i ≤ length s.backs → length s.backs ≤ k → k < length s.fronts + length s.backs + 1 → p ≡ get_or (back_planes s.backs end) i (level 0)
-      → q ≡ get_or (front_planes s.fronts) (k - length s.backs) (level 0) → r ≡ above p q → r ≡ get_or (back_orders s end i) k (level 0)
+  pub back_form_beyond : i ≤ length s.backs → length s.backs ≤ k → k < length s.fronts + length s.backs + 1
+      → p ≡ get_or (back_planes s.backs end) i (level 0)
+      → q ≡ get_or (front_planes s.fronts) (k - length s.backs) (level 0) → r ≡ above p q
+      → r ≡ get_or (back_orders s end i) k (level 0)
   back_form_beyond there low high e f g =
       let o = get_or (back_planes s.backs end) i (level 0) in
       rw (g, f, e)
-      (sym (form_beyond (λ q. above q o) (λ q. at_least q o) (λ q. above o q) (back_planes s.backs end) (front_planes s.fronts) (length s.backs) i (backs_size s end) there k (level 0) low (omega (arith, fronts_size s))))
+      (sym (form_beyond (λ q. above q o) (λ q. at_least q o) (λ q. above o q) (back_planes s.backs end)
+      (front_planes s.fronts) (length s.backs) i (backs_size s end) there k (level 0) low
+      (omega (arith, fronts_size s))))
 
   pub back_form_before : i ≤ length s.backs → k < i → p ≡ get_or (back_planes s.backs end) i (level 0)
       → q ≡ get_or (back_planes s.backs end) k (level 0) → r ≡ above q p → r ≡ get_or (back_orders s end i) k (level 0)
   back_form_before there low e f g =
       let o = get_or (back_planes s.backs end) i (level 0) in
       rw (g, f, e)
-      (sym (form_before (λ q. above q o) (λ q. at_least q o) (λ q. above o q) (back_planes s.backs end) (front_planes s.fronts) (length s.backs) i (backs_size s end) there k (level 0) low))
+      (sym (form_before (λ q. above q o) (λ q. at_least q o) (λ q. above o q) (back_planes s.backs end)
+      (front_planes s.fronts) (length s.backs) i (backs_size s end) there k (level 0) low))
 
-  pub back_form_after : i ≤ length s.backs → i ≤ k → k < length s.backs → p ≡ get_or (back_planes s.backs end) i (level 0)
-      → q ≡ get_or (back_planes s.backs end) (k + 1) (level 0) → r ≡ at_least q p → r ≡ get_or (back_orders s end i) k (level 0)
+  pub back_form_after : i ≤ length s.backs → i ≤ k → k < length s.backs → p ≡ get_or (back_planes s.backs end) i
+      (level 0)
+      → q ≡ get_or (back_planes s.backs end) (k + 1) (level 0) → r ≡ at_least q p → r ≡ get_or (back_orders s end i)
+      k (level 0)
   back_form_after there low high e f g =
       let o = get_or (back_planes s.backs end) i (level 0) in
       rw (g, f, e)
-      (sym (form_after (λ q. above q o) (λ q. at_least q o) (λ q. above o q) (back_planes s.backs end) (front_planes s.fronts) (length s.backs) i (backs_size s end) there k (level 0) low high))
+      (sym (form_after (λ q. above q o) (λ q. at_least q o) (λ q. above o q) (back_planes s.backs end)
+      (front_planes s.fronts) (length s.backs) i (backs_size s end) there k (level 0) low high))
 
 module _ (s : SolidView) (end i : ℕ) where
-  pub front_beyond : (k : ℕ) (d : Linear) → length s.sides ≤ k → get_or (front_edges s end i) k d ≡ get_or (front_orders s end i) (k - length s.sides) d
+  pub front_beyond : (k : ℕ) (d : Linear) → length s.sides ≤ k → get_or (front_edges s end i) k d
+      ≡ get_or (front_orders s end i) (k - length s.sides) d
   front_beyond k d low =
       let p = get_or (front_planes s.fronts) i (level 0) in
       let a = leads p (front_planes s.fronts) i in
       let b = map (λ q. above q p) (back_planes s.backs end) in
-      ap (λ l. get_or l k d) (append_assoc s.sides a b) ∙ get_or-append_right s.sides (a ++ b) (length s.sides) k d refl low
+      ap (λ l. get_or l k d) (append_assoc s.sides a b) ∙ get_or-append_right s.sides (a ++ b) (length s.sides) k d
+      refl low
 
-  pub back_beyond : (k : ℕ) (d : Linear) → length s.sides ≤ k → get_or (back_edges s end i) k d ≡ get_or (back_orders s end i) (k - length s.sides) d
+  pub back_beyond : (k : ℕ) (d : Linear) → length s.sides ≤ k → get_or (back_edges s end i) k d
+      ≡ get_or (back_orders s end i) (k - length s.sides) d
   back_beyond k d low =
       let p = get_or (back_planes s.backs end) i (level 0) in
       let a = trails p (back_planes s.backs end) i in
       let b = map (λ q. above p q) (front_planes s.fronts) in
-      ap (λ l. get_or l k d) (append_assoc s.sides a b) ∙ get_or-append_right s.sides (a ++ b) (length s.sides) k d refl low
+      ap (λ l. get_or l k d) (append_assoc s.sides a b) ∙ get_or-append_right s.sides (a ++ b) (length s.sides) k d
+      refl low
 
   front_count : i ≤ length s.fronts → length (front_edges s end i) ≡ edge_count s
   front_count there =
@@ -113,8 +137,15 @@ module _ (s : SolidView) (end i : ℕ) where
       let a = leads p (front_planes s.fronts) i in
       let b = map (λ q. above q p) (back_planes s.backs end) in
       let kind : length a ≡ length s.fronts =
-      kind_size (λ q. above p q) (λ q. at_least p q) (λ q. above q p) (front_planes s.fronts) (back_planes s.backs end) (length s.fronts) i (fronts_size s) there in
-      length-append (s.sides ++ a) b ∙ omega (arith, length-append s.sides a, kind, length-map (back_planes s.backs end) (λ q. above q p), backs_size s end)
+      kind_size (λ q. above p q) (λ q. at_least p q) (λ q. above q p) (front_planes s.fronts)
+      (back_planes s.backs end) (length s.fronts) i (fronts_size s) there in
+      length-append (s.sides ++ a) b ∙ omega (
+        arith,
+        length-append s.sides a,
+        kind,
+        length-map (back_planes s.backs end) (λ q. above q p),
+        backs_size s end,
+      )
 
   back_count : i ≤ length s.backs → length (back_edges s end i) ≡ edge_count s
   back_count there =
@@ -122,54 +153,56 @@ module _ (s : SolidView) (end i : ℕ) where
       let a = trails p (back_planes s.backs end) i in
       let b = map (λ q. above p q) (front_planes s.fronts) in
       let kind : length a ≡ length s.backs =
-      kind_size (λ q. above q p) (λ q. at_least q p) (λ q. above p q) (back_planes s.backs end) (front_planes s.fronts) (length s.backs) i (backs_size s end) there in
-      length-append (s.sides ++ a) b ∙ omega (arith, length-append s.sides a, kind, length-map (front_planes s.fronts) (λ q. above p q), fronts_size s)
+      kind_size (λ q. above q p) (λ q. at_least q p) (λ q. above p q) (back_planes s.backs end)
+      (front_planes s.fronts) (length s.backs) i (backs_size s end) there in
+      length-append (s.sides ++ a) b ∙ omega (
+        arith,
+        length-append s.sides a,
+        kind,
+        length-map (front_planes s.fronts) (λ q. above p q),
+        fronts_size s,
+      )
 
 pub edges_count : (s : SolidView) (end face : ℕ) → face < face_count s → length (edges s end face) ≡ edge_count s
 edges_count s end face there = elim (cases_lt face (length s.fronts + 1)) [
   | inl front ↦ rw (lt_true face (length s.fronts + 1) front) (front_count s end face (omega arith))
-  | inr back ↦ rw (lt_false face (length s.fronts + 1) back) (back_count s end (face - (length s.fronts + 1)) (omega arith))
+  | inr back ↦ rw (lt_false face (length s.fronts + 1) back) (back_count s end (face - (length s.fronts + 1))
+      (omega arith))
 ]
 
--- an edge among the sides
-pub edge_side : (s : SolidView) (end face k : ℕ) (d : Linear) → k < length s.sides → get_or (edges s end face) k d ≡ get_or s.sides k d
-edge_side s end face k d low = elim (cases_lt face (length s.fronts + 1)) [
-  | inl front ↦
-      let p = get_or (front_planes s.fronts) face (level 0) in
-      let a = leads p (front_planes s.fronts) face in
-      rw (lt_true face (length s.fronts + 1) front)
-      (ap (λ l. get_or l k d) (append_assoc s.sides a (map (λ q. above q p) (back_planes s.backs end))) ∙ get_or_append_left s.sides (a ++ map (λ q. above q p) (back_planes s.backs end)) d k low)
-  | inr back ↦
-      let i = face - (length s.fronts + 1) in
-      let p = get_or (back_planes s.backs end) i (level 0) in
-      let a = trails p (back_planes s.backs end) i in
-      rw (lt_false face (length s.fronts + 1) back)
-      (ap (λ l. get_or l k d) (append_assoc s.sides a (map (λ q. above p q) (front_planes s.fronts))) ∙ get_or_append_left s.sides (a ++ map (λ q. above p q) (front_planes s.fronts)) d k low)
-]
-
-pub front_form : (s : SolidView) (end face k : ℕ) (r : Linear) → face < length s.fronts + 1 → length s.sides ≤ k → r ≡ get_or (front_orders s end face) (k - length s.sides) (level 0)
+pub front_form : (s : SolidView) (end face k : ℕ) (r : Linear) → face < length s.fronts + 1 → length s.sides ≤ k
+    → r ≡ get_or (front_orders s end face) (k - length s.sides) (level 0)
     → r ≡ get_or (edges s end face) k (level 0)
-front_form s end face k r front low is = rw (lt_true face (length s.fronts + 1) front) (is ∙ sym (front_beyond s end face k (level 0) low))
+front_form s end face k r front low is =
+    rw (lt_true face (length s.fronts + 1) front) (is ∙ sym (front_beyond s end face k (level 0) low))
 
 pub back_form : (s : SolidView) (end face k : ℕ) (r : Linear) → length s.fronts + 1 ≤ face → length s.sides ≤ k
-    → r ≡ get_or (back_orders s end (face - (length s.fronts + 1))) (k - length s.sides) (level 0) → r ≡ get_or (edges s end face) k (level 0)
-back_form s end face k r back low is = rw (lt_false face (length s.fronts + 1) back) (is ∙ sym (back_beyond s end (face - (length s.fronts + 1)) k (level 0) low))
+    → r ≡ get_or (back_orders s end (face - (length s.fronts + 1))) (k - length s.sides) (level 0)
+    → r ≡ get_or (edges s end face) k (level 0)
+back_form s end face k r back low is = rw (lt_false face (length s.fronts + 1) back) (is
+    ∙ sym (back_beyond s end (face - (length s.fronts + 1)) k (level 0) low))
 
-pub edges_range : (s : SolidView) → IsLawfulSolid s → (end : ℕ) → end < 2 ^ 32 → (face : ℕ) → face < face_count s → All IsInTreeRange (edges s end face)
+pub edges_range : (s : SolidView) → IsLawfulSolid s → (end : ℕ) → end < 2 ^ 32 → (face : ℕ) → face < face_count s
+    → All IsInTreeRange (edges s end face)
 edges_range s lawful end small face there = elim (cases_lt face (length s.fronts + 1)) [
   | inl front ↦ rw (lt_true face (length s.fronts + 1) front) (front_range s lawful end small face (omega arith))
-  | inr back ↦ rw (lt_false face (length s.fronts + 1) back) (back_range s lawful end small (face - (length s.fronts + 1)) (omega arith))
+  | inr back ↦ rw (lt_false face (length s.fronts + 1) back)
+      (back_range s lawful end small (face - (length s.fronts + 1)) (omega arith))
 ]
 
-pub edge_range : (s : SolidView) → IsLawfulSolid s → (end : ℕ) → end < 2 ^ 32 → (face k : ℕ) (r : Linear) → face < face_count s → k < edge_count s
+pub edge_range : (s : SolidView) → IsLawfulSolid s → (end : ℕ) → end < 2 ^ 32 → (face k : ℕ) (r : Linear)
+    → face < face_count s → k < edge_count s
     → r ≡ get_or (edges s end face) k (level 0) → IsInTreeRange r
 edge_range s lawful end small face k r there low is =
-    rw is (All-get_or IsInTreeRange (edges s end face) k (level 0) (omega (arith, edges_count s end face there)) (edges_range s lawful end small face there))
+    rw is (All-get_or IsInTreeRange (edges s end face) k (level 0) (omega (arith, edges_count s end face there))
+    (edges_range s lawful end small face there))
 
-pub edges_more : (s : SolidView) (end face k : ℕ) (old new : List Linear) (r : Linear) → face < face_count s → old ≡ take k (edges s end face) → r ≡ get_or (edges s end face) k (level 0)
+pub edges_more : (s : SolidView) (end face k : ℕ) (old new : List Linear) (r : Linear) → face < face_count s
+    → old ≡ take k (edges s end face) → r ≡ get_or (edges s end face) k (level 0)
     → new ≡ old ++ r ∷ [] → k < edge_count s → new ≡ take (k + 1) (edges s end face)
 edges_more s end face k old new r there is this more low =
     more ∙ rw (is, this) (sym (take_more (edges s end face) k (level 0) (omega (arith, edges_count s end face there))))
 
-pub all_edges : (s : SolidView) (end face k : ℕ) → face < face_count s → edge_count s ≤ k → take k (edges s end face) ≡ edges s end face
+pub all_edges : (s : SolidView) (end face k : ℕ) → face < face_count s → edge_count s ≤ k → take k (edges s end face)
+    ≡ edges s end face
 all_edges s end face k there high = take_all k (edges s end face) (omega (arith, edges_count s end face there))

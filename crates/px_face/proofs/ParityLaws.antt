@@ -1,5 +1,6 @@
 -- A truth that is turned at each thing counted says whether their number is odd.
-use Rattle.std.proofs.Common.{◌≡◌, ◌∙◌, ℕ, ◌+◌, Bool, true, false, not, List, [], ◌∷◌, cond, count_by, if◌then◌else◌, ap, refl, sym, arith}
+use Rattle.std.proofs.Common.{◌≡◌, ◌∙◌, ℕ, ◌+◌, Bool, true, false, not, List, [], ◌∷◌, cond, count_by, if◌then◌else◌}
+use Rattle.std.proofs.Common.{ap, refl, sym, arith}
 use Rattle.std.specs.List.{fold}
 use Rattle.std.proofs.lemmas.Bool.Decides.{nat_tests}
 use Rattle.std.proofs.lemmas.List.Sums.{sum_by-append}
@@ -28,7 +29,10 @@ turned_is_odd test odd (place ∷ places) =
     by_test (test place) odd (λ first. turned_is_odd test first places)
     ∙ ap (λ n. if is_odd n then not odd else odd) (sym (count_by-cons test place places))
   where
-    by_test : (b odd : Bool) → ((first : Bool) → fold (turned_where test) first places ≡ (if is_odd (count_by test places) then not first else first))
-        → fold (turned_where test) (if b then not odd else odd) places ≡ (if is_odd (cond b 1 0 + count_by test places) then not odd else odd)
-    by_test true odd later = later (not odd) ∙ sym (rw (odd_next (count_by test places)) (turns (is_odd (count_by test places)) odd))
+    by_test : (b odd : Bool) → ((first : Bool) → fold (turned_where test) first places
+        ≡ (if is_odd (count_by test places) then not first else first))
+        → fold (turned_where test) (if b then not odd else odd) places
+        ≡ (if is_odd (cond b 1 0 + count_by test places) then not odd else odd)
+    by_test true odd later =
+        later (not odd) ∙ sym (rw (odd_next (count_by test places)) (turns (is_odd (count_by test places)) odd))
     by_test false odd later = later odd ∙ ap (λ n. if is_odd n then not odd else odd) (omega arith)

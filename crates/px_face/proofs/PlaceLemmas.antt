@@ -1,5 +1,6 @@
 -- The place of the greatest number: above all before it, and at least all after it.
-use Rattle.std.proofs.Common.{◌≡◌, ◌<◌, ◌≤◌, ℕ, zero, suc, ℤ, Bool, true, false, ◌&&◌, List, [], ◌∷◌, length, take, drop, get_or, eqb, refl, ap, sym, ◌∙◌, arith, ◌⊎◌, inl, inr}
+use Rattle.std.proofs.Common.{◌≡◌, ◌<◌, ◌≤◌, ℕ, zero, suc, ℤ, Bool, true, false, ◌&&◌, List, [], ◌∷◌, length, take}
+use Rattle.std.proofs.Common.{drop, get_or, eqb, refl, ap, sym, ◌∙◌, arith, ◌⊎◌, inl, inr}
 use Rattle.std.specs.List.{list_all}
 use Rattle.std.proofs.lemmas.Int.{ints}
 use Rattle.std.proofs.lemmas.Bool.{cases_Bool}
@@ -37,31 +38,37 @@ le_along u v z p q = grind (arith, ints)
 over_along : (v t z : ℤ) → le_z t v ≡ false → le_z t z ≡ true → le_z v z ≡ true
 over_along v t z p q = grind (arith, ints)
 
-all_along : (vs : List ℤ) (v z : ℤ) → list_all (λ u. le_z u v) vs ≡ true → le_z v z ≡ true → list_all (λ u. le_z u z) vs ≡ true
+all_along : (vs : List ℤ) (v z : ℤ) → list_all (λ u. le_z u v) vs ≡ true → le_z v z ≡ true
+    → list_all (λ u. le_z u z) vs ≡ true
 all_along [] v z p q = refl
 all_along (u ∷ us) v z p q =
     rw (le_along u v z (and_left (le_z u v) (list_all (λ w. le_z w v) us) p) q)
     (all_along us v z (and_right (le_z u v) (list_all (λ w. le_z w v) us) p) q)
 
-stays : (v : ℤ) (vs : List ℤ) (z : ℤ) → list_all (λ u. le_z u v) vs ≡ true → (le_z v z ≡ true) ⊎ (le_z v z ≡ false) → le_z v z ≡ (le_z v z && list_all (λ u. le_z u z) vs)
+stays : (v : ℤ) (vs : List ℤ) (z : ℤ) → list_all (λ u. le_z u v) vs ≡ true → (le_z v z ≡ true) ⊎ (le_z v z ≡ false)
+    → le_z v z ≡ (le_z v z && list_all (λ u. le_z u z) vs)
 stays v vs z all (inl under) = rw (under, all_along vs v z all under) refl
 stays v vs z all (inr out) = rw out refl
 
-goes : (v t : ℤ) (vs : List ℤ) (z : ℤ) → ((y : ℤ) → le_z t y ≡ list_all (λ u. le_z u y) vs) → list_all (λ u. le_z u v) vs ≡ false
+goes : (v t : ℤ) (vs : List ℤ) (z : ℤ) → ((y : ℤ) → le_z t y ≡ list_all (λ u. le_z u y) vs)
+    → list_all (λ u. le_z u v) vs ≡ false
     → (list_all (λ u. le_z u z) vs ≡ true) ⊎ (list_all (λ u. le_z u z) vs ≡ false)
     → le_z t z ≡ (le_z v z && list_all (λ u. le_z u z) vs)
 goes v t vs z bounds some (inl all) = rw (bounds z, all, over_along v t z (bounds v ∙ some) (bounds z ∙ all)) refl
 goes v t vs z bounds some (inr out) = rw (bounds z, out) (sym (and_false (le_z v z)))
 
-greatest_cons : (v : ℤ) (vs : List ℤ) (d z : ℤ) → le_z (get_or (v ∷ vs) (greatest_place (v ∷ vs)) d) z ≡ list_all (λ u. le_z u z) (v ∷ vs)
+greatest_cons : (v : ℤ) (vs : List ℤ) (d z : ℤ) → le_z (get_or (v ∷ vs) (greatest_place (v ∷ vs)) d) z
+    ≡ list_all (λ u. le_z u z) (v ∷ vs)
 greatest_cons v [] d z = sym (and_true (le_z v z))
 greatest_cons v (w ∷ ws) d z = elim (cases_Bool (list_all (λ u. le_z u v) (w ∷ ws))) [
   | inl all ↦ rw all (stays v (w ∷ ws) z all (cases_Bool (le_z v z)))
-  | inr some ↦ rw some (goes v (get_or (w ∷ ws) (greatest_place (w ∷ ws)) d) (w ∷ ws) z (greatest_cons w ws d) some (cases_Bool (list_all (λ u. le_z u z) (w ∷ ws))))
+  | inr some ↦ rw some (goes v (get_or (w ∷ ws) (greatest_place (w ∷ ws)) d) (w ∷ ws) z (greatest_cons w ws d) some
+      (cases_Bool (list_all (λ u. le_z u z) (w ∷ ws))))
 ]
 
 -- the greatest is at most z exactly where all are
-pub greatest_bounds : (vs : List ℤ) (d z : ℤ) → 0 < length vs → le_z (get_or vs (greatest_place vs) d) z ≡ list_all (λ u. le_z u z) vs
+pub greatest_bounds : (vs : List ℤ) (d z : ℤ) → 0 < length vs → le_z (get_or vs (greatest_place vs) d) z
+    ≡ list_all (λ u. le_z u z) vs
 greatest_bounds [] d z some = absurd (omega arith)
 greatest_bounds (v ∷ vs) d z some = greatest_cons v vs d z
 
@@ -77,20 +84,26 @@ greatest_there [] some = absurd (omega arith)
 greatest_there (v ∷ vs) some = omega (arith, cons_there v vs)
 
 -- no number before the first greatest is as great
-pub greatest_first : (vs : List ℤ) (i : ℕ) (d : ℤ) → i < length vs → list_all (λ u. le_z u (get_or vs i d)) vs ≡ true → greatest_place vs ≤ i
+pub greatest_first : (vs : List ℤ) (i : ℕ) (d : ℤ) → i < length vs → list_all (λ u. le_z u (get_or vs i d)) vs ≡ true
+    → greatest_place vs ≤ i
 greatest_first [] i d low all = absurd (omega arith)
 greatest_first (v ∷ vs) zero d low all = rw (and_right (le_z v v) (list_all (λ u. le_z u v) vs) all) (omega arith)
 greatest_first (v ∷ vs) (suc i) d low all =
-    let later : greatest_place vs ≤ i = greatest_first vs i d (omega arith) (and_right (le_z v (get_or vs i d)) (list_all (λ u. le_z u (get_or vs i d)) vs) all) in
+    let later : greatest_place vs ≤ i =
+    greatest_first vs i d (omega arith)
+    (and_right (le_z v (get_or vs i d)) (list_all (λ u. le_z u (get_or vs i d)) vs) all) in
     elim (cases_Bool (list_all (λ u. le_z u v) vs)) [
       | inl first ↦ rw first (omega arith)
       | inr some ↦ rw some (omega arith)
     ]
 
-at_most : (vs : List ℤ) (v : ℤ) (i : ℕ) (d : ℤ) → i < length vs → list_all (λ u. le_z u v) vs ≡ true → lt_z v (get_or vs i d) ≡ false
+at_most : (vs : List ℤ) (v : ℤ) (i : ℕ) (d : ℤ) → i < length vs → list_all (λ u. le_z u v) vs ≡ true
+    → lt_z v (get_or vs i d) ≡ false
 at_most [] v i d h all = absurd (omega arith)
-at_most (u ∷ us) v zero d h all = let e : le_z u v ≡ true = and_left (le_z u v) (list_all (λ w. le_z w v) us) all in grind (arith, ints)
-at_most (u ∷ us) v (suc i) d h all = at_most us v i d (omega arith) (and_right (le_z u v) (list_all (λ w. le_z w v) us) all)
+at_most (u ∷ us) v zero d h all = let e : le_z u v ≡ true = and_left (le_z u v) (list_all (λ w. le_z w v) us) all in
+    grind (arith, ints)
+at_most (u ∷ us) v (suc i) d h all =
+    at_most us v i d (omega arith) (and_right (le_z u v) (list_all (λ w. le_z w v) us) all)
 
 over : (v t : ℤ) → le_z t v ≡ false → lt_z v t ≡ true
 over v t h = grind (arith, ints)
@@ -105,7 +118,8 @@ next : (i k : ℕ) (b : Bool) → (i ≡ k → b ≡ true) → (b && eqb i k) �
 next i k b h = grind (arith, nat_tests)
 
 -- exactly one place is above all before it and at least all after it
-pub greatest_only : (vs : List ℤ) (i : ℕ) (d : ℤ) → i < length vs → is_first_greatest (take i vs) (get_or vs i d) (drop (suc i) vs) ≡ eqb i (greatest_place vs)
+pub greatest_only : (vs : List ℤ) (i : ℕ) (d : ℤ) → i < length vs → is_first_greatest (take i vs) (get_or vs i d)
+    (drop (suc i) vs) ≡ eqb i (greatest_place vs)
 greatest_only [] i d h = absurd (omega arith)
 greatest_only (v ∷ vs) zero d h = elim (cases_Bool (list_all (λ u. le_z u v) vs)) [
   | inl all ↦ rw all refl
@@ -115,9 +129,12 @@ greatest_only (v ∷ []) (suc i) d h = absurd (omega arith)
 greatest_only (v ∷ w ∷ ws) (suc i) d h =
     let vs = w ∷ ws in
     let u = get_or vs i d in
-    let here : is_first_greatest (take i vs) u (drop (suc i) vs) ≡ eqb i (greatest_place vs) = greatest_only (w ∷ ws) i d (omega arith) in
-    and_both (lt_z v u) (list_all (λ y. lt_z y u) (take i vs)) (list_all (λ y. le_z y u) (drop (suc i) vs)) ∙ ap (λ b. lt_z v u && b) here
+    let here : is_first_greatest (take i vs) u (drop (suc i) vs) ≡ eqb i (greatest_place vs) =
+    greatest_only (w ∷ ws) i d (omega arith) in
+    and_both (lt_z v u) (list_all (λ y. lt_z y u) (take i vs)) (list_all (λ y. le_z y u) (drop (suc i) vs))
+    ∙ ap (λ b. lt_z v u && b) here
     ∙ elim (cases_Bool (list_all (λ y. le_z y v) vs)) [
       | inl all ↦ rw (at_most vs v i d (omega arith) all, all) (not_next i)
-      | inr some ↦ rw some (next i (greatest_place vs) (lt_z v u) (λ e. ap (λ j. lt_z v (get_or vs j d)) e ∙ over v (get_or vs (greatest_place vs) d) (greatest_cons w ws d v ∙ some)))
+      | inr some ↦ rw some (next i (greatest_place vs) (lt_z v u) (λ e. ap (λ j. lt_z v (get_or vs j d)) e
+          ∙ over v (get_or vs (greatest_place vs) d) (greatest_cons w ws d v ∙ some)))
     ]

@@ -1,12 +1,15 @@
 -- The edges of a face are in the range of the multiplier tree.
-use Rattle.std.proofs.Common.{◌≡◌, ◌<◌, ◌≤◌, ◌+◌, ◌^◌, ℕ, ℤ, pos, ◌-ℤ◌, List, [], ◌∷◌, ◌++◌, length, map, take, drop, get_or, All, arith, lit≤, nat_lt, length-append, true, false}
+use Rattle.std.proofs.Common.{◌≡◌, ◌<◌, ◌≤◌, ◌+◌, ◌^◌, ℕ, ℤ, pos, ◌-ℤ◌, List, [], ◌∷◌, ◌++◌, length, map, take, drop}
+use Rattle.std.proofs.Common.{get_or, All, arith, lit≤, nat_lt, length-append, true, false}
 use Rattle.std.proofs.lemmas.Int.{ints}
 use Rattle.std.proofs.lemmas.Bool.Decides.{nat_tests}
 use Rattle.std.proofs.lemmas.List.{length-map}
-use Rattle.std.proofs.lemmas.List.Elements.{All-cons, All-append, All-map, All-take, All-drop, All-weaker, All-get_or, All-push}
+use Rattle.std.proofs.lemmas.List.Elements.{All-cons, All-append, All-map, All-take, All-drop, All-weaker, All-get_or}
+use Rattle.std.proofs.lemmas.List.Elements.{All-push}
 use Rattle.px_num.specs.declared.linear.Linear.{Linear}
-use Rattle.px_num.specs.Forms.{IsInHalfRange, IsInTreeRange, IsWithin}
+use Rattle.px_num.specs.Forms.{IsInTreeRange, IsWithin}
 use Rattle.px_model.specs.Solids.{IsLawfulSolid, IsPlane, SolidView}
+pub use Rattle.px_model.proofs.PlaneLaws.{half_range, plane_range}
 use Rattle.px_face.specs.Edges.{above, at_least, back_edges, front_edges, leads, trails}
 use Rattle.px_face.specs.Faces.{back_planes, face_count, front_planes, level, plane_of, planes_of}
 
@@ -14,7 +17,8 @@ pub fronts_size : (s : SolidView) → length (front_planes s.fronts) ≡ length 
 fronts_size s = rw (length-map s.fronts (λ f. f.plane)) (omega arith)
 
 pub backs_size : (s : SolidView) (end : ℕ) → length (back_planes s.backs end) ≡ length s.backs + 1
-backs_size s end = rw (length-append (planes_of s.backs) (level end ∷ []), length-map s.backs (λ f. f.plane)) (omega arith)
+backs_size s end =
+    rw (length-append (planes_of s.backs) (level end ∷ []), length-map s.backs (λ f. f.plane)) (omega arith)
 
 pub lt_true : (i n : ℕ) → i < n → nat_lt i n ≡ true
 lt_true i n h = grind (arith, nat_tests)
@@ -22,20 +26,11 @@ lt_true i n h = grind (arith, nat_tests)
 pub lt_false : (i n : ℕ) → n ≤ i → nat_lt i n ≡ false
 lt_false i n h = grind (arith, nat_tests)
 
-wider : (m n : ℕ) (v : ℤ) → m ≤ n → IsWithin m v → IsWithin n v
-wider m n v le (low, high) = (omega (arith, ints), omega (arith, ints))
-
 apart : (m n : ℕ) (u v : ℤ) → m + m ≤ n → IsWithin m u → IsWithin m v → IsWithin n (u -ℤ v)
 apart m n u v le (ulow, uhigh) (vlow, vhigh) = (omega (arith, ints), omega (arith, ints))
 
 apart_less : (m n : ℕ) (u v : ℤ) → m + m < n → IsWithin m u → IsWithin m v → IsWithin n ((u -ℤ v) -ℤ pos 1)
 apart_less m n u v le (ulow, uhigh) (vlow, vhigh) = (omega (arith, ints), omega (arith, ints))
-
-pub plane_range : (p : Linear) → IsPlane p → IsInTreeRange p
-plane_range p h = record { a = wider (2 ^ 23) (2 ^ 27) p.a (lit≤ tt) h.a; b = wider (2 ^ 23) (2 ^ 27) p.b (lit≤ tt) h.b; c = wider (2 ^ 33) (2 ^ 38) p.c (lit≤ tt) h.c }
-
-pub half_range : (p : Linear) → IsPlane p → IsInHalfRange p
-half_range p h = record { a = wider (2 ^ 23) (2 ^ 26) p.a (lit≤ tt) h.a; b = wider (2 ^ 23) (2 ^ 26) p.b (lit≤ tt) h.b; c = wider (2 ^ 33) (2 ^ 37) p.c (lit≤ tt) h.c }
 
 at_least_range : (p q : Linear) → IsPlane p → IsPlane q → IsInTreeRange (at_least p q)
 at_least_range p q h k = record {
@@ -52,32 +47,42 @@ above_range p q h k = record {
 }
 
 level_plane : (n : ℕ) → n < 2 ^ 32 → IsPlane (level n)
-level_plane n h = record { a = (omega (arith, ints), omega (arith, ints)); b = (omega (arith, ints), omega (arith, ints)); c = (omega (arith, ints), omega (arith, ints)) }
+level_plane n h = record {
+  a = (omega (arith, ints), omega (arith, ints));
+  b = (omega (arith, ints), omega (arith, ints));
+  c = (omega (arith, ints), omega (arith, ints));
+}
 
-part : (f : Linear → Linear) → ((q : Linear) → IsPlane q → IsInTreeRange (f q)) → (ps : List Linear) → All IsPlane ps → All IsInTreeRange (map f ps)
+part : (f : Linear → Linear) → ((q : Linear) → IsPlane q → IsInTreeRange (f q)) → (ps : List Linear) → All IsPlane ps
+    → All IsInTreeRange (map f ps)
 part f range ps planes = All-map IsInTreeRange f ps (All-weaker IsPlane (λ q. IsInTreeRange (f q)) range ps planes)
 
 leads_range : (p : Linear) (ps : List Linear) (i : ℕ) → IsPlane p → All IsPlane ps → All IsInTreeRange (leads p ps i)
 leads_range p ps i plane planes =
     All-append IsInTreeRange (map (λ q. above p q) (take i ps)) (map (λ q. at_least p q) (drop (i + 1) ps))
     (part (λ q. above p q) (λ q h. above_range p q plane h) (take i ps) (All-take IsPlane i ps planes))
-    (part (λ q. at_least p q) (λ q h. at_least_range p q plane h) (drop (i + 1) ps) (All-drop IsPlane (i + 1) ps planes))
+    (part (λ q. at_least p q) (λ q h. at_least_range p q plane h) (drop (i + 1) ps)
+    (All-drop IsPlane (i + 1) ps planes))
 
 trails_range : (p : Linear) (ps : List Linear) (i : ℕ) → IsPlane p → All IsPlane ps → All IsInTreeRange (trails p ps i)
 trails_range p ps i plane planes =
     All-append IsInTreeRange (map (λ q. above q p) (take i ps)) (map (λ q. at_least q p) (drop (i + 1) ps))
     (part (λ q. above q p) (λ q h. above_range q p h plane) (take i ps) (All-take IsPlane i ps planes))
-    (part (λ q. at_least q p) (λ q h. at_least_range q p h plane) (drop (i + 1) ps) (All-drop IsPlane (i + 1) ps planes))
+    (part (λ q. at_least q p) (λ q h. at_least_range q p h plane) (drop (i + 1) ps)
+    (All-drop IsPlane (i + 1) ps planes))
 
-three_range : (a b c : List Linear) → All IsInTreeRange a → All IsInTreeRange b → All IsInTreeRange c → All IsInTreeRange (a ++ b ++ c)
+three_range : (a b c : List Linear) → All IsInTreeRange a → All IsInTreeRange b → All IsInTreeRange c
+    → All IsInTreeRange (a ++ b ++ c)
 three_range a b c in_a in_b in_c = All-append IsInTreeRange (a ++ b) c (All-append IsInTreeRange a b in_a in_b) in_c
 
 module _ (s : SolidView) (lawful : IsLawfulSolid s) (end : ℕ) (small : end < 2 ^ 32) where
   fronts_planes : All IsPlane (front_planes s.fronts)
-  fronts_planes = All-cons IsPlane (level 0) (planes_of s.fronts) (level_plane 0 (omega arith)) (All-map IsPlane (λ f. f.plane) s.fronts lawful.fronts.planes)
+  fronts_planes = All-cons IsPlane (level 0) (planes_of s.fronts) (level_plane 0 (omega arith))
+      (All-map IsPlane (λ f. f.plane) s.fronts lawful.fronts.planes)
 
   backs_planes : All IsPlane (back_planes s.backs end)
-  backs_planes = All-push IsPlane (planes_of s.backs) (level end) (All-map IsPlane (λ f. f.plane) s.backs lawful.backs.planes) (level_plane end small)
+  backs_planes = All-push IsPlane (planes_of s.backs) (level end)
+      (All-map IsPlane (λ f. f.plane) s.backs lawful.backs.planes) (level_plane end small)
 
   sides_range : All IsInTreeRange s.sides
   sides_range = All-weaker IsPlane IsInTreeRange plane_range s.sides lawful.sides
@@ -86,20 +91,29 @@ module _ (s : SolidView) (lawful : IsLawfulSolid s) (end : ℕ) (small : end < 2
   front_range i there =
       let p = get_or (front_planes s.fronts) i (level 0) in
       let plane = All-get_or IsPlane (front_planes s.fronts) i (level 0) (omega (arith, fronts_size s)) fronts_planes in
-      three_range s.sides (leads p (front_planes s.fronts) i) (map (λ q. above q p) (back_planes s.backs end)) sides_range
+      three_range s.sides (leads p (front_planes s.fronts) i) (map (λ q. above q p) (back_planes s.backs end))
+      sides_range
       (leads_range p (front_planes s.fronts) i plane fronts_planes)
       (part (λ q. above q p) (λ q h. above_range q p h plane) (back_planes s.backs end) backs_planes)
 
   pub back_range : (i : ℕ) → i ≤ length s.backs → All IsInTreeRange (back_edges s end i)
   back_range i there =
       let p = get_or (back_planes s.backs end) i (level 0) in
-      let plane = All-get_or IsPlane (back_planes s.backs end) i (level 0) (omega (arith, backs_size s end)) backs_planes in
-      three_range s.sides (trails p (back_planes s.backs end) i) (map (λ q. above p q) (front_planes s.fronts)) sides_range
+      let plane = All-get_or IsPlane (back_planes s.backs end) i (level 0) (omega (arith, backs_size s end))
+      backs_planes in
+      three_range s.sides (trails p (back_planes s.backs end) i) (map (λ q. above p q) (front_planes s.fronts))
+      sides_range
       (trails_range p (back_planes s.backs end) i plane backs_planes)
       (part (λ q. above p q) (λ q h. above_range p q plane h) (front_planes s.fronts) fronts_planes)
 
   pub plane_of_range : (face : ℕ) → face < face_count s → IsPlane (plane_of s end face)
   plane_of_range face there =
       let planes = front_planes s.fronts ++ back_planes s.backs end in
-      All-get_or IsPlane planes face (level 0) (omega (arith, length-append (front_planes s.fronts) (back_planes s.backs end), fronts_size s, backs_size s end))
+      All-get_or IsPlane planes face (level 0)
+      (omega (
+        arith,
+        length-append (front_planes s.fronts) (back_planes s.backs end),
+        fronts_size s,
+        backs_size s end,
+      ))
       (All-append IsPlane (front_planes s.fronts) (back_planes s.backs end) fronts_planes backs_planes)

@@ -1,5 +1,7 @@
 -- Where a solid begins it shows a front, and just behind its end it hides a back; and so does a scene.
-use Rattle.std.proofs.Common.{◌≡◌, ◌<◌, ◌≤◌, ◌&&◌, ◌==◌, ℕ, zero, suc, ℤ, pos, Bool, true, false, nat_le, nat_lt, List, [], ◌∷◌, ◌++◌, length, map, Option, Some, None, refl, ap, sym, ◌∙◌, arith, inl, inr, if◌then◌else◌, slice_get}
+use Rattle.std.proofs.Common.{◌≡◌, ◌<◌, ◌≤◌, ◌&&◌, ◌==◌, ℕ, zero, suc, ℤ, pos, Bool, true, false, nat_le, nat_lt}
+use Rattle.std.proofs.Common.{List, [], ◌∷◌, ◌++◌, length, map, Option, Some, None, refl, ap, sym, ◌∙◌, arith, inl}
+use Rattle.std.proofs.Common.{inr, if◌then◌else◌, slice_get}
 use Rattle.std.specs.List.{Contains}
 use Rattle.std.specs.Option.{option_map_or}
 use Rattle.std.specs.Ordering.{int_eq}
@@ -11,20 +13,24 @@ use lib.Signed.{lt_z}
 use Rattle.px_num.specs.Forms.{value_at}
 use Rattle.px_expr.specs.Cells.{Cell, HasSurface, cell, is_member}
 use Rattle.px_expr.specs.Tree.{HasLeavesBelow, Tree, join, leaf}
-use Rattle.px_expr.specs.declared.node.Op.TheVariants as o
+use Rattle.px_expr.proofs.OperatorLaws.{none_of_none}
 use Rattle.px_model.specs.declared.solid.Face.{Face}
 use Rattle.px_model.specs.Solids.{SolidView}
 use Rattle.px_model.specs.Scenes.{IsLawfulScene, SceneView}
-use Rattle.px_model.specs.Cells.{Depths, backs_at, cell_of, depths_of, end_of, enters_at, far_of, faces_at, fronts_at, greatest_fronts, is_inside, leaf_cell, leaves_at, no_cell, scene_cell, solid_cell, value_of}
+use Rattle.px_model.specs.Cells.{Depths, backs_at, cell_of, depths_of, end_of, enters_at, far_of, faces_at, fronts_at}
+use Rattle.px_model.specs.Cells.{greatest_fronts, is_inside, leaf_cell, leaves_at, no_cell, scene_cell, solid_cell}
+use Rattle.px_model.specs.Cells.{value_of}
 use Rattle.px_model.proofs.CellLaws.{before_end, cell_is_least}
 use Rattle.px_face.specs.Covering.{is_met}
 use Rattle.px_face.specs.Surfaces.{NoMemberBehind, ScenesHaveSurfaces, scene_before, solid_before}
 use Rattle.px_face.proofs.CellLemmas.{has_cells}
 
 -- the faces of a value that one of them has
-faces_there : (fs : List Face) (x y : ℕ) (v : ℤ) → Contains (map (λ f. value_at f.plane x y) fs) v → 0 < length (faces_at fs x y v)
+faces_there : (fs : List Face) (x y : ℕ) (v : ℤ) → Contains (map (λ f. value_at f.plane x y) fs) v
+    → 0 < length (faces_at fs x y v)
 faces_there [] x y v c = absurd (omega (arith, c.1))
-faces_there (f ∷ fs) x y v (zero, low, c) = let e : int_eq (value_at f.plane x y) v ≡ true = same (value_at f.plane x y) v c in rw e (omega arith)
+faces_there (f ∷ fs) x y v (zero, low, c) = let e : int_eq (value_at f.plane x y) v ≡ true =
+    same (value_at f.plane x y) v c in rw e (omega arith)
   where
     same : (u v : ℤ) → u ≡ v → int_eq u v ≡ true
     same u v h = grind (arith, ints)
@@ -51,7 +57,12 @@ module _ (s : SolidView) (d : Depths) (x y : ℕ) where
   greatest_there : 0 < length (greatest_fronts s x y)
   greatest_there = elim (fold-int_max_reached (pos 0) (map (λ f. value_at f.plane x y) s.fronts) enters refl) [
     | inl e ↦ near (int_eq (pos 0) enters) (same enters e)
-    | inr c ↦ omega (arith, length-append {A = ℕ} (if int_eq (pos 0) enters then s.near_number ∷ [] else []) (faces_at s.fronts x y enters), faces_there s.fronts x y enters c)
+    | inr c ↦ omega (
+      arith,
+      length-append {A = ℕ} (if int_eq (pos 0) enters then s.near_number ∷ [] else [])
+          (faces_at s.fronts x y enters),
+      faces_there s.fronts x y enters c,
+    )
   ]
     where
       same : (v : ℤ) → v ≡ pos 0 → int_eq (pos 0) v ≡ true
@@ -77,9 +88,11 @@ module _ (s : SolidView) (d : Depths) (x y : ℕ) where
   front_begins : (z : ℕ) → is_inside s d x y z ≡ false → is_inside s d x y (suc z) ≡ true
       → 0 < length (fronts_at s d x y (suc z))
   front_begins z outside inside =
-      fronts_there (suc z) (next_is (is_met s limit x y) start last z (inside_is z ∙ outside) (inside_is (suc z) ∙ inside))
+      fronts_there (suc z) (next_is (is_met s limit x y) start last z (inside_is z ∙ outside) (inside_is (suc z)
+      ∙ inside))
     where
-      next_is : (m : Bool) (first last z : ℕ) → (m && nat_le first z && nat_lt z last) ≡ false → (m && nat_le first (suc z) && nat_lt (suc z) last) ≡ true → first ≡ suc z
+      next_is : (m : Bool) (first last z : ℕ) → (m && nat_le first z && nat_lt z last) ≡ false
+          → (m && nat_le first (suc z) && nat_lt (suc z) last) ≡ true → first ≡ suc z
       next_is m first last z p q = grind arith
 
   -- the cell of the far limit's value is not before it
@@ -108,14 +121,17 @@ module _ (s : SolidView) (d : Depths) (x y : ℕ) where
         | inr c ↦ rw (inside, same last (suc z) e) (faces_there s.backs x y leaves c)
       ]
     where
-      last_is : (m : Bool) (first last z : ℕ) → (m && nat_le first z && nat_lt z last) ≡ true → (m && nat_le first (suc z) && nat_lt (suc z) last) ≡ false → last ≡ suc z
+      last_is : (m : Bool) (first last z : ℕ) → (m && nat_le first z && nat_lt z last) ≡ true
+          → (m && nat_le first (suc z) && nat_lt (suc z) last) ≡ false → last ≡ suc z
       last_is m first last z p q = grind arith
 
       same : (m n : ℕ) → m ≡ n → (m == n) ≡ true
       same m n h = grind (arith, nat_tests)
 
-pub solid_surface : (s : SolidView) (d : Depths) (x y z : ℕ) → z < d.far → HasSurface (solid_before d x y z s) (solid_cell d x y z s)
-solid_surface s d x y zero low = record { first = λ before now. front_starts s d x y now; behind = λ before now. absurd cc }
+pub solid_surface : (s : SolidView) (d : Depths) (x y z : ℕ) → z < d.far → HasSurface (solid_before d x y z s)
+    (solid_cell d x y z s)
+solid_surface s d x y zero low =
+    record { first = λ before now. front_starts s d x y now; behind = λ before now. absurd cc }
 solid_surface s d x y (suc z) low = record { first = front_begins s d x y z; behind = back_ends s d x y z low }
 
 -- no solid is inside at the far limit or behind it
@@ -127,10 +143,8 @@ outside_behind s d x y z past = rw (before_end d z, not_before z d.far past) ref
 -- where no solid has a cell, no expression has one
 none_member : (inside : ℕ → Bool) → ((solid : ℕ) → inside solid ≡ false) → (tree : Tree) → is_member inside tree ≡ false
 none_member inside none (leaf solid) = none solid
-none_member inside none (join o.Union left right) = rw (none_member inside none left, none_member inside none right) refl
-none_member inside none (join o.Meet left right) = rw (none_member inside none left) refl
-none_member inside none (join o.Minus left right) = rw (none_member inside none left) refl
-none_member inside none (join o.Differ left right) = rw (none_member inside none left, none_member inside none right) refl
+none_member inside none (join op left right) =
+    rw (none_member inside none left, none_member inside none right) (none_of_none op)
 
 -- the laws of the cells of expressions
 abbrev pub SurfaceLaw : Type 0
@@ -139,15 +153,18 @@ SurfaceLaw = (before : ℕ → Cell) (now : ℕ → Cell) (count : ℕ) →
     (tree : Tree) → HasLeavesBelow count tree → HasSurface (cell before tree) (cell now tree)
 
 abbrev pub MemberLaw : Type 0
-MemberLaw = (solid_at : ℕ → Cell) (tree : Tree) → (cell solid_at tree).member ≡ is_member (λ solid. (solid_at solid).member) tree
+MemberLaw = (solid_at : ℕ → Cell) (tree : Tree) → (cell solid_at tree).member
+    ≡ is_member (λ solid. (solid_at solid).member) tree
 
 pub none_behind : MemberLaw → NoMemberBehind
 none_behind member scene x y z past =
     let d = depths_of scene in
     member (leaf_cell scene.solids d x y z) scene.show
-    ∙ none_member (λ solid. (leaf_cell scene.solids d x y z solid).member) (λ solid. each d (slice_get scene.solids solid) past) scene.show
+    ∙ none_member (λ solid. (leaf_cell scene.solids d x y z solid).member)
+    (λ solid. each d (slice_get scene.solids solid) past) scene.show
   where
-    each : (d : Depths) (found : Option SolidView) → d.far ≤ z → (option_map_or (solid_cell d x y z) found no_cell).member ≡ false
+    each : (d : Depths) (found : Option SolidView) → d.far ≤ z
+        → (option_map_or (solid_cell d x y z) found no_cell).member ≡ false
     each d None past = refl
     each d (Some s) past = outside_behind s d x y z past
 
@@ -158,7 +175,8 @@ leaf_before solids d x y z solid = option_map_or (solid_before d x y z) (slice_g
 leaf_surface : (solids : List SolidView) (d : Depths) (x y z solid : ℕ) → z < d.far
     → HasSurface (leaf_before solids d x y z solid) (leaf_cell solids d x y z solid)
 leaf_surface solids d x y z solid low = each (slice_get solids solid) where
-  each : (found : Option SolidView) → HasSurface (option_map_or (solid_before d x y z) found no_cell) (option_map_or (solid_cell d x y z) found no_cell)
+  each : (found : Option SolidView) → HasSurface (option_map_or (solid_before d x y z) found no_cell)
+      (option_map_or (solid_cell d x y z) found no_cell)
   each None = record { first = λ before now. absurd cc; behind = λ before now. absurd cc }
   each (Some s) = solid_surface s d x y z low
 

@@ -1,5 +1,6 @@
 -- Without a fraction the cells of a solid are its values, and the faces at a cell are those whose value it is.
-use Rattle.std.proofs.Common.{◌≡◌, ◌<◌, ◌≤◌, ◌≤ℤ◌, ◌==◌, ℕ, zero, suc, ℤ, pos, negsuc, Bool, true, false, ◌&&◌, List, [], ◌∷◌, ◌++◌, refl, ap, sym, ◌∙◌, arith, inl, inr, if◌then◌else◌}
+use Rattle.std.proofs.Common.{◌≡◌, ◌<◌, ◌≤◌, ◌≤ℤ◌, ◌==◌, ℕ, zero, suc, ℤ, pos, negsuc, Bool, true, false, ◌&&◌, List}
+use Rattle.std.proofs.Common.{[], ◌∷◌, ◌++◌, refl, ap, sym, ◌∙◌, arith, inl, inr, if◌then◌else◌}
 use Rattle.std.specs.List.{list_all}
 use Rattle.std.specs.Ordering.{int_eq}
 use Rattle.std.proofs.lemmas.Int.{ints}
@@ -9,14 +10,16 @@ use lib.Signed.{le_z, lt_z}
 use Rattle.px_num.specs.Forms.{value_at}
 use Rattle.px_model.specs.declared.solid.Face.{Face}
 use Rattle.px_model.specs.Solids.{SolidView}
-use Rattle.px_model.specs.Cells.{Depths, cell_of, depths, end_of, enters_at, faces_at, is_inside, is_inside_at, leaves_at}
+use Rattle.px_model.specs.Cells.{Depths, cell_of, depths, end_of, enters_at, faces_at, is_inside, is_inside_at}
+use Rattle.px_model.specs.Cells.{leaves_at}
 use Rattle.px_model.proofs.CellLaws.{cell_whole, value_whole}
 use Rattle.px_face.specs.Covering.{is_met}
 use Rattle.px_face.specs.WholeLaws.{WholeBacks, WholeFronts}
 use Rattle.px_face.proofs.DepthLemmas.{all_max, all_min, cells_are, depths_are}
 use Rattle.px_face.proofs.PlaceLemmas.{and_left, and_right}
 
-no_faces : (t : ℤ → Bool) (fs : List Face) (x y : ℕ) (v : ℤ) → list_all (λ f. t (value_at f.plane x y)) fs ≡ true → t v ≡ false → faces_at fs x y v ≡ []
+no_faces : (t : ℤ → Bool) (fs : List Face) (x y : ℕ) (v : ℤ) → list_all (λ f. t (value_at f.plane x y)) fs ≡ true
+    → t v ≡ false → faces_at fs x y v ≡ []
 no_faces t [] x y v all out = refl
 no_faces t (f ∷ fs) x y v all out =
     let w = value_at f.plane x y in
@@ -67,25 +70,37 @@ negative : (n z : ℕ) → lt_z (pos z) (negsuc n) ≡ false
 negative n z = grind (arith, ints)
 
 module _ (far near : ℕ) (fs : List Face) (x y z : ℕ) where
-  fronts_by_value : (e : ℤ) → pos 0 ≤ℤ e → le_z e (pos z) ≡ true → list_all (λ f. le_z (value_at f.plane x y) e) fs ≡ true
-      → (if cell_of (depths far 0) e == z then (if int_eq (pos 0) e then near ∷ [] else []) ++ faces_at fs x y e else [])
+  fronts_by_value : (e : ℤ) → pos 0 ≤ℤ e → le_z e (pos z) ≡ true → list_all (λ f. le_z (value_at f.plane x y) e)
+      fs ≡ true
+      → (if cell_of (depths far 0) e == z then (if int_eq (pos 0) e then near ∷ [] else []) ++ faces_at fs x y e
+      else [])
       ≡ (if z == 0 then near ∷ [] else []) ++ faces_at fs x y (pos z)
   fronts_by_value (negsuc n) some low all = absurd (omega (arith, ints))
   fronts_by_value (pos n) some low all = rw (cell_whole far n) (elim (cases_eq n z) [
     | inl same ↦ rw (same, equal z, same_near z) refl
     | inr other ↦
         let le = below_is n z low in
-        rw (unequal n z other, unequal z 0 (λ e. omega arith), no_faces (λ v. le_z v (pos n)) fs x y (pos z) all (above_fails n z (omega arith))) refl
+        rw (
+          unequal n z other,
+          unequal z 0 (λ e. omega arith),
+          no_faces (λ v. le_z v (pos n)) fs x y (pos z) all
+              (above_fails n z (omega arith)),
+        ) refl
   ])
 
-  backs_by_value : (l : ℤ) → lt_z (pos z) l ≡ true → (lt_z (pos (suc z)) l ≡ true → list_all (λ b. lt_z (pos (suc z)) (value_at b.plane x y)) fs ≡ true)
+  backs_by_value : (l : ℤ) → lt_z (pos z) l ≡ true
+      → (lt_z (pos (suc z)) l ≡ true → list_all (λ b. lt_z (pos (suc z)) (value_at b.plane x y)) fs ≡ true)
       → (if cell_of (depths far 0) l == suc z then faces_at fs x y l else []) ≡ faces_at fs x y (pos (suc z))
   backs_by_value (negsuc n) some all = cc (negative n z, some)
   backs_by_value (pos n) some all = rw (cell_whole far n) (elim (cases_eq n (suc z)) [
     | inl same ↦ rw (same, equal (suc z)) refl
     | inr other ↦
         let le = past_is n z some in
-        rw (unequal n (suc z) other, no_faces (λ v. lt_z (pos (suc z)) v) fs x y (pos (suc z)) (all (before_is n (suc z) (omega arith))) (not_itself (pos (suc z)))) refl
+        rw (
+          unequal n (suc z) other,
+          no_faces (λ v. lt_z (pos (suc z)) v) fs x y (pos (suc z))
+              (all (before_is n (suc z) (omega arith))) (not_itself (pos (suc z))),
+        ) refl
   ])
 
 first_of : (a b c : Bool) → (a && b && c) ≡ true → a ≡ true
@@ -108,8 +123,10 @@ whole_fronts s far x y z inside =
     let met = is_met s far x y in
     let all = sym (cells_are s far x y z) ∙ sym (inside_whole s far x y z) ∙ inside in
     let is = first_of met (le_z e (pos z)) (lt_z (pos z) (leaves_at s far x y)) all in
-    fronts_by_value far s.near_number s.fronts x y z e (depths_are s far x y is).0 (second_of met (le_z e (pos z)) (lt_z (pos z) (leaves_at s far x y)) all)
-    (and_right (le_z (pos 0) e) (list_all (λ f. le_z (value_at f.plane x y) e) s.fronts) (sym (all_max (λ f. value_at f.plane x y) s.fronts (pos 0) e) ∙ itself e))
+    fronts_by_value far s.near_number s.fronts x y z e (depths_are s far x y is).0
+    (second_of met (le_z e (pos z)) (lt_z (pos z) (leaves_at s far x y)) all)
+    (and_right (le_z (pos 0) e) (list_all (λ f. le_z (value_at f.plane x y) e) s.fronts)
+    (sym (all_max (λ f. value_at f.plane x y) s.fronts (pos 0) e) ∙ itself e))
 
 pub whole_backs : WholeBacks
 whole_backs s far x y zero = refl
@@ -119,8 +136,10 @@ whole_backs s far x y (suc z) = elim (cases_Bool (is_inside s (depths far 0) x y
       let met = is_met s far x y in
       let all = sym (cells_are s far x y z) ∙ sym (inside_whole s far x y z) ∙ inside in
       let e : end_of (depths far 0) ≡ far = value_whole far far in
-      rw inside (ap (λ end. if cell_of (depths far 0) (leaves_at s end x y) == suc z then faces_at s.backs x y (leaves_at s end x y) else []) e
+      rw inside (ap (λ end. if cell_of (depths far 0) (leaves_at s end x y) == suc z then faces_at s.backs x y
+      (leaves_at s end x y) else []) e
       ∙ backs_by_value far 0 s.backs x y z l (third_of met (le_z (enters_at s x y) (pos z)) (lt_z (pos z) l) all)
-      (λ past. and_right (lt_z (pos (suc z)) (pos far)) (list_all (λ b. lt_z (pos (suc z)) (value_at b.plane x y)) s.backs) (sym (all_min (λ f. value_at f.plane x y) s.backs (pos far) (pos (suc z))) ∙ past)))
+      (λ past. and_right (lt_z (pos (suc z)) (pos far)) (list_all (λ b. lt_z (pos (suc z)) (value_at b.plane x y))
+      s.backs) (sym (all_min (λ f. value_at f.plane x y) s.backs (pos far) (pos (suc z))) ∙ past)))
   | inr outside ↦ rw outside refl
 ]

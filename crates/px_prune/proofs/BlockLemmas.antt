@@ -1,5 +1,6 @@
 -- The values of a form in a block, and blocks cut in two.
-use Rattle.std.proofs.Common.{ℕ, ℤ, pos, suc, ◌≡◌, ◌≤◌, ◌≤ℤ◌, ◌+ℤ◌, ◌*ℤ◌, nat_lt, Bool, true, false, refl, arith, if◌then◌else◌}
+use Rattle.std.proofs.Common.{ℕ, ℤ, pos, suc, ◌≡◌, ◌≤◌, ◌≤ℤ◌, ◌+ℤ◌, ◌*ℤ◌, nat_lt, Bool, true, false, refl, arith}
+use Rattle.std.proofs.Common.{if◌then◌else◌}
 use lib.IntN.{negsuc}
 use lib.Signed.{lt_z}
 use Rattle.std.proofs.Math.Nat.{mul-le-mul_left}

@@ -1,5 +1,6 @@
 -- The depths that the greatest front and the least back leave.
-use Rattle.std.proofs.Common.{ℕ, ℤ, pos, negsuc, ◌≡◌, ◌<◌, ◌≤◌, ◌*◌, ◌^◌, ◌≤ℤ◌, ◌<ℤ◌, ◌&&◌, Bool, true, false, nat_le, nat_lt, List, [], ◌∷◌, refl, ap, sym, ◌∙◌, arith, map, fold, w64, to_z, of_z}
+use Rattle.std.proofs.Common.{ℕ, ℤ, pos, negsuc, ◌≡◌, ◌<◌, ◌≤◌, ◌*◌, ◌^◌, ◌≤ℤ◌, ◌<ℤ◌, ◌&&◌, Bool, true, false, nat_le}
+use Rattle.std.proofs.Common.{nat_lt, List, [], ◌∷◌, refl, ap, sym, ◌∙◌, arith, map, fold, w64, to_z, of_z}
 use Rattle.std.specs.Int.{int_max, int_min}
 use Rattle.std.specs.List.{list_all}
 use Rattle.std.proofs.lemmas.Int.{ints}
@@ -24,13 +25,17 @@ turned : (a b c : Bool) → (a && b) && c ≡ a && (b && c)
 turned true b c = refl
 turned false b c = refl
 
-all_max : {X : Type 0} (v : X → ℤ) (xs : List X) (m z : ℤ) → le_z (fold int_max m (map v xs)) z ≡ (le_z m z && list_all (λ x. le_z (v x) z) xs)
+all_max : {X : Type 0} (v : X → ℤ) (xs : List X) (m z : ℤ) → le_z (fold int_max m (map v xs)) z
+    ≡ (le_z m z && list_all (λ x. le_z (v x) z) xs)
 all_max v [] m z = sym (and_true (le_z m z))
-all_max v (x ∷ xs) m z = all_max v xs (int_max m (v x)) z ∙ ap (λ b. b && list_all (λ x'. le_z (v x') z) xs) (and_max m (v x) z) ∙ turned (le_z m z) (le_z (v x) z) (list_all (λ x'. le_z (v x') z) xs)
+all_max v (x ∷ xs) m z = all_max v xs (int_max m (v x)) z ∙ ap (λ b. b && list_all (λ x'. le_z (v x') z) xs)
+    (and_max m (v x) z) ∙ turned (le_z m z) (le_z (v x) z) (list_all (λ x'. le_z (v x') z) xs)
 
-all_min : {X : Type 0} (v : X → ℤ) (xs : List X) (m z : ℤ) → lt_z z (fold int_min m (map v xs)) ≡ (lt_z z m && list_all (λ x. lt_z z (v x)) xs)
+all_min : {X : Type 0} (v : X → ℤ) (xs : List X) (m z : ℤ) → lt_z z (fold int_min m (map v xs))
+    ≡ (lt_z z m && list_all (λ x. lt_z z (v x)) xs)
 all_min v [] m z = sym (and_true (lt_z z m))
-all_min v (x ∷ xs) m z = all_min v xs (int_min m (v x)) z ∙ ap (λ b. b && list_all (λ x'. lt_z z (v x')) xs) (and_min m (v x) z) ∙ turned (lt_z z m) (lt_z z (v x)) (list_all (λ x'. lt_z z (v x')) xs)
+all_min v (x ∷ xs) m z = all_min v xs (int_min m (v x)) z ∙ ap (λ b. b && list_all (λ x'. lt_z z (v x')) xs)
+    (and_min m (v x) z) ∙ turned (lt_z z m) (lt_z z (v x)) (list_all (λ x'. lt_z z (v x')) xs)
 
 -- a depth keeps in 64 bits
 in_bits : (m : ℤ) → pos 0 ≤ℤ m → m <ℤ pos (2 ^ 39) → nat_abs (to_z w64 (of_z w64 m)) ≡ nat_abs m
@@ -60,11 +65,13 @@ pub far_cell : (far f : ℕ) (m : ℤ) → m ≤ℤ pos (far * 2 ^ f) → cell_o
 far_cell far f m h = cells_end (depths far f) m h
 
 -- the cells at or behind all fronts are those from the cell of the greatest one on
-pub cells_behind : {X : Type 0} (v : X → ℤ) (xs : List X) (m : ℤ) (far f : ℕ) → m ≡ fold int_max (pos 0) (map v xs) → (z : ℕ)
+pub cells_behind : {X : Type 0} (v : X → ℤ) (xs : List X) (m : ℤ) (far f : ℕ) → m ≡ fold int_max (pos 0) (map v xs)
+    → (z : ℕ)
     → list_all (λ x. le_z (v x) (pos (z * 2 ^ f))) xs ≡ nat_le (cell_of (depths far f) m) z
 cells_behind v xs m far f is z =
     and_first (le_z (pos 0) (pos (z * 2 ^ f))) _ (grind (arith, ints))
-    ∙ sym (cell_is_first (depths far f) m z ∙ ap (λ k. le_z k (pos (z * 2 ^ f))) is ∙ all_max v xs (pos 0) (pos (z * 2 ^ f)))
+    ∙ sym (cell_is_first (depths far f) m z ∙ ap (λ k. le_z k (pos (z * 2 ^ f))) is
+    ∙ all_max v xs (pos 0) (pos (z * 2 ^ f)))
   where
     and_first : (a b : Bool) → a ≡ true → b ≡ (a && b)
     and_first a b e = rw e refl
@@ -73,11 +80,14 @@ nat_before : (m n : ℕ) → nat_lt m n ≡ lt_z (pos m) (pos n)
 nat_before m n = grind (arith, ints)
 
 -- and those before all backs are those before the cell of the least one
-pub cells_before : {X : Type 0} (v : X → ℤ) (xs : List X) (m : ℤ) (far f : ℕ) → m ≡ fold int_min (pos (far * 2 ^ f)) (map v xs) → (z : ℕ)
-    → (nat_lt (z * 2 ^ f) (far * 2 ^ f) && list_all (λ x. lt_z (pos (z * 2 ^ f)) (v x)) xs) ≡ nat_lt z (cell_of (depths far f) m)
+pub cells_before : {X : Type 0} (v : X → ℤ) (xs : List X) (m : ℤ) (far f : ℕ) → m ≡ fold int_min (pos (far * 2 ^ f))
+    (map v xs) → (z : ℕ)
+    → (nat_lt (z * 2 ^ f) (far * 2 ^ f) && list_all (λ x. lt_z (pos (z * 2 ^ f)) (v x)) xs)
+    ≡ nat_lt z (cell_of (depths far f) m)
 cells_before v xs m far f is z =
     ap (λ b. b && list_all (λ x. lt_z (pos (z * 2 ^ f)) (v x)) xs) (nat_before (z * 2 ^ f) (far * 2 ^ f))
-    ∙ sym (cell_is_least (depths far f) m z ∙ ap (λ k. lt_z (pos (z * 2 ^ f)) k) is ∙ all_min v xs (pos (far * 2 ^ f)) (pos (z * 2 ^ f)))
+    ∙ sym (cell_is_least (depths far f) m z ∙ ap (λ k. lt_z (pos (z * 2 ^ f)) k) is
+    ∙ all_min v xs (pos (far * 2 ^ f)) (pos (z * 2 ^ f)))
 
 pub end_small : (far f : ℕ) → far < 2 ^ 24 → f ≤ 8 → far * 2 ^ f < 2 ^ 39
 end_small far f low few =

@@ -1,5 +1,6 @@
 -- Boxes of cells that are joined to one.
-use Rattle.std.proofs.Common.{ℕ, ◌≡◌, ◌<◌, ◌≤◌, ◌+◌, ◌-◌, ◌==◌, ◌||◌, ◌&&◌, nat_le, nat_lt, Bool, true, false, refl, sym, ◌∙◌, arith, inl, inr, ◌⊎◌, Option, Some, None}
+use Rattle.std.proofs.Common.{ℕ, ◌≡◌, ◌<◌, ◌≤◌, ◌+◌, ◌-◌, ◌==◌, ◌||◌, ◌&&◌, nat_le, nat_lt, Bool, true, false, refl}
+use Rattle.std.proofs.Common.{sym, ◌∙◌, arith, inl, inr, ◌⊎◌, Option, Some, None}
 use Rattle.px_normal.specs.declared.cell_box.CellBox.{CellBox}
 use Rattle.px_normal.specs.Boxes.{lies_in, is_in}
 use Rattle.px_prune.specs.Boxes.{hull, is_part}
@@ -27,11 +28,13 @@ part_hull b None u p q = q
 part_hull b (Some a) None p q = p
 part_hull b (Some a) (Some c) p q = grind arith
 
-within_ends : (b : CellBox) (x y z : ℕ) → b.x0 ≤ x → x ≤ b.x1 → b.y0 ≤ y → y ≤ b.y1 → b.z0 ≤ z → z ≤ b.z1 → lies_in b x y z ≡ true
+within_ends : (b : CellBox) (x y z : ℕ) → b.x0 ≤ x → x ≤ b.x1 → b.y0 ≤ y → y ≤ b.y1 → b.z0 ≤ z → z ≤ b.z1
+    → lies_in b x y z ≡ true
 within_ends b x y z left right top bottom near behind = grind arith
 
 pub in_part : (a b : CellBox) (x y z : ℕ) → is_part (Some a) b ≡ true → lies_in a x y z ≡ true → lies_in b x y z ≡ true
-in_part a b x y z e h = within_ends b x y z (grind arith) (grind arith) (grind arith) (grind arith) (grind arith) (grind arith)
+in_part a b x y z e h =
+    within_ends b x y z (grind arith) (grind arith) (grind arith) (grind arith) (grind arith) (grind arith)
 
 or_cases : (a b : Bool) → a || b ≡ true → (a ≡ true) ⊎ (b ≡ true)
 or_cases true b e = inl refl
@@ -43,7 +46,8 @@ or_left a b e = rw e refl
 or_right : (a b : Bool) → b ≡ true → a || b ≡ true
 or_right a b e = grind arith
 
-empty_none : (cells : ℕ → ℕ → ℕ → Bool) → ((x y z : ℕ) → cells x y z ≡ true → false ≡ true) → (x y z : ℕ) → cells x y z ≡ false
+empty_none : (cells : ℕ → ℕ → ℕ → Bool) → ((x y z : ℕ) → cells x y z ≡ true → false ≡ true) → (x y z : ℕ)
+    → cells x y z ≡ false
 empty_none cells h x y z = step (cells x y z) (h x y z) where
   step : (b : Bool) → (b ≡ true → false ≡ true) → b ≡ false
   step true k = sym (k refl)
@@ -54,13 +58,24 @@ less_than_itself b h = grind arith
 
 -- a box that holds the cells, and is a part of each that does, is none exactly where there is no cell
 box_is : (cells : ℕ → ℕ → ℕ → Bool) (box : Option CellBox) → ((x y z : ℕ) → cells x y z ≡ true → is_in box x y z ≡ true)
-    → ((b : CellBox) → ((x y z : ℕ) → cells x y z ≡ true → lies_in b x y z ≡ true) → is_part box b ≡ true) → IsBoxOf cells box
+    → ((b : CellBox) → ((x y z : ℕ) → cells x y z ≡ true → lies_in b x y z ≡ true) → is_part box b ≡ true)
+    → IsBoxOf cells box
 box_is cells None holds least = record { holds = holds; least = least; none = (λ _. empty_none cells holds, λ _. refl) }
-box_is cells (Some b) holds least = record { holds = holds; least = least; none = (λ e. cc e, λ none. some none (less_than_itself b (least (record b { x0 = b.x0 + 1 }) (λ x y z h. cc (none x y z, h))))) } where
-  some : ((x y z : ℕ) → cells x y z ≡ false) → false ≡ true → Some b ≡ None
-  some none e = cc e
+box_is cells (Some b) holds least =
+    record {
+      holds = holds;
+      least = least;
+      none = (
+        λ e. cc e,
+        λ none.
+            some none (less_than_itself b (least (record b { x0 = b.x0 + 1 }) (λ x y z h. cc (none x y z, h)))),
+      );
+    } where
+      some : ((x y z : ℕ) → cells x y z ≡ false) → false ≡ true → Some b ≡ None
+      some none e = cc e
 
-pub joined_box : (c d e : ℕ → ℕ → ℕ → Bool) (o u : Option CellBox) → ((x y z : ℕ) → e x y z ≡ c x y z || d x y z) → IsBoxOf c o → IsBoxOf d u → IsBoxOf e (hull o u)
+pub joined_box : (c d e : ℕ → ℕ → ℕ → Bool) (o u : Option CellBox) → ((x y z : ℕ) → e x y z ≡ c x y z || d x y z)
+    → IsBoxOf c o → IsBoxOf d u → IsBoxOf e (hull o u)
 joined_box c d e o u same p q = box_is e (hull o u)
     (λ x y z h. elim (or_cases (c x y z) (d x y z) (sym (same x y z) ∙ h)) [
       | inl l ↦ in_hull_left x y z o u (p.holds x y z l)
@@ -71,7 +86,8 @@ joined_box c d e o u same p q = box_is e (hull o u)
     (q.least b (λ x y z r. h x y z (same x y z ∙ or_right (c x y z) (d x y z) r))))
 
 -- cells that lie in the box already leave it as it is
-pub covered_box : (c d : ℕ → ℕ → ℕ → Bool) (o : Option CellBox) → IsBoxOf c o → ((x y z : ℕ) → d x y z ≡ true → is_in o x y z ≡ true) → IsBoxOf (λ x y z. c x y z || d x y z) o
+pub covered_box : (c d : ℕ → ℕ → ℕ → Bool) (o : Option CellBox) → IsBoxOf c o
+    → ((x y z : ℕ) → d x y z ≡ true → is_in o x y z ≡ true) → IsBoxOf (λ x y z. c x y z || d x y z) o
 covered_box c d o p inside = box_is (λ x y z. c x y z || d x y z) o
     (λ x y z h. elim (or_cases (c x y z) (d x y z) h) [
       | inl l ↦ p.holds x y z l
@@ -79,8 +95,10 @@ covered_box c d o p inside = box_is (λ x y z. c x y z || d x y z) o
     ])
     (λ b h. p.least b (λ x y z l. h x y z (or_left (c x y z) (d x y z) l)))
 
-pub same_box : (c d : ℕ → ℕ → ℕ → Bool) (o : Option CellBox) → ((x y z : ℕ) → c x y z ≡ d x y z) → IsBoxOf c o → IsBoxOf d o
-same_box c d o same p = box_is d o (λ x y z h. p.holds x y z (same x y z ∙ h)) (λ b h. p.least b (λ x y z k. h x y z (sym (same x y z) ∙ k)))
+pub same_box : (c d : ℕ → ℕ → ℕ → Bool) (o : Option CellBox) → ((x y z : ℕ) → c x y z ≡ d x y z) → IsBoxOf c o
+    → IsBoxOf d o
+same_box c d o same p = box_is d o (λ x y z h. p.holds x y z (same x y z ∙ h))
+    (λ b h. p.least b (λ x y z k. h x y z (sym (same x y z) ∙ k)))
 
 pub no_box : (c : ℕ → ℕ → ℕ → Bool) → ((x y z : ℕ) → c x y z ≡ false) → IsBoxOf c None
 no_box c none = box_is c None (λ x y z h. cc (none x y z, h)) (λ b h. refl)
@@ -94,24 +112,32 @@ here x y v h = grind arith
 elsewhere : (a x b y : ℕ) (v : Bool) → (a ≡ x → b ≡ y → v ≡ false) → (a == x) && (b == y) && v ≡ false
 elsewhere a x b y v h = grind arith
 
-both_ends : (b : CellBox) (x y s t : ℕ) → lies_in b x y s ≡ true → lies_in b x y t ≡ true → nat_le b.x0 x && nat_le x b.x1 && nat_le b.y0 y && nat_le y b.y1 && nat_le b.z0 s && nat_le t b.z1 ≡ true
+both_ends : (b : CellBox) (x y s t : ℕ) → lies_in b x y s ≡ true → lies_in b x y t ≡ true → nat_le b.x0 x
+    && nat_le x b.x1 && nat_le b.y0 y && nat_le y b.y1 && nat_le b.z0 s && nat_le t b.z1 ≡ true
 both_ends b x y s t p q = grind arith
 
-between : (x y s t z : ℕ) → nat_le s z && nat_lt z t ≡ true → lies_in (record { x0 = x; x1 = x; y0 = y; y1 = y; z0 = s; z1 = t - 1 }) x y z ≡ true
+between : (x y s t z : ℕ) → nat_le s z && nat_lt z t ≡ true
+    → lies_in (record { x0 = x; x1 = x; y0 = y; y1 = y; z0 = s; z1 = t - 1 }) x y z ≡ true
 between x y s t z h = grind arith
 
 module _ (f : ℕ → ℕ → ℕ → Bool) where
-  row_split : (x y a b : ℕ) (v : Bool) → nat_lt a (x + 1) && (b == y) && v ≡ (nat_lt a x && (b == y) && v) || ((a == x) && (b == y) && v)
+  row_split : (x y a b : ℕ) (v : Bool) → nat_lt a (x + 1) && (b == y) && v ≡ (nat_lt a x && (b == y) && v)
+      || ((a == x) && (b == y) && v)
   row_split x y a b v = grind arith
 
-  rows_split : (x y a b : ℕ) (v : Bool) → nat_lt a x && nat_lt b (y + 1) && v ≡ (nat_lt a x && nat_lt b y && v) || (nat_lt a x && (b == y) && v)
+  rows_split : (x y a b : ℕ) (v : Bool) → nat_lt a x && nat_lt b (y + 1) && v ≡ (nat_lt a x && nat_lt b y && v)
+      || (nat_lt a x && (b == y) && v)
   rows_split x y a b v = grind arith
 
-  pub next_pixel : (x y : ℕ) (o u : Option CellBox) → IsBoxOf (in_row f x y) o → IsBoxOf (at_pixel f x y) u → IsBoxOf (in_row f (x + 1) y) (hull o u)
-  next_pixel x y o u p q = joined_box (in_row f x y) (at_pixel f x y) (in_row f (x + 1) y) o u (λ a b z. row_split x y a b (f a b z)) p q
+  pub next_pixel : (x y : ℕ) (o u : Option CellBox) → IsBoxOf (in_row f x y) o → IsBoxOf (at_pixel f x y) u
+      → IsBoxOf (in_row f (x + 1) y) (hull o u)
+  next_pixel x y o u p q =
+      joined_box (in_row f x y) (at_pixel f x y) (in_row f (x + 1) y) o u (λ a b z. row_split x y a b (f a b z)) p q
 
-  pub next_row : (x y : ℕ) (o u : Option CellBox) → IsBoxOf (in_rows f x y) o → IsBoxOf (in_row f x y) u → IsBoxOf (in_rows f x (y + 1)) (hull o u)
-  next_row x y o u p q = joined_box (in_rows f x y) (in_row f x y) (in_rows f x (y + 1)) o u (λ a b z. rows_split x y a b (f a b z)) p q
+  pub next_row : (x y : ℕ) (o u : Option CellBox) → IsBoxOf (in_rows f x y) o → IsBoxOf (in_row f x y) u
+      → IsBoxOf (in_rows f x (y + 1)) (hull o u)
+  next_row x y o u p q =
+      joined_box (in_rows f x y) (in_row f x y) (in_rows f x (y + 1)) o u (λ a b z. rows_split x y a b (f a b z)) p q
 
   pub no_row : (y : ℕ) → IsBoxOf (in_row f 0 y) None
   no_row y = no_box (in_row f 0 y) (λ a b z. grind arith)
@@ -120,8 +146,10 @@ module _ (f : ℕ → ℕ → ℕ → Bool) where
   no_rows x = no_box (in_rows f x 0) (λ a b z. grind arith)
 
   -- the cells of a pixel, from the first one to the one before the last
-  pub pixel_box : (x y s t : ℕ) → s < t → ((z : ℕ) → f x y z ≡ nat_le s z && nat_lt z t) → IsBoxOf (at_pixel f x y) (Some (record { x0 = x; x1 = x; y0 = y; y1 = y; z0 = s; z1 = t - 1 }))
-  pixel_box x y s t lt is = box_is (at_pixel f x y) (Some (record { x0 = x; x1 = x; y0 = y; y1 = y; z0 = s; z1 = t - 1 }))
+  pub pixel_box : (x y s t : ℕ) → s < t → ((z : ℕ) → f x y z ≡ nat_le s z && nat_lt z t)
+      → IsBoxOf (at_pixel f x y) (Some (record { x0 = x; x1 = x; y0 = y; y1 = y; z0 = s; z1 = t - 1 }))
+  pixel_box x y s t lt is =
+      box_is (at_pixel f x y) (Some (record { x0 = x; x1 = x; y0 = y; y1 = y; z0 = s; z1 = t - 1 }))
       (λ a b z h. let p = at_place a x b y (f a b z) h
       in rw (p.0, p.1) (between x y s t z (sym (is z) ∙ rw (p.0, p.1) at p.2)))
       (λ b h. both_ends b x y s (t - 1)

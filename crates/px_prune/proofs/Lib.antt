@@ -5,7 +5,6 @@ pub mod DepthLemmas
 pub mod HullLemmas
 pub mod PictureLemmas
 pub mod PruningLemmas
-pub mod RangeLemmas
 pub mod ReachLemmas
 pub mod StayingLemmas
 pub mod WithinLemmas

@@ -1,5 +1,6 @@
 -- Kept products say the same.
-use Rattle.std.proofs.Common.{ℕ, ◌≡◌, ◌<◌, ◌≤◌, ◌^◌, length, arith, ◌||◌, ◌&&◌, not, Bool, true, false, List, [], ◌∷◌, refl, ap, sym, ◌∙◌, Option, Some, None, if◌then◌else◌}
+use Rattle.std.proofs.Common.{ℕ, ◌≡◌, ◌<◌, ◌≤◌, ◌^◌, length, arith, ◌||◌, ◌&&◌, not, Bool, true, false, List, [], ◌∷◌}
+use Rattle.std.proofs.Common.{refl, ap, sym, ◌∙◌, Option, Some, None, if◌then◌else◌}
 use Rattle.std.specs.List.{list_all, list_any, filter, filter_map, cons_option}
 use Rattle.px_expr.specs.Cells.{Cell, has_face}
 use Rattle.px_normal.specs.declared.product.Product.{Product}
@@ -11,17 +12,20 @@ use Rattle.px_normal.specs.Boxes.{lies_in, has_cell, everything, is_in}
 use Rattle.px_normal.specs.Live.{box_of_all, has_some_cell, is_live, is_void}
 use Rattle.px_prune.specs.Kept.{meets, set_of, staying, pruned, pruned_within, kept_products}
 use Rattle.px_prune.proofs.BehindLemmas.{HasCells}
-use Rattle.px_prune.proofs.WithinLemmas.{in_fold, inside_has, inside_everything, in_or_behind, meets_cell, all_filter, any_filter, filtered_solids, all-set_of, any-set_of, void_solids}
+use Rattle.px_prune.proofs.WithinLemmas.{in_fold, inside_has, inside_everything, in_or_behind, meets_cell, all_filter}
+use Rattle.px_prune.proofs.WithinLemmas.{any_filter, filtered_solids, all-set_of, any-set_of, void_solids}
 
 -- a test of a product that is kept
 abbrev of_kept : (Product → Bool) → Option Product → Bool
 of_kept f None = false
 of_kept f (Some p) = f p
 
-any_kept : (f : Product → Bool) (g : Product → Option Product) → ((p : Product) → of_kept f (g p) ≡ f p) → (ps : List Product) → list_any f (filter_map g ps) ≡ list_any f ps
+any_kept : (f : Product → Bool) (g : Product → Option Product) → ((p : Product) → of_kept f (g p) ≡ f p)
+    → (ps : List Product) → list_any f (filter_map g ps) ≡ list_any f ps
 any_kept f g h [] = refl
 any_kept f g h (p ∷ ps) = step (g p) refl (any_kept f g h ps) where
-  step : (o : Option Product) → g p ≡ o → list_any f (filter_map g ps) ≡ list_any f ps → list_any f (filter_map g (p ∷ ps)) ≡ f p || list_any f ps
+  step : (o : Option Product) → g p ≡ o → list_any f (filter_map g ps) ≡ list_any f ps
+      → list_any f (filter_map g (p ∷ ps)) ≡ f p || list_any f ps
   step None e ih = rw e (ih ∙ ap (λ b. b || list_any f ps) (sym (ap (of_kept f) e) ∙ h p))
   step (Some u) e ih = rw e (ap (λ b. f u || b) ih ∙ ap (λ b. b || list_any f ps) (sym (ap (of_kept f) e) ∙ h p))
 
@@ -30,13 +34,15 @@ record IsSame (at : ℕ → Cell) (p : Product) (o : Option Product) : Type 0 wh
   holding : of_kept (holds at) o ≡ holds at p
   showing : (n : ℕ) → of_kept (λ u. holds at u && shows at n u) o ≡ holds at p && shows at n p
 
-module _ (laws : LawsOfSets) (boxes : ℕ → Option CellBox) (at : ℕ → Cell) (x y z : ℕ) (fits : HasCells boxes x y z at) where
+module _ (laws : LawsOfSets) (boxes : ℕ → Option CellBox) (at : ℕ → Cell) (x y z : ℕ)
+    (fits : HasCells boxes x y z at) where
   -- where no product holds
   none_hold : (p : Product) (o : Option Product) → of_kept (holds at) o ≡ false → holds at p ≡ false → IsSame at p o
   none_hold p None e h = record { holding = sym h; showing = λ n. rw h refl }
   none_hold p (Some u) e h = record { holding = e ∙ sym h; showing = λ n. rw (e, h) refl }
 
-  plain_missing : (p : Product) (o : Option CellBox) → list_all (λ q. (at q).member) (solids p.plain) ≡ false → of_kept (holds at) (pruned_within boxes p o) ≡ false
+  plain_missing : (p : Product) (o : Option CellBox) → list_all (λ q. (at q).member) (solids p.plain) ≡ false
+      → of_kept (holds at) (pruned_within boxes p o) ≡ false
   plain_missing p None e = refl
   plain_missing p (Some c) e = step (has_cell c && not (is_void p)) refl where
     step : (b : Bool) → has_cell c && not (is_void p) ≡ b → of_kept (holds at) (pruned_within boxes p (Some c)) ≡ false
@@ -49,50 +55,64 @@ module _ (laws : LawsOfSets) (boxes : ℕ → Option CellBox) (at : ℕ → Cell
     step true e = cc (meets_cell x y z (boxes q) c (in_or_behind x y z (boxes q) (fits.members q e)) inside, apart)
     step false e = rw e refl
 
-  hidden_meets : (n : ℕ) (c : CellBox) → lies_in c x y z ≡ true → (q : ℕ) → meets (boxes q) c ≡ false → has_face n (at q).hidden ≡ false
+  hidden_meets : (n : ℕ) (c : CellBox) → lies_in c x y z ≡ true → (q : ℕ) → meets (boxes q) c ≡ false
+      → has_face n (at q).hidden ≡ false
   hidden_meets n c inside q apart = step (has_face n (at q).hidden) refl where
     step : (b : Bool) → has_face n (at q).hidden ≡ b → has_face n (at q).hidden ≡ false
     step true e = cc (meets_cell x y z (boxes q) c (fits.hidden q n e) inside, apart)
     step false e = e
 
   -- where all plain solids have the cell
-  plain_there : (p : Product) (o : Option CellBox) → is_in o x y z ≡ true → list_all (λ q. (at q).member) (solids p.plain) ≡ true → IsSame at p (pruned_within boxes p o)
+  plain_there : (p : Product) (o : Option CellBox) → is_in o x y z ≡ true
+      → list_all (λ q. (at q).member) (solids p.plain) ≡ true → IsSame at p (pruned_within boxes p o)
   plain_there p None i e = cc
   plain_there p (Some c) i e = step (is_void p) refl where
     step : (b : Bool) → is_void p ≡ b → IsSame at p (pruned_within boxes p (Some c))
-    step true v = none_hold p (pruned_within boxes p (Some c)) (rw (inside_has x y z c i, v) refl) (rw (e, void_solids laws (λ q. (at q).member) p.plain p.barred e v) refl)
+    step true v = none_hold p (pruned_within boxes p (Some c)) (rw (inside_has x y z c i, v) refl)
+        (rw (e, void_solids laws (λ q. (at q).member) p.plain p.barred e v) refl)
     step false v =
         let qs = filter (λ q. meets (boxes q) c) (solids p.barred)
         in let s = filtered_solids laws (λ q. meets (boxes q) c) p.barred
-        in let same : list_all (λ q. not (at q).member) (solids (set_of qs)) ≡ list_all (λ q. not (at q).member) (solids p.barred)
-        = all-set_of laws (λ q. not (at q).member) qs s ∙ all_filter (λ q. not (at q).member) (λ q. meets (boxes q) c) (member_meets c i) (solids p.barred)
-        in let faces : (n : ℕ) → list_any (λ q. has_face n (at q).hidden) (solids (set_of qs)) ≡ list_any (λ q. has_face n (at q).hidden) (solids p.barred)
-        = λ n. any-set_of laws (λ q. has_face n (at q).hidden) qs s ∙ any_filter (λ q. has_face n (at q).hidden) (λ q. meets (boxes q) c) (hidden_meets n c i) (solids p.barred)
+        in let same : list_all (λ q. not (at q).member) (solids (set_of qs)) ≡ list_all (λ q. not (at q).member)
+        (solids p.barred)
+        = all-set_of laws (λ q. not (at q).member) qs s ∙ all_filter (λ q. not (at q).member) (λ q. meets (boxes q) c)
+        (member_meets c i) (solids p.barred)
+        in let faces : (n : ℕ) → list_any (λ q. has_face n (at q).hidden) (solids (set_of qs))
+        ≡ list_any (λ q. has_face n (at q).hidden) (solids p.barred)
+        = λ n. any-set_of laws (λ q. has_face n (at q).hidden) qs s
+        ∙ any_filter (λ q. has_face n (at q).hidden) (λ q. meets (boxes q) c) (hidden_meets n c i) (solids p.barred)
         in rw (inside_has x y z c i, v) (record { holding = rw same refl; showing = λ n. rw (same, faces n) refl })
 
   is_same : x < 2 ^ 32 → y < 2 ^ 32 → z < 2 ^ 32 → (p : Product) → IsSame at p (pruned boxes p)
   is_same hx hy hz p = step (list_all (λ q. (at q).member) (solids p.plain)) refl where
     step : (b : Bool) → list_all (λ q. (at q).member) (solids p.plain) ≡ b → IsSame at p (pruned boxes p)
-    step true e = plain_there p (box_of_all boxes (solids p.plain)) (in_fold x y z boxes (λ q. (at q).member) fits.members (solids p.plain) (Some everything) (inside_everything x y z hx hy hz) e) e
+    step true e = plain_there p (box_of_all boxes (solids p.plain)) (in_fold x y z boxes (λ q. (at q).member)
+        fits.members (solids p.plain) (Some everything) (inside_everything x y z hx hy hz) e) e
     step false e = none_hold p (pruned boxes p) (plain_missing p (box_of_all boxes (solids p.plain)) e) (rw e refl)
 
-pub kept_holds : (laws : LawsOfSets) (boxes : ℕ → Option CellBox) (at : ℕ → Cell) (x y z : ℕ) → x < 2 ^ 32 → y < 2 ^ 32 → z < 2 ^ 32 → HasCells boxes x y z at → (ps : List Product)
+pub kept_holds : (laws : LawsOfSets) (boxes : ℕ → Option CellBox) (at : ℕ → Cell) (x y z : ℕ) → x < 2 ^ 32
+    → y < 2 ^ 32 → z < 2 ^ 32 → HasCells boxes x y z at → (ps : List Product)
     → some_holds at (kept_products boxes ps) ≡ some_holds at ps
-kept_holds laws boxes at x y z hx hy hz fits ps = any_kept (holds at) (pruned boxes) (λ p. (is_same laws boxes at x y z fits hx hy hz p).holding) ps
+kept_holds laws boxes at x y z hx hy hz fits ps =
+    any_kept (holds at) (pruned boxes) (λ p. (is_same laws boxes at x y z fits hx hy hz p).holding) ps
 
-pub kept_shows : (laws : LawsOfSets) (boxes : ℕ → Option CellBox) (at : ℕ → Cell) (x y z : ℕ) → x < 2 ^ 32 → y < 2 ^ 32 → z < 2 ^ 32 → HasCells boxes x y z at → (ps : List Product) (n : ℕ)
+pub kept_shows : (laws : LawsOfSets) (boxes : ℕ → Option CellBox) (at : ℕ → Cell) (x y z : ℕ) → x < 2 ^ 32
+    → y < 2 ^ 32 → z < 2 ^ 32 → HasCells boxes x y z at → (ps : List Product) (n : ℕ)
     → some_shows at n (kept_products boxes ps) ≡ some_shows at n ps
-kept_shows laws boxes at x y z hx hy hz fits ps n = any_kept (λ u. holds at u && shows at n u) (pruned boxes) (λ p. (is_same laws boxes at x y z fits hx hy hz p).showing n) ps
+kept_shows laws boxes at x y z hx hy hz fits ps n = any_kept (λ u. holds at u && shows at n u) (pruned boxes)
+    (λ p. (is_same laws boxes at x y z fits hx hy hz p).showing n) ps
 
 -- products are left out, and none is added
 fewer : {X Y : Type 0} (g : X → Option Y) (xs : List X) → length (filter_map g xs) ≤ length xs
 fewer g [] = omega arith
 fewer {Y = Y} g (x ∷ xs) = step (g x) refl (fewer g xs) where
-  step : (o : Option Y) → g x ≡ o → length (filter_map g xs) ≤ length xs → length (filter_map g (x ∷ xs)) ≤ length (x ∷ xs)
+  step : (o : Option Y) → g x ≡ o → length (filter_map g xs) ≤ length xs → length (filter_map g (x ∷ xs))
+      ≤ length (x ∷ xs)
   step None e ih = rw e (omega (arith, ih))
   step (Some y) e ih = rw e (omega (arith, ih))
 
-pub kept_fewer : (boxes : ℕ → Option CellBox) (products kept : List Product) → kept ≡ kept_products boxes products → length kept ≤ length products
+pub kept_fewer : (boxes : ℕ → Option CellBox) (products kept : List Product) → kept ≡ kept_products boxes products
+    → length kept ≤ length products
 kept_fewer boxes products kept list = rw list (fewer (pruned boxes) products)
 
 -- of a product that is not live nothing is kept

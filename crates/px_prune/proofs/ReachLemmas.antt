@@ -1,5 +1,6 @@
 -- What a solid can have in a block: depths from the least that its fronts allow to the greatest that its backs do.
-use Rattle.std.proofs.Common.{ℕ, ℤ, pos, ◌≡◌, ◌<◌, ◌≤◌, ◌-◌, ◌≤ℤ◌, ◌&&◌, ◌||◌, ◌==◌, Bool, true, false, nat_le, nat_lt, List, [], ◌∷◌, refl, ap, sym, ◌∙◌, arith, Some, None, Option}
+use Rattle.std.proofs.Common.{ℕ, ℤ, pos, ◌≡◌, ◌<◌, ◌≤◌, ◌-◌, ◌≤ℤ◌, ◌&&◌, ◌||◌, ◌==◌, Bool, true, false, nat_le}
+use Rattle.std.proofs.Common.{nat_lt, List, [], ◌∷◌, refl, ap, sym, ◌∙◌, arith, Some, None, Option}
 use Rattle.std.proofs.Math.Path.{fun_ext}
 use Rattle.std.specs.List.{list_all}
 use Rattle.std.proofs.lemmas.Int.{ints}
@@ -14,7 +15,8 @@ use Rattle.px_prune.specs.Boxes.{hull}
 use Rattle.px_prune.specs.Covered.{is_covered}
 use Rattle.px_prune.specs.Blocks.{IsReachOf, greatest_in, has_pixel, in_block, is_pixel, least_in, with_block}
 use Rattle.px_prune.specs.Bounding.{IsBoxOf}
-use Rattle.px_prune.proofs.BlockLemmas.{greatest_at_pixel, greatest_bounds, least_at_pixel, least_bounds, one_column, one_row}
+use Rattle.px_prune.proofs.BlockLemmas.{greatest_at_pixel, greatest_bounds, least_at_pixel, least_bounds, one_column}
+use Rattle.px_prune.proofs.BlockLemmas.{one_row}
 use Rattle.px_prune.proofs.HullLemmas.{at_pixel, covered_box, in_part, joined_box, no_box, pixel_box, same_box}
 
 all_pass : {X : Type 0} (p q : X → Bool) → ((x : X) → p x ≡ true → q x ≡ true) → (xs : List X)
@@ -64,10 +66,14 @@ module _ (s : SolidView) (d : Depths) (b : Block) where
   can_reach z = nat_lt (value_of d z) (end_of d) && sides_can && fronts_can z && backs_can z
 
   inside_reaches : (x y z : ℕ) → in_block inside b x y z ≡ true → can_reach z ≡ true
-  inside_reaches x y z h = step (has_pixel b x y) (nat_lt (value_of d z) (end_of d)) _ _ _ sides_can (fronts_can z) (backs_can z) h
-      (λ there. all_pass _ _ (λ side e. le_above (pos 0) (value_at side x y) _ (greatest_bounds b side x y there) e) s.sides)
-      (λ there. all_pass _ _ (λ f e. le_below _ (value_at f.plane x y) (pos (value_of d z)) (least_bounds b f.plane x y there) e) s.fronts)
-      (λ there. all_pass _ _ (λ f e. lt_above (pos (value_of d z)) (value_at f.plane x y) _ (greatest_bounds b f.plane x y there) e) s.backs) where
+  inside_reaches x y z h =
+      step (has_pixel b x y) (nat_lt (value_of d z) (end_of d)) _ _ _ sides_can (fronts_can z) (backs_can z) h
+      (λ there. all_pass _ _ (λ side e. le_above (pos 0) (value_at side x y) _ (greatest_bounds b side x y there) e)
+      s.sides)
+      (λ there. all_pass _ _ (λ f e. le_below _ (value_at f.plane x y) (pos (value_of d z))
+      (least_bounds b f.plane x y there) e) s.fronts)
+      (λ there. all_pass _ _ (λ f e. lt_above (pos (value_of d z)) (value_at f.plane x y) _
+      (greatest_bounds b f.plane x y there) e) s.backs) where
         step : (t n p q r u v w : Bool) → t && (n && p && q && r) ≡ true → (t ≡ true → p ≡ true → u ≡ true)
             → (t ≡ true → q ≡ true → v ≡ true) → (t ≡ true → r ≡ true → w ≡ true) → n && u && v && w ≡ true
         step t n p q r u v w h f g k = grind arith
@@ -102,26 +108,29 @@ module _ (s : SolidView) (d : Depths) (b : Block) where
   module _ (first end : ℕ) (fronts : (z : ℕ) → fronts_can z ≡ nat_le first z)
       (backs : (z : ℕ) → (nat_lt (value_of d z) (end_of d) && backs_can z) ≡ nat_lt z end) where
     depth_missed : end ≤ first → (z : ℕ) → can_reach z ≡ false
-    depth_missed h z = step (nat_lt (value_of d z) (end_of d)) sides_can (fronts_can z) (backs_can z) (fronts z) (backs z) where
-      step : (n p q r : Bool) → q ≡ nat_le first z → (n && r) ≡ nat_lt z end → n && p && q && r ≡ false
-      step n p q r e f = grind arith
+    depth_missed h z =
+        step (nat_lt (value_of d z) (end_of d)) sides_can (fronts_can z) (backs_can z) (fronts z) (backs z) where
+          step : (n p q r : Bool) → q ≡ nat_le first z → (n && r) ≡ nat_lt z end → n && p && q && r ≡ false
+          step n p q r e f = grind arith
 
     pub no_depth : end ≤ first → IsReachOf inside b None
     no_depth h = no_reach (depth_missed h)
 
     module _ (sides : sides_can ≡ true) where
       reached_at : (z : ℕ) → can_reach z ≡ nat_le first z && nat_lt z end
-      reached_at z = step (nat_lt (value_of d z) (end_of d)) sides_can (fronts_can z) (backs_can z) sides (fronts z) (backs z) where
-        step : (n p q r : Bool) → p ≡ true → q ≡ nat_le first z → (n && r) ≡ nat_lt z end
-            → n && p && q && r ≡ nat_le first z && nat_lt z end
-        step n p q r d e f = grind arith
+      reached_at z = step (nat_lt (value_of d z) (end_of d)) sides_can (fronts_can z) (backs_can z) sides (fronts z)
+          (backs z) where
+            step : (n p q r : Bool) → p ≡ true → q ≡ nat_le first z → (n && r) ≡ nat_lt z end
+                → n && p && q && r ≡ nat_le first z && nat_lt z end
+            step n p q r d e f = grind arith
 
       abbrev reached : CellBox
       reached = record { x0 = b.x0; x1 = b.x1; y0 = b.y0; y1 = b.y1; z0 = first; z1 = end - 1 }
 
       some_inside : (x y z : ℕ) → in_block inside b x y z ≡ true → is_in (Some reached) x y z ≡ true
       some_inside x y z h = step (inside x y z) h (sym (reached_at z) ∙ inside_reaches x y z h) where
-        step : (v : Bool) → has_pixel b x y && v ≡ true → nat_le first z && nat_lt z end ≡ true → lies_in reached x y z ≡ true
+        step : (v : Bool) → has_pixel b x y && v ≡ true → nat_le first z && nat_lt z end ≡ true
+            → lies_in reached x y z ≡ true
         step v e f = grind arith
 
       pub some_reach : first < end → IsReachOf inside b (Some reached)
@@ -142,10 +151,12 @@ in_cover (Some a) (Some c) x y z e h = in_part a c x y z e h
 module _ (found inside : ℕ → ℕ → ℕ → Bool) (b : Block) (box : Option CellBox) (is : IsBoxOf found box) where
   module _ (reach : Option CellBox) (near : IsReachOf inside b reach) where
     pub passed_over : is_covered reach box ≡ true → IsBoxOf (with_block found inside b) box
-    passed_over inner = covered_box found (in_block inside b) box is (λ x y z h. in_cover reach box x y z inner (near.holds x y z h))
+    passed_over inner =
+        covered_box found (in_block inside b) box is (λ x y z h. in_cover reach box x y z inner (near.holds x y z h))
 
     pub joined_on : is_pixel b ≡ true → IsBoxOf (with_block found inside b) (hull box reach)
-    joined_on one = joined_box found (in_block inside b) (with_block found inside b) box reach (λ x y z. refl) is (near.least one)
+    joined_on one =
+        joined_box found (in_block inside b) (with_block found inside b) box reach (λ x y z. refl) is (near.least one)
 
 both_halves : (f v p q r : Bool) → r ≡ (p || q) → (f || (p && v)) || (q && v) ≡ f || (r && v)
 both_halves f v p q r e = grind arith
@@ -157,7 +168,8 @@ module _ (found inside : ℕ → ℕ → ℕ → Bool) (b first second : Block)
   by_turns = with_block (with_block found inside first) inside second
 
   same_cells : (x y z : ℕ) → by_turns x y z ≡ with_block found inside b x y z
-  same_cells x y z = both_halves (found x y z) (inside x y z) (has_pixel first x y) (has_pixel second x y) (has_pixel b x y) (parts x y)
+  same_cells x y z = both_halves (found x y z) (inside x y z) (has_pixel first x y) (has_pixel second x y)
+      (has_pixel b x y) (parts x y)
 
   pub by_halves : (box : Option CellBox) → IsBoxOf by_turns box → IsBoxOf (with_block found inside b) box
   by_halves box is = same_box by_turns (with_block found inside b) box same_cells is

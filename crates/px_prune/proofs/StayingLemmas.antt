@@ -1,5 +1,7 @@
 -- What is kept of a product has no solid that the product has not, and none both plain and barred.
-use Rattle.std.proofs.Common.{ℕ, suc, zero, ◌≡◌, ◌<◌, ◌≤◌, ◌==◌, ◌||◌, ◌&&◌, not, nat_lt, Bool, true, false, List, [], ◌∷◌, ◌++◌, refl, ap, sym, ◌∙◌, subst, arith, Option, Some, None, inl, inr, if◌then◌else◌}
+use Rattle.std.proofs.Common.{ℕ, suc, zero, ◌≡◌, ◌<◌, ◌≤◌, ◌==◌, ◌||◌, ◌&&◌, not, nat_lt, Bool, true, false, List, []}
+use Rattle.std.proofs.Common.{◌∷◌, ◌++◌, refl, ap, sym, ◌∙◌, subst, arith, Option, Some, None, inl, inr}
+use Rattle.std.proofs.Common.{if◌then◌else◌}
 use Rattle.std.specs.List.{All, list_all, list_any, filter, filter_map}
 use Rattle.std.proofs.lemmas.Bool.{cases_eq}
 use Rattle.std.proofs.lemmas.Bool.Decides.{nat_tests}
@@ -16,7 +18,8 @@ use Rattle.px_normal.specs.Live.{box_of_all, is_void}
 use Rattle.px_prune.specs.Kept.{kept_products, meets, pruned, pruned_within, set_of, staying}
 use Rattle.px_prune.proofs.WithinLemmas.{any-set_of, filtered_solids, is_solid}
 
-any_last : (P h : ℕ → Bool) (xs : List ℕ) (n : ℕ) → list_any P (filter h (xs ++ n ∷ [])) ≡ list_any P (filter h xs) || (h n && P n)
+any_last : (P h : ℕ → Bool) (xs : List ℕ) (n : ℕ) → list_any P (filter h (xs ++ n ∷ [])) ≡ list_any P (filter h xs)
+    || (h n && P n)
 any_last P h xs n =
     ap (list_any P) (filter-append h xs (n ∷ []))
     ∙ list_any-append P (filter h xs) (filter h (n ∷ []))
@@ -85,7 +88,8 @@ any_fewer : (g h : ℕ → Bool) → ((q : ℕ) → q < 256 → g q ≡ true →
     → list_all is_solid qs ≡ true → list_any h qs ≡ false → list_any g qs ≡ false
 any_fewer g h fewer [] all none = refl
 any_fewer g h fewer (q ∷ qs) all none =
-    step (g q) (h q) (list_any g qs) (list_any h qs) (λ e. fewer q (small q _ all) e) (any_fewer g h fewer qs (rest (is_solid q) _ all)) none
+    step (g q) (h q) (list_any g qs) (list_any h qs) (λ e. fewer q (small q _ all) e)
+    (any_fewer g h fewer qs (rest (is_solid q) _ all)) none
   where
     small : (q : ℕ) (b : Bool) → is_solid q && b ≡ true → q < 256
     small q b e = grind arith
@@ -101,10 +105,12 @@ record IsCut (boxes : ℕ → Option CellBox) (p u : Product) : Type 0 where
   apart : is_void p ≡ false
   is : record p { barred = staying boxes part p.barred } ≡ u
 
-cut : (boxes : ℕ → Option CellBox) (p u : Product) (o : Option CellBox) → pruned_within boxes p o ≡ Some u → IsCut boxes p u
+cut : (boxes : ℕ → Option CellBox) (p u : Product) (o : Option CellBox) → pruned_within boxes p o ≡ Some u
+    → IsCut boxes p u
 cut boxes p u None e = cc
 cut boxes p u (Some part) e = step (has_cell part) (is_void p) refl e where
-  step : (a b : Bool) → is_void p ≡ b → (if a && not b then Some (record p { barred = staying boxes part p.barred }) else None) ≡ Some u → IsCut boxes p u
+  step : (a b : Bool) → is_void p ≡ b → (if a && not b then Some (record p { barred = staying boxes part p.barred })
+      else None) ≡ Some u → IsCut boxes p u
   step true true is e = cc
   step true false is e = record { part = part; apart = is; is = cc }
   step false b is e = cc
@@ -112,7 +118,8 @@ cut boxes p u (Some part) e = step (has_cell part) (is_void p) refl e where
 cut_apart : LawsOfSets → (boxes : ℕ → Option CellBox) (p u : Product) → IsCut boxes p u → is_void u ≡ false
 cut_apart laws boxes p u c =
     subst (λ product. is_void product ≡ false) c.is
-    (any_fewer (has (staying boxes c.part p.barred)) (has p.barred) (has_staying laws boxes c.part p.barred) (solids p.plain)
+    (any_fewer (has (staying boxes c.part p.barred)) (has p.barred) (has_staying laws boxes c.part p.barred)
+    (solids p.plain)
     (all_solids p.plain) c.apart)
 
 cut_below : LawsOfSets → (count : ℕ) (boxes : ℕ → Option CellBox) (p u : Product) → HasSolidsBelow count p
@@ -135,15 +142,18 @@ pub kept_apart : LawsOfSets → (boxes : ℕ → Option CellBox) (products : Lis
     → All (λ product. is_void product ≡ false) (kept_products boxes products)
 kept_apart laws boxes products =
     all_kept (λ _. Unit {0}) (λ product. is_void product ≡ false) (pruned boxes)
-    (λ p u _ e. cut_apart laws boxes p u (cut boxes p u (box_of_all boxes (solids p.plain)) e)) products (λ k any lt. tt)
+    (λ p u _ e. cut_apart laws boxes p u (cut boxes p u (box_of_all boxes (solids p.plain)) e)) products
+    (λ k any lt. tt)
 
 pub kept_below : LawsOfSets → (count : ℕ) (boxes : ℕ → Option CellBox) (products : List Product)
     → All (HasSolidsBelow count) products → All (HasSolidsBelow count) (kept_products boxes products)
 kept_below laws count boxes products known =
     all_kept (HasSolidsBelow count) (HasSolidsBelow count) (pruned boxes)
-    (λ p u below e. cut_below laws count boxes p u below (cut boxes p u (box_of_all boxes (solids p.plain)) e)) products known
+    (λ p u below e. cut_below laws count boxes p u below (cut boxes p u (box_of_all boxes (solids p.plain)) e))
+    products known
 
-pub kept_plain : (boxes : ℕ → Option CellBox) (products : List Product) → All HasPlain products → All HasPlain (kept_products boxes products)
+pub kept_plain : (boxes : ℕ → Option CellBox) (products : List Product) → All HasPlain products
+    → All HasPlain (kept_products boxes products)
 kept_plain boxes products plain =
     all_kept HasPlain HasPlain (pruned boxes)
     (λ p u some e. cut_plain boxes p u some (cut boxes p u (box_of_all boxes (solids p.plain)) e)) products plain

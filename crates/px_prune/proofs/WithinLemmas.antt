@@ -1,5 +1,6 @@
 -- Cells in boxes, and solids of filtered sets.
-use Rattle.std.proofs.Common.{ℕ, ◌≡◌, ◌<◌, ◌^◌, ◌||◌, ◌&&◌, not, nat_lt, Bool, true, false, List, [], ◌∷◌, refl, ap, sym, ◌∙◌, arith, Option, Some, None, fold}
+use Rattle.std.proofs.Common.{ℕ, ◌≡◌, ◌<◌, ◌^◌, ◌||◌, ◌&&◌, not, nat_lt, Bool, true, false, List, [], ◌∷◌, refl, ap}
+use Rattle.std.proofs.Common.{sym, ◌∙◌, arith, Option, Some, None, fold}
 use Rattle.std.specs.List.{list_all, list_any, filter}
 use Rattle.px_normal.specs.declared.set.SolidSet.{SolidSet}
 use Rattle.px_normal.specs.Sets.{has, empty, one, joined, solids}
@@ -11,7 +12,8 @@ use Rattle.px_prune.proofs.BehindLemmas.{is_in_or_behind}
 use Rattle.px_prune.specs.Kept.{meets, set_of}
 
 module _ (x y z : ℕ) where
-  inside_common_part : (a b : CellBox) → lies_in a x y z ≡ true → lies_in b x y z ≡ true → lies_in (common_part a b) x y z ≡ true
+  inside_common_part : (a b : CellBox) → lies_in a x y z ≡ true → lies_in b x y z ≡ true
+      → lies_in (common_part a b) x y z ≡ true
   inside_common_part a b p q = grind arith
 
   pub inside_has : (a : CellBox) → lies_in a x y z ≡ true → has_cell a ≡ true
@@ -33,31 +35,40 @@ module _ (x y z : ℕ) where
   in_narrowed None u p q = p
 
   -- a cell in the box of each solid is in their common part
-  pub in_fold : (boxes : ℕ → Option CellBox) (m : ℕ → Bool) → ((q : ℕ) → m q ≡ true → is_in (boxes q) x y z ≡ true) → (qs : List ℕ) (o : Option CellBox)
+  pub in_fold : (boxes : ℕ → Option CellBox) (m : ℕ → Bool) → ((q : ℕ) → m q ≡ true → is_in (boxes q) x y z ≡ true)
+      → (qs : List ℕ) (o : Option CellBox)
       → is_in o x y z ≡ true → list_all m qs ≡ true → is_in (fold (λ c q. narrowed c (boxes q)) o qs) x y z ≡ true
   in_fold boxes m h [] o p all = p
-  in_fold boxes m h (q ∷ qs) o p all = in_fold boxes m h qs (narrowed o (boxes q)) (in_narrowed o (boxes q) p (h q (left (m q) (list_all m qs) all))) (right (m q) (list_all m qs) all) where
-    left : (a b : Bool) → a && b ≡ true → a ≡ true
-    left a b e = grind arith
+  in_fold boxes m h (q ∷ qs) o p all =
+      in_fold boxes m h qs (narrowed o (boxes q)) (in_narrowed o (boxes q) p (h q (left (m q) (list_all m qs) all)))
+      (right (m q) (list_all m qs) all) where
+        left : (a b : Bool) → a && b ≡ true → a ≡ true
+        left a b e = grind arith
 
-    right : (a b : Bool) → a && b ≡ true → b ≡ true
-    right a b e = grind arith
+        right : (a b : Bool) → a && b ≡ true → b ≡ true
+        right a b e = grind arith
 
-  pub meets_cell : (o : Option CellBox) (c : CellBox) → is_in_or_behind o x y z ≡ true → lies_in c x y z ≡ true → meets o c ≡ true
+  pub meets_cell : (o : Option CellBox) (c : CellBox) → is_in_or_behind o x y z ≡ true → lies_in c x y z ≡ true
+      → meets o c ≡ true
   meets_cell None c p q = p
-  meets_cell (Some b) c p q = inside_has (common_part (with_cells_behind b) c) (inside_common_part (with_cells_behind b) c p q)
+  meets_cell (Some b) c p q =
+      inside_has (common_part (with_cells_behind b) c) (inside_common_part (with_cells_behind b) c p q)
 
-pub all_filter : (P f : ℕ → Bool) → ((q : ℕ) → f q ≡ false → P q ≡ true) → (qs : List ℕ) → list_all P (filter f qs) ≡ list_all P qs
+pub all_filter : (P f : ℕ → Bool) → ((q : ℕ) → f q ≡ false → P q ≡ true) → (qs : List ℕ) → list_all P (filter f qs)
+    ≡ list_all P qs
 all_filter P f h [] = refl
 all_filter P f h (q ∷ qs) = step (f q) refl (all_filter P f h qs) where
-  step : (b : Bool) → f q ≡ b → list_all P (filter f qs) ≡ list_all P qs → list_all P (filter f (q ∷ qs)) ≡ list_all P (q ∷ qs)
+  step : (b : Bool) → f q ≡ b → list_all P (filter f qs) ≡ list_all P qs → list_all P (filter f (q ∷ qs))
+      ≡ list_all P (q ∷ qs)
   step true e ih = rw e (ap (λ b. P q && b) ih)
   step false e ih = rw (e, h q e) ih
 
-pub any_filter : (P f : ℕ → Bool) → ((q : ℕ) → f q ≡ false → P q ≡ false) → (qs : List ℕ) → list_any P (filter f qs) ≡ list_any P qs
+pub any_filter : (P f : ℕ → Bool) → ((q : ℕ) → f q ≡ false → P q ≡ false) → (qs : List ℕ) → list_any P (filter f qs)
+    ≡ list_any P qs
 any_filter P f h [] = refl
 any_filter P f h (q ∷ qs) = step (f q) refl (any_filter P f h qs) where
-  step : (b : Bool) → f q ≡ b → list_any P (filter f qs) ≡ list_any P qs → list_any P (filter f (q ∷ qs)) ≡ list_any P (q ∷ qs)
+  step : (b : Bool) → f q ≡ b → list_any P (filter f qs) ≡ list_any P qs → list_any P (filter f (q ∷ qs))
+      ≡ list_any P (q ∷ qs)
   step true e ih = rw e (ap (λ b. P q || b) ih)
   step false e ih = rw (e, h q e) ih
 
@@ -91,12 +102,14 @@ module _ (laws : LawsOfSets) where
     small q lt = grind arith
 
   -- the solids of a set that is made of a list
-  all_fold : (P : ℕ → Bool) (qs : List ℕ) (s : SolidSet) → list_all is_solid qs ≡ true → list_all P (solids (fold (λ s q. joined s (one q)) s qs)) ≡ list_all P (solids s) && list_all P qs
+  all_fold : (P : ℕ → Bool) (qs : List ℕ) (s : SolidSet) → list_all is_solid qs ≡ true
+      → list_all P (solids (fold (λ s q. joined s (one q)) s qs)) ≡ list_all P (solids s) && list_all P qs
   all_fold P [] s h = sym (and_true (list_all P (solids s))) where
     and_true : (a : Bool) → a && true ≡ a
     and_true a = grind arith
   all_fold P (q ∷ qs) s h = all_fold P qs (joined s (one q)) (rest (is_solid q) _ h)
-      ∙ rw (laws.all_of_joined P s (one q), laws.all_of_one P q (below_256 q _ h)) (turned (list_all P (solids s)) (P q) (list_all P qs)) where
+      ∙ rw (laws.all_of_joined P s (one q), laws.all_of_one P q (below_256 q _ h))
+      (turned (list_all P (solids s)) (P q) (list_all P qs)) where
         rest : (a b : Bool) → a && b ≡ true → b ≡ true
         rest a b e = grind arith
 
@@ -106,12 +119,14 @@ module _ (laws : LawsOfSets) where
         turned : (a b c : Bool) → (a && b) && c ≡ a && (b && c)
         turned a b c = grind arith
 
-  any_fold : (P : ℕ → Bool) (qs : List ℕ) (s : SolidSet) → list_all is_solid qs ≡ true → list_any P (solids (fold (λ s q. joined s (one q)) s qs)) ≡ list_any P (solids s) || list_any P qs
+  any_fold : (P : ℕ → Bool) (qs : List ℕ) (s : SolidSet) → list_all is_solid qs ≡ true
+      → list_any P (solids (fold (λ s q. joined s (one q)) s qs)) ≡ list_any P (solids s) || list_any P qs
   any_fold P [] s h = sym (or_false (list_any P (solids s))) where
     or_false : (a : Bool) → a || false ≡ a
     or_false a = grind arith
   any_fold P (q ∷ qs) s h = any_fold P qs (joined s (one q)) (rest (is_solid q) _ h)
-      ∙ rw (laws.some_of_joined P s (one q), laws.some_of_one P q (below_256 q _ h)) (turned (list_any P (solids s)) (P q) (list_any P qs)) where
+      ∙ rw (laws.some_of_joined P s (one q), laws.some_of_one P q (below_256 q _ h))
+      (turned (list_any P (solids s)) (P q) (list_any P qs)) where
         rest : (a b : Bool) → a && b ≡ true → b ≡ true
         rest a b e = grind arith
 
@@ -121,14 +136,17 @@ module _ (laws : LawsOfSets) where
         turned : (a b c : Bool) → (a || b) || c ≡ a || (b || c)
         turned a b c = grind arith
 
-  pub all-set_of : (P : ℕ → Bool) (qs : List ℕ) → list_all is_solid qs ≡ true → list_all P (solids (set_of qs)) ≡ list_all P qs
+  pub all-set_of : (P : ℕ → Bool) (qs : List ℕ) → list_all is_solid qs ≡ true → list_all P (solids (set_of qs))
+      ≡ list_all P qs
   all-set_of P qs h = all_fold P qs empty h ∙ rw (laws.all_of_none P) refl
 
-  pub any-set_of : (P : ℕ → Bool) (qs : List ℕ) → list_all is_solid qs ≡ true → list_any P (solids (set_of qs)) ≡ list_any P qs
+  pub any-set_of : (P : ℕ → Bool) (qs : List ℕ) → list_all is_solid qs ≡ true → list_any P (solids (set_of qs))
+      ≡ list_any P qs
   any-set_of P qs h = any_fold P qs empty h ∙ rw (laws.some_of_none P) refl
 
   -- a solid that is plain and barred has no cell in both parts
-  pub void_solids : (m : ℕ → Bool) (s t : SolidSet) → list_all m (solids s) ≡ true → list_any (has t) (solids s) ≡ true → list_all (λ q. not (m q)) (solids t) ≡ false
+  pub void_solids : (m : ℕ → Bool) (s t : SolidSet) → list_all m (solids s) ≡ true → list_any (has t) (solids s)
+      ≡ true → list_all (λ q. not (m q)) (solids t) ≡ false
   void_solids m s t plain void = step (list_all (λ q. not (m q)) (solids t)) refl where
     apart : (m h : Bool) → m ≡ true → (h ≡ true → not m ≡ true) → not h ≡ true
     apart m true e f = sym (ap not e) ∙ f refl
@@ -137,4 +155,5 @@ module _ (laws : LawsOfSets) where
     step : (v : Bool) → list_all (λ q. not (m q)) (solids t) ≡ v → v ≡ false
     step false e = refl
     step true barred = sym void ∙ none_passes (has t) (solids s)
-        ((laws.each (λ q. not (has t q)) s).1 (λ q lt there. apart (m q) (has t q) ((laws.each m s).0 plain q lt there) ((laws.each (λ q. not (m q)) t).0 barred q lt)))
+        ((laws.each (λ q. not (has t q)) s).1 (λ q lt there. apart (m q) (has t q)
+        ((laws.each m s).0 plain q lt there) ((laws.each (λ q. not (m q)) t).0 barred q lt)))

@@ -1,5 +1,6 @@
 //! Blocks of pixels, and the values of linear forms in them.
-ghost use Rattle.std.specs.Prelude.{◌≤◌};
+ghost use Rattle.std.specs.Prelude.{◌<◌, ◌≤◌};
+ghost use Rattle.px_model.specs.declared.limits.TheConstants.{MAX_PICTURE_SIZE};
 
 use px_num::Linear;
 
@@ -12,14 +13,15 @@ pub(crate) struct Block {
     pub y1: u32,
     ghost columns: { x0 ≤ x1 },
     ghost rows: { y0 ≤ y1 },
-    ghost in_width: { x1 ≤ 511 },
-    ghost in_height: { y1 ≤ 511 },
+    ghost in_width: { x1 < MAX_PICTURE_SIZE },
+    ghost in_height: { y1 < MAX_PICTURE_SIZE },
 }
 
 impl Block {
     ghost use Rattle.std.specs.Prelude.{◌≡◌, ◌<◌, ◌-◌, ◌^◌, ◌≤ℤ◌, ◌&&◌, ◌||◌, nat_lt, ℕ, true, false};
     ghost use Rattle.px_num.specs.Forms.{IsWithin, value_at};
     ghost use Rattle.px_model.specs.Solids.{IsPlane};
+    ghost use Rattle.px_model.specs.declared.limits.TheConstants.{MAX_PICTURE_SIZE};
     ghost use Rattle.px_prune.specs.Blocks.{
       extent,
       greatest_in,
@@ -31,9 +33,9 @@ impl Block {
     /// All pixels of a picture.
     pub(crate) fn of_picture(width: u32, height: u32) -> Block
         requires some_width { 1 ≤ width }
-        requires width { width ≤ 512 }
+        requires width { width ≤ MAX_PICTURE_SIZE }
         requires some_height { 1 ≤ height }
-        requires height { height ≤ 512 }
+        requires height { height ≤ MAX_PICTURE_SIZE }
         ensures { (x y : ℕ) → has_pixel result x y ≡ (nat_lt x width && nat_lt y height) }
     {
         Block {

@@ -1,5 +1,7 @@
 -- What the passes of one literal leave, and what all of them leave.
-use Rattle.std.proofs.Common.{◌≡◌, ◌<◌, ◌≤◌, ◌+◌, ◌+ℤ◌, ◌-◌, ◌*◌, ◌^◌, ◌||◌, ◌==◌, pos, ℕ, Bool, true, false, ◌&&◌, nat_lt, min, List, [], ◌∷◌, ◌++◌, length, eqb, refl, ap, sym, ◌∙◌, arith, inl, inr, if◌then◌else◌}
+use Rattle.std.proofs.Common.{◌≡◌, ◌<◌, ◌≤◌, ◌+◌, ◌+ℤ◌, ◌-◌, ◌*◌, ◌^◌, ◌||◌, ◌==◌, pos, ℕ, Bool, true, false, ◌&&◌}
+use Rattle.std.proofs.Common.{nat_lt, min, List, [], ◌∷◌, ◌++◌, length, eqb, refl, ap, sym, ◌∙◌, arith, inl, inr}
+use Rattle.std.proofs.Common.{if◌then◌else◌}
 use Rattle.std.specs.Bool.{beq}
 use Rattle.std.specs.List.{fold, flat_map, list_all}
 use Rattle.std.proofs.lemmas.Bool.{cases_Bool, cases_lt}
@@ -10,15 +12,19 @@ use Rattle.px_num.specs.Forms.{plus}
 use Rattle.px_num.proofs.FormLaws.{value_at-plus}
 use Rattle.px_model.specs.Solids.{SolidView}
 use Rattle.px_model.specs.Scenes.{SceneView}
-use Rattle.px_model.specs.Cells.{Depths, cell_of, depths_of, end_of, enters_at, is_inside, is_inside_before, leaves_at, value_of}
+use Rattle.px_model.specs.Cells.{Depths, cell_of, depths_of, end_of, enters_at, is_inside, is_inside_before}
+use Rattle.px_model.specs.Cells.{leaves_at, value_of}
 use Rattle.px_face.specs.Covering.{CoveringLaw, ValueParityLaw, covering_back, covering_front, is_met}
 use Rattle.px_face.specs.Edges.{covers}
 use Rattle.px_face.specs.Faces.{number_of, plane_of}
 use Rattle.px_normal.specs.declared.product.Product.{Product}
 use Rattle.px_sched.specs.declared.literal.Literal.{Literal}
 use Rattle.px_sched.specs.Passes.{candidate_faces, literals, others, solid_of}
-use Rattle.px_sched.specs.Numbers.{Keys, Numbers, KeyedPixel, after, all, candidate_on_numbers, classify_on_numbers, key, literal_on_numbers, load_best, merge_on_numbers, passes_on_numbers, residue, set_alive, cleared, confirm_on_numbers, where_fraction}
-use Rattle.px_sched.proofs.RunLemmas.{HasRoom, after-append, at, candidate_keys, classified, classify_keys, end_small, keys_in_range, loaded, part_along, rounded, suits}
+use Rattle.px_sched.specs.Numbers.{Keys, Numbers, KeyedPixel, after, all, candidate_on_numbers, classify_on_numbers}
+use Rattle.px_sched.specs.Numbers.{key, literal_on_numbers, load_best, merge_on_numbers, passes_on_numbers, residue}
+use Rattle.px_sched.specs.Numbers.{set_alive, cleared, confirm_on_numbers, where_fraction}
+use Rattle.px_sched.proofs.RunLemmas.{HasRoom, after-append, at, candidate_keys, classified, classify_keys, end_small}
+use Rattle.px_sched.proofs.RunLemmas.{keys_in_range, loaded, part_along, rounded, suits}
 use Rattle.px_sched.proofs.CoverLaws.{and_both, and_left, and_true, enters_depth, leaves_depth}
 use Rattle.px_sched.proofs.FoldLemmas.{and_false, elsewhere, fold_none, fold_single, where_test}
 use Rattle.px_sched.proofs.ConfirmLemmas.{IsConfirmed, barred_test, confirmed, plain_test, test}
@@ -111,7 +117,8 @@ least_of false b c = refl
 never : (a b : Bool) → a ≡ false → (a && b) ≡ true → ⊥
 never a b p q = cc
 
-module _ (covering : CoveringLaw) (parity : ValueParityLaw) (scene : SceneView) (l : KeyedPixel) (room : HasRoom l (depths_of scene)) where
+module _ (covering : CoveringLaw) (parity : ValueParityLaw) (scene : SceneView) (l : KeyedPixel)
+    (room : HasRoom l (depths_of scene)) where
   abbrev d : Depths
   d = depths_of scene
 
@@ -126,8 +133,10 @@ module _ (covering : CoveringLaw) (parity : ValueParityLaw) (scene : SceneView) 
       let law = covering s far l.x l.y in
       let nf = length s.fronts + 1 in
       let t : ℕ → Bool = λ i. covers s far i l.x l.y in
-      keys_in_range l (candidate_on_numbers d s) (where_test t (loaded l d s)) 0 nf (λ i low high e k. candidate_keys l d room s i e k) p
-      ∙ fold_single t (loaded l d s) p.keys 0 nf (covering_front s l.x l.y) (is_met s far l.x l.y) (λ i low high. law.fronts i (lt_true i nf (omega arith)))
+      keys_in_range l (candidate_on_numbers d s) (where_test t (loaded l d s)) 0 nf
+      (λ i low high e k. candidate_keys l d room s i e k) p
+      ∙ fold_single t (loaded l d s) p.keys 0 nf (covering_front s l.x l.y) (is_met s far l.x l.y)
+      (λ i low high. law.fronts i (lt_true i nf (omega arith)))
       (omega arith) (omega (arith, lt_holds (covering_front s l.x l.y) nf law.front_there))
   candidates_keys s false p =
       let law = covering s far l.x l.y in
@@ -138,10 +147,13 @@ module _ (covering : CoveringLaw) (parity : ValueParityLaw) (scene : SceneView) 
       let t : ℕ → Bool = λ i. covers s far i l.x l.y in
       let back : (i : ℕ) → nf ≤ i → i < nf + nb → t i ≡ (m && eqb i k) =
       λ i low high. law.backs i (omega arith) (lt_false i nf low) in
-      keys_in_range l (candidate_on_numbers d s) (where_test t (loaded l d s)) nf nb (λ i low high e k. candidate_keys l d room s i e k) p
+      keys_in_range l (candidate_on_numbers d s) (where_test t (loaded l d s)) nf nb
+      (λ i low high e k. candidate_keys l d room s i e k) p
       ∙ elim (cases_lt k (nf + nb)) [
-        | inl numbered ↦ rw (lt_true k (nf + nb) numbered, and_true m) (fold_single t (loaded l d s) p.keys nf nb k m back (lt_fails k nf law.back_behind) numbered)
-        | inr limit ↦ rw (lt_false k (nf + nb) limit, and_false m) (fold_none t (loaded l d s) p.keys nf nb (λ i low high. back i low high
+        | inl numbered ↦ rw (lt_true k (nf + nb) numbered, and_true m) (fold_single t (loaded l d s) p.keys nf nb k m
+            back (lt_fails k nf law.back_behind) numbered)
+        | inr limit ↦ rw (lt_false k (nf + nb) limit, and_false m) (fold_none t (loaded l d s) p.keys nf nb
+            (λ i low high. back i low high
             ∙ elsewhere m i (nf + nb) k high limit))
       ]
 
@@ -188,29 +200,35 @@ module _ (covering : CoveringLaw) (parity : ValueParityLaw) (scene : SceneView) 
 
   -- the depth of a candidate is that of its cell
   loaded_deep : (s : SolidView) (plain : Bool) → is_covered s plain far l.x l.y ≡ true
-      → cleared l (residue l (plus (plane_of s far (face_found s plain far l.x l.y)) (2 ^ d.fraction_bits - 1))) ≡ value_of d (cell_found s plain d l.x l.y)
+      → cleared l (residue l (plus (plane_of s far (face_found s plain far l.x l.y)) (2 ^ d.fraction_bits - 1)))
+      ≡ value_of d (cell_found s plain d l.x l.y)
   loaded_deep s true met =
       let more = 2 ^ d.fraction_bits - 1 in
-      ap (λ v. cleared l (modulo v (l.depth_bits + l.fraction_bits))) (value_at-plus (plane_of s far (covering_front s l.x l.y)) more l.x l.y
+      ap (λ v. cleared l (modulo v (l.depth_bits + l.fraction_bits)))
+      (value_at-plus (plane_of s far (covering_front s l.x l.y)) more l.x l.y
       ∙ ap (λ v. v +ℤ pos more) (covering s far l.x l.y).front_value)
       ∙ rounded l d room (enters_at s l.x l.y) (enters_depth covering far s l.x l.y met)
   loaded_deep s false both =
       let more = 2 ^ d.fraction_bits - 1 in
       let met = and_left (is_met s far l.x l.y) _ both in
-      ap (λ v. cleared l (modulo v (l.depth_bits + l.fraction_bits))) (value_at-plus (plane_of s far (covering_back s far l.x l.y)) more l.x l.y
+      ap (λ v. cleared l (modulo v (l.depth_bits + l.fraction_bits)))
+      (value_at-plus (plane_of s far (covering_back s far l.x l.y)) more l.x l.y
       ∙ ap (λ v. v +ℤ pos more) (covering s far l.x l.y).back_value)
       ∙ rounded l d room (leaves_at s far l.x l.y) (leaves_depth covering far s l.x l.y met)
 
   cell_test : (s : SolidView) (plain : Bool) → is_covered s plain far l.x l.y ≡ true
-      → ((d.fraction_bits == 0) || test covering l d room s plain (value_of d (cell_found s plain d l.x l.y))) ≡ has_cell s plain d l.x l.y (cell_found s plain d l.x l.y)
+      → ((d.fraction_bits == 0) || test covering l d room s plain (value_of d (cell_found s plain d l.x l.y)))
+      ≡ has_cell s plain d l.x l.y (cell_found s plain d l.x l.y)
   cell_test s true met = plain_test covering l d room s (cell_found s true d l.x l.y) refl met
-  cell_test s false both = barred_test covering l d room s (cell_found s false d l.x l.y) refl (and_left (is_met s far l.x l.y) _ both)
+  cell_test s false both =
+      barred_test covering l d room s (cell_found s false d l.x l.y) refl (and_left (is_met s far l.x l.y) _ both)
 
   -- the candidate of a literal that stays alive
   record IsKept (s : SolidView) (plain : Bool) (k new : Keys) : Type 0 where
     best : new.best ≡ k.best
     alive : new.alive ≡ is_found s plain d l.x l.y
-    has : is_found s plain d l.x l.y ≡ true → HasKey new (value_of d (cell_found s plain d l.x l.y)) (number_found s plain d l.x l.y)
+    has : is_found s plain d l.x l.y ≡ true → HasKey new (value_of d (cell_found s plain d l.x l.y))
+        (number_found s plain d l.x l.y)
 
   kept : (s : SolidView) (plain : Bool) (k start new : Keys) → k.alive ≡ false
       → start ≡ (if is_covered s plain far l.x l.y then loaded l d s k (face_found s plain far l.x l.y) else k)
@@ -223,24 +241,32 @@ module _ (covering : CoveringLaw) (parity : ValueParityLaw) (scene : SceneView) 
         let deep : some.deep ≡ value_of d z = loaded_deep s plain yea in
         record {
           best = c.best ∙ ap (λ (k : Keys). k.best) here;
-          alive = c.alive ∙ ap (λ (k : Keys). k.alive && ((d.fraction_bits == 0) || test covering l d room s plain k.deep)) here
+          alive = c.alive
+              ∙ ap (λ (k : Keys). k.alive && ((d.fraction_bits == 0) || test covering l d room s plain k.deep)) here
               ∙ ap (λ v. (d.fraction_bits == 0) || test covering l d room s plain v) deep
               ∙ cell_test s plain yea ∙ rw yea refl;
-          has = λ _. record { is_deep = c.deep ∙ ap (λ (k : Keys). k.deep) here ∙ deep; is_number = c.number ∙ ap (λ (k : Keys). k.number) here };
+          has = λ _. record {
+            is_deep = c.deep ∙ ap (λ (k : Keys). k.deep) here ∙ deep;
+            is_number = c.number
+                ∙ ap (λ (k : Keys). k.number) here;
+          };
         }
     | inr nay ↦
         let here : start ≡ k = is ∙ rw nay refl in
         record {
           best = c.best ∙ ap (λ (k : Keys). k.best) here;
-          alive = c.alive ∙ ap (λ (k : Keys). k.alive && ((d.fraction_bits == 0) || test covering l d room s plain k.deep)) here
+          alive = c.alive
+              ∙ ap (λ (k : Keys). k.alive && ((d.fraction_bits == 0) || test covering l d room s plain k.deep)) here
               ∙ rw (dead, nay) refl;
-          has = λ e. absurd (never (is_covered s plain far l.x l.y) (has_cell s plain d l.x l.y (cell_found s plain d l.x l.y)) nay e);
+          has = λ e. absurd (never (is_covered s plain far l.x l.y)
+              (has_cell s plain d l.x l.y (cell_found s plain d l.x l.y)) nay e);
         }
   ]
 
   -- the passes of one literal
   literal_best : (product : Product) (q : Literal) (e : Bool) (k : Keys)
-      → (after l (literal_on_numbers scene product q) (at e k)).keys.best ≡ fold min k.best (keys_found scene l product q)
+      → (after l (literal_on_numbers scene product q) (at e k)).keys.best
+      ≡ fold min k.best (keys_found scene l product q)
   literal_best product q e k =
       let s = solid_of scene q.solid in
       let rs = others q product in
@@ -251,28 +277,36 @@ module _ (covering : CoveringLaw) (parity : ValueParityLaw) (scene : SceneView) 
       let confirm = where_fraction d.fraction_bits (confirm_on_numbers d s q.plain) in
       let start = after l first (at e k) in
       let new = (after l confirm start).keys in
-      let same : (after l (first ++ confirm) (at e k)).keys ≡ new = ap (λ (p : Numbers). p.keys) (after-append l first confirm (at e k)) in
-      let r = kept s q.plain fresh start.keys new refl (candidates_keys s q.plain (at true fresh)) (confirmed covering l d room s q.plain start.enable start.keys) in
+      let same : (after l (first ++ confirm) (at e k)).keys ≡ new =
+      ap (λ (p : Numbers). p.keys) (after-append l first confirm (at e k)) in
+      let r = kept s q.plain fresh start.keys new refl (candidates_keys s q.plain (at true fresh))
+      (confirmed covering l d room s q.plain start.enable start.keys) in
       let middle : (after l ((first ++ confirm) ++ tests) (at e k)).keys ≡ fold classified_by new rs =
       ap (λ (p : Numbers). p.keys) (after-append l (first ++ confirm) tests (at e k))
-      ∙ part_along l (λ k. k) (λ r. classify_on_numbers far (solid_of scene r.solid) r.plain) classified_by (λ r e k. classify_keys covering parity far l (end_small l d room) (solid_of scene r.solid) r.plain e k) rs (after l (first ++ confirm) (at e k))
+      ∙ part_along l (λ k. k) (λ r. classify_on_numbers far (solid_of scene r.solid) r.plain) classified_by
+      (λ r e k. classify_keys covering parity far l (end_small l d room) (solid_of scene r.solid) r.plain e k) rs
+      (after l (first ++ confirm) (at e k))
       ∙ ap (λ c. fold classified_by c rs) same in
       ap (λ (p : Numbers). p.keys.best) (after-append l ((first ++ confirm) ++ tests) merge_on_numbers (at e k))
       ∙ merge_best l (after l ((first ++ confirm) ++ tests) (at e k))
       ∙ ap (merged l) middle
-      ∙ ended new k.best (value_of d z) (number_found s q.plain d l.x l.y) (is_found s q.plain d l.x l.y) (list_all (suited scene l z) rs) rs r.best r.alive r.has refl
+      ∙ ended new k.best (value_of d z) (number_found s q.plain d l.x l.y) (is_found s q.plain d l.x l.y)
+      (list_all (suited scene l z) rs) rs r.best r.alive r.has refl
 
   background : far * 2 ^ l.number_bits ≡ key l far 0
   background = omega arith
 
   -- the passes of all literals of all products
   pub passes_best : (products : List Product) (p : Numbers)
-      → (after l (passes_on_numbers scene l.number_bits products) p).keys.best ≡ fold min (key l far 0) (all_found scene l products)
+      → (after l (passes_on_numbers scene l.number_bits products) p).keys.best ≡ fold min (key l far 0)
+      (all_found scene l products)
   passes_best products p =
       part_along l (λ k. k.best) (λ product. flat_map (literal_on_numbers scene product) (literals product))
       (λ b product. fold min b (flat_map (keys_found scene l product) (literals product)))
-      (λ product e k. part_along l (λ k. k.best) (literal_on_numbers scene product) (λ b q. fold min b (keys_found scene l product q)) (literal_best product) (literals product) (at e k)
+      (λ product e k. part_along l (λ k. k.best) (literal_on_numbers scene product)
+      (λ b q. fold min b (keys_found scene l product q)) (literal_best product) (literals product) (at e k)
       ∙ fold-flat_map min (keys_found scene l product) (literals product) k.best)
       products (after l (all ∷ load_best (far * 2 ^ l.number_bits) ∷ []) p)
-      ∙ fold-flat_map min (λ product. flat_map (keys_found scene l product) (literals product)) products (far * 2 ^ l.number_bits)
+      ∙ fold-flat_map min (λ product. flat_map (keys_found scene l product) (literals product)) products
+      (far * 2 ^ l.number_bits)
       ∙ ap (λ b. fold min b (all_found scene l products)) background

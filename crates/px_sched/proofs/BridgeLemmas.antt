@@ -1,19 +1,24 @@
 -- What each operation of the passes does to the bits of a pixel is what its pass does to the numbers.
-use Rattle.std.proofs.Common.{◌≡◌, ℕ, ◌+◌, ◌*◌, ◌/◌, ◌%◌, ◌^◌, ◌<◌, ◌≤◌, Bool, true, false, List, [], ◌∷◌, All, length, map, ℤ, pos, negsuc, slice_set, inl, inr, refl, ap, sym, ◌∙◌, arith, get_or-set_same, get_or-set_other}
+use Rattle.std.proofs.Common.{◌≡◌, ℕ, ◌+◌, ◌*◌, ◌/◌, ◌%◌, ◌^◌, ◌<◌, ◌≤◌, Bool, true, false, List, [], ◌∷◌, All}
+use Rattle.std.proofs.Common.{length, map, slice_set, inl, inr, refl, ap, sym, ◌∙◌, arith}
+use Rattle.std.proofs.Common.{get_or-set_same, get_or-set_other}
 use Rattle.std.specs.Bool.{⊤}
 use Rattle.std.proofs.lemmas.Bool.Decides.{nat_tests}
 use Rattle.std.proofs.lemmas.List.Elements.{All-head, All-tail}
-use Rattle.std.proofs.lemmas.Nat.{div-mul-add, mod_below, mod_low}
-use Rattle.px_num.proofs.BitLaws.{pow_above}
-use Rattle.px_num.specs.Bits.{bit_at, modulo}
-use Rattle.px_macro.specs.FieldLaws.{BitBesideIsKept, NumberBesideIsKept, NumberIsBelow, NumberIsKept, NumberIsRead, NumberOfParts}
+use Rattle.std.proofs.lemmas.Nat.{div-mul-add, mod_low}
+use Rattle.px_num.proofs.BitLaws.{modulo_below, pow_above}
+use Rattle.px_num.specs.Bits.{bit_at}
+use Rattle.px_macro.specs.FieldLaws.{BitBesideIsKept, NumberBesideIsKept, NumberIsBelow, NumberIsKept, NumberIsRead}
+use Rattle.px_macro.specs.FieldLaws.{NumberOfParts}
 use Rattle.px_macro.specs.Fields.{is_in, number_in, with_number}
 use Rattle.px_macro.specs.Macros.{MemoryStaysLong, PixelBits, after_macro, after_macros}
 use Rattle.px_macro.specs.declared.field.Field.{Field}
 use Rattle.px_macro.specs.declared.operation.Macro.{Macro}
 use Rattle.px_macro.specs.declared.operation.Macro.TheVariants as m
 use Rattle.px_sched.specs.Layouts.{deep_part, depth_part, fraction_part, layout_with, number_part}
-use Rattle.px_sched.specs.Numbers.{Keys, Numbers, Pass, KeyedPixel, after, key, meaning, all, keep_sign, keep_at_most, keep_alive, keep_par, keep_less, load_deep, clear_fraction, load_number, load_best, set_alive, set_par, toggle_par, copy}
+use Rattle.px_sched.specs.Numbers.{Keys, Numbers, Pass, KeyedPixel, after, key, meaning, all, keep_sign, keep_at_most}
+use Rattle.px_sched.specs.Numbers.{keep_alive, keep_par, keep_less, load_deep, clear_fraction, load_number, load_best}
+use Rattle.px_sched.specs.Numbers.{set_alive, set_par, toggle_par, copy}
 
 -- the laws of fields that the bridge stands on
 pub record FieldLaws : Type 0 where
@@ -97,10 +102,6 @@ HasRoom w f i (set_par v) = ⊤
 HasRoom w f i toggle_par = ⊤
 HasRoom w f i copy = ⊤
 
-modulo_below : (v : ℤ) (w : ℕ) → modulo v w < 2 ^ w
-modulo_below (pos n) w = mod_below n (2 ^ w) (pow_above w)
-modulo_below (negsuc n) w = omega (arith, pow_above w)
-
 -- a number that has room is read as it was written
 read_back : FieldLaws → (f : Field) (n : ℕ) (memory : List Bool) → f.at + f.len ≤ length memory → n < 2 ^ f.len →
     number_in f (with_number f n memory) ≡ n
@@ -119,8 +120,10 @@ deep_written laws w f i n memory long room =
       laws.kept (t_deep w f i) (b_field w f i) n memory (omega arith) (inr (omega arith)),
       laws.kept (t_deep w f i) (t_number w f i) n memory (omega arith) (inr (omega arith)),
       read_back laws (t_deep w f i) n memory (omega arith) room,
-      laws.bit_beside (t_deep w f i) n memory (alive_at w f i) (omega arith) (outside (t_deep w f i) (alive_at w f i) (omega arith)),
-      laws.bit_beside (t_deep w f i) n memory (par_at w f i) (omega arith) (outside (t_deep w f i) (par_at w f i) (omega arith)),
+      laws.bit_beside (t_deep w f i) n memory (alive_at w f i) (omega arith)
+          (outside (t_deep w f i) (alive_at w f i) (omega arith)),
+      laws.bit_beside (t_deep w f i) n memory (par_at w f i) (omega arith)
+          (outside (t_deep w f i) (par_at w f i) (omega arith)),
     ) refl
 
 -- a whole and a part, without the part
@@ -130,17 +133,25 @@ without_part f low high small =
     rw (e, div-mul-add high (2 ^ f) low small) (grind arith)
 
 fraction_written : FieldLaws → (w f i : ℕ) (memory : List Bool) → need w f i ≤ length memory →
-    keys_in w f i (with_number (t_fraction w f i) 0 memory) ≡ record (keys_in w f i memory) { deep = number_in (t_deep w f i) memory / 2 ^ f * 2 ^ f }
+    keys_in w f i (with_number (t_fraction w f i) 0 memory) ≡ record (keys_in w f i memory)
+    { deep = number_in (t_deep w f i) memory / 2 ^ f * 2 ^ f }
 fraction_written laws w f i memory long =
     let after = with_number (t_fraction w f i) 0 memory in
     let low = t_fraction w f i in
     let high : Field = record { at = low.at + f; len = w } in
-    let parts : (memory : List Bool) → number_in (t_deep w f i) memory ≡ number_in low memory + 2 ^ f * number_in high memory =
-    λ memory. let e : w + f ≡ f + w = omega arith in ap (λ n. number_in (record { at = low.at; len = n }) memory) e ∙ laws.parts low.at f w memory in
+    let parts : (memory : List Bool) → number_in (t_deep w f i) memory ≡ number_in low memory + 2 ^ f
+    * number_in high memory =
+    λ memory. let e : w + f ≡ f + w = omega arith in ap (λ n. number_in (record { at = low.at; len = n }) memory) e
+    ∙ laws.parts low.at f w memory in
     let deep : number_in (t_deep w f i) after ≡ number_in (t_deep w f i) memory / 2 ^ f * 2 ^ f =
     parts after
-    ∙ rw (read_back laws low 0 memory (omega arith) (pow_above f), laws.kept low high 0 memory (omega arith) (inl (omega arith)))
-    (sym (ap (λ n. n / 2 ^ f * 2 ^ f) (parts memory) ∙ without_part f (number_in low memory) (number_in high memory) (laws.below low memory))) in
+    ∙ rw (
+      read_back laws low 0 memory (omega arith) (pow_above f),
+      laws.kept low high 0 memory (omega arith)
+          (inl (omega arith)),
+    )
+    (sym (ap (λ n. n / 2 ^ f * 2 ^ f) (parts memory) ∙ without_part f (number_in low memory) (number_in high memory)
+    (laws.below low memory))) in
     rw (
       laws.kept low (b_field w f i) 0 memory (omega arith) (inr (omega arith)),
       laws.kept low (t_number w f i) 0 memory (omega arith) (inr (omega arith)),
@@ -156,8 +167,10 @@ number_written laws w f i n memory long room =
       laws.kept (t_number w f i) (b_field w f i) n memory (omega arith) (inr (omega arith)),
       laws.kept (t_number w f i) (t_deep w f i) n memory (omega arith) (inl (omega arith)),
       read_back laws (t_number w f i) n memory (omega arith) room,
-      laws.bit_beside (t_number w f i) n memory (alive_at w f i) (omega arith) (outside (t_number w f i) (alive_at w f i) (omega arith)),
-      laws.bit_beside (t_number w f i) n memory (par_at w f i) (omega arith) (outside (t_number w f i) (par_at w f i) (omega arith)),
+      laws.bit_beside (t_number w f i) n memory (alive_at w f i) (omega arith)
+          (outside (t_number w f i) (alive_at w f i) (omega arith)),
+      laws.bit_beside (t_number w f i) n memory (par_at w f i) (omega arith)
+          (outside (t_number w f i) (par_at w f i) (omega arith)),
     ) refl
 
 best_written : FieldLaws → (w f i n : ℕ) (memory : List Bool) → need w f i ≤ length memory → n < 2 ^ (w + f + i) →
@@ -167,17 +180,22 @@ best_written laws w f i n memory long room =
       laws.kept (b_field w f i) (t_number w f i) n memory (omega arith) (inl (omega arith)),
       laws.kept (b_field w f i) (t_deep w f i) n memory (omega arith) (inl (omega arith)),
       read_back laws (b_field w f i) n memory (omega arith) room,
-      laws.bit_beside (b_field w f i) n memory (alive_at w f i) (omega arith) (outside (b_field w f i) (alive_at w f i) (omega arith)),
-      laws.bit_beside (b_field w f i) n memory (par_at w f i) (omega arith) (outside (b_field w f i) (par_at w f i) (omega arith)),
+      laws.bit_beside (b_field w f i) n memory (alive_at w f i) (omega arith)
+          (outside (b_field w f i) (alive_at w f i) (omega arith)),
+      laws.bit_beside (b_field w f i) n memory (par_at w f i) (omega arith)
+          (outside (b_field w f i) (par_at w f i) (omega arith)),
     ) refl
 
 alive_written : FieldLaws → (w f i : ℕ) (v : Bool) (memory : List Bool) → need w f i ≤ length memory →
     keys_in w f i (slice_set memory (alive_at w f i) v) ≡ record (keys_in w f i memory) { alive = v }
 alive_written laws w f i v memory long =
     rw (
-      laws.number_beside (b_field w f i) memory (alive_at w f i) v (outside (b_field w f i) (alive_at w f i) (omega arith)),
-      laws.number_beside (t_deep w f i) memory (alive_at w f i) v (outside (t_deep w f i) (alive_at w f i) (omega arith)),
-      laws.number_beside (t_number w f i) memory (alive_at w f i) v (outside (t_number w f i) (alive_at w f i) (omega arith)),
+      laws.number_beside (b_field w f i) memory (alive_at w f i) v (outside (b_field w f i) (alive_at w f i)
+          (omega arith)),
+      laws.number_beside (t_deep w f i) memory (alive_at w f i) v (outside (t_deep w f i) (alive_at w f i)
+          (omega arith)),
+      laws.number_beside (t_number w f i) memory (alive_at w f i) v (outside (t_number w f i) (alive_at w f i)
+          (omega arith)),
       get_or-set_same memory (alive_at w f i) v false (omega arith),
       get_or-set_other memory (alive_at w f i) (par_at w f i) v false (λ e. omega arith),
     ) refl
@@ -188,13 +206,15 @@ par_written laws w f i v memory long =
     rw (
       laws.number_beside (b_field w f i) memory (par_at w f i) v (outside (b_field w f i) (par_at w f i) (omega arith)),
       laws.number_beside (t_deep w f i) memory (par_at w f i) v (outside (t_deep w f i) (par_at w f i) (omega arith)),
-      laws.number_beside (t_number w f i) memory (par_at w f i) v (outside (t_number w f i) (par_at w f i) (omega arith)),
+      laws.number_beside (t_number w f i) memory (par_at w f i) v (outside (t_number w f i) (par_at w f i)
+          (omega arith)),
       get_or-set_same memory (par_at w f i) v false (omega arith),
       get_or-set_other memory (par_at w f i) (alive_at w f i) v false (λ e. omega arith),
     ) refl
 
 -- the steps, by whether the pixel is enabled
-pub step_on_numbers : FieldLaws → (w f i x y : ℕ) (pass : Pass) → HasRoom w f i pass → (p : PixelBits) → need w f i ≤ length p.memory →
+pub step_on_numbers : FieldLaws → (w f i x y : ℕ) (pass : Pass) → HasRoom w f i pass → (p : PixelBits)
+    → need w f i ≤ length p.memory →
     let place : KeyedPixel = record { depth_bits = w; fraction_bits = f; number_bits = i; x = x; y = y } in
     numbers_in w f i (after_macro (macro_of w f i pass) x y p) ≡ meaning place pass (numbers_in w f i p)
 step_on_numbers laws w f i x y pass room p long = by_enable pass room p.enable p.memory long
@@ -203,7 +223,8 @@ step_on_numbers laws w f i x y pass room p long = by_enable pass room p.enable p
     place = record { depth_bits = w; fraction_bits = f; number_bits = i; x = x; y = y }
 
     -- the number of key T by those of its parts
-    t_key : (memory : List Bool) → number_in (t_field w f i) memory ≡ key place (number_in (t_deep w f i) memory) (number_in (t_number w f i) memory)
+    t_key : (memory : List Bool) → number_in (t_field w f i) memory ≡ key place (number_in (t_deep w f i) memory)
+        (number_in (t_number w f i) memory)
     t_key memory =
         let e : w + f + i ≡ i + (w + f) = omega arith in
         ap (λ n. number_in (record { at = w + f + i; len = n }) memory) e ∙ laws.parts (w + f + i) i (w + f) memory
@@ -239,19 +260,22 @@ step_on_numbers laws w f i x y pass room p long = by_enable pass room p.enable p
         ap (λ k. record { enable = true; keys = k }) (par_written laws w f i _ memory long)
     by_enable toggle_par room false memory long = refl
     by_enable copy room true memory long =
-        ap (λ k. record { enable = true; keys = k }) (best_written laws w f i _ memory long (laws.below (t_field w f i) memory))
+        ap (λ k. record { enable = true; keys = k })
+        (best_written laws w f i _ memory long (laws.below (t_field w f i) memory))
         ∙ ap (λ n. record { enable = true; keys = record (keys_in w f i memory) { best = n } }) (t_key memory)
     by_enable copy room false memory long = refl
 
 -- passes one after another
-pub all_on_numbers : FieldLaws → (w f i x y : ℕ) (passes : List Pass) → All (HasRoom w f i) passes → (p : PixelBits) → need w f i ≤ length p.memory →
+pub all_on_numbers : FieldLaws → (w f i x y : ℕ) (passes : List Pass) → All (HasRoom w f i) passes → (p : PixelBits)
+    → need w f i ≤ length p.memory →
     let place : KeyedPixel = record { depth_bits = w; fraction_bits = f; number_bits = i; x = x; y = y } in
     numbers_in w f i (after_macros (map (macro_of w f i) passes) x y p) ≡ after place passes (numbers_in w f i p)
 all_on_numbers laws w f i x y [] room p long = refl
 all_on_numbers laws w f i x y (pass ∷ passes) room p long =
     let place : KeyedPixel = record { depth_bits = w; fraction_bits = f; number_bits = i; x = x; y = y }
     in let next = after_macro (macro_of w f i pass) x y p
-    in all_on_numbers laws w f i x y passes (All-tail (HasRoom w f i) pass passes room) next (omega (arith, laws.size (macro_of w f i pass) x y p))
+    in all_on_numbers laws w f i x y passes (All-tail (HasRoom w f i) pass passes room) next
+    (omega (arith, laws.size (macro_of w f i pass) x y p))
     ∙ ap (after place passes) (step_on_numbers laws w f i x y pass (All-head (HasRoom w f i) pass passes room) p long)
 
 -- two numbers are what their joined number is cut into
@@ -266,7 +290,8 @@ high_part p b d some same = grind (arith, same)
 -- key B as its parts
 pub b_parts : FieldLaws → (w f i depth face : ℕ) (memory : List Bool) → face < 2 ^ i →
     number_in (b_field w f i) memory ≡ face + 2 ^ i * (depth * 2 ^ f) →
-    (number_in (depth_part (layout_with w f i) (b_field w f i)) memory ≡ depth) × (number_in (number_part (layout_with w f i) (b_field w f i)) memory ≡ face)
+    (number_in (depth_part (layout_with w f i) (b_field w f i)) memory ≡ depth)
+    × (number_in (number_part (layout_with w f i) (b_field w f i)) memory ≡ face)
     × (number_in (fraction_part (layout_with w f i) (b_field w f i)) memory ≡ 0)
 b_parts laws w f i depth face memory small same =
     let e : w + f + i ≡ i + (w + f) = omega arith
@@ -274,12 +299,17 @@ b_parts laws w f i depth face memory small same =
     in let deep = number_in (deep_part (layout_with w f i) (b_field w f i)) memory
     in let parts : number + 2 ^ i * deep ≡ face + 2 ^ i * (depth * 2 ^ f) =
     sym (ap (λ n. number_in (record { at = 0; len = n }) memory) e ∙ laws.parts 0 i (w + f) memory) ∙ same
-    in let low = low_part i number deep face (depth * 2 ^ f) (laws.below (number_part (layout_with w f i) (b_field w f i)) memory) small parts
-    in let whole : deep ≡ depth * 2 ^ f = high_part (2 ^ i) deep (depth * 2 ^ f) (pow_above i) (omega (arith, parts, low))
+    in let low =
+    low_part i number deep face (depth * 2 ^ f) (laws.below (number_part (layout_with w f i) (b_field w f i))
+    memory) small parts
+    in let whole : deep ≡ depth * 2 ^ f =
+    high_part (2 ^ i) deep (depth * 2 ^ f) (pow_above i) (omega (arith, parts, low))
     in let fraction = number_in (fraction_part (layout_with w f i) (b_field w f i)) memory
     in let high = number_in (depth_part (layout_with w f i) (b_field w f i)) memory
     in let swap : w + f ≡ f + w = omega arith
     in let cut : fraction + 2 ^ f * high ≡ 0 + 2 ^ f * depth =
-    sym (ap (λ n. number_in (record { at = 0 + i; len = n }) memory) swap ∙ laws.parts (0 + i) f w memory) ∙ whole ∙ grind arith
-    in let none = low_part f fraction high 0 depth (laws.below (fraction_part (layout_with w f i) (b_field w f i)) memory) (pow_above f) cut
+    sym (ap (λ n. number_in (record { at = 0 + i; len = n }) memory) swap ∙ laws.parts (0 + i) f w memory) ∙ whole
+    ∙ grind arith
+    in let none = low_part f fraction high 0 depth (laws.below (fraction_part (layout_with w f i) (b_field w f i))
+    memory) (pow_above f) cut
     in (high_part (2 ^ f) high depth (pow_above f) (omega (arith, cut, none)), low, none)

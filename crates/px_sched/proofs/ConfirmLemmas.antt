@@ -1,5 +1,7 @@
 -- Which candidates stay alive: those of pixels at which their solid has a cell.
-use Rattle.std.proofs.Common.{◌≡◌, ◌<◌, ◌≤◌, ◌+◌, ◌^◌, ◌+ℤ◌, ◌<ℤ◌, ◌≤ℤ◌, ℕ, zero, suc, ℤ, pos, Bool, true, false, ◌&&◌, ◌||◌, ◌==◌, ◌*◌, ◌-◌, inl, inr, not, nat_le, nat_lt, List, [], ◌∷◌, length, eqb, refl, ap, sym, ◌∙◌, arith, if◌then◌else◌}
+use Rattle.std.proofs.Common.{◌≡◌, ◌<◌, ◌≤◌, ◌+◌, ◌^◌, ◌+ℤ◌, ◌<ℤ◌, ◌≤ℤ◌, ℕ, zero, suc, ℤ, pos, Bool, true, false}
+use Rattle.std.proofs.Common.{◌&&◌, ◌||◌, ◌==◌, ◌*◌, ◌-◌, inl, inr, not, nat_le, nat_lt, List, [], ◌∷◌, length, eqb}
+use Rattle.std.proofs.Common.{refl, ap, sym, ◌∙◌, arith, if◌then◌else◌}
 use Rattle.std.specs.Bool.{beq}
 use Rattle.std.specs.List.{fold, flat_map, range_with_len}
 use Rattle.std.proofs.lemmas.Int.{ints}
@@ -16,13 +18,17 @@ use Rattle.px_model.proofs.CellLaws.{cell_is_first, cell_is_least}
 use Rattle.px_face.specs.Covering.{CoveringLaw, covering_back, covering_front, is_met}
 use Rattle.px_face.specs.Edges.{covers, edges}
 use Rattle.px_face.specs.Faces.{plane_of}
-use Rattle.px_sched.specs.Numbers.{Keys, Numbers, Pass, KeyedPixel, after, all, confirm_on_numbers, drop_on_numbers, keep_at_most, keep_covered_on_numbers, keep_par, residue, set_alive, turn_on_numbers, where_fraction}
-use Rattle.px_sched.proofs.RunLemmas.{HasRoom, after-append, at, beq_true, end_room, end_small, ended, flip_step, flips, keys_in_range, keys_of, more_at_most, signed, turn_keys}
+use Rattle.px_sched.specs.Numbers.{Keys, Numbers, Pass, KeyedPixel, after, all, confirm_on_numbers, drop_on_numbers}
+use Rattle.px_sched.specs.Numbers.{keep_at_most, keep_covered_on_numbers, keep_par, residue, set_alive}
+use Rattle.px_sched.specs.Numbers.{turn_on_numbers, where_fraction}
+use Rattle.px_sched.proofs.RunLemmas.{HasRoom, after-append, at, beq_true, end_room, end_small, ended, flip_step}
+use Rattle.px_sched.proofs.RunLemmas.{flips, keys_in_range, keys_of, more_at_most, signed, turn_keys}
 use Rattle.px_sched.proofs.CoverLaws.{and_both, and_true, at_most_is, enters_depth, leaves_depth, same_place}
 use Rattle.px_sched.proofs.FoldLemmas.{fold_single, where_test}
 
 -- a test that adds something where the place is the one
-where_here : (met here passed known : Bool) → (met ≡ true → here ≡ true → passed ≡ known) → ((met && here) && passed) ≡ ((met && known) && here)
+where_here : (met here passed known : Bool) → (met ≡ true → here ≡ true → passed ≡ known) → ((met && here) && passed)
+    ≡ ((met && known) && here)
 where_here false here passed known h = refl
 where_here true false passed true h = refl
 where_here true false passed false h = refl
@@ -40,7 +46,8 @@ drop_keys l end s i e k =
     let c = covers s end i l.x l.y in
     let form = plane_of s end i in
     let last = keep_at_most form ∷ set_alive false ∷ [] in
-    ap (λ (q : Numbers). q.keys) (after-append l (keep_covered_on_numbers end s i) last (at (true && beq k.alive true) k))
+    ap (λ (q : Numbers). q.keys) (after-append l (keep_covered_on_numbers end s i) last
+    (at (true && beq k.alive true) k))
     ∙ ap (λ (q : Numbers). (after l last q).keys) (signed l (edges s end i) (true && beq k.alive true) k)
     ∙ ap (λ b. if b then dropped k else k)
     (ap (λ a. ((true && a) && c) && nat_le (residue l form) k.deep) (beq_true k.alive)
@@ -52,13 +59,15 @@ drop_step t k i = if k.alive && t k.deep i then dropped k else k
 abbrev off : (ℕ → Bool) → Bool → ℕ → Bool
 off t = where_test t (λ alive i. false)
 
-drop_is : (a t : Bool) (k : Keys) → k.alive ≡ a → (if a && t then dropped k else k) ≡ record k { alive = if t then false else a }
+drop_is : (a t : Bool) (k : Keys) → k.alive ≡ a → (if a && t then dropped k else k)
+    ≡ record k { alive = if t then false else a }
 drop_is true true k e = refl
 drop_is true false k e = rw (← e) refl
 drop_is false true k e = rw (← e) refl
 drop_is false false k e = rw (← e) refl
 
-drops : (t : ℕ → ℕ → Bool) (k : Keys) (is : List ℕ) → fold (drop_step t) k is ≡ record k { alive = fold (off (t k.deep)) k.alive is }
+drops : (t : ℕ → ℕ → Bool) (k : Keys) (is : List ℕ) → fold (drop_step t) k is
+    ≡ record k { alive = fold (off (t k.deep)) k.alive is }
 drops t k [] = refl
 drops t k (i ∷ is) =
     let a = if t k.deep i then false else k.alive in
@@ -93,7 +102,8 @@ no_fraction : (f : ℕ) → (f == 0) ≡ true → f ≡ 0
 no_fraction f e = grind (arith, nat_tests)
 
 whole_value : (d : Depths) (n : ℕ) → (d.fraction_bits == 0) ≡ true → value_of d (cell_of d (pos n)) ≡ n
-whole_value d n none = let f = no_fraction d.fraction_bits none in rw f (let e : n + (2 ^ 0 - 1) ≡ n = omega arith in rw e (omega arith))
+whole_value d n none = let f = no_fraction d.fraction_bits none in rw f (let e : n + (2 ^ 0 - 1) ≡ n = omega arith in
+    rw e (omega arith))
 
 one_unit : (d : Depths) → (d.fraction_bits == 0) ≡ true → 2 ^ d.fraction_bits ≡ 1
 one_unit d none = ap (λ f. 2 ^ f) (no_fraction d.fraction_bits none)
@@ -125,29 +135,36 @@ module _ (covering : CoveringLaw) (l : KeyedPixel) (d : Depths) (room : HasRoom 
 
   -- of the backs only the covering one can drop
   back_drops : (v i : ℕ) → covers s end i l.x l.y ≡ (met && eqb i (covering_back s end l.x l.y))
-      → (covers s end i l.x l.y && nat_le (residue l (plane_of s end i)) v) ≡ ((met && le_z leaves (pos v)) && eqb i (covering_back s end l.x l.y))
+      → (covers s end i l.x l.y && nat_le (residue l (plane_of s end i)) v)
+      ≡ ((met && le_z leaves (pos v)) && eqb i (covering_back s end l.x l.y))
   back_drops v i is =
-      rw is (where_here met (eqb i (covering_back s end l.x l.y)) (nat_le (residue l (plane_of s end i)) v) (le_z leaves (pos v))
+      rw is (where_here met (eqb i (covering_back s end l.x l.y)) (nat_le (residue l (plane_of s end i)) v)
+      (le_z leaves (pos v))
       (λ m here.
-      ap (λ w. nat_le (modulo w bits) v) (ap (λ j. value_at (plane_of s end j) l.x l.y) (same_place i (covering_back s end l.x l.y) here) ∙ (covering s end l.x l.y).back_value)
+      ap (λ w. nat_le (modulo w bits) v) (ap (λ j. value_at (plane_of s end j) l.x l.y)
+      (same_place i (covering_back s end l.x l.y) here) ∙ (covering s end l.x l.y).back_value)
       ∙ at_most_is leaves end bits v (end_small l d room) (leaves_depth covering end s l.x l.y m)))
 
   -- of the fronts only the covering one can turn
   front_turns : (v i : ℕ) → covers s end i l.x l.y ≡ (met && eqb i (covering_front s l.x l.y))
-      → (covers s end i l.x l.y && nat_le (residue l (plus (plane_of s end i) unit)) v) ≡ ((met && le_z (enters +ℤ pos unit) (pos v)) && eqb i (covering_front s l.x l.y))
+      → (covers s end i l.x l.y && nat_le (residue l (plus (plane_of s end i) unit)) v)
+      ≡ ((met && le_z (enters +ℤ pos unit) (pos v)) && eqb i (covering_front s l.x l.y))
   front_turns v i is =
-      rw is (where_here met (eqb i (covering_front s l.x l.y)) (nat_le (residue l (plus (plane_of s end i) unit)) v) (le_z (enters +ℤ pos unit) (pos v))
+      rw is (where_here met (eqb i (covering_front s l.x l.y)) (nat_le (residue l (plus (plane_of s end i) unit)) v)
+      (le_z (enters +ℤ pos unit) (pos v))
       (λ m here.
       let e = enters_depth covering end s l.x l.y m in
       let below = (covering s end l.x l.y).depths m in
       let less : e.depth < end = omega (arith, ints, e.is, below.1, below.2) in
       ap (λ w. nat_le (modulo w bits) v) (value_at-plus (plane_of s end i) unit l.x l.y
-      ∙ ap (λ w. w +ℤ pos unit) (ap (λ j. value_at (plane_of s end j) l.x l.y) (same_place i (covering_front s l.x l.y) here) ∙ (covering s end l.x l.y).front_value))
+      ∙ ap (λ w. w +ℤ pos unit) (ap (λ j. value_at (plane_of s end j) l.x l.y)
+      (same_place i (covering_front s l.x l.y) here) ∙ (covering s end l.x l.y).front_value))
       ∙ more_at_most enters end bits v e unit (omega (arith, less, end_room l d room))))
 
   -- a plain solid's candidate stays alive where its depth is before the least back
   pub confirm_plain : (e : Bool) (k : Keys)
-      → (after l (confirm_on_numbers d s true) (at e k)).keys ≡ record k { alive = k.alive && not (met && le_z leaves (pos k.deep)) }
+      → (after l (confirm_on_numbers d s true) (at e k)).keys
+      ≡ record k { alive = k.alive && not (met && le_z leaves (pos k.deep)) }
   confirm_plain e k =
       let law = covering s end l.x l.y in
       let nf = length s.fronts + 1 in
@@ -170,7 +187,8 @@ module _ (covering : CoveringLaw) (l : KeyedPixel) (d : Depths) (room : HasRoom 
       back_low i n h = grind (arith, nat_tests)
 
   abbrev turns : List Pass
-  turns = flat_map (λ i. turn_on_numbers end s i (plus (plane_of s end i) unit)) (range_with_len 0 (length s.fronts + 1))
+  turns = flat_map (λ i. turn_on_numbers end s i (plus (plane_of s end i) unit))
+      (range_with_len 0 (length s.fronts + 1))
 
   and_here : (a b c g h : Bool) → (b && c) ≡ (g && h) → (a && (b && c)) ≡ ((a && g) && h)
   and_here true b c g h e = e
@@ -178,7 +196,8 @@ module _ (covering : CoveringLaw) (l : KeyedPixel) (d : Depths) (room : HasRoom 
 
   -- a barred solid's where the greatest front is a whole cell before it, or more
   pub confirm_barred : (e : Bool) (k : Keys)
-      → (let g = k.alive && (met && le_z (enters +ℤ pos unit) (pos k.deep)) in (after l (confirm_on_numbers d s false) (at e k)).keys ≡ keys_of k.best k.deep k.number g g)
+      → (let g = k.alive && (met && le_z (enters +ℤ pos unit) (pos k.deep)) in
+      (after l (confirm_on_numbers d s false) (at e k)).keys ≡ keys_of k.best k.deep k.number g g)
   confirm_barred e k =
       let law = covering s end l.x l.y in
       let nf = length s.fronts + 1 in
@@ -188,11 +207,13 @@ module _ (covering : CoveringLaw) (l : KeyedPixel) (d : Depths) (room : HasRoom 
       let start = record k { par = false } in
       let last = all ∷ keep_par false ∷ set_alive false ∷ [] in
       let turned : (after l turns (at true start)).keys ≡ keys_of k.best k.deep k.number k.alive (k.alive && g) =
-      keys_in_range l (λ i. turn_on_numbers end s i (plus (plane_of s end i) unit)) (flip_step t) 0 nf (λ i low high e k. turn_keys l end s i (plus (plane_of s end i) unit) e k) (at true start)
+      keys_in_range l (λ i. turn_on_numbers end s i (plus (plane_of s end i) unit)) (flip_step t) 0 nf
+      (λ i low high e k. turn_keys l end s i (plus (plane_of s end i) unit) e k) (at true start)
       ∙ flips t start (range_with_len 0 nf)
       ∙ ap (λ b. keys_of k.best k.deep k.number k.alive b)
       (fold_single (λ i. k.alive && t k.deep i) (λ odd i. not odd) false 0 nf kf (k.alive && g)
-      (λ i low high. and_here k.alive (covers s end i l.x l.y) (nat_le (residue l (plus (plane_of s end i) unit)) k.deep) g (eqb i kf) (front_turns k.deep i (law.fronts i (is_front_place i nf (omega arith)))))
+      (λ i low high. and_here k.alive (covers s end i l.x l.y) (nat_le (residue l (plus (plane_of s end i) unit))
+      k.deep) g (eqb i kf) (front_turns k.deep i (law.fronts i (is_front_place i nf (omega arith)))))
       (omega arith) (omega (arith, front_low kf nf law.front_there))
       ∙ itself (k.alive && g)) in
       ap (λ (q : Numbers). q.keys) (after-append l turns last (at true start))
@@ -215,18 +236,23 @@ module _ (covering : CoveringLaw) (l : KeyedPixel) (d : Depths) (room : HasRoom 
     pub number : new.number ≡ k.number
     pub alive : new.alive ≡ (k.alive && ((d.fraction_bits == 0) || test plain k.deep))
 
-  by_kind : (plain e : Bool) (k : Keys) → (d.fraction_bits == 0) ≡ false → IsConfirmed plain k (after l (confirm_on_numbers d s plain) (at e k)).keys
-  by_kind true e k some = rw (confirm_plain e k) (record { best = refl; deep = refl; number = refl; alive = rw some refl })
-  by_kind false e k some = rw (confirm_barred e k) (record { best = refl; deep = refl; number = refl; alive = rw some refl })
+  by_kind : (plain e : Bool) (k : Keys) → (d.fraction_bits == 0) ≡ false
+      → IsConfirmed plain k (after l (confirm_on_numbers d s plain) (at e k)).keys
+  by_kind true e k some =
+      rw (confirm_plain e k) (record { best = refl; deep = refl; number = refl; alive = rw some refl })
+  by_kind false e k some =
+      rw (confirm_barred e k) (record { best = refl; deep = refl; number = refl; alive = rw some refl })
 
-  pub confirmed : (plain e : Bool) (k : Keys) → IsConfirmed plain k (after l (where_fraction d.fraction_bits (confirm_on_numbers d s plain)) (at e k)).keys
+  pub confirmed : (plain e : Bool) (k : Keys)
+      → IsConfirmed plain k (after l (where_fraction d.fraction_bits (confirm_on_numbers d s plain)) (at e k)).keys
   confirmed plain e k = elim (cases_Bool (d.fraction_bits == 0)) [
     | inl none ↦ rw none (record { best = refl; deep = refl; number = refl; alive = rw none (sym (and_true k.alive)) })
     | inr some ↦ rw some (by_kind plain e k some)
   ]
 
   -- the cell of a plain solid's candidate
-  pub plain_test : (c : ℕ) → cell_of d enters ≡ c → met ≡ true → ((d.fraction_bits == 0) || test true (value_of d c)) ≡ is_inside s d l.x l.y c
+  pub plain_test : (c : ℕ) → cell_of d enters ≡ c → met ≡ true → ((d.fraction_bits == 0) || test true (value_of d c))
+      ≡ is_inside s d l.x l.y c
   plain_test c e m =
       let v = value_of d c in
       let low : le_z enters (pos v) ≡ true = sym (cell_is_first d enters c) ∙ ap (λ n. nat_le n c) e ∙ le_self c in
@@ -241,27 +267,32 @@ module _ (covering : CoveringLaw) (l : KeyedPixel) (d : Depths) (room : HasRoom 
       whole none =
           let is = enters_depth covering end s l.x l.y m in
           let below = (covering s end l.x l.y).depths m in
-          let same : value_of d c ≡ is.depth = ap (value_of d) (sym e ∙ ap (cell_of d) is.is) ∙ whole_value d is.depth none in
+          let same : value_of d c ≡ is.depth = ap (value_of d) (sym e ∙ ap (cell_of d) is.is)
+          ∙ whole_value d is.depth none in
           above leaves (value_of d c) (omega (arith, ints, is.is, below.1, same))
 
   -- the cell of a barred solid's candidate
-  pub barred_test : (c : ℕ) → cell_of d leaves ≡ c → met ≡ true → ((d.fraction_bits == 0) || test false (value_of d c)) ≡ is_inside_before s d l.x l.y c
+  pub barred_test : (c : ℕ) → cell_of d leaves ≡ c → met ≡ true
+      → ((d.fraction_bits == 0) || test false (value_of d c)) ≡ is_inside_before s d l.x l.y c
   barred_test c e m = elim (cases_Bool (d.fraction_bits == 0)) [
     | inl none ↦ ap (λ b. b || test false (value_of d c)) none ∙ sym (before c e ∙ rw (m, whole none) refl)
     | inr some ↦ ap (λ b. b || test false (value_of d c)) some ∙ sym (before c e)
   ]
     where
-      before : (c : ℕ) → cell_of d leaves ≡ c → is_inside_before s d l.x l.y c ≡ (met && le_z (enters +ℤ pos unit) (pos (value_of d c)))
+      before : (c : ℕ) → cell_of d leaves ≡ c → is_inside_before s d l.x l.y c
+          ≡ (met && le_z (enters +ℤ pos unit) (pos (value_of d c)))
       before zero e =
           let is = enters_depth covering end s l.x l.y m in
           rw (m, is.is) (first_unit is.depth unit (pow_pos d.fraction_bits))
       before (suc z) e =
-          let high : lt_z (pos (value_of d z)) leaves ≡ true = sym (cell_is_least d leaves z) ∙ ap (λ n. nat_lt z n) e ∙ lt_next z in
+          let high : lt_z (pos (value_of d z)) leaves ≡ true = sym (cell_is_least d leaves z) ∙ ap (λ n. nat_lt z n) e
+          ∙ lt_next z in
           (covering s end l.x l.y).values (value_of d z) ∙ rw (m, high) (one_more enters z unit)
 
       whole : (d.fraction_bits == 0) ≡ true → le_z (enters +ℤ pos unit) (pos (value_of d c)) ≡ true
       whole none =
           let is = leaves_depth covering end s l.x l.y m in
           let below = (covering s end l.x l.y).depths m in
-          let same : value_of d c ≡ is.depth = ap (value_of d) (sym e ∙ ap (cell_of d) is.is) ∙ whole_value d is.depth none in
+          let same : value_of d c ≡ is.depth = ap (value_of d) (sym e ∙ ap (cell_of d) is.is)
+          ∙ whole_value d is.depth none in
           at_most (enters +ℤ pos unit) (value_of d c) (omega (arith, ints, is.is, below.1, same, one_unit d none))

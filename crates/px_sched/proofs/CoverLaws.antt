@@ -1,5 +1,6 @@
 -- The value of a face that covers a pixel: it is a depth, and the bits of one keep it.
-use Rattle.std.proofs.Common.{◌≡◌, ◌<◌, ◌≤◌, ◌≤ℤ◌, ◌+◌, ◌-◌, ◌*◌, ◌%◌, ◌^◌, ℕ, ℤ, pos, negsuc, Bool, true, false, ◌&&◌, not, nat_le, eqb, refl, ap, sym, ◌∙◌, arith, inl, inr}
+use Rattle.std.proofs.Common.{◌≡◌, ◌<◌, ◌≤◌, ◌≤ℤ◌, ◌+◌, ◌-◌, ◌*◌, ◌%◌, ◌^◌, ℕ, ℤ, pos, negsuc, Bool, true, false}
+use Rattle.std.proofs.Common.{◌&&◌, not, nat_le, eqb, refl, ap, sym, ◌∙◌, arith, inl, inr}
 use Rattle.std.specs.Int.{is_negative}
 use Rattle.std.proofs.lemmas.Bool.{cases_Bool}
 use Rattle.std.proofs.lemmas.Bool.Decides.{nat_tests}
@@ -55,7 +56,8 @@ mod_small n m h = let e : 0 * m + n ≡ n = omega arith in ap (λ k. k % m) (sym
 
 -- and is kept as itself
 pub modulo_is : (v : ℤ) (end bits : ℕ) → end < 2 ^ bits → (d : IsDepth v end) → modulo v bits ≡ d.depth
-modulo_is v end bits big d = let small : d.depth < 2 ^ bits = omega (arith, d.below) in rw d.is (mod_small d.depth (2 ^ bits) small)
+modulo_is v end bits big d = let small : d.depth < 2 ^ bits = omega (arith, d.below) in
+    rw d.is (mod_small d.depth (2 ^ bits) small)
 
 pub le_same : (m n : ℕ) → nat_le m n ≡ le_z (pos m) (pos n)
 le_same m n = grind (arith, nat_tests, ints)
@@ -90,7 +92,8 @@ module _ (covering : CoveringLaw) (end : ℕ) (s : SolidView) (x y : ℕ) where
       → IsDepth (value_at (plane_of s end i) x y) end
   back_value i e =
       let one = leaves_depth (and_left (is_met s end x y) (eqb i (covering_back s end x y)) e) in
-      let same = same_place i (covering_back s end x y) (and_right (is_met s end x y) (eqb i (covering_back s end x y)) e) in
+      let same = same_place i (covering_back s end x y)
+      (and_right (is_met s end x y) (eqb i (covering_back s end x y)) e) in
       record {
         depth = one.depth;
         is = ap (λ j. value_at (plane_of s end j) x y) same
@@ -99,7 +102,8 @@ module _ (covering : CoveringLaw) (end : ℕ) (s : SolidView) (x y : ℕ) where
       }
 
   -- the value of a face that covers is a depth
-  pub covering_value : (i : ℕ) → i < face_count s → covers s end i x y ≡ true → IsDepth (value_at (plane_of s end i) x y) end
+  pub covering_value : (i : ℕ) → i < face_count s → covers s end i x y ≡ true
+      → IsDepth (value_at (plane_of s end i) x y) end
   covering_value i there c = elim (cases_Bool (is_front s i)) [
     | inl front ↦ front_value i (sym ((covering s end x y).fronts i front) ∙ c)
     | inr back ↦ back_value i (sym ((covering s end x y).backs i there back) ∙ c)

@@ -1,5 +1,6 @@
 -- The kept products of a scene have literals, and these are of solids of the scene.
-use Rattle.std.proofs.Common.{◌≡◌, ℕ, ◌<◌, All, Bool, true, false, List, [], ◌∷◌, filter, get_or, length, nat_lt, refl, ap, sym, subst, ◌∙◌, arith, length-append}
+use Rattle.std.proofs.Common.{◌≡◌, ℕ, ◌<◌, All, Bool, true, false, List, [], ◌∷◌, filter, get_or, length, nat_lt}
+use Rattle.std.proofs.Common.{refl, ap, sym, subst, ◌∙◌, arith, length-append}
 use Rattle.std.specs.List.{list_all}
 use Rattle.std.proofs.lemmas.Bool.Decides.{nat_tests}
 use Rattle.std.proofs.lemmas.List.{length-map}
@@ -31,7 +32,8 @@ abbrev pub KnownAreKept : Type 0
 KnownAreKept = (count : ℕ) (scene : SceneView) (products : List Product) →
     All (HasSolidsBelow count) products → All (HasSolidsBelow count) (kept_of scene products)
 
-pass : (n : ℕ) (h test : ℕ → Bool) → ((q : ℕ) → q < n → h q ≡ true → test q ≡ true) → list_all test (filter h (below n)) ≡ true
+pass : (n : ℕ) (h test : ℕ → Bool) → ((q : ℕ) → q < n → h q ≡ true → test q ≡ true)
+    → list_all test (filter h (below n)) ≡ true
 pass zero h test known = refl
 pass (suc n) h test known =
     ap (list_all test) (filter-append h (below n) (n ∷ []))
@@ -42,9 +44,11 @@ pass (suc n) h test known =
     last true e = rw (e, known n (omega arith) e) refl
     last false e = rw e refl
 
-solids_pass : (set : SolidSet) (test : ℕ → Bool) (n : ℕ) → n ≡ 256 → ((q : ℕ) → q < 256 → has set q ≡ true → test q ≡ true) → list_all test (solids set) ≡ true
+solids_pass : (set : SolidSet) (test : ℕ → Bool) (n : ℕ) → n ≡ 256
+    → ((q : ℕ) → q < 256 → has set q ≡ true → test q ≡ true) → list_all test (solids set) ≡ true
 unfolding solids
-solids_pass set test n e known = ap (λ k. list_all test (filter (has set) (below k))) (sym e) ∙ pass n (has set) test (λ q low. known q (omega (arith, low, e)))
+solids_pass set test n e known = ap (λ k. list_all test (filter (has set) (below k))) (sym e)
+    ∙ pass n (has set) test (λ q low. known q (omega (arith, low, e)))
 
 lt_true : (i n : ℕ) → i < n → nat_lt i n ≡ true
 lt_true i n h = grind (arith, nat_tests)
@@ -58,29 +62,42 @@ known_solids count p (plain, barred) = record {
   barred = solids_pass p.barred (is_known count) 256 refl (λ q low h. lt_true q count (barred q low h));
 }
 
-known_literals : (count : ℕ) (plain : Bool) (qs : List ℕ) → list_all (is_known count) qs ≡ true → All (λ r. r.solid < count) (literals_of plain qs)
+known_literals : (count : ℕ) (plain : Bool) (qs : List ℕ) → list_all (is_known count) qs ≡ true
+    → All (λ r. r.solid < count) (literals_of plain qs)
 known_literals count plain qs known =
     All-map (λ r. r.solid < count) (λ solid. record { solid = solid; plain = plain }) qs
-    (All-weaker (λ q. is_known count q ≡ true) (λ q. q < count) (λ q e. lt_below q count e) qs (AllPass-from_list_all (is_known count) qs known))
+    (All-weaker (λ q. is_known count q ≡ true) (λ q. q < count) (λ q e. lt_below q count e) qs
+    (AllPass-from_list_all (is_known count) qs known))
 
 drawn : (scene : SceneView) (p : Product) → HasPlain p → HasSolids (is_known (length scene.solids)) p → IsDrawn scene p
 drawn scene p plain known = record {
-  some = omega (arith, plain, length-append (literals_of true (solids p.plain)) (literals_of false (solids p.barred)), length-map (solids p.plain) (λ solid. one true solid));
-  known = All-append (λ r. r.solid < length scene.solids) (literals_of true (solids p.plain)) (literals_of false (solids p.barred))
-      (known_literals (length scene.solids) true (solids p.plain) known.plain) (known_literals (length scene.solids) false (solids p.barred) known.barred);
+  some = omega (
+    arith,
+    plain,
+    length-append (literals_of true (solids p.plain)) (literals_of false (solids p.barred)),
+    length-map (solids p.plain) (λ solid. one true solid),
+  );
+  known = All-append (λ r. r.solid < length scene.solids) (literals_of true (solids p.plain))
+      (literals_of false (solids p.barred))
+      (known_literals (length scene.solids) true (solids p.plain) known.plain)
+      (known_literals (length scene.solids) false (solids p.barred) known.barred);
 }
   where
     one : Bool → ℕ → Literal
     one plain solid = record { solid = solid; plain = plain }
 
-both_drawn : (scene : SceneView) (ps : List Product) → All HasPlain ps → All (HasSolids (is_known (length scene.solids))) ps → All (IsDrawn scene) ps
+both_drawn : (scene : SceneView) (ps : List Product) → All HasPlain ps
+    → All (HasSolids (is_known (length scene.solids))) ps → All (IsDrawn scene) ps
 both_drawn scene ps plain known k d low = drawn scene (get_or ps k d) (plain k d low) (known k d low)
 
-pub kept_drawn : PlainIsKept → KnownAreKept → (scene : SceneView) (ps : List Product) → IsLawfulScene scene → All HasPlain (sum_of_products scene.show)
-    → All (HasSolidsBelow (length scene.solids)) (sum_of_products scene.show) → ps ≡ kept_of scene (sum_of_products scene.show) → All (IsDrawn scene) ps
+pub kept_drawn : PlainIsKept → KnownAreKept → (scene : SceneView) (ps : List Product) → IsLawfulScene scene
+    → All HasPlain (sum_of_products scene.show)
+    → All (HasSolidsBelow (length scene.solids)) (sum_of_products scene.show)
+    → ps ≡ kept_of scene (sum_of_products scene.show) → All (IsDrawn scene) ps
 kept_drawn keeps_plain keeps_known scene ps lawful plain known is =
     let count = length scene.solids in
     let sum = sum_of_products scene.show in
     subst (All (IsDrawn scene)) (sym is)
     (both_drawn scene (kept_of scene sum) (keeps_plain scene sum plain)
-    (All-weaker (HasSolidsBelow count) (HasSolids (is_known count)) (known_solids count) (kept_of scene sum) (keeps_known count scene sum known)))
+    (All-weaker (HasSolidsBelow count) (HasSolids (is_known count)) (known_solids count) (kept_of scene sum)
+    (keeps_known count scene sum known)))

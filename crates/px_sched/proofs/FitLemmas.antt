@@ -1,5 +1,7 @@
 -- The passes are lawful in as many memory bits as the layout needs.
-use Rattle.std.proofs.Common.{◌≡◌, ℕ, ℤ, pos, ◌+ℤ◌, ◌-◌, ◌==◌, lit≤, length, ◌+◌, ◌*◌, ◌^◌, ◌<◌, ◌≤◌, All, Bool, true, false, not, List, [], ◌∷◌, ◌++◌, count_by, get_or, nat_le, refl, ap, sym, subst, ◌∙◌, arith, inl, inr}
+use Rattle.std.proofs.Common.{◌≡◌, ℕ, ℤ, pos, ◌+ℤ◌, ◌-◌, ◌==◌, lit≤, length, ◌+◌, ◌*◌, ◌^◌, ◌<◌, ◌≤◌, All, Bool, true}
+use Rattle.std.proofs.Common.{false, not, List, [], ◌∷◌, ◌++◌, count_by, get_or, nat_le, refl, ap, sym, subst, ◌∙◌}
+use Rattle.std.proofs.Common.{arith, inl, inr}
 use Rattle.std.specs.List.{flat_map, range_with_len}
 use Rattle.std.proofs.lemmas.Bool.{cases_Bool, cases_lt}
 use Rattle.std.proofs.lemmas.Bool.Decides.{nat_tests}
@@ -12,6 +14,8 @@ use Rattle.std.proofs.lemmas.Nat.{pow-add, pow_pos}
 use Rattle.std.proofs.Math.Nat.{pow-suc, mul-le-mul_right}
 use Rattle.std.proofs.Math.Pow.{pow_mono}
 use Prim.Native.Nat.{zero, suc}
+use Rattle.px_num.proofs.RangeLaws.{range_all}
+use Rattle.px_num.proofs.FormLaws.{wider}
 use Rattle.px_face.specs.EdgeLaws.{EdgesAreInRange, PlanesAreInRange}
 use Rattle.px_face.specs.Edges.{edges}
 use Rattle.px_face.specs.Faces.{face_count, number_of, numbers_of, plane_of}
@@ -21,18 +25,24 @@ use Rattle.px_macro.specs.declared.operation.Macro.TheVariants as m
 use Rattle.px_normal.specs.declared.product.Product.{Product}
 use Rattle.px_model.specs.Cells.{Depths, depths_of, end_of}
 use Rattle.px_model.proofs.CellLaws.{end_is_small}
+use Rattle.px_model.proofs.PlaneLaws.{plane_range}
 use Rattle.px_model.specs.Scenes.{AreNumberedFrom, IsLawfulScene, IsNumberedFrom, SceneView, faces_of}
 use Rattle.px_model.specs.Solids.{IsLawfulSolid, IsPlane, SolidView, faces_in}
 use Rattle.px_model.specs.declared.solid.Face.{Face}
 use Rattle.px_sched.specs.declared.literal.Literal.{Literal}
-use Rattle.px_sched.specs.Layouts.{LayoutView, bit_length, deep_part, fraction_part, layout_of, layout_with, need_of, number_part}
-use Rattle.px_sched.specs.Passes.{candidate, candidate_faces, classify, confirm, drop_behind, where_fraction, keep_covered, literal_passes, literals, merge, no_solid, others, passes_with, solid_of, turn}
-use Rattle.px_sched.proofs.FewLemmas.{any_solid, candidate_faces_there, range_all, no_solid_lawful}
+use Rattle.px_sched.specs.Layouts.{LayoutView, bit_length, deep_part, fraction_part, layout_of, layout_with, need_of}
+use Rattle.px_sched.specs.Layouts.{number_part}
+use Rattle.px_sched.specs.Passes.{candidate, candidate_faces, classify, confirm, drop_behind, where_fraction}
+use Rattle.px_sched.specs.Passes.{keep_covered, literal_passes, literals, merge, no_solid, others, passes_with}
+use Rattle.px_sched.specs.Passes.{solid_of, turn}
+use Rattle.px_sched.proofs.FewLemmas.{any_solid, candidate_faces_there, no_solid_lawful}
 use Rattle.px_sched.proofs.LayoutLemmas.{counted, passed_over, le_false, le_true, scene_layout}
 
-all_flat : {X : Type 0} (P : Macro → Type 0) (Q : X → Type 0) (f : X → List Macro) → ((x : X) → Q x → All P (f x)) → (xs : List X) → All Q xs → All P (flat_map f xs)
+all_flat : {X : Type 0} (P : Macro → Type 0) (Q : X → Type 0) (f : X → List Macro) → ((x : X) → Q x → All P (f x))
+    → (xs : List X) → All Q xs → All P (flat_map f xs)
 all_flat P Q f each [] all = All-nil P
-all_flat P Q f each (x ∷ xs) all = All-append P (f x) (flat_map f xs) (each x (All-head Q x xs all)) (all_flat P Q f each xs (All-tail Q x xs all))
+all_flat P Q f each (x ∷ xs) all =
+    All-append P (f x) (flat_map f xs) (each x (All-head Q x xs all)) (all_flat P Q f each xs (All-tail Q x xs all))
 
 anything : {X : Type 0} (xs : List X) → All (λ _. Unit {0}) xs
 anything xs k d low = tt
@@ -44,19 +54,18 @@ shifted far w i small =
     let more : (far + 1) * 2 ^ i ≡ far * 2 ^ i + 2 ^ i = omega arith in
     omega (arith, most, more, pow-add 2 w i, pow_pos i)
 
-wider : (m n : ℕ) (v : ℤ) → m ≤ n → IsWithin m v → IsWithin n v
-wider m n v le (low, high) = (omega (arith, ints), omega (arith, ints))
-
 more_within : (v : ℤ) (n : ℕ) → n ≤ 2 ^ 9 → IsWithin (2 ^ 33) v → IsWithin (2 ^ 38) (v +ℤ pos n)
 more_within v n le (low, high) = (omega (arith, ints), omega (arith, ints))
 
-plane_range : (p : Linear) → IsPlane p → IsInTreeRange p
-plane_range p h = record { a = wider (2 ^ 23) (2 ^ 27) p.a (lit≤ tt) h.a; b = wider (2 ^ 23) (2 ^ 27) p.b (lit≤ tt) h.b; c = wider (2 ^ 33) (2 ^ 38) p.c (lit≤ tt) h.c }
-
 plus_range : (p : Linear) (n : ℕ) → n ≤ 2 ^ 9 → IsPlane p → IsInTreeRange (plus p n)
-plus_range p n le h = record { a = wider (2 ^ 23) (2 ^ 27) p.a (lit≤ tt) h.a; b = wider (2 ^ 23) (2 ^ 27) p.b (lit≤ tt) h.b; c = more_within p.c n le h.c }
+plus_range p n le h = record {
+  a = wider (2 ^ 23) (2 ^ 27) p.a (lit≤ tt) h.a;
+  b = wider (2 ^ 23) (2 ^ 27) p.b (lit≤ tt) h.b;
+  c = more_within p.c n le h.c;
+}
 
-module _ (ranges : EdgesAreInRange) (planes : PlanesAreInRange) (w i : ℕ) (scene : SceneView) (w_some : 1 ≤ w) (f_most : scene.fraction_bits ≤ 8) (w_most : w + scene.fraction_bits ≤ 24) (i_some : 1 ≤ i) (i_most : i ≤ 12) where
+module _ (ranges : EdgesAreInRange) (planes : PlanesAreInRange) (w i : ℕ) (scene : SceneView) (w_some : 1 ≤ w)
+    (f_most : scene.fraction_bits ≤ 8) (w_most : w + scene.fraction_bits ≤ 24) (i_some : 1 ≤ i) (i_most : i ≤ 12) where
   abbrev d : Depths
   d = depths_of scene
 
@@ -115,7 +124,8 @@ module _ (ranges : EdgesAreInRange) (planes : PlanesAreInRange) (w i : ℕ) (sce
     signs_fit : (s : SolidView) (face : ℕ) → IsLawfulSolid s → face < face_count s → All Fits (keep_covered end s face)
     signs_fit s face lawful there = All-map Fits m.KeepSign (edges s end face) (ranges s lawful end face small there)
 
-    candidate_fits : (s : SolidView) → IsLawfulSolid s → ((face : ℕ) → number_of s face < 2 ^ i) → (face : ℕ) → face < face_count s → All Fits (candidate l d s face)
+    candidate_fits : (s : SolidView) → IsLawfulSolid s → ((face : ℕ) → number_of s face < 2 ^ i) → (face : ℕ)
+        → face < face_count s → All Fits (candidate l d s face)
     candidate_fits s lawful number face there =
         let load = m.LoadLinear (plus (plane_of s end face) (2 ^ f - 1)) (deep_part l l.key_t) in
         let zero = m.LoadConst (fraction_part l l.key_t) 0 in
@@ -126,11 +136,16 @@ module _ (ranges : EdgesAreInRange) (planes : PlanesAreInRange) (w i : ℕ) (sce
         cons m.All (keep_covered end s face ++ rest) tt
         (All-append Fits (keep_covered end s face) rest (signs_fit s face lawful there)
         (All-append Fits (load ∷ clear) (take ∷ set ∷ [])
-        (cons load clear (plus_range (plane_of s end face) (2 ^ f - 1) (omega (arith, unit_most)) (planes s lawful end face small there), deep_field)
+        (cons load clear (
+          plus_range (plane_of s end face) (2 ^ f - 1) (omega (arith, unit_most))
+              (planes s lawful end face small there),
+          deep_field,
+        )
         (fraction_fits (zero ∷ []) (λ some. one zero (fraction_field some, pow_pos f))))
         (cons take (set ∷ []) (number_field, number face) (one set alive_there))))
 
-    turn_fits : (s : SolidView) → IsLawfulSolid s → (form : ℕ → Linear) → ((face : ℕ) → face < face_count s → IsInTreeRange (form face))
+    turn_fits : (s : SolidView) → IsLawfulSolid s → (form : ℕ → Linear)
+        → ((face : ℕ) → face < face_count s → IsInTreeRange (form face))
         → (face : ℕ) → face < face_count s → All Fits (turn l end s face (form face))
     turn_fits s lawful form range face there =
         let test = m.KeepAtMost (form face) (deep_part l l.key_t) in
@@ -142,7 +157,8 @@ module _ (ranges : EdgesAreInRange) (planes : PlanesAreInRange) (w i : ℕ) (sce
         (All-append Fits signs (test ∷ toggle ∷ []) (signs_fit s face lawful there)
         (cons test (toggle ∷ []) (range face there, deep_field) (one toggle par_there))))
 
-    drop_fits : (s : SolidView) → IsLawfulSolid s → (face : ℕ) → face < face_count s → All Fits (drop_behind l end s face)
+    drop_fits : (s : SolidView) → IsLawfulSolid s → (face : ℕ) → face < face_count s
+        → All Fits (drop_behind l end s face)
     drop_fits s lawful face there =
         let test = m.KeepAtMost (plane_of s end face) (deep_part l l.key_t) in
         let set = m.SetBit l.alive false in
@@ -151,30 +167,39 @@ module _ (ranges : EdgesAreInRange) (planes : PlanesAreInRange) (w i : ℕ) (sce
         cons m.All (keep ∷ (signs ++ (test ∷ set ∷ []))) tt
         (cons keep (signs ++ (test ∷ set ∷ [])) alive_there
         (All-append Fits signs (test ∷ set ∷ []) (signs_fit s face lawful there)
-        (cons test (set ∷ []) (plane_range (plane_of s end face) (planes s lawful end face small there), deep_field) (one set alive_there))))
+        (cons test (set ∷ []) (plane_range (plane_of s end face) (planes s lawful end face small there), deep_field)
+        (one set alive_there))))
 
-    turns_fit : (s : SolidView) → IsLawfulSolid s → (form : ℕ → Linear) → ((face : ℕ) → face < face_count s → IsInTreeRange (form face)) → (v : Bool) (n : ℕ) → n ≤ face_count s
-        → All Fits (m.All ∷ m.SetBit l.par false ∷ flat_map (λ face. turn l end s face (form face)) (range_with_len 0 n) ++ m.All ∷ m.KeepBit l.par v ∷ m.SetBit l.alive false ∷ [])
+    turns_fit : (s : SolidView) → IsLawfulSolid s → (form : ℕ → Linear)
+        → ((face : ℕ) → face < face_count s → IsInTreeRange (form face)) → (v : Bool) (n : ℕ) → n ≤ face_count s
+        → All Fits (m.All ∷ m.SetBit l.par false ∷ flat_map (λ face. turn l end s face (form face))
+        (range_with_len 0 n) ++ m.All ∷ m.KeepBit l.par v ∷ m.SetBit l.alive false ∷ [])
     turns_fit s lawful form range v n le =
         let turns = flat_map (λ face. turn l end s face (form face)) (range_with_len 0 n) in
         let close : List Macro = m.All ∷ m.KeepBit l.par v ∷ m.SetBit l.alive false ∷ [] in
         cons m.All (m.SetBit l.par false ∷ (turns ++ close)) tt
         (cons (m.SetBit l.par false) (turns ++ close) par_there
         (All-append Fits turns close
-        (all_flat Fits (λ face. face < face_count s) (λ face. turn l end s face (form face)) (turn_fits s lawful form range) (range_with_len 0 n) (range_all (λ face. face < face_count s) 0 n (λ i low high. omega arith)))
-        (cons m.All (m.KeepBit l.par v ∷ m.SetBit l.alive false ∷ []) tt (cons (m.KeepBit l.par v) (m.SetBit l.alive false ∷ []) par_there (one (m.SetBit l.alive false) alive_there)))))
+        (all_flat Fits (λ face. face < face_count s) (λ face. turn l end s face (form face)) (turn_fits s lawful form
+        range) (range_with_len 0 n) (range_all (λ face. face < face_count s) 0 n (λ i low high. omega arith)))
+        (cons m.All (m.KeepBit l.par v ∷ m.SetBit l.alive false ∷ []) tt (cons (m.KeepBit l.par v)
+        (m.SetBit l.alive false ∷ []) par_there (one (m.SetBit l.alive false) alive_there)))))
 
     classify_fits : (s : SolidView) (plain : Bool) → IsLawfulSolid s → All Fits (classify l end s plain)
     classify_fits s plain lawful =
-        turns_fit s lawful (plane_of s end) (λ face there. plane_range (plane_of s end face) (planes s lawful end face small there)) (not plain) (face_count s) (omega arith)
+        turns_fit s lawful (plane_of s end) (λ face there. plane_range (plane_of s end face)
+        (planes s lawful end face small there)) (not plain) (face_count s) (omega arith)
 
     confirm_fits : (s : SolidView) (plain : Bool) → IsLawfulSolid s → All Fits (confirm l d s plain)
     confirm_fits s true lawful =
         let n = length s.backs + 1 in
-        all_flat Fits (λ face. face < face_count s) (drop_behind l end s) (drop_fits s lawful) (range_with_len (length s.fronts + 1) n)
+        all_flat Fits (λ face. face < face_count s) (drop_behind l end s) (drop_fits s lawful)
+        (range_with_len (length s.fronts + 1) n)
         (range_all (λ face. face < face_count s) (length s.fronts + 1) n (λ i low high. omega arith))
     confirm_fits s false lawful =
-        turns_fit s lawful (λ face. plus (plane_of s end face) (2 ^ f)) (λ face there. plus_range (plane_of s end face) (2 ^ f) (omega (arith, unit_most)) (planes s lawful end face small there)) false (length s.fronts + 1) (omega arith)
+        turns_fit s lawful (λ face. plus (plane_of s end face) (2 ^ f))
+        (λ face there. plus_range (plane_of s end face) (2 ^ f) (omega (arith, unit_most))
+        (planes s lawful end face small there)) false (length s.fronts + 1) (omega arith)
 
     merge_fits : All Fits (merge l)
     merge_fits =
@@ -184,9 +209,11 @@ module _ (ranges : EdgesAreInRange) (planes : PlanesAreInRange) (w i : ℕ) (sce
         All-cons Fits m.All (keep ∷ less ∷ copy ∷ []) tt
         (All-cons Fits keep (less ∷ copy ∷ []) alive_there
         (All-cons Fits less (copy ∷ []) (record { fields = (field_t, field_b); length = refl })
-        (All-cons Fits copy [] (record { fields = (field_t, field_b); length = refl }, inr (omega arith)) (All-nil Fits))))
+        (All-cons Fits copy [] (record { fields = (field_t, field_b); length = refl }, inr (omega arith))
+        (All-nil Fits))))
 
-  module _ (small : end < 2 ^ (w + f)) (lawful : All IsLawfulSolid scene.solids) (numbers : (solid face : ℕ) → number_of (solid_of scene solid) face < 2 ^ i) where
+  module _ (small : end < 2 ^ (w + f)) (lawful : All IsLawfulSolid scene.solids) (numbers : (solid face : ℕ)
+      → number_of (solid_of scene solid) face < 2 ^ i) where
     end_small : end < 2 ^ 32
     end_small = let bound : 2 ^ (w + f) ≤ 2 ^ 24 = pow_mono {i = w + f} {j = 24} w_most in omega (arith, small, bound)
 
@@ -205,9 +232,11 @@ module _ (ranges : EdgesAreInRange) (planes : PlanesAreInRange) (w i : ℕ) (sce
         (All-append Fits ((cs ++ sure) ++ js) (merge l)
         (All-append Fits (cs ++ sure) js
         (All-append Fits cs sure
-        (all_flat Fits (λ face. face < face_count s) (candidate l d s) (candidate_fits end_small s (solid_lawful q.solid) (numbers q.solid)) (candidate_faces s q.plain) (candidate_faces_there s q.plain))
+        (all_flat Fits (λ face. face < face_count s) (candidate l d s) (candidate_fits end_small s
+        (solid_lawful q.solid) (numbers q.solid)) (candidate_faces s q.plain) (candidate_faces_there s q.plain))
         (fraction_fits (confirm l d s q.plain) (λ some. confirm_fits end_small s q.plain (solid_lawful q.solid))))
-        (all_flat Fits (λ _. Unit {0}) judge (λ r _. classify_fits end_small (solid_of scene r.solid) r.plain (solid_lawful r.solid)) (others q p) (anything (others q p))))
+        (all_flat Fits (λ _. Unit {0}) judge (λ r _. classify_fits end_small (solid_of scene r.solid) r.plain
+        (solid_lawful r.solid)) (others q p) (anything (others q p))))
         (merge_fits end_small)))
 
     start_fits : Fits (m.LoadConst l.key_b (end * 2 ^ i))
@@ -218,7 +247,8 @@ module _ (ranges : EdgesAreInRange) (planes : PlanesAreInRange) (w i : ℕ) (sce
         let each : Product → List Macro = λ product. flat_map (literal_passes scene l product) (literals product) in
         cons m.All (m.LoadConst l.key_b (end * 2 ^ i) ∷ flat_map each products) tt
         (cons (m.LoadConst l.key_b (end * 2 ^ i)) (flat_map each products) start_fits
-        (all_flat Fits (λ _. Unit {0}) each (λ p _. all_flat Fits (λ _. Unit {0}) (literal_passes scene l p) (λ q _. literal_fits p q) (literals p) (anything (literals p))) products (anything products)))
+        (all_flat Fits (λ _. Unit {0}) each (λ p _. all_flat Fits (λ _. Unit {0}) (literal_passes scene l p)
+        (λ q _. literal_fits p q) (literals p) (anything (literals p))) products (anything products)))
 
 -- so many bits have room for a number
 all_counted : (n k : ℕ) → 2 ^ k ≤ n → k + 1 ≡ count_by (λ t. nat_le (2 ^ t) n) (range_with_len 0 (k + 1))
@@ -226,7 +256,8 @@ all_counted n zero h = counted (λ t. nat_le (2 ^ t) n) 0 0 refl (le_true (2 ^ 0
 all_counted n (suc k) h =
     let less : 2 ^ k ≤ n = omega (arith, pow-suc 2 k, h) in
     let next : k + 1 ≡ suc k = omega arith in
-    let before : suc k ≡ count_by (λ t. nat_le (2 ^ t) n) (range_with_len 0 (suc k)) = subst (λ j. j ≡ count_by (λ t. nat_le (2 ^ t) n) (range_with_len 0 j)) next (all_counted n k less) in
+    let before : suc k ≡ count_by (λ t. nat_le (2 ^ t) n) (range_with_len 0 (suc k)) =
+    subst (λ j. j ≡ count_by (λ t. nat_le (2 ^ t) n) (range_with_len 0 j)) next (all_counted n k less) in
     counted (λ t. nat_le (2 ^ t) n) (suc k) (suc k) before (le_true (2 ^ suc k) n h)
 
 room : (n k : ℕ) → n < 2 ^ k → n < 2 ^ count_by (λ t. nat_le (2 ^ t) n) (range_with_len 0 k)
@@ -234,11 +265,14 @@ room n zero h = h
 room n (suc k) h = elim (cases_lt n (2 ^ k)) [
   | inl low ↦
       let next : k + 1 ≡ suc k = omega arith in
-      let same = passed_over (λ t. nat_le (2 ^ t) n) k (count_by (λ t. nat_le (2 ^ t) n) (range_with_len 0 k)) refl (le_false (2 ^ k) n low) in
-      subst (λ j. n < 2 ^ count_by (λ t. nat_le (2 ^ t) n) (range_with_len 0 j)) next (subst (λ c. n < 2 ^ c) same (room n k low))
+      let same = passed_over (λ t. nat_le (2 ^ t) n) k (count_by (λ t. nat_le (2 ^ t) n) (range_with_len 0 k)) refl
+      (le_false (2 ^ k) n low) in
+      subst (λ j. n < 2 ^ count_by (λ t. nat_le (2 ^ t) n) (range_with_len 0 j)) next
+      (subst (λ c. n < 2 ^ c) same (room n k low))
   | inr high ↦
       let next : k + 1 ≡ suc k = omega arith in
-      subst (λ c. n < 2 ^ c) (sym next ∙ all_counted n k high ∙ ap (λ j. count_by (λ t. nat_le (2 ^ t) n) (range_with_len 0 j)) next) h
+      subst (λ c. n < 2 ^ c) (sym next ∙ all_counted n k high
+      ∙ ap (λ j. count_by (λ t. nat_le (2 ^ t) n) (range_with_len 0 j)) next) h
 ]
 
 -- the numbers of the faces
@@ -250,34 +284,47 @@ any_number b some (n ∷ ns) all (suc k) = any_number b some ns (All-tail (λ n.
 faces_below : (b : ℕ) (faces : List Face) → All (λ f. f.number < b) faces → All (λ n. n < b) (numbers_of faces)
 faces_below b faces all = All-map (λ n. n < b) (λ f. f.number) faces all
 
-numbers_below : (b first : ℕ) (s : SolidView) → IsNumberedFrom first s → first + faces_in s ≤ b → (face : ℕ) → number_of s face < b
+numbers_below : (b first : ℕ) (s : SolidView) → IsNumberedFrom first s → first + faces_in s ≤ b → (face : ℕ)
+    → number_of s face < b
 numbers_below b first s is high face =
     let some : 0 < b = omega (arith, high) in
-    let wide : (faces : List Face) → All (λ f. f.number < first + faces_in s) faces → All (λ f. f.number < b) faces = λ faces all k d low. omega (arith, all k d low, high) in
+    let wide : (faces : List Face) → All (λ f. f.number < first + faces_in s) faces → All (λ f. f.number < b) faces =
+    λ faces all k d low. omega (arith, all k d low, high) in
     any_number b some ((s.near_number ∷ numbers_of s.fronts) ++ (numbers_of s.backs ++ 0 ∷ []))
     (All-append (λ n. n < b) (s.near_number ∷ numbers_of s.fronts) (numbers_of s.backs ++ 0 ∷ [])
-    (All-cons (λ n. n < b) s.near_number (numbers_of s.fronts) (omega (arith, is.near, high)) (faces_below b s.fronts (wide s.fronts is.fronts)))
-    (All-append (λ n. n < b) (numbers_of s.backs) (0 ∷ []) (faces_below b s.backs (wide s.backs is.backs)) (All-cons (λ n. n < b) 0 [] some (All-nil (λ n. n < b)))))
+    (All-cons (λ n. n < b) s.near_number (numbers_of s.fronts) (omega (arith, is.near, high))
+    (faces_below b s.fronts (wide s.fronts is.fronts)))
+    (All-append (λ n. n < b) (numbers_of s.backs) (0 ∷ []) (faces_below b s.backs (wide s.backs is.backs))
+    (All-cons (λ n. n < b) 0 [] some (All-nil (λ n. n < b)))))
     face
 
-all_below : (b first : ℕ) (ss : List SolidView) → AreNumberedFrom first ss → first + faces_of ss ≤ b → All (λ s. (face : ℕ) → number_of s face < b) ss
+all_below : (b first : ℕ) (ss : List SolidView) → AreNumberedFrom first ss → first + faces_of ss ≤ b
+    → All (λ s. (face : ℕ) → number_of s face < b) ss
 all_below b first [] are high = All-nil _
 all_below b first (s ∷ ss) (is, are) high =
     let size = sum_by-cons faces_in s ss in
-    All-cons (λ s. (face : ℕ) → number_of s face < b) s ss (numbers_below b first s is (omega (arith, high, size))) (all_below b (first + faces_in s) ss are (omega (arith, high, size)))
+    All-cons (λ s. (face : ℕ) → number_of s face < b) s ss (numbers_below b first s is (omega (arith, high, size)))
+    (all_below b (first + faces_in s) ss are (omega (arith, high, size)))
 
-numbers_fit : (scene : SceneView) → IsLawfulScene scene → (solid face : ℕ) → number_of (solid_of scene solid) face < 2 ^ bit_length (faces_of scene.solids)
+numbers_fit : (scene : SceneView) → IsLawfulScene scene → (solid face : ℕ) → number_of (solid_of scene solid) face
+    < 2 ^ bit_length (faces_of scene.solids)
 numbers_fit scene lawful solid face =
     let n = faces_of scene.solids in
     let fits : n < 2 ^ bit_length n = room n 12 (omega (arith, lawful.faces)) in
     let b = 1 + n in
-    let none : (face : ℕ) → number_of no_solid face < b = λ face. any_number b (omega arith) (0 ∷ 0 ∷ []) (All-cons (λ n. n < b) 0 (0 ∷ []) (omega arith) (All-cons (λ n. n < b) 0 [] (omega arith) (All-nil (λ n. n < b)))) face in
+    let none : (face : ℕ) → number_of no_solid face < b =
+    λ face. any_number b (omega arith) (0 ∷ 0 ∷ []) (All-cons (λ n. n < b) 0 (0 ∷ []) (omega arith)
+    (All-cons (λ n. n < b) 0 [] (omega arith) (All-nil (λ n. n < b)))) face in
     let low : number_of (solid_of scene solid) face < b =
-    any_solid (λ s. (face : ℕ) → number_of s face < b) scene (all_below b 1 scene.solids lawful.numbers (omega arith)) none solid face in
+    any_solid (λ s. (face : ℕ) → number_of s face < b) scene (all_below b 1 scene.solids lawful.numbers (omega arith))
+    none solid face in
     omega (arith, low, fits)
 
-pub scene_passes_fit : EdgesAreInRange → PlanesAreInRange → (scene : SceneView) → IsLawfulScene scene → All IsLawfulSolid scene.solids → (products : List Product)
+pub scene_passes_fit : EdgesAreInRange → PlanesAreInRange → (scene : SceneView) → IsLawfulScene scene
+    → All IsLawfulSolid scene.solids → (products : List Product)
     → All (λ one. IsLawful one (need_of (layout_of scene))) (passes_with scene (layout_of scene) products)
 scene_passes_fit ranges planes scene lawful solids products =
     let is = scene_layout scene lawful in
-    passes_fit ranges planes scene.depth_bits (bit_length (faces_of scene.solids)) scene is.some_depth is.fraction is.depth is.some_number is.number (end_is_small scene.depth_bits scene.fraction_bits) solids (numbers_fit scene lawful) products
+    passes_fit ranges planes scene.depth_bits (bit_length (faces_of scene.solids)) scene is.some_depth is.fraction
+    is.depth is.some_number is.number (end_is_small scene.depth_bits scene.fraction_bits) solids
+    (numbers_fit scene lawful) products

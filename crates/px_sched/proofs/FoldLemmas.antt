@@ -1,5 +1,6 @@
 -- Folds over places of which at most one does something.
-use Rattle.std.proofs.Common.{◌≡◌, ◌<◌, ◌≤◌, ◌+◌, ℕ, zero, suc, Bool, true, false, ◌&&◌, eqb, refl, ap, ◌∙◌, arith, inl, inr, if◌then◌else◌}
+use Rattle.std.proofs.Common.{◌≡◌, ◌<◌, ◌≤◌, ◌+◌, ℕ, zero, suc, Bool, true, false, ◌&&◌, eqb, refl, ap, ◌∙◌, arith}
+use Rattle.std.proofs.Common.{inl, inr, if◌then◌else◌}
 use Rattle.std.specs.List.{fold, range_with_len}
 use Rattle.std.proofs.lemmas.Bool.{cases_eq, cond-false}
 use Rattle.std.proofs.lemmas.Bool.Decides.{nat_tests}
@@ -23,11 +24,13 @@ elsewhere false i n k p q = refl
 abbrev pub where_test : {S : Type 0} → (ℕ → Bool) → (S → ℕ → S) → S → ℕ → S
 where_test t f s i = if t i then f s i else s
 
-pub fold_none : {S : Type 0} (t : ℕ → Bool) (f : S → ℕ → S) (s : S) (a n : ℕ) → ((i : ℕ) → a ≤ i → i < a + n → t i ≡ false)
+pub fold_none : {S : Type 0} (t : ℕ → Bool) (f : S → ℕ → S) (s : S) (a n : ℕ)
+    → ((i : ℕ) → a ≤ i → i < a + n → t i ≡ false)
     → fold (where_test t f) s (range_with_len a n) ≡ s
 fold_none t f s a zero none = refl
 fold_none t f s a (suc n) none =
-    ap (λ v. fold (where_test t f) v (range_with_len (a + 1) n)) (cond-false (t a) (f s a) s (none a (omega arith) (omega arith)))
+    ap (λ v. fold (where_test t f) v (range_with_len (a + 1) n))
+    (cond-false (t a) (f s a) s (none a (omega arith) (omega arith)))
     ∙ fold_none t f s (a + 1) n (λ i p q. none i (omega arith) (omega arith))
 
 pub fold_single : {S : Type 0} (t : ℕ → Bool) (f : S → ℕ → S) (s : S) (a n k : ℕ) (g : Bool)

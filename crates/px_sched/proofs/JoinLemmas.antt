@@ -1,11 +1,13 @@
 -- The least key found is that of the first depth at which the products show something, with the least number there.
-use Rattle.std.proofs.Common.{◌≡◌, ◌<◌, ◌≤◌, ◌+◌, ◌*◌, ◌^◌, ◌&&◌, ℕ, zero, suc, nat_le, Bool, true, false, not, nat_lt, List, length, min, refl, ap, sym, ◌∙◌, arith, inl, inr, ◌⊎◌, eqb}
+use Rattle.std.proofs.Common.{◌≡◌, ◌<◌, ◌≤◌, ◌+◌, ◌*◌, ◌^◌, ◌&&◌, ℕ, zero, suc, nat_le, Bool, true, false, not}
+use Rattle.std.proofs.Common.{nat_lt, List, length, min, refl, ap, sym, ◌∙◌, arith, inl, inr, ◌⊎◌, eqb}
 use Rattle.std.specs.List.{All, fold, flat_map, list_all}
 use Rattle.std.proofs.lemmas.Bool.{cases_Bool}
 use Rattle.std.proofs.lemmas.Bool.Decides.{nat_tests}
 use Rattle.px_model.specs.Scenes.{AreNumberedFrom, IsNumberedFrom, SceneView, faces_of}
 use Rattle.px_model.specs.Solids.{IsLawfulSolid, SolidView, faces_in}
-use Rattle.px_model.specs.Cells.{Depths, cell_of, depths_of, end_of, enters_at, far_of, is_inside, is_inside_before, leaf_cell, leaves_at, value_of}
+use Rattle.px_model.specs.Cells.{Depths, cell_of, depths_of, end_of, enters_at, far_of, is_inside, is_inside_before}
+use Rattle.px_model.specs.Cells.{leaf_cell, leaves_at, value_of}
 use Rattle.px_face.specs.Covering.{CellsLaw, CoveringLaw, covering_back, is_met}
 use Rattle.px_normal.specs.declared.product.Product.{Product}
 use Rattle.px_normal.specs.NormalLaw.{holds, shows, some_shows}
@@ -14,9 +16,11 @@ use Rattle.px_sched.specs.Numbers.{KeyedPixel, key}
 use Rattle.px_sched.specs.Passes.{literals, no_solid, others, solid_of}
 use Rattle.px_sched.proofs.RunLemmas.{suits}
 use Rattle.px_sched.proofs.CoverLaws.{and_left, and_right}
-use Rattle.px_sched.proofs.BlockLemmas.{all_found, cell_found, is_covered, is_found, keys_found, lt_false, lt_holds, lt_true, number_found, suited}
+use Rattle.px_sched.proofs.BlockLemmas.{all_found, cell_found, is_covered, is_found, keys_found, lt_false, lt_holds}
+use Rattle.px_sched.proofs.BlockLemmas.{lt_true, number_found, suited}
 use Rattle.px_sched.proofs.FoldLemmas.{and_false}
-use Rattle.px_sched.proofs.MemberLemmas.{In, all_kept, all_of, any_in, any_out, in_filter, in_flat, in_where, min_below, min_reached, min_start, one_of, out_flat}
+use Rattle.px_sched.proofs.MemberLemmas.{In, all_kept, all_of, any_in, any_out, in_filter, in_flat, in_where}
+use Rattle.px_sched.proofs.MemberLemmas.{min_below, min_reached, min_start, one_of, out_flat}
 use Rattle.px_sched.proofs.LiteralLemmas.{backs_below, barred_seen, barred_there, fronts_below, plain_seen, plain_shows}
 use Rattle.px_sched.proofs.ProductLemmas.{IsFit, each_holds, holds_there, numbered_at, shown_of, shows_out, shows_there}
 
@@ -29,15 +33,18 @@ module _ (covering : CoveringLaw) (cells : CellsLaw) (d : Depths) (s : SolidView
 
   not_behind : (c : ℕ) → cell_of d (leaves_at s (end_of d) x y) ≡ c → is_inside s d x y c ≡ false
   not_behind c e =
-      (cells s d x y).cells c ∙ last_of (is_met s (end_of d) x y) (cell_of d (enters_at s x y)) (cell_of d (leaves_at s (end_of d) x y)) c e
+      (cells s d x y).cells c ∙ last_of (is_met s (end_of d) x y) (cell_of d (enters_at s x y))
+      (cell_of d (leaves_at s (end_of d) x y)) c e
     where
       last_of : (m : Bool) (first last c : ℕ) → last ≡ c → (m && nat_le first c && nat_lt c last) ≡ false
       last_of false first last c h = refl
-      last_of true first last c h = let past : nat_lt c last ≡ false = lt_false c last (omega arith) in rw past (and_false (nat_le first c))
+      last_of true first last c h = let past : nat_lt c last ≡ false = lt_false c last (omega arith) in
+          rw past (and_false (nat_le first c))
 
   met_inside : (z : ℕ) → is_inside s d x y z ≡ true → is_met s (end_of d) x y ≡ true
   met_inside z inside =
-      first_of (is_met s (end_of d) x y) (nat_le (cell_of d (enters_at s x y)) z) (nat_lt z (cell_of d (leaves_at s (end_of d) x y))) (sym ((cells s d x y).cells z) ∙ inside)
+      first_of (is_met s (end_of d) x y) (nat_le (cell_of d (enters_at s x y)) z)
+      (nat_lt z (cell_of d (leaves_at s (end_of d) x y))) (sym ((cells s d x y).cells z) ∙ inside)
     where
       first_of : (a b c : Bool) → (a && b && c) ≡ true → a ≡ true
       first_of true b c h = refl
@@ -49,7 +56,13 @@ module _ (covering : CoveringLaw) (cells : CellsLaw) (d : Depths) (s : SolidView
       let inside = and_right (is_met s (end_of d) x y) (is_inside s d x y c) found in
       let met = and_left (is_met s (end_of d) x y) (is_inside s d x y c) found in
       record {
-        within = let le = (cells s d x y).within met in omega (arith, le, before (is_met s (end_of d) x y) c (cell_of d (leaves_at s (end_of d) x y)) (sym ((cells s d x y).cells c) ∙ inside));
+        within = let le = (cells s d x y).within met in
+            omega (
+              arith,
+              le,
+              before (is_met s (end_of d) x y) c (cell_of d (leaves_at s (end_of d) x y))
+                  (sym ((cells s d x y).cells c) ∙ inside),
+            );
         suited = inside;
         shown = plain_shows covering s d x y;
       }
@@ -106,7 +119,8 @@ differs i k = elim (cases_Bool (eqb i k)) [ inl a ↦ inl a | inr b ↦ inr (rw 
 same : (i k : ℕ) → eqb i k ≡ true → i ≡ k
 same i k h = grind (arith, nat_tests)
 
-module _ (covering : CoveringLaw) (cells : CellsLaw) (scene : SceneView) (lawful : All IsLawfulSolid scene.solids) (numbered : AreNumberedFrom 1 scene.solids)
+module _ (covering : CoveringLaw) (cells : CellsLaw) (scene : SceneView) (lawful : All IsLawfulSolid scene.solids)
+    (numbered : AreNumberedFrom 1 scene.solids)
     (l : KeyedPixel) (products : List Product)
     (fit : (p : Product) → In p products → IsFit (length scene.solids) p) where
   abbrev d : Depths
@@ -137,17 +151,28 @@ module _ (covering : CoveringLaw) (cells : CellsLaw) (scene : SceneView) (lawful
       let s = solid_of scene q.solid in
       let z = cell_found s q.plain d l.x l.y in
       let n = number_found s q.plain d l.x l.y in
-      let c = in_where (is_found s q.plain d l.x l.y && list_all (suited scene l z) (others q p)) k (key l (value_of d z) n) b.gives in
+      let c = in_where (is_found s q.plain d l.x l.y && list_all (suited scene l z) (others q p)) k
+      (key l (value_of d z) n) b.gives in
       let here = and_left (is_found s q.plain d l.x l.y) (list_all (suited scene l z) (others q p)) c.0 in
       let rest = and_right (is_found s q.plain d l.x l.y) (list_all (suited scene l z) (others q p)) c.0 in
       let found = is_candidate covering cells d s l.x l.y q.plain here in
-      let each : (r : Literal) → In r (literals p) → suited scene l z r ≡ true = λ r there. elim (differs r.solid q.solid) [
+      let each : (r : Literal) → In r (literals p) → suited scene l z r ≡ true =
+      λ r there. elim (differs r.solid q.solid) [
         | inl e ↦ ap (suited scene l z) (whole.once q r b.there there (same r.solid q.solid e)) ∙ found.suited
-        | inr e ↦ one_of (suited scene l z) (others q p) r (in_filter (λ t. not (eqb t.solid q.solid)) (literals p) r there e) rest
+        | inr e ↦ one_of (suited scene l z) (others q p) r (in_filter (λ t. not (eqb t.solid q.solid)) (literals p) r
+            there e) rest
       ] in
       let at = leaf_cell scene.solids d l.x l.y z in
-      let shows_p : (holds at p && shows at n p) ≡ true = rw (holds_there scene l p whole z each) (shows_there scene l p whole z n q b.there found.shown) in
-      record { depth = z; number = n; within = found.within; shown = any_in (λ p. holds at p && shows at n p) products p a.there shows_p; is = sym c.1 }
+      let shows_p : (holds at p && shows at n p) ≡ true =
+      rw (holds_there scene l p whole z each) (shows_there scene l p whole z n q b.there found.shown) in
+      record {
+        depth = z;
+        number = n;
+        within = found.within;
+        shown = any_in (λ p. holds at p && shows at n p) products
+            p a.there shows_p;
+        is = sym c.1;
+      }
 
   record IsFoundKey (z n : ℕ) : Type 0 where
     is : ℕ
@@ -167,16 +192,19 @@ module _ (covering : CoveringLaw) (cells : CellsLaw) (scene : SceneView) (lawful
       let q = b.from in
       let s = solid_of scene q.solid in
       let there = whole.known q b.there in
-      let found = is_seen covering cells d s l.x l.y q.plain z n (lawful q.solid no_solid there) (all q b.there) b.gives in
+      let found = is_seen covering cells d s l.x l.y q.plain z n (lawful q.solid no_solid there) (all q b.there)
+      b.gives in
       let y = cell_found s q.plain d l.x l.y in
       let k = key l (value_of d y) (number_found s q.plain d l.x l.y) in
       let rest : list_all (suited scene l y) (others q p) ≡ true =
       ap (λ t. list_all (suited scene l t) (others q p)) found.cell
-      ∙ all_kept (suited scene l z) (λ t. not (eqb t.solid q.solid)) (literals p) (all_of (suited scene l z) (literals p) all) in
+      ∙ all_kept (suited scene l z) (λ t. not (eqb t.solid q.solid)) (literals p)
+      (all_of (suited scene l z) (literals p) all) in
       let here : In k (keys_found scene l p q) = rw (found.found, rest) (inl refl) in
       record {
         is = k;
-        there = in_flat (λ p. flat_map (keys_found scene l p) (literals p)) products p k a.there (in_flat (keys_found scene l p) (literals p) q k b.there here);
+        there = in_flat (λ p. flat_map (keys_found scene l p) (literals p)) products p k a.there
+            (in_flat (keys_found scene l p) (literals p) q k b.there here);
         least = omega (arith, ap (λ t. 2 ^ l.number_bits * value_of d t) found.cell, found.number);
         small = bounded q there b.gives;
       }
@@ -204,6 +232,11 @@ module _ (covering : CoveringLaw) (cells : CellsLaw) (scene : SceneView) (lawful
       let found = all_found scene l products in
       record {
         background = min_start (key l (value_of d far) 0) found;
-        below = λ z n low h. let r = complete z n low h in (omega (arith, min_below (key l (value_of d far) 0) found r.is r.there, r.least), r.small);
-        reached = elim (min_reached (key l (value_of d far) 0) found) [ inl e ↦ inl e | inr h ↦ inr (sound (fold min (key l (value_of d far) 0) found) h) ];
+        below = λ z n low h. let r = complete z n low h in
+            (omega (arith, min_below (key l (value_of d far) 0) found r.is r.there, r.least), r.small);
+        reached = elim (min_reached (key l (value_of d far) 0) found) [
+          | inl e ↦ inl e
+          | inr h ↦
+              inr (sound (fold min (key l (value_of d far) 0) found) h)
+        ];
       }

@@ -1,10 +1,11 @@
 -- The layout of a scene is one.
-use Rattle.std.proofs.Common.{◌≡◌, ℕ, ◌+◌, ◌^◌, ◌<◌, ◌≤◌, Bool, true, false, List, [], ◌∷◌, ◌++◌, length, nat_le, count_by, filter, length-append, refl, ap, sym, ◌∙◌, arith}
-use Prim.Native.Nat.{zero, suc}
+use Rattle.std.proofs.Common.{◌≡◌, ℕ, ◌+◌, ◌^◌, ◌<◌, ◌≤◌, Bool, true, false, List, [], ◌∷◌, ◌++◌, length, nat_le}
+use Rattle.std.proofs.Common.{count_by, filter, length-append, refl, ap, sym, ◌∙◌, arith}
 use Rattle.std.specs.List.{range_with_len}
 use Rattle.std.proofs.lemmas.Bool.Decides.{nat_tests}
 use Rattle.std.proofs.lemmas.List.Sums.{count_by-le-length, length-filter, sum_by-cons}
 use Rattle.std.proofs.lemmas.List.Elements.{filter-append}
+use Rattle.px_num.proofs.RangeLaws.{range_cut}
 use Rattle.px_expr.specs.Tree.{HasLeavesBelow, Tree, join, leaf}
 use Rattle.px_model.specs.Scenes.{IsLawfulScene, SceneView, faces_of}
 use Rattle.px_model.specs.Solids.{SolidView, faces_in}
@@ -36,27 +37,27 @@ scene_layout scene lawful = record {
   some_depth = lawful.some_depth;
   depth = lawful.depth;
   fraction = lawful.fraction;
-  some_number = bit_length_some (faces_of scene.solids) (some_face scene.solids (some_solid scene.show (length scene.solids) lawful.shown));
+  some_number =
+      bit_length_some (faces_of scene.solids)
+      (some_face scene.solids (some_solid scene.show (length scene.solids) lawful.shown));
   number = bit_length_most (faces_of scene.solids);
   fields = refl;
 }
 
-range_more : (a n : ℕ) → range_with_len a (n + 1) ≡ range_with_len a n ++ (a + n) ∷ []
-range_more a zero = let e : a + 0 ≡ a = omega arith in rw e refl
-range_more a (suc n) =
-    let e : a + 1 + n ≡ a + suc n = omega arith in
-    let more : suc n + 1 ≡ suc (n + 1) = omega arith in
-    rw more (ap (λ l. a ∷ l) (range_more (a + 1) n ∙ ap (λ k. range_with_len (a + 1) n ++ k ∷ []) e))
-
-pub count_more : (p : ℕ → Bool) (n : ℕ) → count_by p (range_with_len 0 (n + 1)) ≡ count_by p (range_with_len 0 n) + length (filter p (n ∷ []))
+pub count_more : (p : ℕ → Bool) (n : ℕ) → count_by p (range_with_len 0 (n + 1)) ≡ count_by p (range_with_len 0 n)
+    + length (filter p (n ∷ []))
 count_more p n =
     let before = range_with_len 0 n in
     let plain : 0 + n ≡ n = omega arith in
-    sym (length-filter p (range_with_len 0 (n + 1))) ∙ ap (λ l. length (filter p l)) (range_more 0 n ∙ ap (λ k. before ++ k ∷ []) plain) ∙ ap length (filter-append p before (n ∷ []))
-    ∙ length-append (filter p before) (filter p (n ∷ [])) ∙ ap (λ m. m + length (filter p (n ∷ []))) (length-filter p before)
+    sym (length-filter p (range_with_len 0 (n + 1))) ∙ ap (λ l. length (filter p l)) (range_cut 0 n 1
+    ∙ ap (λ k. before ++ k ∷ []) plain) ∙ ap length (filter-append p before (n ∷ []))
+    ∙ length-append (filter p before) (filter p (n ∷ []))
+    ∙ ap (λ m. m + length (filter p (n ∷ []))) (length-filter p before)
 
-pub counted : (p : ℕ → Bool) (n m : ℕ) → m ≡ count_by p (range_with_len 0 n) → p n ≡ true → m + 1 ≡ count_by p (range_with_len 0 (n + 1))
+pub counted : (p : ℕ → Bool) (n m : ℕ) → m ≡ count_by p (range_with_len 0 n) → p n ≡ true
+    → m + 1 ≡ count_by p (range_with_len 0 (n + 1))
 counted p n m is here = rw (count_more p n, is, here) refl
 
-pub passed_over : (p : ℕ → Bool) (n m : ℕ) → m ≡ count_by p (range_with_len 0 n) → p n ≡ false → m ≡ count_by p (range_with_len 0 (n + 1))
+pub passed_over : (p : ℕ → Bool) (n m : ℕ) → m ≡ count_by p (range_with_len 0 n) → p n ≡ false
+    → m ≡ count_by p (range_with_len 0 (n + 1))
 passed_over p n m is here = rw (count_more p n, is, here) (omega arith)

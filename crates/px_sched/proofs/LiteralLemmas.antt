@@ -1,5 +1,7 @@
 -- The candidate of a literal is what it shows at its cell of least number, and nothing that it shows comes before.
-use Rattle.std.proofs.Common.{◌≡◌, ◌<◌, ◌≤◌, ◌+◌, ◌-◌, ℕ, zero, suc, ℤ, pos, Bool, true, false, ◌&&◌, nat_le, List, [], ◌∷◌, ◌++◌, length, get_or, refl, ap, sym, ◌∙◌, subst, arith, inl, inr, ◌⊎◌, if◌then◌else◌, ◌==◌}
+use Rattle.std.proofs.Common.{◌≡◌, ◌<◌, ◌≤◌, ◌+◌, ◌-◌, ℕ, zero, suc, ℤ, pos, Bool, true, false, ◌&&◌, nat_le, List}
+use Rattle.std.proofs.Common.{[], ◌∷◌, ◌++◌, length, get_or, refl, ap, sym, ◌∙◌, subst, arith, inl, inr, ◌⊎◌}
+use Rattle.std.proofs.Common.{if◌then◌else◌, ◌==◌}
 use Rattle.std.specs.List.{All, AllPairs}
 use Rattle.std.specs.Ordering.{int_eq}
 use Rattle.std.proofs.lemmas.Int.{ints}
@@ -12,7 +14,8 @@ use Rattle.px_num.specs.Forms.{value_at}
 use Rattle.px_model.specs.declared.solid.Face.{Face}
 use Rattle.px_model.specs.Scenes.{IsNumberedFrom}
 use Rattle.px_model.specs.Solids.{IsLawfulSolid, SolidView, faces_in}
-use Rattle.px_model.specs.Cells.{Depths, backs_at, cell_of, end_of, enters_at, faces_at, fronts_at, greatest_fronts, is_inside_before, leaves_at}
+use Rattle.px_model.specs.Cells.{Depths, backs_at, cell_of, end_of, enters_at, faces_at, fronts_at, greatest_fronts}
+use Rattle.px_model.specs.Cells.{is_inside_before, leaves_at}
 use Rattle.px_face.specs.Covering.{CoveringLaw, covering_back, covering_front}
 use Rattle.px_face.specs.Faces.{back_planes, front_planes, is_front, level, number_of, numbers_of, plane_of, planes_of}
 use Rattle.px_sched.proofs.CoverLaws.{and_left, and_right}
@@ -46,7 +49,8 @@ module _ (planes : List Linear) (numbers : List ℕ) (x y : ℕ) (v : ℤ) where
     number_is : get_or (numbers_of fs ++ numbers) place 0 ≡ n
 
   next_face : (f : Face) (fs : List Face) (n : ℕ) → FaceAt fs n → FaceAt (f ∷ fs) n
-  next_face f fs n r = record { place = suc r.place; below = omega (arith, r.below); value_is = r.value_is; number_is = r.number_is }
+  next_face f fs n r =
+      record { place = suc r.place; below = omega (arith, r.below); value_is = r.value_is; number_is = r.number_is }
 
   out_faces : (fs : List Face) (n : ℕ) → In n (faces_at fs x y v) → FaceAt fs n
   out_faces [] n h = absurd h
@@ -57,7 +61,8 @@ module _ (planes : List Linear) (numbers : List ℕ) (x y : ℕ) (v : ℤ) where
     where
       first : int_eq (value_at f.plane x y) v ≡ true → (In n (faces_at fs x y v) → FaceAt fs n)
           → (f.number ≡ n) ⊎ In n (faces_at fs x y v) → FaceAt (f ∷ fs) n
-      first yea others (inl e) = record { place = 0; below = omega arith; value_is = eq_true (value_at f.plane x y) v yea; number_is = e }
+      first yea others (inl e) =
+          record { place = 0; below = omega arith; value_is = eq_true (value_at f.plane x y) v yea; number_is = e }
       first yea others (inr k) = next_face f fs n (others k)
 
 le_holds : (m n : ℕ) → nat_le m n ≡ true → m ≤ n
@@ -89,8 +94,10 @@ module _ (covering : CoveringLaw) (s : SolidView) (d : Depths) (x y : ℕ) where
   in_fronts zero front e = rw (true_eq (pos 0) (enters_at s x y) (sym (value_at-level 0 x y) ∙ e)) (inl refl)
   in_fronts (suc k) front e =
       let low = lt_holds (suc k) (length s.fronts + 1) front in
-      in_right (number_of s (suc k)) (if int_eq (pos 0) (enters_at s x y) then s.near_number ∷ [] else []) (faces_at s.fronts x y (enters_at s x y))
-      (in_faces (back_planes s.backs end) (numbers_of s.backs ++ 0 ∷ []) x y (enters_at s x y) s.fronts k (omega (arith, low)) e)
+      in_right (number_of s (suc k)) (if int_eq (pos 0) (enters_at s x y) then s.near_number ∷ [] else [])
+      (faces_at s.fronts x y (enters_at s x y))
+      (in_faces (back_planes s.backs end) (numbers_of s.backs ++ 0 ∷ []) x y (enters_at s x y) s.fronts k
+      (omega (arith, low)) e)
 
   record FrontAt (n : ℕ) : Type 0 where
     place : ℕ
@@ -117,8 +124,14 @@ module _ (covering : CoveringLaw) (s : SolidView) (d : Depths) (x y : ℕ) where
     where
       later_front : In n (faces_at s.fronts x y (enters_at s x y)) → FrontAt n
       later_front b =
-          let r = out_faces (back_planes s.backs end) (numbers_of s.backs ++ 0 ∷ []) x y (enters_at s x y) s.fronts n b in
-          record { place = suc r.place; front = lt_true (suc r.place) (length s.fronts + 1) (omega (arith, r.below)); value_is = r.value_is; number_is = r.number_is }
+          let r = out_faces (back_planes s.backs end) (numbers_of s.backs ++ 0 ∷ []) x y (enters_at s x y)
+          s.fronts n b in
+          record {
+            place = suc r.place;
+            front = lt_true (suc r.place) (length s.fronts + 1) (omega (arith, r.below));
+            value_is = r.value_is;
+            number_is = r.number_is;
+          }
 
   -- ---- a plain literal
   pub plain_shows : In (number_of s (covering_front s x y)) (fronts_at s d x y (cell_of d (enters_at s x y)))
@@ -154,7 +167,8 @@ module _ (covering : CoveringLaw) (s : SolidView) (d : Depths) (x y : ℕ) where
   back_number face low =
       let count : length (s.near_number ∷ numbers_of s.fronts) ≡ first_back =
       omega (arith, length-map s.fronts (λ f. f.number)) in
-      get_or-append_right (s.near_number ∷ numbers_of s.fronts) (numbers_of s.backs ++ 0 ∷ []) first_back face 0 count low
+      get_or-append_right (s.near_number ∷ numbers_of s.fronts) (numbers_of s.backs ++ 0 ∷ []) first_back face 0
+      count low
 
   pub barred_shows : covering_back s end x y < first_back + length s.backs
       → In (number_of s (covering_back s end x y)) (faces_at s.backs x y (leaves_at s end x y))
@@ -170,7 +184,8 @@ module _ (covering : CoveringLaw) (s : SolidView) (d : Depths) (x y : ℕ) where
       → is_inside_before s d x y z ≡ true → cell_of d (leaves_at s end x y) ≡ z
       → In (number_of s (covering_back s end x y)) (backs_at s d x y z)
   barred_there z there before e =
-      where_is_true (is_inside_before s d x y z && (cell_of d (leaves_at s end x y) == z)) (number_of s (covering_back s end x y)) (faces_at s.backs x y (leaves_at s end x y))
+      where_is_true (is_inside_before s d x y z && (cell_of d (leaves_at s end x y) == z))
+      (number_of s (covering_back s end x y)) (faces_at s.backs x y (leaves_at s end x y))
       (rw (before, same_true (cell_of d (leaves_at s end x y)) z e) refl) (barred_shows there)
 
   pub record BarredSeen (z n : ℕ) : Type 0 where
@@ -179,7 +194,8 @@ module _ (covering : CoveringLaw) (s : SolidView) (d : Depths) (x y : ℕ) where
     pub cell : cell_of d (leaves_at s end x y) ≡ z
     pub number : number_of s (covering_back s end x y) ≤ n
 
-  numbers_grow : (fs : List Face) (ns : List ℕ) (i j : ℕ) → AllPairs (λ f g. f.number < g.number) fs → i ≤ j → j < length fs
+  numbers_grow : (fs : List Face) (ns : List ℕ) (i j : ℕ) → AllPairs (λ f g. f.number < g.number) fs → i ≤ j
+      → j < length fs
       → get_or (numbers_of fs ++ ns) i 0 ≤ get_or (numbers_of fs ++ ns) j 0
   numbers_grow fs ns i j order le lt = elim (cases_eq i j) [
     | inl e ↦ rw e (omega arith)
@@ -196,38 +212,48 @@ module _ (covering : CoveringLaw) (s : SolidView) (d : Depths) (x y : ℕ) where
 
   pub barred_seen : IsLawfulSolid s → (z n : ℕ) → In n (backs_at s d x y z) → BarredSeen z n
   barred_seen lawful z n h =
-      let two = in_where_true (is_inside_before s d x y z && (cell_of d (leaves_at s end x y) == z)) n (faces_at s.backs x y (leaves_at s end x y)) h in
+      let two = in_where_true (is_inside_before s d x y z && (cell_of d (leaves_at s end x y) == z)) n
+      (faces_at s.backs x y (leaves_at s end x y)) h in
       let law = covering s end x y in
       let back = covering_back s end x y in
       let r = out_faces (level end ∷ []) (0 ∷ []) x y (leaves_at s end x y) s.backs n two.1 in
       let face = first_back + r.place in
       let place : face - first_back ≡ r.place = omega arith in
       let value : value_at (plane_of s end face) x y ≡ leaves_at s end x y =
-      ap (λ p. value_at p x y) (back_plane face (omega arith) ∙ ap (λ k. get_or (back_planes s.backs end) k (level 0)) place)
+      ap (λ p. value_at p x y) (back_plane face (omega arith)
+      ∙ ap (λ k. get_or (back_planes s.backs end) k (level 0)) place)
       ∙ r.value_is in
       let first = law.least_index face (omega (arith, r.below)) (lt_false face first_back (omega arith)) value in
       let low = lt_fails back first_back law.back_behind in
-      let order = numbers_grow s.backs (0 ∷ []) (back - first_back) r.place lawful.backs.order (omega (arith, first)) r.below in
+      let order = numbers_grow s.backs (0 ∷ []) (back - first_back) r.place lawful.backs.order (omega (arith, first))
+      r.below in
       record {
         before = and_left (is_inside_before s d x y z) (cell_of d (leaves_at s end x y) == z) two.0;
         there = omega (arith, first, r.below);
-        cell = same_holds (cell_of d (leaves_at s end x y)) z (and_right (is_inside_before s d x y z) (cell_of d (leaves_at s end x y) == z) two.0);
+        cell = same_holds (cell_of d (leaves_at s end x y)) z
+            (and_right (is_inside_before s d x y z) (cell_of d (leaves_at s end x y) == z) two.0);
         number = omega (arith, back_number back low, order, r.number_is);
       }
 
 -- the numbers of the faces that a solid shows or hides
-faces_below : (fs : List Face) (x y : ℕ) (v : ℤ) (bound n : ℕ) → All (λ f. f.number < bound) fs → In n (faces_at fs x y v) → n < bound
+faces_below : (fs : List Face) (x y : ℕ) (v : ℤ) (bound n : ℕ) → All (λ f. f.number < bound) fs
+    → In n (faces_at fs x y v) → n < bound
 faces_below fs x y v bound n all h =
     let r = out_map (λ f. f.number) _ n h in
     subst (λ m. m < bound) r.gives (all_in (λ f. f.number < bound) fs r.from all (out_filter _ fs r.from r.there).0)
 
-pub fronts_below : (s : SolidView) (d : Depths) (first x y z n : ℕ) → IsNumberedFrom first s → In n (fronts_at s d x y z)
+pub fronts_below : (s : SolidView) (d : Depths) (first x y z n : ℕ) → IsNumberedFrom first s
+    → In n (fronts_at s d x y z)
     → n < first + faces_in s
 fronts_below s d first x y z n numbered h =
     let v = enters_at s x y in
     let one = (in_where_true (cell_of d v == z) n (greatest_fronts s x y) h).1 in
     elim (in_either n (if int_eq (pos 0) v then s.near_number ∷ [] else []) (faces_at s.fronts x y v) one) [
-      | inl a ↦ elim (in_where_true (int_eq (pos 0) v) n (s.near_number ∷ []) a).1 [ inl e ↦ omega (arith, e, numbered.near) | inr b ↦ absurd b ]
+      | inl a ↦ elim (in_where_true (int_eq (pos 0) v) n (s.near_number ∷ []) a).1 [
+        | inl e ↦
+            omega (arith, e, numbered.near)
+        | inr b ↦ absurd b
+      ]
       | inr b ↦ faces_below s.fronts x y v (first + faces_in s) n numbered.fronts b
     ]
 

@@ -1,14 +1,17 @@
 -- The passes leave the key of the picture.
-use Rattle.std.proofs.Common.{◌≡◌, ◌<◌, ◌≤◌, ◌+◌, ◌*◌, ◌^◌, ◌&&◌, ℕ, zero, suc, Bool, true, false, List, [], ◌∷◌, length, min, Option, Some, None, refl, ap, sym, ◌∙◌, subst, arith, inl, inr, ◌⊎◌, fold}
+use Rattle.std.proofs.Common.{◌≡◌, ◌<◌, ◌≤◌, ◌+◌, ◌*◌, ◌^◌, ◌&&◌, ℕ, zero, suc, Bool, true, false, List, [], ◌∷◌}
+use Rattle.std.proofs.Common.{length, min, Option, Some, None, refl, ap, sym, ◌∙◌, subst, arith, inl, inr, ◌⊎◌, fold}
 use Rattle.std.specs.List.{All}
 use Rattle.std.proofs.Math.Nat.{mul-le-mul, mul-le-mul_left}
 use Rattle.std.proofs.lemmas.Bool.{cases_lt, cases_order}
 use Rattle.std.proofs.lemmas.Nat.{pow_pos}
 use Rattle.px_expr.specs.Cells.{Cell, cell, has_face}
-use Rattle.px_expr.specs.Tree.{HasLeavesBelow, Tree, join, leaf}
+use Rattle.px_expr.specs.Tree.{HasLeavesBelow, Tree}
+use Rattle.px_expr.proofs.LeafLaws.{leaves_below}
 use Rattle.px_model.specs.Scenes.{IsLawfulScene, SceneView}
 use Rattle.px_model.specs.Solids.{IsLawfulSolid}
-use Rattle.px_model.specs.Cells.{Depths, depths_of, far_of, value_of, first_cell, is_member_at, leaf_cell, least, picture, scene_cell, sight_at}
+use Rattle.px_model.specs.Cells.{Depths, depths_of, far_of, value_of, first_cell, is_member_at, leaf_cell, least}
+use Rattle.px_model.specs.Cells.{picture, scene_cell, sight_at}
 use Rattle.px_face.specs.Covering.{CellsLaw, CoveringLaw, ValueParityLaw}
 use Rattle.px_face.specs.Surfaces.{FirstCellsAreFirst, IsFirst, IsFirstOf, ScenesHaveSurfaces, scene_before}
 use Rattle.px_normal.specs.declared.product.Product.{Product}
@@ -45,7 +48,8 @@ least_below (m ∷ k ∷ ns) n (inl e) = omega (arith, e)
 least_below (m ∷ k ∷ ns) n (inr h) = omega (arith, least_below (k ∷ ns) n h)
 
 -- keys are in the order of depth and then of number
-key_before : (l : KeyedPixel) (d : Depths) (y z m n : ℕ) → y < z → m < 2 ^ l.number_bits → key l (value_of d y) m < key l (value_of d z) n
+key_before : (l : KeyedPixel) (d : Depths) (y z m n : ℕ) → y < z → m < 2 ^ l.number_bits → key l (value_of d y) m
+    < key l (value_of d z) n
 key_before l d y z m n h small =
     let f = 2 ^ d.fraction_bits in
     let some : 0 < f = pow_pos d.fraction_bits in
@@ -57,10 +61,6 @@ key_before l d y z m n h small =
 
 never : (b : Bool) → b ≡ false → b ≡ true → ⊥
 never b p q = cc
-
-pub leaves_below : (count more : ℕ) → count ≤ more → (tree : Tree) → HasLeavesBelow count tree → HasLeavesBelow more tree
-leaves_below count more le (leaf solid) h = omega arith
-leaves_below count more le (join op left right) h = (leaves_below count more le left h.0, leaves_below count more le right h.1)
 
 -- the laws of the lower crates
 pub record Laws : Type 0 where
@@ -80,7 +80,8 @@ pub record Laws : Type 0 where
   pub kept_known : (count : ℕ) (scene : SceneView) (products : List Product) → All (HasSolidsBelow count) products
       → All (HasSolidsBelow count) (kept_of scene products)
 
-module _ (laws : Laws) (scene : SceneView) (lawful : IsLawfulScene scene) (l : KeyedPixel) (place : IsPixelOf scene l) where
+module _ (laws : Laws) (scene : SceneView) (lawful : IsLawfulScene scene) (l : KeyedPixel)
+    (place : IsPixelOf scene l) where
   abbrev d : Depths
   d = depths_of scene
 
@@ -122,7 +123,8 @@ module _ (laws : Laws) (scene : SceneView) (lawful : IsLawfulScene scene) (l : K
   each_fit : (p : Product) → In p kept → IsFit (length scene.solids) p
   each_fit p there =
       fit (length scene.solids) p
-      (all_in (HasSolidsBelow (length scene.solids)) kept p (laws.kept_known (length scene.solids) scene whole (laws.known (length scene.solids) scene.show below_256 lawful.shown)) there)
+      (all_in (HasSolidsBelow (length scene.solids)) kept p (laws.kept_known (length scene.solids) scene whole
+      (laws.known (length scene.solids) scene.show below_256 lawful.shown)) there)
       (all_in (λ product. is_void product ≡ false) kept p (laws.apart scene whole) there)
 
   pub room : HasRoom l d
@@ -149,10 +151,18 @@ module _ (laws : Laws) (scene : SceneView) (lawful : IsLawfulScene scene) (l : K
         let is_key : best ≡ key l (value_of d t) face = elim b.reached [
           | inl e ↦ absurd (omega (arith, e, low.0, key_before l d t far face 0 r.below small))
           | inr k ↦ elim (cases_order t k.depth) [
-            | inl same ↦ omega (arith, k.is, low.0, ap (λ z. 2 ^ l.number_bits * value_of d z) same, least_below (seen t).shown k.number (shown_at t k.depth k.number same r.below k.shown))
+            | inl same ↦ omega (
+              arith,
+              k.is,
+              low.0,
+              ap (λ z. 2 ^ l.number_bits * value_of d z) same,
+              least_below (seen t).shown k.number (shown_at t k.depth k.number same r.below k.shown),
+            )
             | inr o ↦ elim o [
               | inl before ↦ absurd (omega (arith, k.is, low.0, key_before l d t k.depth face k.number before small))
-              | inr after ↦ absurd (never (test k.depth) (r.none_before k.depth after) (member_at k.depth k.number (omega (arith, r.below)) k.shown))
+              | inr after ↦
+                  absurd (never (test k.depth) (r.none_before k.depth after)
+                  (member_at k.depth k.number (omega (arith, r.below)) k.shown))
             ]
           ]
         ] in
@@ -172,8 +182,11 @@ module _ (laws : Laws) (scene : SceneView) (lawful : IsLawfulScene scene) (l : K
         let is_key : best ≡ key l (value_of d far) 0 = elim b.reached [
           | inl e ↦ e
           | inr k ↦ elim (cases_lt k.depth far) [
-            | inl before ↦ absurd (never (test k.depth) (none k.depth before) (and_left (test k.depth) (has_face k.number (seen k.depth).shown) (sym (kept_show k.depth k.number before) ∙ k.shown)))
-            | inr past ↦ let last : k.depth ≡ far = omega (arith, k.within) in omega (arith, k.is, b.background, ap (λ z. 2 ^ l.number_bits * value_of d z) last)
+            | inl before ↦
+                absurd (never (test k.depth) (none k.depth before) (and_left (test k.depth)
+                (has_face k.number (seen k.depth).shown) (sym (kept_show k.depth k.number before) ∙ k.shown)))
+            | inr past ↦ let last : k.depth ≡ far = omega (arith, k.within) in
+                omega (arith, k.is, b.background, ap (λ z. 2 ^ l.number_bits * value_of d z) last)
           ]
         ] in
         record { key = is_key ∙ same_key far 0; depth = big; face = pow_pos l.number_bits }
@@ -187,5 +200,6 @@ module _ (laws : Laws) (scene : SceneView) (lawful : IsLawfulScene scene) (l : K
 
 pub numbers_show_the_picture : Laws → NumbersShowThePicture
 numbers_show_the_picture laws scene lawful solids l place p =
-    let best = passes_best laws.covering laws.parity scene l (room laws scene lawful l place) (kept_of scene (sum_of_products scene.show)) p in
+    let best = passes_best laws.covering laws.parity scene l (room laws scene lawful l place)
+    (kept_of scene (sum_of_products scene.show)) p in
     subst (IsKeyOf l (picture scene l.x l.y)) (sym best) (best_is_picture laws scene lawful l place solids)

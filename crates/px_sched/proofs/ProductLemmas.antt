@@ -1,5 +1,6 @@
 -- The literals of a product, and what it shows where it holds.
-use Rattle.std.proofs.Common.{◌≡◌, ◌<◌, ◌≤◌, ◌+◌, ◌||◌, ℕ, zero, suc, Bool, true, false, not, List, [], ◌∷◌, length, get_or, refl, ap, sym, ◌∙◌, subst, arith, inl, inr, if◌then◌else◌}
+use Rattle.std.proofs.Common.{◌≡◌, ◌<◌, ◌≤◌, ◌+◌, ◌||◌, ℕ, zero, suc, Bool, true, false, not, List, [], ◌∷◌, length}
+use Rattle.std.proofs.Common.{get_or, refl, ap, sym, ◌∙◌, subst, arith, inl, inr, if◌then◌else◌}
 use Rattle.std.specs.List.{filter, list_all, list_any}
 use Rattle.std.specs.Option.{option_map_or}
 use Rattle.std.proofs.lemmas.Bool.{cases_Bool}
@@ -20,7 +21,8 @@ use Rattle.px_sched.specs.Numbers.{KeyedPixel}
 use Rattle.px_sched.specs.Passes.{literals, literals_of, no_solid, solid_of}
 use Rattle.px_sched.proofs.CoverLaws.{and_left, and_right}
 use Rattle.px_sched.proofs.BlockLemmas.{suited}
-use Rattle.px_sched.proofs.MemberLemmas.{From, In, all_of, any_in, any_out, face_in, in_either, in_face, in_left, in_map, in_right, one_of, out_filter, out_map}
+use Rattle.px_sched.proofs.MemberLemmas.{From, In, all_of, any_in, any_out, face_in, in_either, in_face, in_left}
+use Rattle.px_sched.proofs.MemberLemmas.{in_map, in_right, one_of, out_filter, out_map}
 
 in_below : (n q : ℕ) → In q (below n) → q < n
 in_below zero q h = absurd h
@@ -41,19 +43,22 @@ literal plain solid = record { solid = solid; plain = plain }
 
 module _ (p : Product) where
   pub plain_literal : (q : ℕ) → In q (solids p.plain) → In (literal true q) (literals p)
-  plain_literal q h = in_left (literal true q) (literals_of true (solids p.plain)) (literals_of false (solids p.barred)) (in_map (literal true) (solids p.plain) q h)
+  plain_literal q h = in_left (literal true q) (literals_of true (solids p.plain))
+      (literals_of false (solids p.barred)) (in_map (literal true) (solids p.plain) q h)
 
   pub barred_literal : (q : ℕ) → In q (solids p.barred) → In (literal false q) (literals p)
-  barred_literal q h = in_right (literal false q) (literals_of true (solids p.plain)) (literals_of false (solids p.barred)) (in_map (literal false) (solids p.barred) q h)
+  barred_literal q h = in_right (literal false q) (literals_of true (solids p.plain))
+      (literals_of false (solids p.barred)) (in_map (literal false) (solids p.barred) q h)
 
   -- what holds of each plain literal and each barred one
   pub each_literal : (P : Literal → Type 0) → ((q : ℕ) → In q (solids p.plain) → P (literal true q))
       → ((q : ℕ) → In q (solids p.barred) → P (literal false q))
       → (r : Literal) → In r (literals p) → P r
-  each_literal P plain barred r h = elim (in_either r (literals_of true (solids p.plain)) (literals_of false (solids p.barred)) h) [
-    | inl a ↦ let o = out_map (literal true) (solids p.plain) r a in subst P o.gives (plain o.from o.there)
-    | inr b ↦ let o = out_map (literal false) (solids p.barred) r b in subst P o.gives (barred o.from o.there)
-  ]
+  each_literal P plain barred r h =
+      elim (in_either r (literals_of true (solids p.plain)) (literals_of false (solids p.barred)) h) [
+        | inl a ↦ let o = out_map (literal true) (solids p.plain) r a in subst P o.gives (plain o.from o.there)
+        | inr b ↦ let o = out_map (literal false) (solids p.barred) r b in subst P o.gives (barred o.from o.there)
+      ]
 
 -- the literals are solids of the scene, and no two of one solid
 pub record IsFit (count : ℕ) (p : Product) : Type 0 where
@@ -81,7 +86,8 @@ fit count p low apart = record {
 
 pub leaf_is : (scene : SceneView) (d : Depths) (x y z q : ℕ) → q < length scene.solids
     → leaf_cell scene.solids d x y z q ≡ solid_cell d x y z (solid_of scene q)
-leaf_is scene d x y z q h = ap (λ found. option_map_or (solid_cell d x y z) found no_cell) (slice_get-get_or scene.solids q no_solid h)
+leaf_is scene d x y z q h =
+    ap (λ found. option_map_or (solid_cell d x y z) found no_cell) (slice_get-get_or scene.solids q no_solid h)
 
 -- what a literal shows at a cell
 abbrev pub shown_of : SolidView → (plain : Bool) → Depths → (x y z : ℕ) → List ℕ
@@ -125,9 +131,11 @@ module _ (scene : SceneView) (l : KeyedPixel) (p : Product) (whole : IsFit (leng
   pub shows_there : (n : ℕ) (r : Literal) → In r (literals p) → Gives n r → shows at n p ≡ true
   shows_there n =
       each_literal p (λ r. Gives n r → shows at n p ≡ true)
-      (λ q i g. first _ _ (any_in (λ q. has_face n (at q).shown) (solids p.plain) q i (ap (λ c. has_face n c.shown) (plain_at q i)
+      (λ q i g. first _ _ (any_in (λ q. has_face n (at q).shown) (solids p.plain) q i
+      (ap (λ c. has_face n c.shown) (plain_at q i)
       ∙ in_face n _ g)))
-      (λ q i g. second _ _ (any_in (λ q. has_face n (at q).hidden) (solids p.barred) q i (ap (λ c. has_face n c.hidden) (barred_at q i)
+      (λ q i g. second _ _ (any_in (λ q. has_face n (at q).hidden) (solids p.barred) q i
+      (ap (λ c. has_face n c.hidden) (barred_at q i)
       ∙ in_face n _ g)))
     where
       first : (a b : Bool) → a ≡ true → a || b ≡ true
@@ -144,10 +152,18 @@ module _ (scene : SceneView) (l : KeyedPixel) (p : Product) (whole : IsFit (leng
   ]
     where
       by_plain : From (λ q. has_face n (at q).shown ≡ true) (solids p.plain) → From (Gives n) (literals p)
-      by_plain o = record { from = literal true o.from; there = plain_literal p o.from o.there; gives = face_in n _ (sym (ap (λ c. has_face n c.shown) (plain_at o.from o.there)) ∙ o.gives) }
+      by_plain o = record {
+        from = literal true o.from;
+        there = plain_literal p o.from o.there;
+        gives = face_in n _ (sym (ap (λ c. has_face n c.shown) (plain_at o.from o.there)) ∙ o.gives);
+      }
 
       by_barred : From (λ q. has_face n (at q).hidden ≡ true) (solids p.barred) → From (Gives n) (literals p)
-      by_barred o = record { from = literal false o.from; there = barred_literal p o.from o.there; gives = face_in n _ (sym (ap (λ c. has_face n c.hidden) (barred_at o.from o.there)) ∙ o.gives) }
+      by_barred o = record {
+        from = literal false o.from;
+        there = barred_literal p o.from o.there;
+        gives = face_in n _ (sym (ap (λ c. has_face n c.hidden) (barred_at o.from o.there)) ∙ o.gives);
+      }
 
 -- the numbers of one of the solids
 pub record IsNumberedIn (bound : ℕ) (s : SolidView) : Type 0 where
@@ -158,7 +174,12 @@ pub record IsNumberedIn (bound : ℕ) (s : SolidView) : Type 0 where
 pub numbered_at : (ss : List SolidView) (first q : ℕ) → AreNumberedFrom first ss → q < length ss
     → IsNumberedIn (first + faces_of ss) (get_or ss q no_solid)
 numbered_at [] first q numbered h = absurd (omega arith)
-numbered_at (s ∷ ss) first zero numbered h = record { first = first; numbers = numbered.0; within = omega (arith, sum_by-cons faces_in s ss) }
+numbered_at (s ∷ ss) first zero numbered h =
+    record { first = first; numbers = numbered.0; within = omega (arith, sum_by-cons faces_in s ss) }
 numbered_at (s ∷ ss) first (suc q) numbered h =
     let rest = numbered_at ss (first + faces_in s) q numbered.1 (omega arith) in
-    record { first = rest.first; numbers = rest.numbers; within = omega (arith, rest.within, sum_by-cons faces_in s ss) }
+    record {
+      first = rest.first;
+      numbers = rest.numbers;
+      within = omega (arith, rest.within, sum_by-cons faces_in s ss);
+    }

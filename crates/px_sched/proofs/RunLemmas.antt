@@ -1,5 +1,7 @@
 -- What lists of passes leave of the keys.
-use Rattle.std.proofs.Common.{◌≡◌, ◌<◌, ◌≤◌, ◌+◌, ◌+ℤ◌, ◌-◌, ◌*◌, ◌/◌, ◌==◌, ◌^◌, ℕ, zero, suc, ℤ, pos, Bool, true, false, ◌&&◌, not, nat_le, List, [], ◌∷◌, ◌++◌, map, count_by, refl, ap, sym, ◌∙◌, arith, inl, inr, if◌then◌else◌}
+use Rattle.std.proofs.Common.{◌≡◌, ◌<◌, ◌≤◌, ◌+◌, ◌+ℤ◌, ◌-◌, ◌*◌, ◌/◌, ◌==◌, ◌^◌, ℕ, zero, suc, ℤ, pos, Bool, true}
+use Rattle.std.proofs.Common.{false, ◌&&◌, not, nat_le, List, [], ◌∷◌, ◌++◌, map, count_by, refl, ap, sym, ◌∙◌, arith}
+use Rattle.std.proofs.Common.{inl, inr, if◌then◌else◌}
 use Rattle.std.specs.Bool.{beq}
 use Rattle.std.specs.Int.{is_negative}
 use Rattle.std.specs.List.{fold, flat_map, range_with_len}
@@ -17,8 +19,12 @@ use Rattle.px_face.specs.Covering.{CoveringLaw, ValueParityLaw, is_odd, is_passe
 use Rattle.px_face.specs.Edges.{covers, edges, hold_at}
 use Rattle.px_face.specs.Faces.{face_count, number_of, plane_of}
 use Rattle.px_face.proofs.ParityLaws.{turned_is_odd, turned_where}
-use Rattle.px_sched.specs.Numbers.{Keys, Numbers, Pass, KeyedPixel, after, all, candidate_on_numbers, classify_on_numbers, keep_at_most, keep_covered_on_numbers, keep_par, keep_sign, load_deep, clear_fraction, cleared, load_number, meaning, residue, set_alive, toggle_par, turn_on_numbers, where_fraction}
-use Rattle.px_sched.proofs.CoverLaws.{and_true, and_both, and_same, not_negative, IsDepth, mod_small, le_same, at_most_is, covering_value}
+use Rattle.px_sched.specs.Numbers.{Keys, Numbers, Pass, KeyedPixel, after, all, candidate_on_numbers}
+use Rattle.px_sched.specs.Numbers.{classify_on_numbers, keep_at_most, keep_covered_on_numbers, keep_par, keep_sign}
+use Rattle.px_sched.specs.Numbers.{load_deep, clear_fraction, cleared, load_number, meaning, residue, set_alive}
+use Rattle.px_sched.specs.Numbers.{toggle_par, turn_on_numbers, where_fraction}
+use Rattle.px_sched.proofs.CoverLaws.{and_true, and_both, and_same, not_negative, IsDepth, mod_small, le_same}
+use Rattle.px_sched.proofs.CoverLaws.{at_most_is, covering_value}
 
 abbrev pub at : Bool → Keys → Numbers
 at e k = record { enable = e; keys = k }
@@ -65,13 +71,15 @@ pub record HasRoom (l : KeyedPixel) (d : Depths) : Type 0 where
   pub big : d.far < 2 ^ l.depth_bits
   pub same : l.fraction_bits ≡ d.fraction_bits
 
-pub end_room : (l : KeyedPixel) (d : Depths) → HasRoom l d → end_of d + 2 ^ d.fraction_bits ≤ 2 ^ (l.depth_bits + l.fraction_bits)
+pub end_room : (l : KeyedPixel) (d : Depths) → HasRoom l d → end_of d + 2 ^ d.fraction_bits
+    ≤ 2 ^ (l.depth_bits + l.fraction_bits)
 end_room l d room =
     let most : d.far + 1 ≤ 2 ^ l.depth_bits = omega (arith, room.big) in
     let u = 2 ^ d.fraction_bits in
     let one : (d.far + 1) * u ≡ d.far * u + u = grind arith in
     let le : (d.far + 1) * u ≤ 2 ^ l.depth_bits * u = mul-le-mul most (omega arith) in
-    let parts : 2 ^ (l.depth_bits + l.fraction_bits) ≡ 2 ^ l.depth_bits * u = rw room.same (pow-add 2 l.depth_bits d.fraction_bits) in
+    let parts : 2 ^ (l.depth_bits + l.fraction_bits) ≡ 2 ^ l.depth_bits * u =
+    rw room.same (pow-add 2 l.depth_bits d.fraction_bits) in
     omega (arith, one, le, parts)
 
 pub end_small : (l : KeyedPixel) (d : Depths) → HasRoom l d → end_of d < 2 ^ (l.depth_bits + l.fraction_bits)
@@ -82,7 +90,8 @@ cleared_none l n e = rw e (omega arith)
 
 -- a value that is rounded up is that of its cell
 pub rounded : (l : KeyedPixel) (d : Depths) → HasRoom l d → (v : ℤ) → IsDepth v (end_of d)
-    → cleared l (modulo (v +ℤ pos (2 ^ d.fraction_bits - 1)) (l.depth_bits + l.fraction_bits)) ≡ value_of d (cell_of d v)
+    → cleared l (modulo (v +ℤ pos (2 ^ d.fraction_bits - 1)) (l.depth_bits + l.fraction_bits))
+    ≡ value_of d (cell_of d v)
 rounded l d room v is =
     let u = 2 ^ d.fraction_bits in
     let n = is.depth in
@@ -105,7 +114,8 @@ loaded l d s k i = record k {
 }
 
 load_where : (l : KeyedPixel) (d : Depths) → HasRoom l d → (s : SolidView) (i : ℕ) (c : Bool) (k : Keys)
-    → (after l (load_deep (plus (plane_of s (end_of d) i) (2 ^ d.fraction_bits - 1)) ∷ where_fraction d.fraction_bits (clear_fraction ∷ []) ++ load_number (number_of s i) ∷ set_alive true ∷ []) (at c k)).keys
+    → (after l (load_deep (plus (plane_of s (end_of d) i) (2 ^ d.fraction_bits - 1)) ∷ where_fraction d.fraction_bits
+    (clear_fraction ∷ []) ++ load_number (number_of s i) ∷ set_alive true ∷ []) (at c k)).keys
     ≡ (if c then loaded l d s k i else k)
 load_where l d room s i c k = elim (cases_Bool (d.fraction_bits == 0)) [
   | inl yea ↦ rw yea (without (none yea) c)
@@ -115,21 +125,28 @@ load_where l d room s i c k = elim (cases_Bool (d.fraction_bits == 0)) [
     form : Linear
     form = plus (plane_of s (end_of d) i) (2 ^ d.fraction_bits - 1)
 
-    with_fraction : (c : Bool) → (after l (load_deep form ∷ clear_fraction ∷ load_number (number_of s i) ∷ set_alive true ∷ []) (at c k)).keys ≡ (if c then loaded l d s k i else k)
+    with_fraction : (c : Bool)
+        → (after l (load_deep form ∷ clear_fraction ∷ load_number (number_of s i) ∷ set_alive true ∷ [])
+        (at c k)).keys ≡ (if c then loaded l d s k i else k)
     with_fraction true = refl
     with_fraction false = refl
 
     none : (d.fraction_bits == 0) ≡ true → d.fraction_bits ≡ 0
     none e = grind (arith, nat_tests)
 
-    without : d.fraction_bits ≡ 0 → (c : Bool) → (after l (load_deep form ∷ load_number (number_of s i) ∷ set_alive true ∷ []) (at c k)).keys ≡ (if c then loaded l d s k i else k)
-    without zero_is true = ap (λ n. record k { deep = n; number = number_of s i; alive = true }) (sym (cleared_none l (residue l form) (room.same ∙ zero_is)))
+    without : d.fraction_bits ≡ 0 → (c : Bool)
+        → (after l (load_deep form ∷ load_number (number_of s i) ∷ set_alive true ∷ []) (at c k)).keys
+        ≡ (if c then loaded l d s k i else k)
+    without zero_is true = ap (λ n. record k { deep = n; number = number_of s i; alive = true })
+        (sym (cleared_none l (residue l form) (room.same ∙ zero_is)))
     without zero_is false = refl
 
 pub candidate_keys : (l : KeyedPixel) (d : Depths) → HasRoom l d → (s : SolidView) (i : ℕ) (e : Bool) (k : Keys)
-    → (after l (candidate_on_numbers d s i) (at e k)).keys ≡ (if covers s (end_of d) i l.x l.y then loaded l d s k i else k)
+    → (after l (candidate_on_numbers d s i) (at e k)).keys
+    ≡ (if covers s (end_of d) i l.x l.y then loaded l d s k i else k)
 candidate_keys l d room s i e k =
-    let last = load_deep (plus (plane_of s (end_of d) i) (2 ^ d.fraction_bits - 1)) ∷ where_fraction d.fraction_bits (clear_fraction ∷ []) ++ load_number (number_of s i) ∷ set_alive true ∷ [] in
+    let last = load_deep (plus (plane_of s (end_of d) i) (2 ^ d.fraction_bits - 1)) ∷ where_fraction d.fraction_bits
+    (clear_fraction ∷ []) ++ load_number (number_of s i) ∷ set_alive true ∷ [] in
     ap (λ (q : Numbers). q.keys) (after-append l (keep_covered_on_numbers (end_of d) s i) last (at true k))
     ∙ ap (λ (q : Numbers). (after l last q).keys) (signed l (edges s (end_of d) i) true k)
     ∙ load_where l d room s i (covers s (end_of d) i l.x l.y) k
@@ -144,7 +161,8 @@ flip_is false k = refl
 abbrev pub flip_step : (ℕ → ℕ → Bool) → Keys → ℕ → Keys
 flip_step t k i = if k.alive && t k.deep i then flipped k else k
 
-pub flips : (t : ℕ → ℕ → Bool) (k : Keys) (is : List ℕ) → fold (flip_step t) k is ≡ record k { par = fold (turned_where (λ i. k.alive && t k.deep i)) k.par is }
+pub flips : (t : ℕ → ℕ → Bool) (k : Keys) (is : List ℕ) → fold (flip_step t) k is
+    ≡ record k { par = fold (turned_where (λ i. k.alive && t k.deep i)) k.par is }
 flips t k [] = refl
 flips t k (i ∷ is) =
     let b = k.alive && t k.deep i in
@@ -169,10 +187,12 @@ keys_of b d n a p = record { best = b; deep = d; number = n; alive = a; par = p 
 
 abbrev pub classified : KeyedPixel → (end : ℕ) → SolidView → (plain : Bool) → Keys → Keys
 classified l end s plain k =
-    keys_of k.best k.deep k.number (k.alive && suits s plain end l.x l.y k.deep) (k.alive && is_inside_at s end l.x l.y k.deep)
+    keys_of k.best k.deep k.number (k.alive && suits s plain end l.x l.y k.deep)
+    (k.alive && is_inside_at s end l.x l.y k.deep)
 
 pub ended : (b d n : ℕ) (a inside plain : Bool)
-    → (if true && beq (a && inside) (not plain) then keys_of b d n false (a && inside) else keys_of b d n a (a && inside))
+    → (if true && beq (a && inside) (not plain) then keys_of b d n false (a && inside) else keys_of b d n a
+    (a && inside))
     ≡ keys_of b d n (a && (if plain then inside else not inside)) (a && inside)
 ended b d n true true true = refl
 ended b d n true true false = refl
@@ -190,21 +210,25 @@ pub turn_keys : (l : KeyedPixel) (end : ℕ) (s : SolidView) (i : ℕ) (form : L
 turn_keys l end s i form e k =
     let c = covers s end i l.x l.y in
     let last = keep_at_most form ∷ toggle_par ∷ [] in
-    ap (λ (q : Numbers). q.keys) (after-append l (keep_covered_on_numbers end s i) last (at (true && beq k.alive true) k))
+    ap (λ (q : Numbers). q.keys) (after-append l (keep_covered_on_numbers end s i) last
+    (at (true && beq k.alive true) k))
     ∙ ap (λ (q : Numbers). (after l last q).keys) (signed l (edges s end i) (true && beq k.alive true) k)
     ∙ ap (λ b. if b then flipped k else k)
     (ap (λ a. ((true && a) && c) && nat_le (residue l form) k.deep) (beq_true k.alive)
     ∙ and_both k.alive c (nat_le (residue l form) k.deep))
 
-module _ (covering : CoveringLaw) (parity : ValueParityLaw) (end : ℕ) (l : KeyedPixel) (big : end < 2 ^ (l.depth_bits + l.fraction_bits)) (s : SolidView) where
+module _ (covering : CoveringLaw) (parity : ValueParityLaw) (end : ℕ) (l : KeyedPixel)
+    (big : end < 2 ^ (l.depth_bits + l.fraction_bits)) (s : SolidView) where
   pass_keys : (i : ℕ) → i < face_count s → (e : Bool) (k : Keys)
-      → (after l (turn_on_numbers end s i (plane_of s end i)) (at e k)).keys ≡ (if k.alive && is_passed_at s end l.x l.y k.deep i then flipped k else k)
+      → (after l (turn_on_numbers end s i (plane_of s end i)) (at e k)).keys
+      ≡ (if k.alive && is_passed_at s end l.x l.y k.deep i then flipped k else k)
   pass_keys i there e k =
       let c = covers s end i l.x l.y in
       let v = value_at (plane_of s end i) l.x l.y in
       turn_keys l end s i (plane_of s end i) e k
       ∙ ap (λ b. if k.alive && b then flipped k else k)
-      (and_same c (nat_le (residue l (plane_of s end i)) k.deep) (le_z v (pos k.deep)) (λ h. at_most_is v end (l.depth_bits + l.fraction_bits) k.deep big (covering_value covering end s l.x l.y i there h)))
+      (and_same c (nat_le (residue l (plane_of s end i)) k.deep) (le_z v (pos k.deep)) (λ h. at_most_is v end
+      (l.depth_bits + l.fraction_bits) k.deep big (covering_value covering end s l.x l.y i there h)))
 
   -- a candidate that is classified
   pub classify_keys : (plain e : Bool) (k : Keys)
@@ -214,10 +238,13 @@ module _ (covering : CoveringLaw) (parity : ValueParityLaw) (end : ℕ) (l : Key
       let last = all ∷ keep_par (not plain) ∷ set_alive false ∷ [] in
       let start = record k { par = false } in
       let t : ℕ → ℕ → Bool = λ z i. is_passed_at s end l.x l.y z i in
-      let passed : (after l faces (at true start)).keys ≡ keys_of k.best k.deep k.number k.alive (k.alive && is_inside_at s end l.x l.y k.deep) =
-      keys_in_range l (λ i. turn_on_numbers end s i (plane_of s end i)) (flip_step t) 0 (face_count s) (λ i low high. pass_keys i (omega arith)) (at true start)
+      let passed : (after l faces (at true start)).keys ≡ keys_of k.best k.deep k.number k.alive
+      (k.alive && is_inside_at s end l.x l.y k.deep) =
+      keys_in_range l (λ i. turn_on_numbers end s i (plane_of s end i)) (flip_step t) 0 (face_count s)
+      (λ i low high. pass_keys i (omega arith)) (at true start)
       ∙ flips t start (range_with_len 0 (face_count s))
-      ∙ ap (λ b. keys_of k.best k.deep k.number k.alive b) (alive_odd k.alive (t k.deep) (range_with_len 0 (face_count s))
+      ∙ ap (λ b. keys_of k.best k.deep k.number k.alive b)
+      (alive_odd k.alive (t k.deep) (range_with_len 0 (face_count s))
       ∙ ap (λ b. k.alive && b) (sym (parity s end l.x l.y k.deep))) in
       ap (λ (q : Numbers). q.keys) (after-append l faces last (at true start))
       ∙ ap (λ (q : Keys). if true && beq q.par (not plain) then record q { alive = false } else q) passed

@@ -1,11 +1,13 @@
 -- The passes leave in the memory what they leave in the numbers: the sight of the pixel.
-use Rattle.std.proofs.Common.{◌≡◌, ℕ, ◌+◌, ◌*◌, ◌^◌, ◌<◌, ◌≤◌, true, false, cond, [], ◌∷◌, ◌++◌, All, length, nat_le, count_by, inl, inr, refl, ap, ◌∙◌, arith}
+use Rattle.std.proofs.Common.{◌≡◌, ℕ, ◌+◌, ◌*◌, ◌^◌, ◌<◌, ◌≤◌, true, false, cond, [], ◌∷◌, ◌++◌, All, length, nat_le}
+use Rattle.std.proofs.Common.{count_by, inl, inr, refl, ap, ◌∙◌, arith}
 use Prim.Native.Nat.{zero, suc}
 use Rattle.std.specs.List.{range_with_len}
 use Rattle.std.proofs.lemmas.Bool.{cases_lt}
 use Rattle.std.proofs.lemmas.Bool.Decides.{nat_tests}
 use Rattle.std.proofs.lemmas.List.Sums.{sum_by-append}
 use Rattle.std.proofs.Math.Nat.{pow-suc}
+use Rattle.px_num.proofs.RangeLaws.{range_more}
 use Rattle.px_macro.specs.Macros.{PixelBits, after_macros}
 use Rattle.px_model.specs.Scenes.{IsLawfulScene, SceneView, faces_of}
 use Rattle.px_model.specs.Solids.{IsLawfulSolid}
@@ -21,12 +23,6 @@ use Rattle.px_sched.specs.PassesLaw.{HasSight, PassesLaw}
 use Rattle.px_sched.proofs.BridgeLemmas.{FieldLaws, all_on_numbers, b_parts, need, numbers_in}
 use Rattle.px_sched.proofs.RoomLemmas.{passes_have_room}
 use Rattle.px_sched.proofs.ShapeLemmas.{passes_shape}
-
-range_more : (a n : ℕ) → range_with_len a (suc n) ≡ range_with_len a n ++ ((a + n) ∷ [])
-range_more a zero = let e : a + 0 ≡ a = omega arith in rw e refl
-range_more a (suc n) =
-    let e : a + 1 + n ≡ a + suc n = omega arith
-    in ap (λ l. a ∷ l) (range_more (a + 1) n ∙ ap (λ k. range_with_len (a + 1) n ++ (k ∷ [])) e)
 
 -- of the powers of 2 below a bound, those that are not above n
 abbrev powers : (n bound : ℕ) → ℕ
@@ -67,22 +63,32 @@ below_power n (suc bound) h = elim (cases_lt n (2 ^ bound)) [
 bits_enough : (n : ℕ) → n ≤ 4095 → n < 2 ^ bit_length n
 bits_enough n h = below_power n 12 (omega arith)
 
-sight_with : FieldLaws → NumbersShowThePicture → (scene : SceneView) → IsLawfulScene scene → All IsLawfulSolid scene.solids →
+sight_with : FieldLaws → NumbersShowThePicture → (scene : SceneView) → IsLawfulScene scene
+    → All IsLawfulSolid scene.solids →
     (i x y : ℕ) → faces_of scene.solids < 2 ^ i → x < scene.width → y < scene.height →
     (p : PixelBits) → need scene.depth_bits scene.fraction_bits i ≤ length p.memory →
     HasSight (layout_with scene.depth_bits scene.fraction_bits i)
-    (after_macros (passes_with scene (layout_with scene.depth_bits scene.fraction_bits i) (kept_of scene (sum_of_products scene.show))) x y p).memory
+    (after_macros (passes_with scene (layout_with scene.depth_bits scene.fraction_bits i)
+    (kept_of scene (sum_of_products scene.show))) x y p).memory
     (picture scene x y)
 sight_with fields law scene lawful solids i x y faces left up p long =
     let w = scene.depth_bits
     in let f = scene.fraction_bits
     in let products = kept_of scene (sum_of_products scene.show)
     in let place : KeyedPixel = record { depth_bits = w; fraction_bits = f; number_bits = i; x = x; y = y }
-    in let shown = law scene lawful solids place (record { depth_bits = refl; fraction_bits = refl; number_bits = faces; left = left; up = up }) (numbers_in w f i p)
+    in let shown =
+    law scene lawful solids place (record {
+      depth_bits = refl;
+      fraction_bits = refl;
+      number_bits = faces;
+      left = left;
+      up = up;
+    }) (numbers_in w f i p)
     in let room = passes_have_room w i scene products lawful.numbers faces (end_is_small w f)
     in let same = all_on_numbers fields w f i x y (passes_on_numbers scene i products) room p long
     in rw (passes_shape w i scene products)
-    (let parts = b_parts fields w f i (picture scene x y).depth (picture scene x y).face _ shown.face (ap (λ n. n.keys.best) same ∙ shown.key)
+    (let parts = b_parts fields w f i (picture scene x y).depth (picture scene x y).face _ shown.face
+    (ap (λ n. n.keys.best) same ∙ shown.key)
     in record { depth = parts.0; whole = parts.2; face = parts.1 })
 
 pub passes_law : FieldLaws → NumbersShowThePicture → PassesLaw

@@ -1,5 +1,6 @@
 -- A cursor gives the passes in their order.
-use Rattle.std.proofs.Common.{◌≡◌, ◌≢◌, ℕ, ◌+◌, ◌^◌, ◌<◌, ◌≤◌, List, [], ◌∷◌, ◌++◌, drop, get_or, length, slice_get, Some, None, refl, ap, sym, subst, ◌∙◌, arith, length-append}
+use Rattle.std.proofs.Common.{◌≡◌, ◌≢◌, ℕ, ◌+◌, ◌^◌, ◌<◌, ◌≤◌, List, [], ◌∷◌, ◌++◌, drop, get_or, length, slice_get}
+use Rattle.std.proofs.Common.{Some, None, refl, ap, sym, subst, ◌∙◌, arith, length-append}
 use Rattle.std.proofs.lemmas.List.{drop-drop, get_or-drop, length-drop}
 use Rattle.std.proofs.lemmas.Option.{slice_get-get_or, slice_get_past}
 use Rattle.std.proofs.Math.Seq.{drop-cons}
@@ -12,7 +13,8 @@ use Rattle.px_sched.specs.declared.cursor.Cursor.{Cursor}
 use Rattle.px_sched.specs.declared.group.Stage.{Stage}
 use Rattle.px_sched.specs.declared.group.Stage.TheVariants.{At, End, Start}
 use Rattle.px_sched.specs.declared.step.Step.{Step}
-use Rattle.px_sched.specs.declared.step.Step.TheVariants.{Begin, Candidate, Clear, Close, Confirm, Drop, Front, Merge, Open, Turn}
+use Rattle.px_sched.specs.declared.step.Step.TheVariants.{Begin, Candidate, Clear, Close, Confirm, Drop, Front, Merge}
+use Rattle.px_sched.specs.declared.step.Step.TheVariants.{Open, Turn}
 use Rattle.px_sched.specs.Cursors.{IsWithinStage, StandsIn}
 use Rattle.px_sched.specs.Groups.{IsStage, behind_stage, stage_operations}
 use Rattle.px_sched.specs.Onward.{from_stage}
@@ -21,17 +23,21 @@ use Rattle.px_sched.specs.Passes.{passes_with}
 use Rattle.px_sched.specs.Steps.{step_operations}
 
 -- one element further in a list whose rest is known
-here : {X : Type 0} (xs : List X) (k : ℕ) (ls rs : List X) (i : ℕ) (d : X) → i < length ls → drop k xs ≡ drop i ls ++ rs → get_or xs k d ≡ get_or ls i d
+here : {X : Type 0} (xs : List X) (k : ℕ) (ls rs : List X) (i : ℕ) (d : X) → i < length ls → drop k xs ≡ drop i ls
+    ++ rs → get_or xs k d ≡ get_or ls i d
 here xs k ls rs i d h e =
     let z : k + 0 ≡ k = omega arith in
-    sym (get_or-drop k xs 0 d ∙ ap (λ j. get_or xs j d) z) ∙ ap (λ l. get_or l 0 d) (e ∙ ap (λ l. l ++ rs) (drop-cons ls i d h))
+    sym (get_or-drop k xs 0 d ∙ ap (λ j. get_or xs j d) z)
+    ∙ ap (λ l. get_or l 0 d) (e ∙ ap (λ l. l ++ rs) (drop-cons ls i d h))
 
-further : {X : Type 0} (xs : List X) (k : ℕ) (ls rs : List X) (i : ℕ) (d : X) → i < length ls → drop k xs ≡ drop i ls ++ rs → drop (k + 1) xs ≡ drop (i + 1) ls ++ rs
+further : {X : Type 0} (xs : List X) (k : ℕ) (ls rs : List X) (i : ℕ) (d : X) → i < length ls → drop k xs ≡ drop i ls
+    ++ rs → drop (k + 1) xs ≡ drop (i + 1) ls ++ rs
 further xs k ls rs i d h e =
     let o : i + 1 ≡ suc i = omega arith in
     rw o (sym (drop-drop 1 k xs) ∙ ap (drop 1) (e ∙ ap (λ l. l ++ rs) (drop-cons ls i d h)))
 
-more_left : {X : Type 0} (xs : List X) (k : ℕ) (ls rs : List X) (i : ℕ) → i < length ls → drop k xs ≡ drop i ls ++ rs → k < length xs
+more_left : {X : Type 0} (xs : List X) (k : ℕ) (ls rs : List X) (i : ℕ) → i < length ls → drop k xs ≡ drop i ls ++ rs
+    → k < length xs
 more_left xs k ls rs i h e =
     let some : length (drop k xs) ≡ length (drop i ls) + length rs = ap length e ∙ length-append (drop i ls) rs in
     omega (arith, some, length-drop k xs, length-drop i ls)
@@ -43,7 +49,8 @@ past_all (l ∷ ls) zero h = absurd (omega arith)
 past_all (l ∷ ls) (suc i) h = past_all ls i (omega arith)
 
 module _ (scene : SceneView) (l : LayoutView) (products : List Product) where
-  pub inside_of : (st : Stage) (at : ℕ) → st ≢ End → IsWithinStage scene l st at → at < length (stage_operations scene l st)
+  pub inside_of : (st : Stage) (at : ℕ) → st ≢ End → IsWithinStage scene l st at
+      → at < length (stage_operations scene l st)
   inside_of Start at more place = place
   inside_of (At g) at more place = place
   inside_of End at more place = absurd (more refl)
@@ -51,7 +58,8 @@ module _ (scene : SceneView) (l : LayoutView) (products : List Product) where
   abbrev whole : List Macro
   whole = passes_with scene l products
 
-  module _ (c : Cursor) (stands : StandsIn scene l products c) (inside : c.at < length (stage_operations scene l c.stage)) where
+  module _ (c : Cursor) (stands : StandsIn scene l products c)
+      (inside : c.at < length (stage_operations scene l c.stage)) where
     abbrev ops : List Macro
     ops = stage_operations scene l c.stage
 
@@ -64,7 +72,8 @@ module _ (scene : SceneView) (l : LayoutView) (products : List Product) where
     left_more : drop (c.given + 1) whole ≡ drop (c.at + 1) ops ++ behind_stage scene l products c.stage
     left_more = further whole c.given ops (behind_stage scene l products c.stage) c.at m.All inside stands.left
 
-    pub along : (d : Cursor) → d.given ≡ c.given + 1 → d.at ≡ c.at + 1 → d.stage ≡ c.stage → c.at + 1 < length ops → IsWithinStage scene l c.stage (c.at + 1) → StandsIn scene l products d
+    pub along : (d : Cursor) → d.given ≡ c.given + 1 → d.at ≡ c.at + 1 → d.stage ≡ c.stage → c.at + 1 < length ops
+        → IsWithinStage scene l c.stage (c.at + 1) → StandsIn scene l products d
     along d given at stage more place = record {
       stage = subst (IsStage scene products) (sym stage) stands.stage;
       place = rw (stage, at) place;
@@ -73,12 +82,14 @@ module _ (scene : SceneView) (l : LayoutView) (products : List Product) where
       few = stands.few;
     }
 
-    pub onward : (d : Cursor) (next : Stage) → d.given ≡ c.given + 1 → d.at ≡ 0 → d.stage ≡ next → length ops ≤ c.at + 1 → behind_stage scene l products c.stage ≡ from_stage scene l products next
+    pub onward : (d : Cursor) (next : Stage) → d.given ≡ c.given + 1 → d.at ≡ 0 → d.stage ≡ next → length ops ≤ c.at
+        + 1 → behind_stage scene l products c.stage ≡ from_stage scene l products next
         → IsStage scene products next → IsWithinStage scene l next 0 → StandsIn scene l products d
     onward d next given at stage past left is place = record {
       stage = subst (IsStage scene products) (sym stage) is;
       place = rw (stage, at) place;
-      left = rw (given, at, stage) (left_more ∙ ap (λ ms. ms ++ behind_stage scene l products c.stage) (past_all ops (c.at + 1) past) ∙ left);
+      left = rw (given, at, stage) (left_more ∙ ap (λ ms. ms ++ behind_stage scene l products c.stage)
+          (past_all ops (c.at + 1) past) ∙ left);
       within = omega (arith, given, below);
       few = stands.few;
     }
@@ -88,21 +99,25 @@ module _ (scene : SceneView) (l : LayoutView) (products : List Product) where
       let none : drop c.given whole ≡ [] = stands.left ∙ nothing c.stage stage c.at in
       omega (arith, ap length none, length-drop c.given whole, stands.within)
     where
-      nothing : (st : Stage) → st ≡ End → (i : ℕ) → drop i (stage_operations scene l st) ++ behind_stage scene l products st ≡ []
+      nothing : (st : Stage) → st ≡ End → (i : ℕ) → drop i (stage_operations scene l st) ++ behind_stage scene l
+          products st ≡ []
       nothing st e i = rw e (empty i) where
         empty : (i : ℕ) → drop i (stage_operations scene l End) ++ behind_stage scene l products End ≡ []
         empty zero = refl
         empty (suc i) = refl
 
   pub none_is : (c : Cursor) → StandsIn scene l products c → c.stage ≡ End → None ≡ slice_get whole c.given
-  none_is c stands stage = sym (ap (slice_get whole) (ended c stands stage) ∙ slice_get_past whole (length whole) (omega arith))
+  none_is c stands stage =
+      sym (ap (slice_get whole) (ended c stands stage) ∙ slice_get_past whole (length whole) (omega arith))
 
-  pub some_is : (c : Cursor) (one : Macro) → StandsIn scene l products c → c.stage ≢ End → one ≡ get_or (stage_operations scene l c.stage) c.at m.All → Some one ≡ slice_get whole c.given
+  pub some_is : (c : Cursor) (one : Macro) → StandsIn scene l products c → c.stage ≢ End
+      → one ≡ get_or (stage_operations scene l c.stage) c.at m.All → Some one ≡ slice_get whole c.given
   some_is c one stands more is =
       let inside = inside_of c.stage c.at more stands.place in
       sym (slice_get-get_or whole c.given m.All (below c stands inside) ∙ ap Some (given_is c stands inside ∙ sym is))
 
-  pub at_few : (c : Cursor) (n : ℕ) → StandsIn scene l products c → c.stage ≢ End → ((l : LayoutView) → length (stage_operations scene l c.stage) ≡ n) → c.at < n
+  pub at_few : (c : Cursor) (n : ℕ) → StandsIn scene l products c → c.stage ≢ End
+      → ((l : LayoutView) → length (stage_operations scene l c.stage) ≡ n) → c.at < n
   at_few c n stands more count = omega (arith, inside_of c.stage c.at more stands.place, count l)
 
   pub given_few : (c : Cursor) → StandsIn scene l products c → c.stage ≢ End → c.given + 1 < 2 ^ 64
@@ -129,14 +144,19 @@ module _ (scene : SceneView) (l : LayoutView) (products : List Product) where
     step_some Merge = omega arith
   place_zero End = tt
 
-  pub stands_along : (c d : Cursor) (n : ℕ) → ((l : LayoutView) → length (stage_operations scene l c.stage) ≡ n) → c.at + 1 < n
-      → d.given ≡ c.given + 1 → d.at ≡ c.at + 1 → d.stage ≡ c.stage → StandsIn scene l products c → StandsIn scene l products d
+  pub stands_along : (c d : Cursor) (n : ℕ) → ((l : LayoutView) → length (stage_operations scene l c.stage) ≡ n)
+      → c.at + 1 < n
+      → d.given ≡ c.given + 1 → d.at ≡ c.at + 1 → d.stage ≡ c.stage → StandsIn scene l products c
+      → StandsIn scene l products d
   stands_along c d n count low given at stage stands =
       let next : c.at + 1 < length (stage_operations scene l c.stage) = omega (arith, low, count l) in
       along c stands (omega (arith, next)) d given at stage next (place_more c.stage (c.at + 1) next)
 
-  pub stands_onward : (c d : Cursor) (next : Stage) (n : ℕ) → ((l : LayoutView) → length (stage_operations scene l c.stage) ≡ n) → c.at < n → n ≤ c.at + 1
-      → ((l : LayoutView) → behind_stage scene l products c.stage ≡ from_stage scene l products next) → IsStage scene products next
+  pub stands_onward : (c d : Cursor) (next : Stage) (n : ℕ)
+      → ((l : LayoutView) → length (stage_operations scene l c.stage) ≡ n) → c.at < n → n ≤ c.at + 1
+      → ((l : LayoutView) → behind_stage scene l products c.stage ≡ from_stage scene l products next)
+      → IsStage scene products next
       → d.given ≡ c.given + 1 → d.at ≡ 0 → d.stage ≡ next → StandsIn scene l products c → StandsIn scene l products d
   stands_onward c d next n count low past left is given at stage stands =
-      onward c stands (omega (arith, low, count l)) d next given at stage (omega (arith, past, count l)) (left l) is (place_zero next)
+      onward c stands (omega (arith, low, count l)) d next given at stage (omega (arith, past, count l)) (left l) is
+      (place_zero next)

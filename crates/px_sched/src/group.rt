@@ -19,9 +19,10 @@ ghost use Rattle.px_sched.specs.Layouts.{LayoutView};
 ghost use Rattle.px_sched.specs.Passes.{literals};
 ghost use Rattle.px_sched.specs.Steps.{behind_step};
 ghost use Rattle.px_sched.specs.declared.group.Stage.TheVariants as s;
+ghost use Rattle.px_sched.specs.declared.literal.TheConstants.{MAX_LITERALS};
 
 use crate::layout::Layout;
-use crate::literal::{Literal, literals, others};
+use crate::literal::{Literal, MAX_LITERALS, literals, others};
 use crate::step::Step;
 use arrayvec::ArrayVec;
 use px_macro::Macro;
@@ -130,18 +131,18 @@ impl Group {
             (others_of products.now self) result }
         ensures group { IfSome result (λ step.
             IsGroup scene.now products.now (record self { step = step })) }
-        ensures few { self.literal < 512 }
+        ensures few { self.literal < MAX_LITERALS }
     {
         let (q, rs) = self.literal_and_others(products);
         self.step.next(scene, q, rs.as_slice())
     }
 
-    fn literal_and_others(self, products: &[Product]) -> (Literal, ArrayVec<Literal, 512>)
+    fn literal_and_others(self, products: &[Product]) -> (Literal, ArrayVec<Literal, MAX_LITERALS>)
         requires product { self.product < length products.now }
         requires literal { self.literal < length (literals (product_at products.now self.product)) }
         ensures literal { result.0 ≡ literal_of products.now self }
         ensures others { result.1.items ≡ others_of products.now self }
-        ensures few { self.literal < 512 }
+        ensures few { self.literal < MAX_LITERALS }
     {
         let all = literals(&products[self.product]);
         let q = all[self.literal];

@@ -2,9 +2,13 @@
 ghost use Rattle.std.specs.Prelude.{◌≡◌, ◌≤◌, ◌+◌, ◌++◌, ◌==◌, filter, length, not};
 ghost use Rattle.arrayvec.specs.ArrayVec.{array_vec_len};
 ghost use Rattle.px_sched.specs.Passes.{literals, literals_of};
+ghost use Rattle.px_sched.specs.declared.literal.TheConstants.{MAX_LITERALS};
 
 use arrayvec::ArrayVec;
 use px_normal::Product;
+
+/// A product has at most so many literals: each solid of a set, plain and barred.
+pub(crate) const MAX_LITERALS: usize = 512;
 
 /// A solid of a product, plain or barred.
 #[derive(Clone, Copy, Debug, Default, PartialEq, Eq)]
@@ -14,7 +18,7 @@ pub struct Literal {
 }
 
 /// The literals of a product: its plain solids in scene order, then its barred ones.
-pub(crate) fn literals(product: &Product) -> ArrayVec<Literal, 512>
+pub(crate) fn literals(product: &Product) -> ArrayVec<Literal, MAX_LITERALS>
     ensures { result.items ≡ literals product.now }
 {
     let plain = product.plain.solids();
@@ -26,8 +30,8 @@ pub(crate) fn literals(product: &Product) -> ArrayVec<Literal, 512>
 }
 
 /// The literals that are of another solid.
-pub(crate) fn others(q: Literal, all: &[Literal]) -> ArrayVec<Literal, 512>
-    requires { length all.now ≤ 512 }
+pub(crate) fn others(q: Literal, all: &[Literal]) -> ArrayVec<Literal, MAX_LITERALS>
+    requires { length all.now ≤ MAX_LITERALS }
     ensures { result.items ≡ filter (λ r. not (r.solid == q.solid)) all.now }
 {
     let mut list = ArrayVec::new();
@@ -39,8 +43,8 @@ pub(crate) fn others(q: Literal, all: &[Literal]) -> ArrayVec<Literal, 512>
     list
 }
 
-fn push_literals(list: &mut ArrayVec<Literal, 512>, indices: &[u8], plain: bool)
-    requires { array_vec_len list.old + length indices.now ≤ 512 }
+fn push_literals(list: &mut ArrayVec<Literal, MAX_LITERALS>, indices: &[u8], plain: bool)
+    requires { array_vec_len list.old + length indices.now ≤ MAX_LITERALS }
     ensures items { list.new.items ≡ list.old.items ++ literals_of plain indices.now }
     ensures len { array_vec_len list.new ≡ array_vec_len list.old + length indices.now }
 {

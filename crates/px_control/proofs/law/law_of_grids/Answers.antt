@@ -1,6 +1,6 @@
 use Rattle.std.proofs.Common.{◌≡◌, ◌^◌, ◌≤◌, ◌∙◌, ap, subst, sym}
 use Rattle.px_control.proofs.GridLemmas.{exponent_is}
-use Rattle.px_control.proofs.StepLemmas.{columns_at, rows_at}
+use Rattle.px_control.proofs.ArrayLaws.{columns_at, rows_at}
 use Rattle.px_control.specs.Program.{columns_of, rows_of}
 use Rattle.px_control.proofs.law.law_of_grids.Goals as goal
 
@@ -8,8 +8,10 @@ pub returns-clause-covers : goal.returns-clause-covers
 returns-clause-covers c bits scene n device lawful at =
     let width = exponent_is scene.width lawful.width in
     let height = exponent_is scene.height lawful.height in
-    let columns : columns_of scene ≡ device.state.tree.nx = sym (ap (λ d. d.state.tree.nx) at.reached ∙ columns_at bits scene n) in
-    let rows : rows_of scene ≡ device.state.tree.ny = sym (ap (λ d. d.state.tree.ny) at.reached ∙ rows_at bits scene n) in
+    let columns : columns_of scene ≡ device.state.tree.nx =
+    sym (ap (λ d. d.state.tree.nx) at.reached ∙ columns_at bits scene n) in
+    let rows : rows_of scene ≡ device.state.tree.ny =
+    sym (ap (λ d. d.state.tree.ny) at.reached ∙ rows_at bits scene n) in
     record {
       is_open = subst (λ e. 1 ≤ e) columns width.positive;
       columns = subst (λ e. scene.width ≤ 2 ^ e) columns width.enough;

@@ -7,7 +7,8 @@ pub returns-then-plain-clause-cost : goal.returns-then-plain-clause-cost
 returns-then-plain-clause-cost c d same =
     c.times.ensures
     ∙ rw c.if-plain.true
-    (plain_costs c.args.lengths.now d c.args.solid.now _ c.turn_cost.result (rw same (not_none c.args.lengths.now.fraction c.if-lengths-eq0.false))
+    (plain_costs c.args.lengths.now d c.args.solid.now _ c.turn_cost.result
+    (rw same (not_none c.args.lengths.now.fraction c.if-lengths-eq0.false))
     (omega (arith, ap length c.backs.ensures.value)) (c.turn_cost.ensures.drops (end_of d)))
 
 pub returns-else-plain-clause-cost : goal.returns-else-plain-clause-cost
@@ -15,5 +16,6 @@ returns-else-plain-clause-cost c d same =
     c.plus.ensures
     ∙ rw (c.times-else-plain.ensures, c.if-plain.false)
     (barred_costs c.args.lengths.now d c.args.solid.now _ c.turn_cost-else-plain.result
-    (rw same (not_none c.args.lengths.now.fraction c.if-lengths-eq0.false)) (omega (arith, ap length c.fronts.ensures.value))
+    (rw same (not_none c.args.lengths.now.fraction c.if-lengths-eq0.false))
+    (omega (arith, ap length c.fronts.ensures.value))
     (λ face form there. c.turn_cost-else-plain.ensures.cost (end_of d) face form there))

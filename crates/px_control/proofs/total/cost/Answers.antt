@@ -18,9 +18,11 @@ products_cost-costs-requires-clause-known c =
 pub returns-clause-clocks : goal.returns-clause-clocks
 returns-clause-clocks c =
     (counted_passes c.args.scene.now c.lengths_of-lengths.result c.as_slice.result.now c.products_cost-costs.result
-    c.lengths_of-lengths.ensures.lengths (c.as_slice.ensures.value ∙ c.requires.products) c.products_cost-costs.ensures).1
+    c.lengths_of-lengths.ensures.lengths (c.as_slice.ensures.value ∙ c.requires.products)
+    c.products_cost-costs.ensures).1
 
 pub returns-clause-macros : goal.returns-clause-macros
 returns-clause-macros c =
     (counted_passes c.args.scene.now c.lengths_of-lengths.result c.as_slice.result.now c.products_cost-costs.result
-    c.lengths_of-lengths.ensures.lengths (c.as_slice.ensures.value ∙ c.requires.products) c.products_cost-costs.ensures).0
+    c.lengths_of-lengths.ensures.lengths (c.as_slice.ensures.value ∙ c.requires.products)
+    c.products_cost-costs.ensures).0

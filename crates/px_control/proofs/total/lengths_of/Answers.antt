@@ -41,7 +41,14 @@ returns-clause-short c =
         (exponent_between scene.width lawful.width).1,
         (exponent_between scene.height lawful.height).1,
       );
-      depth = omega (arith, c.from-3.ensures, c.depth_bits.ensures.value, c.from-4.ensures, c.fraction_bits.ensures.value, lawful.depth);
+      depth = omega (
+        arith,
+        c.from-3.ensures,
+        c.depth_bits.ensures.value,
+        c.from-4.ensures,
+        c.fraction_bits.ensures.value,
+        lawful.depth,
+      );
       fraction = omega (arith, c.from-4.ensures, c.fraction_bits.ensures.value, lawful.fraction);
       number = omega (arith, c.from-5.ensures, c.number_bits.ensures, number, number_few (faces_of scene.solids));
     }

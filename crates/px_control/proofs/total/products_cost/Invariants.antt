@@ -9,8 +9,10 @@ use Rattle.px_control.specs.Costs.{IsAtMost, cost_of}
 use Rattle.px_control.proofs.total.products_cost.Given as goal
 
 -- the cost of the background and of the first products
-pub record AreCounted (costs : Costs) (lengths : Lengths) (scene : SceneView) (products : List Product) (count : ℕ) : Type 0 where
-  pub counted : costs ≡ cost_of lengths (passes_with scene (layout_with lengths.depth lengths.fraction lengths.number) (take count products))
+pub record AreCounted (costs : Costs) (lengths : Lengths) (scene : SceneView) (products : List Product) (count : ℕ) :
+    Type 0 where
+  pub counted : costs ≡ cost_of lengths (passes_with scene (layout_with lengths.depth lengths.fraction lengths.number)
+      (take count products))
   pub few : IsAtMost (100 + count * 2 ^ 37) costs
 
 abbrev pub invariant-loop-product : goal.invariant-loop-product

@@ -6,12 +6,14 @@ use Rattle.px_prune.proofs.bounds.+grown.Goals as goal
 
 pub returns-then-is_covered : goal.returns-then-is_covered
 returns-then-is_covered t c cells is =
-    passed_over cells (is_inside c.args.solid.now (depths c.args.far c.args.fraction_bits)) c.args.block.now c.args.found is
+    passed_over cells (is_inside c.args.solid.now (depths c.args.far c.args.fraction_bits)) c.args.block.now
+    c.args.found is
     c.reach-reach.result c.reach-reach.ensures (sym c.is_covered.ensures ∙ c.if-is_covered.true)
 
 pub returns-then-is_pixel : goal.returns-then-is_pixel
 returns-then-is_pixel t c cells is = rw c.hull.ensures
-    (joined_on cells (is_inside c.args.solid.now (depths c.args.far c.args.fraction_bits)) c.args.block.now c.args.found is
+    (joined_on cells (is_inside c.args.solid.now (depths c.args.far c.args.fraction_bits)) c.args.block.now
+    c.args.found is
     c.reach-reach.result c.reach-reach.ensures (sym c.is_pixel.ensures ∙ c.if-is_pixel.true))
 
 pub returns : goal.returns

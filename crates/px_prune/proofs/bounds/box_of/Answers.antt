@@ -5,11 +5,19 @@ use Rattle.px_prune.proofs.PictureLemmas.{known}
 use Rattle.px_prune.proofs.bounds.box_of.Goals as goal
 
 pub grown-requires-clause-far : goal.grown-requires-clause-far
-grown-requires-clause-far c = omega (arith, c.far.ensures, pow_mono {i = c.args.scene.now.depth_bits} {j = 24} (omega (arith, c.width.ensures.lawful.depth)))
+grown-requires-clause-far c =
+    omega (
+      arith,
+      c.far.ensures,
+      pow_mono {i = c.args.scene.now.depth_bits} {j = 24}
+          (omega (arith, c.width.ensures.lawful.depth)),
+    )
 
 pub returns-clause-least : goal.returns-clause-least
-returns-clause-least c = known c.args.scene.now c.args.solid _ c.index-solids-solid.result c.of_picture-picture.result c.grown.result _ _ _ _
-    c.requires c.solids.ensures.value c.index-solids-solid.is c.far.ensures c.fraction_bits.ensures.value c.width.ensures.value c.height.ensures.value
+returns-clause-least c =
+    known c.args.scene.now c.args.solid _ c.index-solids-solid.result c.of_picture-picture.result c.grown.result _ _ _ _
+    c.requires c.solids.ensures.value c.index-solids-solid.is c.far.ensures c.fraction_bits.ensures.value
+    c.width.ensures.value c.height.ensures.value
     c.of_picture-picture.ensures c.grown.ensures
 
 pub returns-clause-joined : goal.returns-clause-joined

@@ -10,7 +10,8 @@ returns-then-least-le0-clause-depth c z =
     let m = c.least_back-least.result in
     let low : m ≤ℤ pos 0 = omega (arith, ints, c.if-least-le0.true) in
     cells_before (λ f. greatest_in c.args.block.now f.plane) c.args.backs.now m c.args.far c.args.fraction_bits
-    (value_is (λ f. greatest_in c.args.block.now f.plane) c.args.backs.now m _ _ _ _ c.from.ensures c.power.ensures c.least_back-least.ensures.value) z
+    (value_is (λ f. greatest_in c.args.block.now f.plane) c.args.backs.now m _ _ _ _ c.from.ensures c.power.ensures
+    c.least_back-least.ensures.value) z
     ∙ ap (λ n. nat_lt z n) (no_cells (depths c.args.far c.args.fraction_bits) m low)
 
 pub returns-else-least-le0-clause-depth : goal.returns-else-least-le0-clause-depth
@@ -18,15 +19,25 @@ returns-else-least-le0-clause-depth c z =
     let m = c.least_back-least.result in
     let low : pos 0 ≤ℤ m = omega (arith, ints, c.if-least-le0.false) in
     let high = high_is m _ _ _ _ c.from.ensures c.power.ensures c.least_back-least.ensures.high in
-    let small : m <ℤ pos (2 ^ 39) = omega (arith, ints, high, end_small c.args.far c.args.fraction_bits c.requires.far c.requires.fraction) in
+    let small : m <ℤ pos (2 ^ 39) =
+    omega (arith, ints, high, end_small c.args.far c.args.fraction_bits c.requires.far c.requires.fraction) in
     cells_before (λ f. greatest_in c.args.block.now f.plane) c.args.backs.now m c.args.far c.args.fraction_bits
-    (value_is (λ f. greatest_in c.args.block.now f.plane) c.args.backs.now m _ _ _ _ c.from.ensures c.power.ensures c.least_back-least.ensures.value) z
-    ∙ ap (λ n. nat_lt z n) (sym (c.cell_of.ensures c.args.far ∙ ap (cell_of (depths c.args.far c.args.fraction_bits)) (as_value m low small)))
+    (value_is (λ f. greatest_in c.args.block.now f.plane) c.args.backs.now m _ _ _ _ c.from.ensures c.power.ensures
+    c.least_back-least.ensures.value) z
+    ∙ ap (λ n. nat_lt z n) (sym (c.cell_of.ensures c.args.far ∙ ap (cell_of (depths c.args.far c.args.fraction_bits))
+    (as_value m low small)))
 
 pub returns-else-least-le0-clause-far : goal.returns-else-least-le0-clause-far
 returns-else-least-le0-clause-far c =
     let m = c.least_back-least.result in
     let low : pos 0 ≤ℤ m = omega (arith, ints, c.if-least-le0.false) in
     let high = high_is m _ _ _ _ c.from.ensures c.power.ensures c.least_back-least.ensures.high in
-    let small : m <ℤ pos (2 ^ 39) = omega (arith, ints, high, end_small c.args.far c.args.fraction_bits c.requires.far c.requires.fraction) in
-    omega (arith, c.cell_of.ensures c.args.far, ap (cell_of (depths c.args.far c.args.fraction_bits)) (as_value m low small), far_cell c.args.far c.args.fraction_bits m high)
+    let small : m <ℤ pos (2 ^ 39) =
+    omega (arith, ints, high, end_small c.args.far c.args.fraction_bits c.requires.far c.requires.fraction) in
+    omega (
+      arith,
+      c.cell_of.ensures c.args.far,
+      ap (cell_of (depths c.args.far c.args.fraction_bits))
+          (as_value m low small),
+      far_cell c.args.far c.args.fraction_bits m high,
+    )

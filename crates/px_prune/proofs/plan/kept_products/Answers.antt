@@ -10,6 +10,7 @@ returns c =
     c.loop-product.invariant ∙ sym (map-id c.loop-product.yielded)
     ∙ (YieldsList-end
     (YieldsList-at c.into_iter-product-iterator.ensures.into_iter_gives
-    (YieldsList-from_filter_map _ (pruned (λ q. slice_index_or c.args.boxes.now q None)) (YieldsList-from_slice c.args.products.now (cc))
+    (YieldsList-from_filter_map _ (pruned (λ q. slice_index_or c.args.boxes.now q None))
+    (YieldsList-from_slice c.args.products.now (cc))
     c.filter_map-product-items.ensures.closure (λ x r q k. search (rules, tests))))
     c.loop-product.yielded _ c.loop-product.yielded_by _ _ c.in-None.is c.next.ensures.steps).0

@@ -16,14 +16,16 @@ returns-clause-law c scene lawful products x y z left up before =
     in let fits = boxes_have_cells scene (bounding_box scene) (bounding_is scene) x y left up z
     in record {
       members = kept_holds c.laws_of_sets.ensures (bounding_box scene) at x y z near_x near_y near_z fits products;
-      faces = λ face. kept_shows c.laws_of_sets.ensures (bounding_box scene) at x y z near_x near_y near_z fits products face;
+      faces = λ face. kept_shows c.laws_of_sets.ensures (bounding_box scene) at x y z near_x near_y near_z fits
+          products face;
     }
 
 pub returns-clause-apart : goal.returns-clause-apart
 returns-clause-apart c scene products = kept_apart c.laws_of_sets.ensures (bounding_box scene) products
 
 pub returns-clause-known : goal.returns-clause-known
-returns-clause-known c count scene products known = kept_below c.laws_of_sets.ensures count (bounding_box scene) products known
+returns-clause-known c count scene products known =
+    kept_below c.laws_of_sets.ensures count (bounding_box scene) products known
 
 pub returns-clause-plain : goal.returns-clause-plain
 returns-clause-plain c = λ scene products all. kept_plain (bounding_box scene) products all

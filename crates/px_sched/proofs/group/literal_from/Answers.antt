@@ -15,6 +15,8 @@ returns-then-literal-len-clause-left c l =
     let q = literal_at (literals p) c.args.literal in
     let rest = flat_map (literal_passes scene l p) (drop (c.args.literal + 1) (literals p)) in
     let behind = products_from scene l c.args.products.now (c.args.product + 1) in
-    let more : c.args.literal < length (literals p) = omega (arith, c.if-literal-len.true, c.len.ensures.value, ap length c.literals.ensures) in
-    ap (λ ms. ms ++ behind) (elements_more (literal_passes scene l p) (literals p) no_literal c.args.literal more ∙ ap (λ ms. ms ++ rest) (opens scene l p q))
+    let more : c.args.literal < length (literals p) =
+    omega (arith, c.if-literal-len.true, c.len.ensures.value, ap length c.literals.ensures) in
+    ap (λ ms. ms ++ behind) (elements_more (literal_passes scene l p) (literals p) no_literal c.args.literal more
+    ∙ ap (λ ms. ms ++ rest) (opens scene l p q))
     ∙ append_assoc (from_step scene l q (others q p) Open) rest behind

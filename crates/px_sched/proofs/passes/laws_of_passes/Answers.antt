@@ -12,10 +12,12 @@ returns-clause-layout c = λ scene lawful. scene_layout scene lawful
 
 pub returns-clause-lawful : goal.returns-clause-lawful
 returns-clause-lawful c =
-    λ scene lawful solids. scene_passes_fit c.laws_of_edges.ensures.range c.laws_of_edges.ensures.planes scene lawful solids (kept_of scene (sum_of_products scene.show))
+    λ scene lawful solids. scene_passes_fit c.laws_of_edges.ensures.range c.laws_of_edges.ensures.planes scene lawful
+    solids (kept_of scene (sum_of_products scene.show))
 
 pub returns-clause-few : goal.returns-clause-few
-returns-clause-few c = λ scene lawful few. few_passes c.laws_of_edges.ensures.count scene (layout_of scene) lawful (kept_of scene (sum_of_products scene.show)) few
+returns-clause-few c = λ scene lawful few. few_passes c.laws_of_edges.ensures.count scene (layout_of scene) lawful
+    (kept_of scene (sum_of_products scene.show)) few
 
 pub returns-clause-picture : goal.returns-clause-picture
 returns-clause-picture c =

@@ -4,13 +4,26 @@ use Rattle.px_control.proofs.program.Program.after.Goals as goal
 
 pub overflow_add-clock : goal.overflow_add-clock
 overflow_add-clock c =
-    let here = here_of c.args.self.now c.args.place.now c.args.m.now c.laws.ensures.good.lawful c.requires.stands c.requires.here
-    in omega (arith, here.below, c.laws.ensures.good.clocks, c.laws.ensures.good.few c.args.m.now here.lawful, c.requires.cycles, c.requires.within)
+    let here = here_of c.args.self.now c.args.place.now c.args.m.now c.laws.ensures.good.lawful c.requires.stands
+    c.requires.here
+    in omega (
+      arith,
+      here.below,
+      c.laws.ensures.good.clocks,
+      c.laws.ensures.good.few c.args.m.now here.lawful,
+      c.requires.cycles,
+      c.requires.within,
+    )
 
 pub returns-else-to-cycles-clause-stands : goal.returns-else-to-cycles-clause-stands
 returns-else-to-cycles-clause-stands c =
     let good = c.laws.ensures.good
     in let next = c.give-current.ensures
     in stands_next c.args.self.now c.args.place.now c.args.m.now c.give-current.new.cursor c.give-current.result _
-    good.lawful good.some c.requires.stands c.requires.here (omega (arith, c.if-to-cycles.false, c.requires.cycles, c.requires.within))
+    good.lawful good.some c.requires.stands c.requires.here (omega (
+      arith,
+      c.if-to-cycles.false,
+      c.requires.cycles,
+      c.requires.within,
+    ))
     next.operation next.stands next.some next.stays

@@ -9,7 +9,8 @@ next_macro-requires-clause-stands c = subst (λ s. Stands s c.args.cursor.now) (
 
 pub returns-clause-operation : goal.returns-clause-operation
 returns-clause-operation c =
-    subst (λ s. c.next_macro.result ≡ slice_get (passes s) c.args.cursor.now.given) c.self.view_is c.next_macro.ensures.operation
+    subst (λ s. c.next_macro.result ≡ slice_get (passes s) c.args.cursor.now.given) c.self.view_is
+    c.next_macro.ensures.operation
 
 pub returns-clause-stands : goal.returns-clause-stands
 returns-clause-stands c = subst (λ s. Stands s c.next_macro.new.self) c.self.view_is c.next_macro.ensures.stands

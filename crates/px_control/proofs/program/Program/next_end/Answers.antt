@@ -4,7 +4,8 @@ use Rattle.px_control.proofs.program.Program.next_end.Goals as goal
 
 pub cycles-requires : goal.cycles-requires
 cycles-requires c =
-    (here_of c.args.self.now c.args.place.now c.in-Some.m c.laws.ensures.good.lawful c.requires.stands c.in-Some.is).lawful
+    (here_of c.args.self.now c.args.place.now c.in-Some.m c.laws.ensures.good.lawful c.requires.stands
+    c.in-Some.is).lawful
 
 pub returns-in-Some-clause-next : goal.returns-in-Some-clause-next
 returns-in-Some-clause-next c =
@@ -14,7 +15,8 @@ returns-in-Some-clause-next c =
 
 pub returns-in-Some-clause-within : goal.returns-in-Some-clause-within
 returns-in-Some-clause-within c =
-    next_end_within c.args.self.now c.args.place.now c.in-Some.m _ c.laws.ensures.good.lawful c.requires.stands c.in-Some.is
+    next_end_within c.args.self.now c.args.place.now c.in-Some.m _ c.laws.ensures.good.lawful c.requires.stands
+    c.in-Some.is
     (omega (arith, c.cycles.ensures.value))
 
 pub returns-in-None-clause-next : goal.returns-in-None-clause-next

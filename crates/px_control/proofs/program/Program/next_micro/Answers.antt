@@ -8,4 +8,5 @@ returns-in-Some c =
     ∙ ap (λ x. Some x) (sym c.micro.ensures.value)
 
 pub returns-in-None : goal.returns-in-None
-returns-in-None c = absurd (omega (arith, c.requires.more, at_end c.args.self.now c.args.place.now c.requires.stands c.in-None.is))
+returns-in-None c =
+    absurd (omega (arith, c.requires.more, at_end c.args.self.now c.args.place.now c.requires.stands c.in-None.is))

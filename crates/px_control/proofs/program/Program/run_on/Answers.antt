@@ -5,10 +5,12 @@ use Rattle.px_control.proofs.program.Program.run_on.Goals as goal
 
 pub cycles-cycles-requires : goal.cycles-cycles-requires
 cycles-cycles-requires g c =
-    (here_of c.args.self.now c.args.place.now c.in-Some.m c.laws.ensures.good.lawful c.requires.stands c.in-Some.is).lawful
+    (here_of c.args.self.now c.args.place.now c.in-Some.m c.laws.ensures.good.lawful c.requires.stands
+    c.in-Some.is).lawful
 
 pub make_micros-requires-clause-grid : goal.make_micros-requires-clause-grid
-make_micros-requires-clause-grid g c = grid_at _ c.args.self.now c.args.place.now.clock _ c.laws.ensures.good.grid c.requires.at
+make_micros-requires-clause-grid g c =
+    grid_at _ c.args.self.now c.args.place.now.clock _ c.laws.ensures.good.grid c.requires.at
 
 pub make_micros-requires-clause-lawful : goal.make_micros-requires-clause-lawful
 make_micros-requires-clause-lawful g c =
@@ -18,16 +20,28 @@ make_micros-requires-clause-lawful g c =
 
 pub make_micros-requires-clause-places : goal.make_micros-requires-clause-places
 make_micros-requires-clause-places g c =
-    let here = here_of c.args.self.now c.args.place.now c.in-Some.m c.laws.ensures.good.lawful c.requires.stands c.in-Some.is
+    let here = here_of c.args.self.now c.args.place.now c.in-Some.m c.laws.ensures.good.lawful c.requires.stands
+    c.in-Some.is
     in c.laws.ensures.more c.in-Some.m _ _ c.requires.at.enough here.lawful
 
 pub make_micros-requires-clause-within : goal.make_micros-requires-clause-within
 make_micros-requires-clause-within g c =
-    omega (arith, cycles_are _ c.args.self.now c.args.place.now.clock _ c.in-Some.m c.requires.at, c.cycles-cycles.ensures.value)
+    omega (
+      arith,
+      cycles_are _ c.args.self.now c.args.place.now.clock _ c.in-Some.m c.requires.at,
+      c.cycles-cycles.ensures.value,
+    )
 
 pub make_micros-requires-clause-counted : goal.make_micros-requires-clause-counted
 make_micros-requires-clause-counted g c =
-    omega (arith, clocks_at _ c.args.self.now c.args.place.now.clock _ c.requires.at, c.requires.within, c.requires.before, c.laws.ensures.good.clocks, c.cycles-cycles.ensures.few)
+    omega (
+      arith,
+      clocks_at _ c.args.self.now c.args.place.now.clock _ c.requires.at,
+      c.requires.within,
+      c.requires.before,
+      c.laws.ensures.good.clocks,
+      c.cycles-cycles.ensures.few,
+    )
 
 pub returns-in-Some-clause-at : goal.returns-in-Some-clause-at
 returns-in-Some-clause-at g c =
@@ -40,4 +54,10 @@ returns-in-Some-clause-at g c =
 
 pub returns-in-None-clause-later : goal.returns-in-None-clause-later
 returns-in-None-clause-later g c =
-    absurd (omega (arith, c.requires.before, c.requires.within, at_end c.args.self.now c.args.place.now c.requires.stands c.in-None.is))
+    absurd (omega (
+      arith,
+      c.requires.before,
+      c.requires.within,
+      at_end c.args.self.now c.args.place.now
+          c.requires.stands c.in-None.is,
+    ))

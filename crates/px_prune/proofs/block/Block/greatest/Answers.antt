@@ -8,4 +8,5 @@ unfolding greatest_in
 returns-clause-value c = search rules
 
 pub returns-clause-bound : goal.returns-clause-bound
-returns-clause-bound c x y there = rw (returns-clause-value c) (greatest_bounds c.args.self.now c.args.form.now x y there)
+returns-clause-bound c x y there =
+    rw (returns-clause-value c) (greatest_bounds c.args.self.now c.args.form.now x y there)

@@ -1,6 +1,6 @@
 use Rattle.std.proofs.Common.{◌∙◌, length, arith}
 use Rattle.px_sched.proofs.DrawnLemmas.{kept_drawn}
-use Rattle.px_sched.proofs.NumbersLemmas.{leaves_below}
+use Rattle.px_expr.proofs.LeafLaws.{leaves_below}
 use Rattle.px_sched.proofs.cursor.Cursor.next_macro.Goals as goal
 
 pub give-requires-clause-drawn : goal.give-requires-clause-drawn

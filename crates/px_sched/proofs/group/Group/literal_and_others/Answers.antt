@@ -6,5 +6,7 @@ use Rattle.px_sched.proofs.group.Group.literal_and_others.Goals as goal
 
 pub returns-clause-others : goal.returns-clause-others
 returns-clause-others c =
-    others_are c.args.products.now c.args.self (get_or c.deref.result.now c.args.self.literal no_literal) c.others-rs.result.items c.as_slice.result.now (c.as_slice.ensures.value ∙ c.literals-all.ensures)
-    (ap (λ (ls : List Literal). get_or ls c.args.self.literal no_literal) (c.deref.ensures.0 ∙ c.literals-all.ensures)) c.others-rs.ensures
+    others_are c.args.products.now c.args.self (get_or c.deref.result.now c.args.self.literal no_literal)
+    c.others-rs.result.items c.as_slice.result.now (c.as_slice.ensures.value ∙ c.literals-all.ensures)
+    (ap (λ (ls : List Literal). get_or ls c.args.self.literal no_literal) (c.deref.ensures.0
+    ∙ c.literals-all.ensures)) c.others-rs.ensures

@@ -1,0 +1,14 @@
+-- The array after some broadcasts of a scene keeps the scene's columns and rows.
+use Rattle.std.proofs.Common.{◌≡◌, ℕ, take}
+use Rattle.px_array.specs.Arrays.{zero_state}
+use Rattle.px_array.proofs.ClockLaws.{nx-after_clocks, ny-after_clocks}
+use Rattle.px_model.specs.Scenes.{SceneView}
+use Rattle.px_control.specs.Program.{array_after, columns_of, program, rows_of}
+
+pub columns_at : (bits : ℕ) (scene : SceneView) (n : ℕ) → (array_after bits scene n).state.tree.nx ≡ columns_of scene
+unfolding array_after
+columns_at bits scene n = nx-after_clocks (take n (program scene)) (zero_state bits (columns_of scene) (rows_of scene))
+
+pub rows_at : (bits : ℕ) (scene : SceneView) (n : ℕ) → (array_after bits scene n).state.tree.ny ≡ rows_of scene
+unfolding array_after
+rows_at bits scene n = ny-after_clocks (take n (program scene)) (zero_state bits (columns_of scene) (rows_of scene))
