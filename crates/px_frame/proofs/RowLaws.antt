@@ -1,23 +1,14 @@
 -- Rows by their pixels, and images by their rows, as they are written one after another; images of the same numbers.
-use Rattle.std.proofs.Common.{◌≡◌, ℕ, zero, suc, ◌+◌, ◌-◌, ◌<◌, ◌≤◌, refl, ap, sym, ◌∙◌, arith}
+use Rattle.std.proofs.Common.{◌≡◌, ℕ, ◌+◌, ◌-◌, ◌<◌, ◌≤◌, ap, sym, ◌∙◌, arith}
 use Rattle.std.proofs.Common.{Bool, List, [], ◌∷◌, ◌++◌, Option, append_assoc}
 use Rattle.std.proofs.lemmas.List.{append-nil}
 use Rattle.std.proofs.lemmas.Grind.{flat_map-append}
 use Rattle.std.specs.List.{flat_map, range_with_len}
+use Rattle.px_num.proofs.RangeLaws.{range_cut, same_parts}
 use Rattle.px_io.specs.Told.{TakesAll, TakesFront}
 use Rattle.px_io.proofs.ToldLaws.{front_after, front_before, takes_both}
-use Rattle.px_frame.specs.Image.{header, image_of, row_bytes, three_bytes}
-
-range_cut : (a n m : ℕ) → range_with_len a (n + m) ≡ range_with_len a n ++ range_with_len (a + n) m
-range_cut a zero m =
-    let here : a + 0 ≡ a = omega arith in
-    let all : 0 + m ≡ m = omega arith in
-    rw (here, all) refl
-range_cut a (suc n) m =
-    let next : a + 1 + n ≡ a + suc n = omega arith in
-    let all : suc n + m ≡ suc (n + m) = omega arith in
-    let others = ap (λ b. range_with_len (a + 1) n ++ range_with_len b m) next in
-    rw all (ap (λ ns. a ∷ ns) (range_cut (a + 1) n m ∙ others))
+use Rattle.px_frame.specs.Image.{header, image_of, image_of_pixels, row_of_pixels, three_bytes}
+use Rattle.px_frame.specs.Rows.{row_bytes}
 
 range_join : (n m : ℕ) → range_with_len 0 n ++ range_with_len n m ≡ range_with_len 0 (n + m)
 range_join n m =
@@ -37,11 +28,16 @@ made_all : (f : ℕ → List ℕ) (n m : ℕ) → made f n ++ flat_map f (range_
 made_all f n m = sym (flat_map-append f (range_with_len 0 n) (range_with_len n m)) ∙ ap (flat_map f) (range_join n m)
 
 -- one pixel more
+pub pixels_grown : (pixel : (x y : ℕ) → List ℕ) (x y : ℕ) (bytes old new : List ℕ) → old ≡ row_of_pixels x pixel y
+    → bytes ≡ pixel x y → new ≡ old ++ bytes → new ≡ row_of_pixels (x + 1) pixel y
+pixels_grown pixel x y bytes old new filled is grown =
+    grown ∙ ap (λ front. front ++ bytes) filled ∙ ap (λ more. row_of_pixels x pixel y ++ more) is
+    ∙ made_more (λ x. pixel x y) x
+
 pub row_grown : (number : (x y : ℕ) → ℕ) (x y n : ℕ) (old new : List ℕ) → old ≡ row_bytes x number y
     → n ≡ number x y → new ≡ old ++ three_bytes n → new ≡ row_bytes (x + 1) number y
 row_grown number x y n old new filled is grown =
-    grown ∙ ap (λ bytes. bytes ++ three_bytes n) filled ∙ ap (λ m. row_bytes x number y ++ three_bytes m) is
-    ∙ made_more (λ x. three_bytes (number x y)) x
+    pixels_grown (λ x y. three_bytes (number x y)) x y (three_bytes n) old new filled (ap three_bytes is) grown
 
 -- one row more
 pub rows_grown : (a b c : Option (List ℕ)) (f g h : Option Bool) (front : List ℕ) (row : ℕ → List ℕ) (y : ℕ)
@@ -52,7 +48,8 @@ rows_grown a b c f g h front row y written next =
     rw more at (takes_both a b c f g h (front ++ made row y) (row y) written next)
 
 -- a front of one row more is one of the whole
-pub rows_broken : (a b c : Option (List ℕ)) (f g h : Option Bool) (front : List ℕ) (row : ℕ → List ℕ) (y height : ℕ) → y < height
+pub rows_broken : (a b c : Option (List ℕ)) (f g h : Option Bool) (front : List ℕ) (row : ℕ → List ℕ) (y height : ℕ)
+    → y < height
     → TakesAll a b f g (front ++ flat_map row (range_with_len 0 y)) → TakesFront b c g h (row y)
     → TakesFront a c f h (front ++ flat_map row (range_with_len 0 height))
 rows_broken a b c f g h front row y height above written next =
@@ -64,19 +61,17 @@ rows_broken a b c f g h front row y height above written next =
     rw whole at (front_before a c f h (front ++ made row (y + 1)) (flat_map row (range_with_len (y + 1) rest))
     (rw more at (front_after a b c f g h (front ++ made row y) (row y) written next)))
 
--- what is made of some numbers in a row, where each of them makes the same
-same_parts : (f g : ℕ → List ℕ) (from count : ℕ) → ((k : ℕ) → from ≤ k → k < from + count → f k ≡ g k)
-    → flat_map f (range_with_len from count) ≡ flat_map g (range_with_len from count)
-same_parts f g from zero same = refl
-same_parts f g from (suc count) same =
-    let others = same_parts f g (from + 1) count (λ k low high. same k (omega arith) (omega arith)) in
-    rw (same from (omega arith) (omega arith), others) refl
+-- an image is that of the pixels in the picture
+pub same_pixels : (width height : ℕ) (f g : (x y : ℕ) → List ℕ)
+    → ((x y : ℕ) → x < width → y < height → f x y ≡ g x y)
+    → image_of_pixels width height f ≡ image_of_pixels width height g
+same_pixels width height f g same =
+    ap (λ bytes. header width height ++ bytes)
+    (same_parts (row_of_pixels width f) (row_of_pixels width g) 0 height (λ y low above.
+    same_parts (λ x. f x y) (λ x. g x y) 0 width (λ x low left. same x y (omega arith) (omega arith))))
 
--- an image is that of the numbers in the picture
 pub same_image : (width height : ℕ) (f g : (x y : ℕ) → ℕ) → ((x y : ℕ) → x < width → y < height → f x y ≡ g x y)
     → image_of width height f ≡ image_of width height g
 same_image width height f g same =
-    ap (λ bytes. header width height ++ bytes)
-    (same_parts (row_bytes width f) (row_bytes width g) 0 height (λ y low above.
-    same_parts (λ x. three_bytes (f x y)) (λ x. three_bytes (g x y)) 0 width (λ x low left.
-    ap three_bytes (same x y (omega arith) (omega arith)))))
+    same_pixels width height (λ x y. three_bytes (f x y)) (λ x y. three_bytes (g x y))
+    (λ x y left above. ap three_bytes (same x y left above))

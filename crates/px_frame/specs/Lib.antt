@@ -5,4 +5,5 @@ pub use Rattle.px_sched.specs.PassesLaw
 pub mod Image
 pub mod ImagesLaw
 pub mod Picture
+pub mod Rows
 pub mod Stored

@@ -2,12 +2,12 @@
 use Rattle.std.specs.Prelude.{ℕ, ◌^◌, ◌<◌, ◌≤◌, List}
 use Rattle.px_array.specs.Arrays.{State, pixel_of}
 use Rattle.px_macro.specs.Fields.{number_in}
+use Rattle.px_model.specs.declared.solid.Colour.{Colour}
 use Rattle.px_model.specs.Scenes.{SceneView, colour_in_scene, faces_of}
 use Rattle.px_sched.specs.Layouts.{LayoutView, depth_part, number_part}
 use Rattle.px_frame.specs.declared.plane.Plane.{Plane}
 use Rattle.px_frame.specs.declared.plane.Plane.TheVariants as p
-use Rattle.px_frame.specs.Image.{image_of}
-use Rattle.px_frame.specs.Picture.{colour_number}
+use Rattle.px_frame.specs.Image.{colour_bytes, image_of_pixels, three_bytes}
 
 abbrev pub stored_depth : LayoutView → State → (x y : ℕ) → ℕ
 stored_depth layout state x y = number_in (depth_part layout layout.key_b) (pixel_of state x y).memory
@@ -15,16 +15,18 @@ stored_depth layout state x y = number_in (depth_part layout layout.key_b) (pixe
 abbrev pub stored_face : LayoutView → State → (x y : ℕ) → ℕ
 stored_face layout state x y = number_in (number_part layout layout.key_b) (pixel_of state x y).memory
 
-abbrev pub stored_colour : SceneView → LayoutView → State → (x y : ℕ) → ℕ
-stored_colour scene layout state x y = colour_number (colour_in_scene scene.solids (stored_face layout state x y))
+-- the colour of the face that is stored
+abbrev pub stored_colour : SceneView → LayoutView → State → (x y : ℕ) → Colour
+stored_colour scene layout state x y = colour_in_scene scene.solids (stored_face layout state x y)
 
-abbrev pub stored_number : SceneView → LayoutView → State → Plane → (x y : ℕ) → ℕ
-stored_number scene layout state p.Depth = stored_depth layout state
-stored_number scene layout state p.Face = stored_face layout state
-stored_number scene layout state p.Colour = stored_colour scene layout state
+abbrev pub stored_pixel : SceneView → LayoutView → State → Plane → (x y : ℕ) → List ℕ
+stored_pixel scene layout state p.Depth x y = three_bytes (stored_depth layout state x y)
+stored_pixel scene layout state p.Face x y = three_bytes (stored_face layout state x y)
+stored_pixel scene layout state p.Colour x y = colour_bytes (stored_colour scene layout state x y)
 
 abbrev pub stored_image : SceneView → LayoutView → State → Plane → List ℕ
-stored_image scene layout state plane = image_of scene.width scene.height (stored_number scene layout state plane)
+stored_image scene layout state plane =
+    image_of_pixels scene.width scene.height (stored_pixel scene layout state plane)
 
 -- the grid has the columns of the picture, and its rows
 abbrev pub HasColumns : SceneView → State → Type 0

@@ -4,20 +4,19 @@ ghost use Rattle.px_io.specs.Counts.{HasCause};
 ghost use Rattle.px_io.specs.Told.{TakesAll, TakesFront};
 ghost use Rattle.px_array.specs.Arrays.{IsOpen};
 ghost use Rattle.px_sched.specs.Layouts.{need_of};
-ghost use Rattle.px_frame.specs.Image.{header, row_bytes, three_bytes};
-ghost use Rattle.px_frame.specs.Stored.{HasColumns, HasRows, StoresFaces};
-ghost use Rattle.px_frame.specs.Stored.{stored_image, stored_number};
+ghost use Rattle.px_frame.specs.Image.{header, row_of_pixels, three_bytes};
+ghost use Rattle.px_frame.specs.Stored.{HasColumns, HasRows, StoresFaces, stored_image, stored_pixel};
 
-use crate::plane::{Plane, number_at};
+use crate::plane::{Plane, pixel_at};
 use arrayvec::{ArrayString, ArrayVec};
 use itoa::Buffer;
 use px_array::Array;
 use px_io::{Failed, Sink, write_whole};
-use px_model::Scene;
+use px_model::{MAX_PICTURE_SIZE, Scene};
 use px_sched::Layout;
 
-/// Three bytes a pixel, for the 512 pixels of the widest picture.
-const ROW_BYTES: usize = 1536;
+/// Three bytes a pixel, for the widest picture.
+const ROW_BYTES: usize = 3 * MAX_PICTURE_SIZE as usize;
 
 /// Appends one image of what the array stores to the sink, or a front of it where a write fails
 /// (docs/PICTURE.md, "Images"). The sink is not finished.
@@ -79,12 +78,12 @@ fn row_bytes<A: Array>(
     requires room { need_of layout.now ≤ A.BITS }
     requires faces { StoresFaces scene.now layout.now (A.device array.now).state }
     requires y { y < scene.now.height }
-    ensures { result.items ≡ row_bytes scene.now.width
-        (stored_number scene.now layout.now (A.device array.now).state plane) y }
+    ensures { result.items ≡ row_of_pixels scene.now.width
+        (stored_pixel scene.now layout.now (A.device array.now).state plane) y }
 {
     let mut bytes = ArrayVec::new();
     for x in 0..scene.width() {
-        let pixel = three_bytes(number_at(array, layout, scene, plane, x, y));
+        let pixel = pixel_at(array, layout, scene, plane, x, y);
         bytes.try_extend_from_slice(&pixel).unwrap();
     }
     bytes

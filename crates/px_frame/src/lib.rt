@@ -9,4 +9,4 @@ mod plane;
 pub use image::{header, three_bytes, write_picture};
 pub use keys::stored;
 pub use law::laws_of_images;
-pub use plane::Plane;
+pub use plane::{Plane, colour_bytes};

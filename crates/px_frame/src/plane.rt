@@ -1,11 +1,12 @@
-//! What an image shows of each pixel, and its number as the array stores it.
-ghost use Rattle.std.specs.Prelude.{◌≡◌, ◌^◌, ◌<◌, ◌≤◌};
+//! What an image shows of each pixel, and its bytes as the array stores it.
+ghost use Rattle.std.specs.Prelude.{◌≡◌, ◌≤◌};
 ghost use Rattle.px_array.specs.Arrays.{HasPixel};
 ghost use Rattle.px_model.specs.Scenes.{faces_of};
 ghost use Rattle.px_sched.specs.Layouts.{need_of};
-ghost use Rattle.px_frame.specs.Picture.{colour_number};
-ghost use Rattle.px_frame.specs.Stored.{stored_face, stored_number};
+ghost use Rattle.px_frame.specs.Image.{colour_bytes};
+ghost use Rattle.px_frame.specs.Stored.{stored_face, stored_pixel};
 
+use crate::image::three_bytes;
 use crate::keys::{depth_at, face_at};
 use px_array::Array;
 use px_model::{Colour, Scene};
@@ -22,36 +23,34 @@ pub enum Plane {
     Colour,
 }
 
-/// The number below `2^24` that an image shows of the pixel (x, y).
-pub(crate) fn number_at<A: Array>(
+/// The bytes that an image has for the pixel (x, y).
+pub(crate) fn pixel_at<A: Array>(
     array: &A,
     layout: &Layout,
     scene: &Scene,
     plane: Plane,
     x: u32,
     y: u32,
-) -> u32
+) -> [u8; 3]
     requires pixel { HasPixel (A.device array.now) x y }
     requires room { need_of layout.now ≤ A.BITS }
     requires face { stored_face layout.now (A.device array.now).state x y
         ≤ faces_of scene.now.solids }
-    ensures number { result
-        ≡ stored_number scene.now layout.now (A.device array.now).state plane x y }
-    ensures small { result < 2 ^ 24 }
+    ensures { result ≡ stored_pixel scene.now layout.now (A.device array.now).state plane x y }
 {
     match plane {
-        Plane::Depth => depth_at(array, layout, x, y),
-        Plane::Face => face_at(array, layout, x, y),
+        Plane::Depth => three_bytes(depth_at(array, layout, x, y)),
+        Plane::Face => three_bytes(face_at(array, layout, x, y)),
         Plane::Colour => {
             let face = face_at(array, layout, x, y);
-            colour_number(scene.colour_of(face))
+            colour_bytes(scene.colour_of(face))
         }
     }
 }
 
-fn colour_number(colour: Colour) -> u32
-    ensures number { result ≡ colour_number colour }
-    ensures small { result < 2 ^ 24 }
+/// A colour as one pixel of an image.
+pub fn colour_bytes(colour: Colour) -> [u8; 3]
+    ensures { result ≡ colour_bytes colour }
 {
-    u32::from(colour.red) * 65536 + u32::from(colour.green) * 256 + u32::from(colour.blue)
+    [colour.red, colour.green, colour.blue]
 }

@@ -1,11 +1,12 @@
 use Rattle.std.proofs.Common.{◌≡◌, ◌*◌}
 use Rattle.arrayvec.specs.ArrayVec.{array_vec_len}
-use Rattle.px_frame.specs.Image.{row_bytes}
-use Rattle.px_frame.specs.Stored.{stored_number}
+use Rattle.px_frame.specs.Image.{row_of_pixels}
+use Rattle.px_frame.specs.Stored.{stored_pixel}
 use Rattle.px_frame.proofs.image.row_bytes.Given as goal
 
 abbrev pub invariant-loop-x : goal.invariant-loop-x
 invariant-loop-x g l = record {
-  filled : l.bytes.items ≡ row_bytes l.x (stored_number l.scene l.layout (g.A.Array.device l.array).state l.plane) l.y;
+  filled : l.bytes.items ≡ row_of_pixels l.x (stored_pixel l.scene l.layout (g.A.Array.device l.array).state
+      l.plane) l.y;
   size : array_vec_len l.bytes ≡ 3 * l.x;
 }

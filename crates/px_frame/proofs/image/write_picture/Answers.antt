@@ -1,7 +1,7 @@
 use Rattle.std.proofs.Common.{◌≡◌, ◌<◌, arith, Result, Ok, Err, OnErr}
 use Rattle.px_io.proofs.ToldLaws.{front_before}
-use Rattle.px_frame.specs.Image.{header, row_bytes}
-use Rattle.px_frame.specs.Stored.{stored_number}
+use Rattle.px_frame.specs.Image.{header, row_of_pixels}
+use Rattle.px_frame.specs.Stored.{stored_pixel}
 use Rattle.px_frame.proofs.RowLaws.{rows_broken, rows_grown}
 use Rattle.px_frame.proofs.image.write_picture.Goals as goal
 
@@ -24,7 +24,8 @@ pub loop-y-preserved : goal.loop-y-preserved
 loop-y-preserved g c =
     let state = (g.A.Array.device c.args.array.now).state
     in let above = header c.args.scene.now.width c.args.scene.now.height
-    in let row = row_bytes c.args.scene.now.width (stored_number c.args.scene.now c.args.layout.now state c.args.plane)
+    in let row =
+    row_of_pixels c.args.scene.now.width (stored_pixel c.args.scene.now c.args.layout.now state c.args.plane)
     in let next = rw (c.as_slice.ensures.value, c.row_bytes-row.ensures) at c.in_ok-write_whole-2.ensures.ok
     in record {
       front = rows_grown _ _ _ _ _ _ above row c.loop-y.y c.loop-y.invariant.front next;

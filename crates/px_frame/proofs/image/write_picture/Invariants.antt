@@ -1,14 +1,14 @@
 use Rattle.std.proofs.Common.{◌≡◌, ◌++◌}
 use Rattle.std.specs.List.{flat_map, range_with_len}
 use Rattle.px_io.specs.Told.{TakesAll}
-use Rattle.px_frame.specs.Image.{header, row_bytes}
-use Rattle.px_frame.specs.Stored.{stored_number}
+use Rattle.px_frame.specs.Image.{header, row_of_pixels}
+use Rattle.px_frame.specs.Stored.{stored_pixel}
 use Rattle.px_frame.proofs.image.write_picture.Given as goal
 
 abbrev pub invariant-loop-y : goal.invariant-loop-y
 invariant-loop-y g l =
     let state = (g.A.Array.device l.array).state
-    in let row = row_bytes l.scene.width (stored_number l.scene l.layout state l.plane)
+    in let row = row_of_pixels l.scene.width (stored_pixel l.scene l.layout state l.plane)
     in record {
       front : TakesAll (g.O.Sink.written l.fn.out) (g.O.Sink.written l.out)
           (g.O.Sink.finished l.fn.out) (g.O.Sink.finished l.out)
