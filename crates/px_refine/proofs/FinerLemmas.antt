@@ -1,5 +1,7 @@
 -- What is seen of the finer scene at a pixel that both scenes have.
-use Rattle.std.proofs.Common.{◌≡◌, ℕ, zero, suc, ◌+◌, ◌*◌, ◌^◌, ◌<◌, ◌≤◌, ℤ, pos, ◌*ℤ◌, List, [], ◌∷◌, map, filter, nat_le, nat_lt, Bool, true, false, Option, Some, None, refl, ap, sym, ◌∙◌, arith, slice_get, if◌then◌else◌}
+use Rattle.std.proofs.Common.{◌≡◌, ℕ, zero, suc, ◌+◌, ◌*◌, ◌^◌, ◌<◌, ◌≤◌, ℤ, pos, ◌*ℤ◌, List, [], ◌∷◌, map, filter}
+use Rattle.std.proofs.Common.{nat_le, nat_lt, Bool, true, false, Option, Some, None, refl, ap, sym, ◌∙◌, arith}
+use Rattle.std.proofs.Common.{slice_get, if◌then◌else◌}
 use Rattle.std.proofs.Math.Path.{fun_ext}
 use Rattle.std.proofs.lemmas.Nat.{pow-add, pow_pos}
 use Rattle.std.proofs.lemmas.Option.{slice_get-map}
@@ -15,9 +17,13 @@ use Rattle.px_expr.specs.Cells.{Cell, cell}
 use Rattle.px_model.specs.declared.solid.Face.{Face}
 use Rattle.px_model.specs.Solids.{SolidView}
 use Rattle.px_model.specs.Scenes.{SceneView}
-use Rattle.px_model.specs.Cells.{Depths, backs_at, cell_of, depths, end_of, enters_at, faces_at, far_of, first, first_cell, fronts_at, is_inside, is_inside_before, leaf_cell, least, leaves_at, no_cell, scene_cell, sight_at, solid_cell, value_of}
+use Rattle.px_model.specs.Cells.{Depths, backs_at, cell_of, depths, end_of, enters_at, faces_at, far_of, first}
+use Rattle.px_model.specs.Cells.{first_cell, fronts_at, is_inside, is_inside_before, leaf_cell, least, leaves_at}
+use Rattle.px_model.specs.Cells.{no_cell, scene_cell, sight_at, solid_cell, value_of}
 use Rattle.px_model.proofs.CellLaws.{cell_is_first}
-use Rattle.px_refine.specs.Finer.{fine_face, fine_plane, fine_scene, fine_solid}
+use Rattle.px_model.specs.declared.pixels.Pixels.TheVariants.{Finer}
+use Rattle.px_model.specs.Pixels.{face_over, plane_over, solid_over}
+use Rattle.px_refine.specs.Finer.{fine_scene}
 use Rattle.px_refine.specs.FinerLaw.{CommonPixelsAgree}
 use Rattle.px_refine.proofs.ScaleLemmas.{eq_times, le_times, lt_times, max_times, min_times, nat_lt_times, value_scaled}
 
@@ -50,43 +56,50 @@ module _ (s x y : ℕ) where
   nothing : pos 0 ≡ pos k *ℤ pos 0
   nothing = ap pos (let none : 0 ≡ k * 0 = omega arith in none)
 
-  value_fine : (p : Linear) → value_at (fine_plane s p) (k * x) (k * y) ≡ pos k *ℤ value_at p x y
+  value_fine : (p : Linear) → value_at (plane_over (Finer s) p) (k * x) (k * y) ≡ pos k *ℤ value_at p x y
   value_fine p = value_scaled k p x y
 
-  faces_fine : (faces : List Face) (v : ℤ) → faces_at (map (fine_face s) faces) (k * x) (k * y) (pos k *ℤ v) ≡ faces_at faces x y v
+  faces_fine : (faces : List Face) (v : ℤ) → faces_at (map (face_over (Finer s)) faces) (k * x) (k * y) (pos k *ℤ v)
+      ≡ faces_at faces x y v
   faces_fine [] v = refl
   faces_fine (f ∷ fs) v =
-      let same : int_eq (value_at (fine_plane s f.plane) (k * x) (k * y)) (pos k *ℤ v) ≡ int_eq (value_at f.plane x y) v =
+      let same : int_eq (value_at (plane_over (Finer s) f.plane) (k * x) (k * y)) (pos k *ℤ v)
+      ≡ int_eq (value_at f.plane x y) v =
       ap (λ w. int_eq w (pos k *ℤ v)) (value_fine f.plane) ∙ eq_times k (value_at f.plane x y) v some in
       rw same (step (int_eq (value_at f.plane x y) v) (faces_fine fs v))
     where
-      step : (b : Bool) → faces_at (map (fine_face s) fs) (k * x) (k * y) (pos k *ℤ v) ≡ faces_at fs x y v
-          → map (λ (g : Face). g.number) (if b then fine_face s f ∷ filter (λ g. int_eq (value_at g.plane (k * x) (k * y)) (pos k *ℤ v)) (map (fine_face s) fs) else filter (λ g. int_eq (value_at g.plane (k * x) (k * y)) (pos k *ℤ v)) (map (fine_face s) fs))
-          ≡ map (λ (g : Face). g.number) (if b then f ∷ filter (λ g. int_eq (value_at g.plane x y) v) fs else filter (λ g. int_eq (value_at g.plane x y) v) fs)
+      step : (b : Bool) → faces_at (map (face_over (Finer s)) fs) (k * x) (k * y) (pos k *ℤ v) ≡ faces_at fs x y v
+          → map (λ (g : Face). g.number) (if b then face_over (Finer s) f
+          ∷ filter (λ g. int_eq (value_at g.plane (k * x) (k * y)) (pos k *ℤ v)) (map (face_over (Finer s)) fs) else
+          filter (λ g. int_eq (value_at g.plane (k * x) (k * y)) (pos k *ℤ v)) (map (face_over (Finer s)) fs))
+          ≡ map (λ (g : Face). g.number) (if b then f ∷ filter (λ g. int_eq (value_at g.plane x y) v) fs else filter
+          (λ g. int_eq (value_at g.plane x y) v) fs)
       step true e = ap (λ ns. f.number ∷ ns) e
       step false e = e
 
   greatest_fine : (faces : List Face) (u : ℤ)
-      → fold int_max (pos k *ℤ u) (map (λ f. value_at f.plane (k * x) (k * y)) (map (fine_face s) faces))
+      → fold int_max (pos k *ℤ u) (map (λ f. value_at f.plane (k * x) (k * y)) (map (face_over (Finer s)) faces))
       ≡ pos k *ℤ fold int_max u (map (λ f. value_at f.plane x y) faces)
   greatest_fine [] u = refl
   greatest_fine (f ∷ fs) u =
       let here = ap (λ w. int_max (pos k *ℤ u) w) (value_fine f.plane) ∙ max_times k u (value_at f.plane x y) some in
-      ap (λ w. fold int_max w (map (λ f. value_at f.plane (k * x) (k * y)) (map (fine_face s) fs))) here
+      ap (λ w. fold int_max w (map (λ f. value_at f.plane (k * x) (k * y)) (map (face_over (Finer s)) fs))) here
       ∙ greatest_fine fs (int_max u (value_at f.plane x y))
 
   least_fine : (faces : List Face) (u : ℤ)
-      → fold int_min (pos k *ℤ u) (map (λ f. value_at f.plane (k * x) (k * y)) (map (fine_face s) faces))
+      → fold int_min (pos k *ℤ u) (map (λ f. value_at f.plane (k * x) (k * y)) (map (face_over (Finer s)) faces))
       ≡ pos k *ℤ fold int_min u (map (λ f. value_at f.plane x y) faces)
   least_fine [] u = refl
   least_fine (f ∷ fs) u =
       let here = ap (λ w. int_min (pos k *ℤ u) w) (value_fine f.plane) ∙ min_times k u (value_at f.plane x y) some in
-      ap (λ w. fold int_min w (map (λ f. value_at f.plane (k * x) (k * y)) (map (fine_face s) fs))) here
+      ap (λ w. fold int_min w (map (λ f. value_at f.plane (k * x) (k * y)) (map (face_over (Finer s)) fs))) here
       ∙ least_fine fs (int_min u (value_at f.plane x y))
 
-  enters_fine : (solid : SolidView) → enters_at (fine_solid s solid) (k * x) (k * y) ≡ pos k *ℤ enters_at solid x y
+  enters_fine : (solid : SolidView) → enters_at (solid_over (Finer s) solid) (k * x) (k * y) ≡ pos k
+      *ℤ enters_at solid x y
   enters_fine solid =
-      ap (λ u. fold int_max u (map (λ f. value_at f.plane (k * x) (k * y)) (map (fine_face s) solid.fronts))) nothing
+      ap (λ u. fold int_max u (map (λ f. value_at f.plane (k * x) (k * y)) (map (face_over (Finer s)) solid.fronts)))
+      nothing
       ∙ greatest_fine solid.fronts (pos 0)
 
   -- depths of the scene, and those of the finer one
@@ -105,71 +118,86 @@ module _ (s x y : ℕ) where
         cell_is_first e (pos k *ℤ v) z ∙ ap (λ w. le_z (pos k *ℤ v) (pos w)) (value_of_fine z)
         ∙ le_times k v (pos (value_of d z)) some ∙ sym (cell_is_first d v z))
 
-    inside_fine : (solid : SolidView) (z : ℕ) → is_inside (fine_solid s solid) e (k * x) (k * y) z ≡ is_inside solid d x y z
+    inside_fine : (solid : SolidView) (z : ℕ) → is_inside (solid_over (Finer s) solid) e (k * x) (k * y) z
+        ≡ is_inside solid d x y z
     inside_fine solid z =
         let before : nat_lt (value_of e z) (end_of e) ≡ nat_lt (value_of d z) (end_of d) =
         rw (value_of_fine z, value_of_fine far) (nat_lt_times k (value_of d z) (end_of d) some) in
-        let sides = all_map (λ side. le_z (pos 0) (value_at side x y)) (λ side. le_z (pos 0) (value_at side (k * x) (k * y)))
-        (fine_plane s) (λ p. ap (λ w. le_z (pos 0) w) (value_fine p) ∙ ap (λ w. le_z w (pos k *ℤ value_at p x y)) nothing
+        let sides = all_map (λ side. le_z (pos 0) (value_at side x y))
+        (λ side. le_z (pos 0) (value_at side (k * x) (k * y)))
+        (plane_over (Finer s)) (λ p. ap (λ w. le_z (pos 0) w) (value_fine p)
+        ∙ ap (λ w. le_z w (pos k *ℤ value_at p x y)) nothing
         ∙ le_times k (pos 0) (value_at p x y) some) solid.sides in
         let fronts = all_map (λ (g : Face). le_z (value_at g.plane x y) (pos (value_of d z)))
         (λ (g : Face). le_z (value_at g.plane (k * x) (k * y)) (pos (value_of e z)))
-        (fine_face s) (λ g. ap (λ w. le_z w (pos (value_of e z))) (value_fine g.plane)
+        (face_over (Finer s)) (λ g. ap (λ w. le_z w (pos (value_of e z))) (value_fine g.plane)
         ∙ ap (λ w. le_z (pos k *ℤ value_at g.plane x y) (pos w)) (value_of_fine z)
         ∙ le_times k (value_at g.plane x y) (pos (value_of d z)) some) solid.fronts in
         let backs = all_map (λ (g : Face). lt_z (pos (value_of d z)) (value_at g.plane x y))
         (λ (g : Face). lt_z (pos (value_of e z)) (value_at g.plane (k * x) (k * y)))
-        (fine_face s) (λ g. ap (λ w. lt_z (pos (value_of e z)) w) (value_fine g.plane)
+        (face_over (Finer s)) (λ g. ap (λ w. lt_z (pos (value_of e z)) w) (value_fine g.plane)
         ∙ ap (λ w. lt_z (pos w) (pos k *ℤ value_at g.plane x y)) (value_of_fine z)
         ∙ lt_times k (pos (value_of d z)) (value_at g.plane x y) some) solid.backs in
         rw (before, sides, fronts, backs) refl
 
-    before_fine : (solid : SolidView) (z : ℕ) → is_inside_before (fine_solid s solid) e (k * x) (k * y) z ≡ is_inside_before solid d x y z
+    before_fine : (solid : SolidView) (z : ℕ) → is_inside_before (solid_over (Finer s) solid) e (k * x) (k * y) z
+        ≡ is_inside_before solid d x y z
     before_fine solid zero = refl
     before_fine solid (suc z) = inside_fine solid z
 
-    leaves_fine : (solid : SolidView) → leaves_at (fine_solid s solid) (end_of e) (k * x) (k * y) ≡ pos k *ℤ leaves_at solid (end_of d) x y
+    leaves_fine : (solid : SolidView) → leaves_at (solid_over (Finer s) solid) (end_of e) (k * x) (k * y) ≡ pos k
+        *ℤ leaves_at solid (end_of d) x y
     leaves_fine solid =
-        ap (λ u. fold int_min (pos u) (map (λ f. value_at f.plane (k * x) (k * y)) (map (fine_face s) solid.backs))) (value_of_fine far)
+        ap (λ u. fold int_min (pos u) (map (λ f. value_at f.plane (k * x) (k * y))
+        (map (face_over (Finer s)) solid.backs)))
+        (value_of_fine far)
         ∙ least_fine solid.backs (pos (end_of d))
 
-    near_fine : (solid : SolidView) → int_eq (pos 0) (enters_at (fine_solid s solid) (k * x) (k * y)) ≡ int_eq (pos 0) (enters_at solid x y)
+    near_fine : (solid : SolidView) → int_eq (pos 0) (enters_at (solid_over (Finer s) solid) (k * x) (k * y))
+        ≡ int_eq (pos 0) (enters_at solid x y)
     near_fine solid =
         ap (λ w. int_eq (pos 0) w) (enters_fine solid) ∙ ap (λ w. int_eq w (pos k *ℤ enters_at solid x y)) nothing
         ∙ eq_times k (pos 0) (enters_at solid x y) some
 
-    fronts_fine : (solid : SolidView) (z : ℕ) → fronts_at (fine_solid s solid) e (k * x) (k * y) z ≡ fronts_at solid d x y z
+    fronts_fine : (solid : SolidView) (z : ℕ) → fronts_at (solid_over (Finer s) solid) e (k * x) (k * y) z
+        ≡ fronts_at solid d x y z
     fronts_fine solid z =
         let cells = ap (λ w. cell_of e w) (enters_fine solid) ∙ cell_fine (enters_at solid x y) in
-        let faces = ap (λ w. faces_at (map (fine_face s) solid.fronts) (k * x) (k * y) w) (enters_fine solid)
+        let faces = ap (λ w. faces_at (map (face_over (Finer s)) solid.fronts) (k * x) (k * y) w) (enters_fine solid)
         ∙ faces_fine solid.fronts (enters_at solid x y) in
         rw (cells, near_fine solid, faces) refl
 
-    backs_fine : (solid : SolidView) (z : ℕ) → backs_at (fine_solid s solid) e (k * x) (k * y) z ≡ backs_at solid d x y z
+    backs_fine : (solid : SolidView) (z : ℕ) → backs_at (solid_over (Finer s) solid) e (k * x) (k * y) z
+        ≡ backs_at solid d x y z
     backs_fine solid z =
         let cells = ap (λ w. cell_of e w) (leaves_fine solid) ∙ cell_fine (leaves_at solid (end_of d) x y) in
-        let faces = ap (λ w. faces_at (map (fine_face s) solid.backs) (k * x) (k * y) w) (leaves_fine solid)
+        let faces = ap (λ w. faces_at (map (face_over (Finer s)) solid.backs) (k * x) (k * y) w) (leaves_fine solid)
         ∙ faces_fine solid.backs (leaves_at solid (end_of d) x y) in
         rw (before_fine solid z, cells, faces) refl
 
-    solid_fine : (solid : SolidView) (z : ℕ) → solid_cell e (k * x) (k * y) z (fine_solid s solid) ≡ solid_cell d x y z solid
+    solid_fine : (solid : SolidView) (z : ℕ) → solid_cell e (k * x) (k * y) z (solid_over (Finer s) solid)
+        ≡ solid_cell d x y z solid
     solid_fine solid z = rw (inside_fine solid z, fronts_fine solid z, backs_fine solid z) refl
 
     leaf_fine : (solids : List SolidView) (z i : ℕ)
-        → leaf_cell (map (fine_solid s) solids) e (k * x) (k * y) z i ≡ leaf_cell solids d x y z i
-    leaf_fine solids z i = rw (slice_get-map (fine_solid s) solids i) (case (slice_get solids i)) where
-      case : (o : Option SolidView) → option_map_or (solid_cell e (k * x) (k * y) z) (option_map (fine_solid s) o) no_cell
+        → leaf_cell (map (solid_over (Finer s)) solids) e (k * x) (k * y) z i ≡ leaf_cell solids d x y z i
+    leaf_fine solids z i = rw (slice_get-map (solid_over (Finer s)) solids i) (case (slice_get solids i)) where
+      case : (o : Option SolidView) → option_map_or (solid_cell e (k * x) (k * y) z)
+          (option_map (solid_over (Finer s)) o) no_cell
           ≡ option_map_or (solid_cell d x y z) o no_cell
       case None = refl
       case (Some solid) = solid_fine solid z
 
   cell_same : (scene : SceneView) (z : ℕ) → scene_cell (fine_scene s scene) (k * x) (k * y) z ≡ scene_cell scene x y z
-  cell_same scene z = ap (λ f. cell f scene.show) (fun_ext (leaf_fine (far_of scene) scene.fraction_bits scene.solids z))
+  cell_same scene z =
+      ap (λ f. cell f scene.show) (fun_ext (leaf_fine (far_of scene) scene.fraction_bits scene.solids z))
 
   first_same : (scene : SceneView) → first_cell (fine_scene s scene) (k * x) (k * y) ≡ first_cell scene x y
-  first_same scene = ap (λ test. first test (far_of scene)) (fun_ext (λ z. ap (λ (c : Cell). c.member) (cell_same scene z)))
+  first_same scene =
+      ap (λ test. first test (far_of scene)) (fun_ext (λ z. ap (λ (c : Cell). c.member) (cell_same scene z)))
 
-  sight_same : (scene : SceneView) (o : Option ℕ) → sight_at (fine_scene s scene) (k * x) (k * y) o ≡ sight_at scene x y o
+  sight_same : (scene : SceneView) (o : Option ℕ) → sight_at (fine_scene s scene) (k * x) (k * y) o
+      ≡ sight_at scene x y o
   sight_same scene None = refl
   sight_same scene (Some z) = ap (λ (c : Cell). record { depth = z; face = least c.shown }) (cell_same scene z)
 

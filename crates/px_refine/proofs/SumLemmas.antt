@@ -1,12 +1,10 @@
--- Sums of samples grow pixel by pixel and row by row, and the bytes of a colour.
+-- Sums of samples grow pixel by pixel and row by row.
 use Rattle.std.proofs.Common.{◌≡◌, ℕ, ◌+◌, ◌*◌, ◌/◌, ◌%◌, ◌<◌, ◌≤◌, List, [], ◌∷◌, map, refl, ap, sym, ◌∙◌, arith}
 use Rattle.std.proofs.lemmas.List.Folds.{fold-map}
 use Rattle.std.proofs.lemmas.List.FromFn.{sum_by-map-range_with_len_more}
 use Rattle.std.specs.List.{range_with_len, sum_by}
 use Rattle.px_model.specs.declared.solid.Colour.{Colour}
 use Rattle.px_model.specs.Solids.{IsColour}
-use Rattle.px_frame.specs.Image.{three_bytes}
-use Rattle.px_frame.specs.Picture.{colour_number}
 use Rattle.px_refine.specs.declared.sums.Sums.{Sums}
 use Rattle.px_refine.specs.Sums.{IsAtMost, block_sums, row_sums, together, with_colour}
 
@@ -30,7 +28,8 @@ row_more colour from y n = rw (
 
 -- one row more
 pub block_more : (colour : (x y : ℕ) → Colour) (across from top n : ℕ)
-    → together (block_sums colour across from top n) (row_sums colour from (top + n) across) ≡ block_sums colour across from top (n + 1)
+    → together (block_sums colour across from top n) (row_sums colour from (top + n) across)
+    ≡ block_sums colour across from top (n + 1)
 block_more colour across from top n = rw (
   sum_more (λ j. (row_sums colour from (top + j) across).red) n,
   sum_more (λ j. (row_sums colour from (top + j) across).green) n,
@@ -45,21 +44,11 @@ most_more sums colour n most bytes = record {
   blue = omega (arith, most.blue, bytes.blue);
 }
 
-pub most_together : (sums more : Sums) (across n : ℕ) → IsAtMost (255 * (across * n)) sums → IsAtMost (255 * across) more
+pub most_together : (sums more : Sums) (across n : ℕ) → IsAtMost (255 * (across * n)) sums
+    → IsAtMost (255 * across) more
     → IsAtMost (255 * (across * (n + 1))) (together sums more)
 most_together sums more across n most next = record {
   red = omega (arith, most.red, next.red);
   green = omega (arith, most.green, next.green);
   blue = omega (arith, most.blue, next.blue);
 }
-
--- the bytes of a colour as one pixel of an image
-pub bytes_of : (c : Colour) → IsColour c → three_bytes (colour_number c) ≡ c.red ∷ c.green ∷ c.blue ∷ []
-unfolding three_bytes
-bytes_of c bytes =
-    let n = c.red * 65536 + c.green * 256 + c.blue in
-    let red : n / 65536 ≡ c.red = omega (arith, bytes.red, bytes.green, bytes.blue) in
-    let upper : n / 256 ≡ c.red * 256 + c.green = omega (arith, bytes.red, bytes.green, bytes.blue) in
-    let green : (c.red * 256 + c.green) % 256 ≡ c.green = omega (arith, bytes.green) in
-    let blue : n % 256 ≡ c.blue = omega (arith, bytes.blue) in
-    rw (red, upper, green, blue) refl

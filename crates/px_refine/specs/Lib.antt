@@ -3,7 +3,6 @@ pub use Rattle.px_model.specs.Scenes
 pub use Rattle.px_sched.specs.Layouts
 pub use Rattle.px_sched.specs.PassesLaw
 pub mod FineFaults
-pub mod FineSolids
 pub mod Finer
 pub mod FinerLaw
 pub mod Refined

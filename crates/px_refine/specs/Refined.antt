@@ -3,11 +3,11 @@ use Rattle.std.specs.Prelude.{ℕ, ◌+◌, ◌*◌, ◌/◌, ◌^◌, List, sum
 use Rattle.std.specs.List.{range_with_len}
 use Rattle.px_array.specs.Arrays.{State}
 use Rattle.px_model.specs.declared.solid.Colour.{Colour}
-use Rattle.px_model.specs.Scenes.{SceneView, colour_in_scene}
+use Rattle.px_model.specs.Scenes.{SceneView}
 use Rattle.px_sched.specs.Layouts.{LayoutView}
-use Rattle.px_frame.specs.Image.{image_of}
-use Rattle.px_frame.specs.Picture.{colour_number, face_at}
-use Rattle.px_frame.specs.Stored.{stored_face}
+use Rattle.px_frame.specs.Image.{colour_bytes, image_of_pixels}
+use Rattle.px_frame.specs.Picture.{colour_at}
+use Rattle.px_frame.specs.Stored.{stored_colour}
 use Rattle.px_refine.specs.Finer.{fine_scene}
 
 -- the sum of a sample over the 2^s by 2^s finer pixels that the pixel (x, y) is cut into
@@ -26,26 +26,18 @@ mean_colour s colour x y = record {
   blue = mean s (λ i j. (colour i j).blue) x y;
 }
 
-abbrev pub mean_number : (s : ℕ) → (colour : (x y : ℕ) → Colour) → (x y : ℕ) → ℕ
-mean_number s colour x y = colour_number (mean_colour s colour x y)
+abbrev pub mean_pixel : (s : ℕ) → (colour : (x y : ℕ) → Colour) → (x y : ℕ) → List ℕ
+mean_pixel s colour x y = colour_bytes (mean_colour s colour x y)
 
 -- the image of so many pixels, whose finer pixels have these colours
 abbrev pub mean_image : (s width height : ℕ) → (colour : (x y : ℕ) → Colour) → List ℕ
-mean_image s width height colour = image_of width height (mean_number s colour)
-
--- the colour that a scene shows at a pixel
-abbrev pub shown_colour : SceneView → (x y : ℕ) → Colour
-shown_colour scene x y = colour_in_scene scene.solids (face_at scene x y)
+mean_image s width height colour = image_of_pixels width height (mean_pixel s colour)
 
 -- an image of the scene's own size, of means over the picture of the finer scene
 abbrev pub refined_image : (s : ℕ) → SceneView → List ℕ
-refined_image s scene = mean_image s scene.width scene.height (shown_colour (fine_scene s scene))
-
--- the colour of the face that an array stores at a pixel
-abbrev pub stored_face_colour : SceneView → LayoutView → State → (x y : ℕ) → Colour
-stored_face_colour scene layout state x y = colour_in_scene scene.solids (stored_face layout state x y)
+refined_image s scene = mean_image s scene.width scene.height (colour_at (fine_scene s scene))
 
 -- an image of means over the pixels that an array stores
 abbrev pub stored_means : (s : ℕ) → (fine : SceneView) → LayoutView → State → List ℕ
 stored_means s fine layout state =
-    mean_image s (fine.width / 2 ^ s) (fine.height / 2 ^ s) (stored_face_colour fine layout state)
+    mean_image s (fine.width / 2 ^ s) (fine.height / 2 ^ s) (stored_colour fine layout state)

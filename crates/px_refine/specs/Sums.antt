@@ -2,6 +2,7 @@
 use Rattle.std.specs.Prelude.{ℕ, ◌+◌, ◌*◌, ◌/◌, ◌^◌, ◌≤◌, sum_by}
 use Rattle.std.specs.List.{range_with_len}
 use Rattle.px_array.specs.Arrays.{Device, IsOpen}
+use Rattle.px_model.specs.declared.limits.TheConstants.{MAX_PICTURE_SIZE}
 use Rattle.px_model.specs.declared.solid.Colour.{Colour}
 use Rattle.px_model.specs.Scenes.{SceneView}
 use Rattle.px_sched.specs.Layouts.{LayoutView, need_of}
@@ -56,8 +57,8 @@ pub record IsAtMost (n : ℕ) (sums : Sums) : Type 0 where
 
 -- an open array has room for a layout, has the columns and rows of a scene, and stores its faces
 pub record IsStored (bits : ℕ) (scene : SceneView) (layout : LayoutView) (device : Device) : Type 0 where
-  pub wide : scene.width ≤ 512
-  pub high : scene.height ≤ 512
+  pub wide : scene.width ≤ MAX_PICTURE_SIZE
+  pub high : scene.height ≤ MAX_PICTURE_SIZE
   pub open_array : IsOpen device
   pub columns : HasColumns scene device.state
   pub rows : HasRows scene device.state

@@ -1,14 +1,13 @@
-//! The finer scene.
-ghost use Rattle.std.specs.Prelude.{◌≡◌, ◌≤◌, ◌^◌, All, IfErr, IfOk, OnOk, None, map};
-ghost use Rattle.px_model.specs.Solids.{IsLawfulSolid, IsPlane};
-ghost use Rattle.px_refine.specs.FineSolids.{AreFine};
-ghost use Rattle.px_refine.specs.Finer.{fine_face, fine_plane, fine_scene, fine_solid};
-ghost use Rattle.px_refine.specs.FineFaults.{IsRefusal, fine_fault};
+//! The finer scene, and why a scene has none.
+ghost use Rattle.std.specs.Prelude.{◌≡◌, ◌≤◌, ◌*◌, ◌^◌, IfErr, IfOk, OnOk, None};
+ghost use Rattle.px_model.specs.Pixels.{HasSceneOver};
+ghost use Rattle.px_refine.specs.Finer.{fine_scene};
+ghost use Rattle.px_refine.specs.FineFaults.{IsRefusal, fine_fault, most_fraction};
 
 use crate::fault::FineFault;
-use crate::past::{constant_of, fine_fault, parts};
-use px_model::{Face, Scene, Solid};
-use px_num::{Linear, Memory};
+use px_model::{
+    MAX_DEPTH_BITS, MAX_FRACTION_BITS, MAX_PICTURE_SIZE, Pixels, Scene, laws_of_scenes,
+};
 use std::alloc::Global;
 
 /// The scene over a screen of `2^s` times as many pixels on each side, for `s` of 1 or 2
@@ -25,83 +24,50 @@ pub fn fine_scene(alloc: Global, scene: &Scene, s: u32) -> Result<Scene, FineFau
     if let Some(fault) = fine_fault(scene, s) {
         return Err(fault);
     }
-    let solids = fine_solids(alloc, scene.solids(), s)?;
-    let show = scene.show().copy()?;
-    Ok(Scene::new(
-        parts(s) * scene.width(),
-        parts(s) * scene.height(),
-        scene.depth_bits(),
-        scene.fraction_bits() + s,
-        solids,
-        show,
-    ))
-}
-
-fn fine_solids(alloc: Global, solids: &[Solid], s: u32) -> Result<Vec<Solid>, Memory>
-    requires few { s ≤ 2 }
-    requires fine { AreFine s solids.now }
-    ensures { IfOk result (λ fine. fine.items ≡ map (fine_solid s) solids.now) }
-{
-    let mut fine = Vec::new(alloc);
-    for solid in solids {
-        fine.push(fine_solid(alloc, solid, s)?)?;
-    }
+    let width = parts(s) * scene.width();
+    let height = parts(s) * scene.height();
+    let fine = scene.over(alloc, Pixels::Finer { s }, width, height)?;
     Ok(fine)
 }
 
-fn fine_solid(alloc: Global, solid: &Solid, s: u32) -> Result<Solid, Memory>
-    requires few { s ≤ 2 }
-    requires lawful { IsLawfulSolid (fine_solid s solid.now) }
-    ensures { IfOk result (λ fine. fine ≡ fine_solid s solid.now) }
+/// Why the scene has no finer scene, where it has none.
+fn fine_fault(scene: &Scene, s: u32) -> Option<FineFault>
+    requires { s ≤ 2 }
+    ensures fault { result ≡ fine_fault s scene.now }
+    ensures fits { result ≡ None → HasSceneOver (Pixels.Finer s)
+        (2 ^ s * scene.now.width) (2 ^ s * scene.now.height) scene.now }
 {
-    let fronts = fine_faces(alloc, solid.fronts(), s)?;
-    let backs = fine_faces(alloc, solid.backs(), s)?;
-    let sides = fine_sides(alloc, solid.sides(), s)?;
-    Ok(solid.with_planes(fronts, backs, sides))
-}
-
-fn fine_faces(alloc: Global, faces: &[Face], s: u32) -> Result<Vec<Face>, Memory>
-    requires few { s ≤ 2 }
-    requires planes { All (λ f. IsPlane f.plane) faces.now }
-    ensures { IfOk result (λ fine. fine.items ≡ map (fine_face s) faces.now) }
-{
-    let mut fine = Vec::new(alloc);
-    for face in faces {
-        fine.push(fine_face(face, s))?;
+    laws_of_scenes(scene);
+    let fraction = scene.fraction_bits() + s;
+    if fraction > most_fraction(scene) {
+        return Some(FineFault::Fraction { found: fraction });
     }
-    Ok(fine)
-}
-
-fn fine_face(face: &Face, s: u32) -> Face
-    requires few { s ≤ 2 }
-    requires plane { IsPlane face.now.plane }
-    ensures { result ≡ fine_face s face.now }
-{
-    Face {
-        plane: fine_plane(&face.plane, s),
-        ..*face
+    let width = parts(s) * scene.width();
+    if width > MAX_PICTURE_SIZE {
+        return Some(FineFault::Picture { found: width });
+    }
+    let height = parts(s) * scene.height();
+    if height > MAX_PICTURE_SIZE {
+        return Some(FineFault::Picture { found: height });
+    }
+    match scene.first_past(Pixels::Finer { s }) {
+        Some(found) => Some(FineFault::Coefficient { found }),
+        None => None,
     }
 }
 
-fn fine_sides(alloc: Global, sides: &[Linear], s: u32) -> Result<Vec<Linear>, Memory>
-    requires few { s ≤ 2 }
-    requires planes { All IsPlane sides.now }
-    ensures { IfOk result (λ fine. fine.items ≡ map (fine_plane s) sides.now) }
+/// How many bits the fraction of a depth may have.
+fn most_fraction(scene: &Scene) -> u32
+    ensures { result ≡ most_fraction scene.now }
 {
-    let mut fine = Vec::new(alloc);
-    for side in sides {
-        fine.push(fine_plane(side, s))?;
-    }
-    Ok(fine)
+    (MAX_DEPTH_BITS - scene.depth_bits()).min(MAX_FRACTION_BITS)
 }
 
-fn fine_plane(plane: &Linear, s: u32) -> Linear
-    requires few { s ≤ 2 }
-    requires plane { IsPlane plane.now }
-    ensures { result ≡ fine_plane s plane.now }
+/// How many finer pixels stand along each side of a pixel.
+pub(crate) fn parts(s: u32) -> u32
+    requires { s ≤ 2 }
+    ensures value { result ≡ 2 ^ s }
+    ensures few { result ≤ 4 }
 {
-    Linear {
-        c: constant_of(plane, s),
-        ..*plane
-    }
+    1 << s
 }

@@ -4,7 +4,6 @@
 mod fault;
 mod finer;
 mod law;
-mod past;
 mod refined;
 mod sums;
 

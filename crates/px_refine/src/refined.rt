@@ -4,24 +4,23 @@ ghost use Rattle.px_io.specs.Counts.{HasCause};
 ghost use Rattle.px_io.specs.Told.{TakesAll, TakesFront};
 ghost use Rattle.px_array.specs.Arrays.{IsOpen};
 ghost use Rattle.px_sched.specs.Layouts.{need_of};
-ghost use Rattle.px_frame.specs.Image.{row_bytes, three_bytes};
-ghost use Rattle.px_frame.specs.Picture.{colour_number};
-ghost use Rattle.px_frame.specs.Stored.{HasColumns, HasRows, StoresFaces};
-ghost use Rattle.px_refine.specs.Refined.{mean_colour, mean_number, stored_face_colour, stored_means};
+ghost use Rattle.px_frame.specs.Image.{row_of_pixels};
+ghost use Rattle.px_frame.specs.Stored.{HasColumns, HasRows, StoresFaces, stored_colour};
+ghost use Rattle.px_refine.specs.Refined.{mean_colour, mean_pixel, stored_means};
 ghost use Rattle.px_refine.specs.Sums.{IsAtMost, IsStored, block_sums, row_sums};
 
-use crate::past::parts;
+use crate::finer::parts;
 use crate::sums::Sums;
 use arrayvec::ArrayVec;
 use px_array::Array;
 use px_asm::number_in;
-use px_frame::header;
+use px_frame::{colour_bytes, header};
 use px_io::{Failed, Sink, write_whole};
-use px_model::{Colour, Scene};
+use px_model::{Colour, MAX_PICTURE_SIZE, Scene};
 use px_sched::Layout;
 
-/// Three bytes a pixel, for the 512 pixels of the widest picture.
-const ROW_BYTES: usize = 1536;
+/// Three bytes a pixel, for the widest picture.
+const ROW_BYTES: usize = 3 * MAX_PICTURE_SIZE as usize;
 
 /// Appends one image to the sink, or a front of it where a write fails: each sample is the mean
 /// of that sample over `2^s` by `2^s` pixels that the array stores, rounded down
@@ -73,15 +72,13 @@ fn mean_row<A: Array>(
     requires across { 2 ^ s * width ≤ fine.now.width }
     requires down { 2 ^ s * (y + 1) ≤ fine.now.height }
     requires stored { IsStored A.BITS fine.now layout.now (A.device array.now) }
-    ensures { result.items ≡ row_bytes width
-        (mean_number s (stored_face_colour fine.now layout.now (A.device array.now).state)) y }
+    ensures { result.items ≡ row_of_pixels width
+        (mean_pixel s (stored_colour fine.now layout.now (A.device array.now).state)) y }
 {
     let mut bytes = ArrayVec::new();
     for x in 0..width {
         let mean = mean_at(array, layout, fine, s, x, y);
-        bytes
-            .try_extend_from_slice(&[mean.red, mean.green, mean.blue])
-            .unwrap();
+        bytes.try_extend_from_slice(&colour_bytes(mean)).unwrap();
     }
     bytes
 }
@@ -93,7 +90,7 @@ fn mean_at<A: Array>(array: &A, layout: &Layout, fine: &Scene, s: u32, x: u32, y
     requires down { 2 ^ s * (y + 1) ≤ fine.now.height }
     requires stored { IsStored A.BITS fine.now layout.now (A.device array.now) }
     ensures { result ≡ mean_colour s
-        (stored_face_colour fine.now layout.now (A.device array.now).state) x y }
+        (stored_colour fine.now layout.now (A.device array.now).state) x y }
 {
     let across = parts(s);
     block_sums(array, layout, fine, across * x, across * y, across).mean(s)
@@ -113,7 +110,7 @@ fn block_sums<A: Array>(
     requires down { top + across ≤ fine.now.height }
     requires stored { IsStored A.BITS fine.now layout.now (A.device array.now) }
     ensures sums { result ≡ block_sums
-        (stored_face_colour fine.now layout.now (A.device array.now).state)
+        (stored_colour fine.now layout.now (A.device array.now).state)
         across from top across }
     ensures most { IsAtMost (255 * (across * across)) result }
 {
@@ -138,7 +135,7 @@ fn row_sums<A: Array>(
     requires down { y < fine.now.height }
     requires stored { IsStored A.BITS fine.now layout.now (A.device array.now) }
     ensures sums { result ≡ row_sums
-        (stored_face_colour fine.now layout.now (A.device array.now).state) from y across }
+        (stored_colour fine.now layout.now (A.device array.now).state) from y across }
     ensures most { IsAtMost (255 * across) result }
 {
     let mut sums = Sums::new();
@@ -153,7 +150,7 @@ fn colour_at<A: Array>(array: &A, layout: &Layout, fine: &Scene, x: u32, y: u32)
     requires across { x < fine.now.width }
     requires down { y < fine.now.height }
     requires stored { IsStored A.BITS fine.now layout.now (A.device array.now) }
-    ensures { result ≡ stored_face_colour fine.now layout.now (A.device array.now).state x y }
+    ensures { result ≡ stored_colour fine.now layout.now (A.device array.now).state x y }
 {
     let face = number_in(array, layout.b_number(), x, y) as u32;
     fine.colour_of(face)

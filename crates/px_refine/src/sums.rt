@@ -2,7 +2,7 @@
 ghost use Rattle.std.specs.Prelude.{◌≡◌, ◌*◌, ◌/◌, ◌^◌, ◌<◌, ◌≤◌};
 ghost use Rattle.px_refine.specs.Sums.{IsAtMost, mean_of, no_sums, together, with_colour};
 
-use crate::past::parts;
+use crate::finer::parts;
 use px_model::Colour;
 
 /// Sums of the samples of some pixels.

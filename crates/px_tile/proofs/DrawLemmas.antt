@@ -1,5 +1,7 @@
 -- The tiles of a wide picture, one after another.
-use Rattle.std.proofs.Common.{◌≡◌, ℕ, ◌+◌, ◌-◌, ◌*◌, ◌/◌, ◌%◌, ◌<◌, ◌≤◌, min, nat_lt, Bool, true, false, inl, inr, List, [], ◌++◌, drop, take, length, Option, Some, None, if◌then◌else◌, refl, ap, ◌∙◌, arith}
+use Rattle.std.proofs.Common.{◌≡◌, ℕ, ◌+◌, ◌-◌, ◌*◌, ◌/◌, ◌%◌, ◌<◌, ◌≤◌, min, nat_lt, Bool, true, false, inl, inr}
+use Rattle.std.proofs.Common.{List, [], ◌++◌, drop, take, length, Option, Some, None, if◌then◌else◌, refl, ap, ◌∙◌}
+use Rattle.std.proofs.Common.{arith}
 use Rattle.std.specs.Option.{option_map, option_or}
 use Rattle.std.proofs.Math.Nat.{mul-le-mul_right}
 use Rattle.std.proofs.lemmas.Bool.{cases_lt}
@@ -13,7 +15,7 @@ use Rattle.px_control.specs.declared.fault.JobFault.{JobFault}
 use Rattle.px_control.specs.declared.fault.JobFault.TheVariants as job
 use Rattle.px_tile.specs.declared.fault.WideFault.{WideFault}
 use Rattle.px_tile.specs.declared.fault.WideFault.TheVariants as wide
-use Rattle.px_tile.specs.Coefficients.{coefficient_past}
+use Rattle.px_model.specs.Planes.{first_past}
 use Rattle.px_tile.specs.Drawn.{HasTiles, IsLeft, tile_at, crowd_of_tile}
 use Rattle.px_tile.specs.Found.{IsFound, IsInTile, PutsTile, number_at, number_of}
 use Rattle.px_tile.specs.Pictures.{IsLastDrawn, LeavesOnWideRefusal}
@@ -21,10 +23,13 @@ use Rattle.px_tile.specs.Refusals.{bits_short, first_coefficient, first_crowd, m
 use Rattle.px_tile.specs.TilesLaw.{TilesLaw}
 use Rattle.px_tile.specs.Tilings.{IsWideSize, column_of, row_of, scene_of_tile, tile_count, tiles_across}
 use Rattle.px_tile.proofs.FirstLemmas.{none_each}
-use Rattle.px_tile.proofs.SceneLemmas.{faces_of_moved}
-use Rattle.px_tile.proofs.TilingLemmas.{column_is, covers_all, in_part, part_of_pixel, place_inside, place_is, row_is, some_across}
+use Rattle.px_model.specs.declared.pixels.Pixels.TheVariants.{StartingAt}
+use Rattle.px_model.proofs.PixelsLaws.{counts_kept}
+use Rattle.px_tile.proofs.TilingLemmas.{column_is, covers_all, in_part, part_of_pixel, place_inside, place_is, row_is}
+use Rattle.px_tile.proofs.TilingLemmas.{some_across}
 
-module _ (scene : SceneView) (width height : ℕ) (some_w : 1 ≤ scene.width) (some_h : 1 ≤ scene.height) (size : IsWideSize width height) where
+module _ (scene : SceneView) (width height : ℕ) (some_w : 1 ≤ scene.width) (some_h : 1 ≤ scene.height)
+    (size : IsWideSize width height) where
   abbrev columns : ℕ
   columns = tiles_across scene.width width
 
@@ -33,14 +38,17 @@ module _ (scene : SceneView) (width height : ℕ) (some_w : 1 ≤ scene.width) (
       → IsInTile (scene_of_tile scene width height tile) (column_of scene width tile) (row_of scene width tile) x y
   in_its_tile tile x y left above is =
       let low : x / scene.width < columns = covers_all scene.width width x some_w left in
-      let column : tile % columns ≡ x / scene.width = rw (← is) (column_is columns (y / scene.height) (x / scene.width) low) in
-      let row : tile / columns ≡ y / scene.height = rw (← is) (row_is columns (y / scene.height) (x / scene.width) low) in
+      let column : tile % columns ≡ x / scene.width =
+      rw (← is) (column_is columns (y / scene.height) (x / scene.width) low) in
+      let row : tile / columns ≡ y / scene.height =
+      rw (← is) (row_is columns (y / scene.height) (x / scene.width) low) in
       let across = in_part scene.width width x (tile % columns) some_w left column in
       let down = in_part scene.height height y (tile / columns) some_h above row in
       record { from_left = across.0; left = across.1; from_top = down.0; above = down.1 }
 
   -- and in no other
-  only_in_its_tile : (tile x y : ℕ) → IsInTile (scene_of_tile scene width height tile) (column_of scene width tile) (row_of scene width tile) x y
+  only_in_its_tile : (tile x y : ℕ) → IsInTile (scene_of_tile scene width height tile) (column_of scene width tile)
+      (row_of scene width tile) x y
       → tile_at scene width x y ≡ tile
   only_in_its_tile tile x y is =
       place_is columns tile (y / scene.height) (x / scene.width)
@@ -49,30 +57,36 @@ module _ (scene : SceneView) (width height : ℕ) (some_w : 1 ≤ scene.width) (
 
   -- one tile more
   pub tiles_more : TilesLaw → (tile : ℕ) (old new : List ℕ) → HasTiles scene width height tile old
-      → PutsTile (scene_of_tile scene width height tile) (column_of scene width tile) (row_of scene width tile) width old new
+      → PutsTile (scene_of_tile scene width height tile) (column_of scene width tile) (row_of scene width tile)
+      width old new
       → HasTiles scene width height (tile + 1) new
   tiles_more law tile old new has put = record {
     size = put.count ∙ has.size;
     each = λ x y left above low. elim (cases_lt (tile_at scene width x y) tile) [
       | inl before ↦
-          put.rest x y left (λ inside. absurd (omega (arith, only_in_its_tile tile x y inside))) ∙ has.each x y left above before
+          put.rest x y left (λ inside. absurd (omega (arith, only_in_its_tile tile x y inside)))
+          ∙ has.each x y left above before
       | inr from ↦ here x y left above (omega arith)
     ];
   }
     where
-      here : (x y : ℕ) → x < width → y < height → tile_at scene width x y ≡ tile → number_at new width x y ≡ number_of (picture scene x y)
+      here : (x y : ℕ) → x < width → y < height → tile_at scene width x y ≡ tile → number_at new width x y
+          ≡ number_of (picture scene x y)
       here x y left above is =
           let inside = in_its_tile tile x y left above is in
           let x0 = column_of scene width tile in
           let y0 = row_of scene width tile in
           let across : x0 + (x - x0) ≡ x = omega (arith, inside.from_left) in
           let down : y0 + (y - y0) ≡ y = omega (arith, inside.from_top) in
-          let shown = put.shown (x - x0) (y - y0) (omega (arith, inside.from_left, inside.left)) (omega (arith, inside.from_top, inside.above)) in
-          let same = law scene x0 y0 (min scene.width (width - x0)) (min scene.height (height - y0)) width height (x - x0) (y - y0) in
+          let shown = put.shown (x - x0) (y - y0) (omega (arith, inside.from_left, inside.left))
+          (omega (arith, inside.from_top, inside.above)) in
+          let same = law scene x0 y0 (min scene.width (width - x0)) (min scene.height (height - y0)) width height
+          (x - x0) (y - y0) in
           rw (across, down) at (shown ∙ ap number_of same)
 
   -- all tiles are the picture
-  pub tiles_all : (found : List ℕ) → HasTiles scene width height (tile_count scene width height) found → IsFound scene width height found
+  pub tiles_all : (found : List ℕ) → HasTiles scene width height (tile_count scene width height) found
+      → IsFound scene width height found
   tiles_all found has = record {
     count = has.size;
     each = λ x y left above.
@@ -89,7 +103,8 @@ module _ (scene : SceneView) (width height : ℕ) (some_w : 1 ≤ scene.width) (
       (some_across scene.height height some_h size.some_height) (some_across scene.width width some_w size.some_width))
 
   -- the array that the last tile left
-  pub last_left : (bits : ℕ) (before now : Device) → IsLeft bits scene width height (tile_count scene width height) before now
+  pub last_left : (bits : ℕ) (before now : Device) → IsLeft bits scene width height (tile_count scene width height)
+      before now
       → IsLastDrawn bits scene width height now
   last_left bits before now (inl (none, same)) = absurd (omega (arith, some_tiles))
   last_left bits before now (inr (last, is, low, drawn)) =
@@ -124,7 +139,8 @@ unmapped : {X Y : Type 0} (g : X → Y) (a : Option X) → option_map g a ≡ No
 unmapped g None none = refl
 unmapped g (Some x) none = absurd cc
 
-pub is_drawable : (scene : SceneView) (width height bits : ℕ) → wide_refusal scene width height bits ≡ None → IsDrawable scene width height bits
+pub is_drawable : (scene : SceneView) (width height bits : ℕ) → wide_refusal scene width height bits ≡ None
+    → IsDrawable scene width height bits
 is_drawable scene width height bits none =
     let tiles = first_none (many_tiles (tile_count scene width height)) _ none in
     let coefficients = first_none (option_map wide.Coefficient (first_coefficient scene width height)) _ tiles.1 in
@@ -136,16 +152,17 @@ is_drawable scene width height bits none =
     }
 
 pub tile_within : (scene : SceneView) (width height bits tile : ℕ) → wide_refusal scene width height bits ≡ None
-    → tile < tile_count scene width height → coefficient_past (scene_of_tile scene width height tile).solids ≡ None
+    → tile < tile_count scene width height → first_past (scene_of_tile scene width height tile).solids ≡ None
 tile_within scene width height bits tile none low =
-    none_each (λ t. coefficient_past (scene_of_tile scene width height t).solids) tile (tile_count scene width height)
+    none_each (λ t. first_past (scene_of_tile scene width height t).solids) tile (tile_count scene width height)
     (is_drawable scene width height bits none).coefficients low
 
 -- the passes of a tile need as many bits as those of the scene
-need_same : (scene : SceneView) (width height tile : ℕ) → need_of (layout_of (scene_of_tile scene width height tile)) ≡ need_of (layout_of scene)
+need_same : (scene : SceneView) (width height tile : ℕ) → need_of (layout_of (scene_of_tile scene width height tile))
+    ≡ need_of (layout_of scene)
 need_same scene width height tile =
     ap (λ faces. need_of (layout_with scene.depth_bits scene.fraction_bits (bit_length faces)))
-    (faces_of_moved (column_of scene width tile) (row_of scene width tile) scene.solids)
+    (counts_kept (StartingAt (column_of scene width tile) (row_of scene width tile)) scene.solids)
 
 bits_enough : (need bits : ℕ) (other : JobFault) (b : Bool) → (if b then Some (wide.PixelMemory need) else None) ≡ None
     → (if b then Some other else None) ≡ None
@@ -160,7 +177,8 @@ tile_fits scene width height bits tile none low =
     none_each (crowd_of_tile scene width height) tile (tile_count scene width height) is.products low in
     let enough : bits_short job.PixelMemory (scene_of_tile scene width height tile) bits ≡ None =
     rw (need_same scene width height tile)
-    (bits_enough (need_of (layout_of scene)) bits (job.PixelMemory (need_of (layout_of scene))) (nat_lt bits (need_of (layout_of scene))) is.memory) in
+    (bits_enough (need_of (layout_of scene)) bits (job.PixelMemory (need_of (layout_of scene)))
+    (nat_lt bits (need_of (layout_of scene))) is.memory) in
     rw (enough, crowd) refl
 
 -- a tile's rows are rows of the wide picture
@@ -170,7 +188,8 @@ rows_inside width height last within =
     omega (arith, mul-le-mul_right width within)
 
 -- numbers that stand in place of all of others
-pub put_back : (count : ℕ) (new old : List ℕ) → length new ≡ length old → count ≡ length old → take count (new ++ drop (length new) old) ≡ new
+pub put_back : (count : ℕ) (new old : List ℕ) → length new ≡ length old → count ≡ length old
+    → take count (new ++ drop (length new) old) ≡ new
 put_back count new old same all =
     let none : drop (length new) old ≡ [] = drop_all (length new) old (omega arith) in
     rw (none, append-nil new) (take_all count new (omega arith))

@@ -1,8 +1,9 @@
 -- The first tile of which something is found.
-use Rattle.std.proofs.Common.{◌≡◌, ℕ, zero, suc, ◌+◌, ◌-◌, ◌<◌, Option, Some, None, is_some, true, false, map, refl, ap, sym, ◌∙◌, arith}
+use Rattle.std.proofs.Common.{◌≡◌, ℕ, zero, suc, ◌+◌, ◌-◌, ◌<◌, Option, Some, None, is_some, true, false, map, refl}
+use Rattle.std.proofs.Common.{ap, sym, ◌∙◌, arith}
 use Rattle.std.specs.List.{range_with_len}
 use Rattle.std.specs.Option.{option_map, option_or}
-use Rattle.px_tile.specs.Coefficients.{first_some}
+use Rattle.px_tile.specs.Refusals.{first_some}
 
 -- of the first so many tiles, from one on
 abbrev pub found_from : {X : Type 0} → (ℕ → Option X) → (from count : ℕ) → Option X
@@ -13,7 +14,8 @@ both None b e = (refl, e)
 both (Some x) b e = absurd cc
 
 -- none before some tile, and so what is found of that one on
-none_before : {X : Type 0} (f : ℕ → Option X) (from i count : ℕ) → found_from f from i ≡ None → found_from f from (i + count) ≡ found_from f (from + i) count
+none_before : {X : Type 0} (f : ℕ → Option X) (from i count : ℕ) → found_from f from i ≡ None
+    → found_from f from (i + count) ≡ found_from f (from + i) count
 none_before f from zero count none =
     let here : from + 0 ≡ from = omega arith in
     let all : 0 + count ≡ count = omega arith in
@@ -26,13 +28,15 @@ none_before f from (suc i) count none =
     ∙ rw parts.0 (none_before f (from + 1) i count parts.1 ∙ ap (λ a. found_from f a count) next)
 
 -- one tile more without any
-pub none_more : {X : Type 0} (f : ℕ → Option X) (i : ℕ) → found_from f 0 i ≡ None → f i ≡ None → found_from f 0 (i + 1) ≡ None
+pub none_more : {X : Type 0} (f : ℕ → Option X) (i : ℕ) → found_from f 0 i ≡ None → f i ≡ None
+    → found_from f 0 (i + 1) ≡ None
 none_more f i none last =
     let here : 0 + i ≡ i = omega arith in
     none_before f 0 i 1 none ∙ rw (here, last) refl
 
 -- the first tile that has any
-pub found_first : {X : Type 0} (f : ℕ → Option X) (i count : ℕ) (x : X) → found_from f 0 i ≡ None → i < count → f i ≡ Some x
+pub found_first : {X : Type 0} (f : ℕ → Option X) (i count : ℕ) (x : X) → found_from f 0 i ≡ None → i < count
+    → f i ≡ Some x
     → found_from f 0 count ≡ Some x
 found_first f i count x none low last =
     let rest = count - (i + 1) in
@@ -40,7 +44,8 @@ found_first f i count x none low last =
     let here : 0 + i ≡ i = omega arith in
     ap (found_from f 0) all ∙ none_before f 0 i (suc rest) none ∙ rw (here, last) refl
 
-none_from : {X : Type 0} (f : ℕ → Option X) (from i count : ℕ) → found_from f from count ≡ None → i < count → f (from + i) ≡ None
+none_from : {X : Type 0} (f : ℕ → Option X) (from i count : ℕ) → found_from f from count ≡ None → i < count
+    → f (from + i) ≡ None
 none_from f from i zero none low = absurd (omega arith)
 none_from f from zero (suc count) none low =
     let here : from + 0 ≡ from = omega arith in
@@ -56,7 +61,8 @@ none_each f i count none low =
     rw here at (none_from f 0 i count none low)
 
 -- what is found of a tile before which there is none, where it is anything
-pub first_is : {X : Type 0} (f : ℕ → Option X) (i count : ℕ) (found : Option X) → found_from f 0 i ≡ None → i < count → found ≡ f i
+pub first_is : {X : Type 0} (f : ℕ → Option X) (i count : ℕ) (found : Option X) → found_from f 0 i ≡ None → i < count
+    → found ≡ f i
     → is_some found ≡ true → found ≡ found_from f 0 count
 first_is f i count None none low here some = absurd cc
 first_is f i count (Some x) none low here some = sym (found_first f i count x none low (sym here))
@@ -66,7 +72,8 @@ none_is None none = refl
 none_is (Some x) none = absurd cc
 
 -- what is made of it
-pub made_first : {X Y : Type 0} (g : X → Y) (f : ℕ → Option X) (i count : ℕ) (y : Y) → found_from f 0 i ≡ None → i < count
+pub made_first : {X Y : Type 0} (g : X → Y) (f : ℕ → Option X) (i count : ℕ) (y : Y) → found_from f 0 i ≡ None
+    → i < count
     → option_map g (f i) ≡ Some y → option_map g (found_from f 0 count) ≡ Some y
 made_first g f i count y none low is = made g f i count y none low (f i) refl is where
   made : {X Y : Type 0} (g : X → Y) (f : ℕ → Option X) (i count : ℕ) (y : Y) → found_from f 0 i ≡ None → i < count

@@ -1,11 +1,12 @@
 -- Numbers that are put row by row into those of a wide picture.
-use Rattle.std.proofs.Common.{◌≡◌, ◌≢◌, ℕ, ◌+◌, ◌*◌, ◌<◌, ◌≤◌, ◌⊎◌, inl, inr, List, length, slice_set as set, refl, ap, sym, ◌∙◌, arith, slice_index}
+use Rattle.std.proofs.Common.{◌≡◌, ◌≢◌, ℕ, ◌+◌, ◌*◌, ◌<◌, ◌≤◌, ◌⊎◌, inl, inr, List, length, slice_set as set, refl}
+use Rattle.std.proofs.Common.{ap, sym, ◌∙◌, arith, slice_index}
 use Rattle.std.proofs.Math.Nat.{mul-le-mul_right}
 use Rattle.std.proofs.lemmas.Bool.{cases_lt}
 use Rattle.std.proofs.lemmas.List.{length-set, get_or-set_other, get_or-set_same}
 use Rattle.px_model.specs.Scenes.{SceneView}
 use Rattle.px_model.specs.Cells.{Sight, picture}
-use Rattle.px_tile.specs.Found.{IsInTile, PutsTile, number_of}
+use Rattle.px_tile.specs.Found.{number_of}
 use Rattle.px_tile.specs.Stored.{PutsRow, PutsRows}
 
 -- the number of what is stored
@@ -29,7 +30,8 @@ row_more scene x y start n old mid new put inside is now = record {
   ];
   rest = λ place out.
       let apart : place ≢ start + x = λ e. absurd (omega arith) in
-      let wider : (place < start) ⊎ (start + x ≤ place) = elim out [ inl low ↦ inl low | inr high ↦ inr (omega arith) ] in
+      let wider : (place < start) ⊎ (start + x ≤ place) =
+      elim out [ inl low ↦ inl low | inr high ↦ inr (omega arith) ] in
       rw now (get_or-set_other mid (start + x) place n 0 apart ∙ put.rest place wider);
 }
 
@@ -47,14 +49,16 @@ ends_at_most width y later x within before =
     omega arith
 
 -- one row more
-pub rows_more : (scene : SceneView) (y x0 y0 width start : ℕ) (old mid new : List ℕ) → PutsRows scene y x0 y0 width old mid
+pub rows_more : (scene : SceneView) (y x0 y0 width start : ℕ) (old mid new : List ℕ)
+    → PutsRows scene y x0 y0 width old mid
     → PutsRow scene scene.width y start mid new → start ≡ (y0 + y) * width + x0 → x0 + scene.width ≤ width
     → PutsRows scene (y + 1) x0 y0 width old new
 rows_more scene y x0 y0 width start old mid new before put is fits = record {
   same_count = put.same_count ∙ before.same_count;
   rows = λ x row left low. elim (cases_lt row y) [
     | inl above ↦
-        let early : (y0 + row) * width + (x0 + x) < (y0 + y) * width = ends_before width (y0 + row) (y0 + y) (x0 + x) (omega arith) (omega arith) in
+        let early : (y0 + row) * width + (x0 + x) < (y0 + y) * width =
+        ends_before width (y0 + row) (y0 + y) (x0 + x) (omega arith) (omega arith) in
         put.rest _ (inl (omega arith)) ∙ before.rows x row left above
     | inr last ↦
         let same : row ≡ y = omega arith in
@@ -85,30 +89,5 @@ rows_more scene y x0 y0 width start old mid new before put is fits = record {
         | inl below ↦ inr (omega (arith, ends_at_most width (y0 + y) row (x0 + scene.width) fits below))
         | inr upto ↦
             let same : row ≡ y0 + y = omega arith in beside x row same out
-      ]
-    ]
-
--- all rows are the tile
-pub rows_all : (scene : SceneView) (x0 y0 width : ℕ) (old new : List ℕ) → PutsRows scene scene.height x0 y0 width old new
-    → PutsTile scene x0 y0 width old new
-rows_all scene x0 y0 width old new put = record {
-  count = put.same_count;
-  shown = put.rows;
-  rest = λ x y left out. put.rest x y left (outside x y out);
-}
-  where
-    outside : (x y : ℕ) → (IsInTile scene x0 y0 x y → ⊥)
-        → (y < y0) ⊎ (y0 + scene.height ≤ y) ⊎ (x < x0) ⊎ (x0 + scene.width ≤ x)
-    outside x y out = elim (cases_lt y y0) [
-      | inl a ↦ inl a
-      | inr b ↦ elim (cases_lt y (y0 + scene.height)) [
-        | inr c ↦ inr (inl c)
-        | inl d ↦ elim (cases_lt x x0) [
-          | inl e ↦ inr (inr (inl e))
-          | inr f ↦ elim (cases_lt x (x0 + scene.width)) [
-            | inl g ↦ absurd (out (record { from_left = f; left = g; from_top = b; above = d }))
-            | inr h ↦ inr (inr (inr h))
-          ]
-        ]
       ]
     ]

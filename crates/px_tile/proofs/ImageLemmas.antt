@@ -1,14 +1,18 @@
 -- The images of the numbers of a wide picture.
-use Rattle.std.proofs.Common.{◌≡◌, ℕ, zero, suc, ◌+◌, ◌*◌, ◌/◌, ◌%◌, ◌^◌, ◌<◌, ◌≤◌, All, Bool, Result, Ok, Err, OnErr, OnOk, List, [], ◌∷◌, ◌++◌, Option, Some, None, length, get_or, take, drop, refl, ap, sym, ◌∙◌, arith}
+use Rattle.std.proofs.Common.{◌≡◌, ℕ, zero, suc, ◌+◌, ◌*◌, ◌/◌, ◌%◌, ◌^◌, ◌<◌, ◌≤◌, All, Bool, Result, Ok, Err, OnErr}
+use Rattle.std.proofs.Common.{OnOk, List, [], ◌∷◌, ◌++◌, Option, Some, None, length, get_or, take, drop, refl, ap}
+use Rattle.std.proofs.Common.{sym, ◌∙◌, arith}
 use Rattle.std.specs.List.{between, flat_map, range_with_len}
 use Rattle.std.proofs.Math.Nat.{div-lt_iff_lt-mul, div-mul-le_self, mod-eq-sub-div-mul}
 use Rattle.std.proofs.Math.Pow.{pow_mono}
 use Rattle.std.proofs.lemmas.Grind.{flat_map-append}
 use Rattle.std.proofs.lemmas.List.{get_or_default, take-append-drop}
 use Rattle.std.proofs.lemmas.Slice.{between_is}
+use Rattle.px_num.proofs.RangeLaws.{range_cut, same_parts}
 use Rattle.px_io.specs.Told.{TakesAll, TakesFront}
 use Rattle.px_io.proofs.ToldLaws.{front_after, takes_both}
-use Rattle.px_frame.specs.Image.{header, row_bytes, three_bytes}
+use Rattle.px_frame.specs.Image.{header, three_bytes}
+use Rattle.px_frame.specs.Rows.{row_bytes}
 use Rattle.px_frame.specs.Picture.{depth_at, face_at}
 use Rattle.px_face.specs.Surfaces.{FirstCellsAreFirst, IsFirstOf, PicturesShowFaces}
 use Rattle.px_model.specs.Scenes.{IsLawfulScene, SceneView}
@@ -19,31 +23,14 @@ use Rattle.px_tile.specs.Found.{IsFound, number_at, number_of}
 use Rattle.px_tile.specs.Parts.{IsSmall, bytes_of, part_image, part_of}
 use Rattle.px_tile.specs.Tiles.{wide_scene}
 
--- what is made of some numbers in a row, where each of them makes the same
-same_parts : (f g : ℕ → List ℕ) (from count : ℕ) → ((k : ℕ) → from ≤ k → k < from + count → f k ≡ g k)
-    → flat_map f (range_with_len from count) ≡ flat_map g (range_with_len from count)
-same_parts f g from zero same = refl
-same_parts f g from (suc count) same =
-    let others = same_parts f g (from + 1) count (λ k low high. same k (omega arith) (omega arith)) in
-    rw (same from (omega arith) (omega arith), others) refl
-
 -- or of numbers that are so much greater
-shifted : (g : ℕ → List ℕ) (c from count : ℕ) → flat_map g (range_with_len (c + from) count) ≡ flat_map (λ k. g (c + k)) (range_with_len from count)
+shifted : (g : ℕ → List ℕ) (c from count : ℕ) → flat_map g (range_with_len (c + from) count)
+    ≡ flat_map (λ k. g (c + k)) (range_with_len from count)
 shifted g c from zero = refl
 shifted g c from (suc count) =
     let next : c + from + 1 ≡ c + (from + 1) = omega arith in
-    ap (λ others. g (c + from) ++ others) (ap (λ a. flat_map g (range_with_len a count)) next ∙ shifted g c (from + 1) count)
-
-range_cut : (a n m : ℕ) → range_with_len a (n + m) ≡ range_with_len a n ++ range_with_len (a + n) m
-range_cut a zero m =
-    let here : a + 0 ≡ a = omega arith in
-    let all : 0 + m ≡ m = omega arith in
-    rw (here, all) refl
-range_cut a (suc n) m =
-    let next : a + 1 + n ≡ a + suc n = omega arith in
-    let all : suc n + m ≡ suc (n + m) = omega arith in
-    let others = ap (λ b. range_with_len (a + 1) n ++ range_with_len b m) next in
-    rw all (ap (λ ns. a ∷ ns) (range_cut (a + 1) n m ∙ others))
+    ap (λ others. g (c + from) ++ others) (ap (λ a. flat_map g (range_with_len a count)) next
+    ∙ shifted g c (from + 1) count)
 
 -- places row by row
 by_rows : (g : ℕ → List ℕ) (width from height : ℕ) → flat_map g (range_with_len (from * width) (width * height))
@@ -62,7 +49,8 @@ by_rows g width from (suc height) =
     (ap (λ a. flat_map g (range_with_len a (width * height))) next ∙ by_rows g width (from + 1) height)
 
 -- a list by its places
-listed : (f : ℕ → List ℕ) (xs : List ℕ) → flat_map f xs ≡ flat_map (λ i. f (get_or xs i 0)) (range_with_len 0 (length xs))
+listed : (f : ℕ → List ℕ) (xs : List ℕ) → flat_map f xs ≡ flat_map (λ i. f (get_or xs i 0))
+    (range_with_len 0 (length xs))
 listed f [] = refl
 listed f (x ∷ xs) =
     ap (λ others. f x ++ others)
@@ -85,18 +73,21 @@ module _ (scene : SceneView) (lawful : IsLawfulScene scene) (faces : PicturesSho
 
   far_small : far_of scene < 2 ^ 24
   far_small =
-      let most : 2 ^ scene.depth_bits ≤ 2 ^ 24 = pow_mono {i = scene.depth_bits} {j = 24} (omega (arith, lawful.depth)) in
+      let most : 2 ^ scene.depth_bits ≤ 2 ^ 24 =
+      pow_mono {i = scene.depth_bits} {j = 24} (omega (arith, lawful.depth)) in
       omega arith
 
   depth_small : (x y : ℕ) → (picture scene x y).depth < 2 ^ 24
   depth_small x y = within (first_cell scene x y) (firsts scene x y) where
-    within : (cell : Option ℕ) → IsFirstOf (is_member_at scene x y) (far_of scene) cell → (sight_at scene x y cell).depth < 2 ^ 24
+    within : (cell : Option ℕ) → IsFirstOf (is_member_at scene x y) (far_of scene) cell
+        → (sight_at scene x y cell).depth < 2 ^ 24
     within None none = far_small
     within (Some z) first = omega (arith, first.below, far_small)
 
   part_small : (p : Part) (x y : ℕ) → IsSmall p (number_of (picture scene x y))
   part_small part.Depth x y =
-      rw (depth_part (picture scene x y).depth (picture scene x y).face (omega (arith, face_small x y))) (depth_small x y)
+      rw (depth_part (picture scene x y).depth (picture scene x y).face (omega (arith, face_small x y)))
+      (depth_small x y)
   part_small part.Face x y =
       rw (face_part (picture scene x y).depth (picture scene x y).face (omega (arith, face_small x y))) (face_small x y)
 
@@ -105,10 +96,12 @@ module _ (scene : SceneView) (lawful : IsLawfulScene scene) (faces : PicturesSho
       let x = i % width in
       let y = i / width in
       let back : y * width + x ≡ i = omega (arith, mod-eq-sub-div-mul i width, div-mul-le_self i width) in
-      let all : i < height * width = omega (arith, is.count, (let t : width * height ≡ height * width = grind arith in t)) in
+      let all : i < height * width =
+      omega (arith, is.count, (let t : width * height ≡ height * width = grind arith in t)) in
       let above : y < height = (div-lt_iff_lt-mul {k = width} {x = i} {y = height} some).1 all in
       let left : x < width = omega arith in
-      let here : get_or found i 0 ≡ number_of (picture scene x y) = ap (λ place. get_or found place 0) (sym back) ∙ is.each x y left above in
+      let here : get_or found i 0 ≡ number_of (picture scene x y) = ap (λ place. get_or found place 0) (sym back)
+      ∙ is.each x y left above in
       rw (get_or_default found i d 0 low, here) (part_small p x y)
 
   abbrev part_at : Part → (x y : ℕ) → ℕ
@@ -131,7 +124,8 @@ module _ (scene : SceneView) (lawful : IsLawfulScene scene) (faces : PicturesSho
       ∙ ap (λ n. flat_map pixel (range_with_len 0 n)) is.count
       ∙ ap (λ n. flat_map pixel (range_with_len n (width * height))) (sym start)
       ∙ by_rows pixel width 0 height
-      ∙ same_parts (λ y. flat_map (λ x. pixel (y * width + x)) (range_with_len 0 width)) (row_bytes width (part_at p)) 0 height
+      ∙ same_parts (λ y. flat_map (λ x. pixel (y * width + x)) (range_with_len 0 width)) (row_bytes width (part_at p))
+      0 height
       (λ y low above. same_parts (λ x. pixel (y * width + x)) (λ x. three_bytes (part_at p x y)) 0 width
       (λ x low left. ap three_bytes (part_found p x y (omega arith) (omega arith))))
 
@@ -154,12 +148,14 @@ on_err (Ok x) f p = p
 on_err (Err x) f p = f p
 
 -- first all of some bytes, and then all of others, or a front of them
-pub all_after : {T E : Type 0} (r : Result T E) (a b c : Option (List ℕ)) (f g h : Option Bool) (xs ys zs : List ℕ) → xs ++ ys ≡ zs
+pub all_after : {T E : Type 0} (r : Result T E) (a b c : Option (List ℕ)) (f g h : Option Bool) (xs ys zs : List ℕ)
+    → xs ++ ys ≡ zs
     → TakesAll a b f g xs → OnOk r (TakesAll b c g h ys) → OnOk r (TakesAll a c f h zs)
 all_after r a b c f g h xs ys zs whole first second =
     on_ok r (λ next. rw whole at (takes_both a b c f g h xs ys first next)) second
 
-pub front_then : {T E : Type 0} (r : Result T E) (a b c : Option (List ℕ)) (f g h : Option Bool) (xs ys zs : List ℕ) → xs ++ ys ≡ zs
+pub front_then : {T E : Type 0} (r : Result T E) (a b c : Option (List ℕ)) (f g h : Option Bool) (xs ys zs : List ℕ)
+    → xs ++ ys ≡ zs
     → TakesAll a b f g xs → OnErr r (TakesFront b c g h ys) → OnErr r (TakesFront a c f h zs)
 front_then r a b c f g h xs ys zs whole first second =
     on_err r (λ next. rw whole at (front_after a b c f g h xs ys first next)) second
@@ -167,14 +163,18 @@ front_then r a b c f g h xs ys zs whole first second =
 -- a list up to a place, and on to a later one
 taken_on : (xs : List ℕ) (i j : ℕ) → i ≤ j → take i xs ++ between i j xs ≡ take j xs
 taken_on xs i j low =
-    rw (between_is xs i j) (ap (λ front. front ++ drop i (take j xs)) (sym (take_shorter i j xs low)) ∙ take-append-drop i (take j xs))
+    rw (between_is xs i j) (ap (λ front. front ++ drop i (take j xs)) (sym (take_shorter i j xs low))
+    ∙ take-append-drop i (take j xs))
 
 -- the pixels up to a place, and on to a later one
-pub bytes_on : (p : Part) (xs : List ℕ) (i j : ℕ) → i ≤ j → bytes_of p (take i xs) ++ bytes_of p (between i j xs) ≡ bytes_of p (take j xs)
+pub bytes_on : (p : Part) (xs : List ℕ) (i j : ℕ) → i ≤ j → bytes_of p (take i xs) ++ bytes_of p (between i j xs)
+    ≡ bytes_of p (take j xs)
 bytes_on p xs i j low =
-    sym (flat_map-append (λ number. three_bytes (part_of p number)) (take i xs) (between i j xs)) ∙ ap (bytes_of p) (taken_on xs i j low)
+    sym (flat_map-append (λ number. three_bytes (part_of p number)) (take i xs) (between i j xs))
+    ∙ ap (bytes_of p) (taken_on xs i j low)
 
 -- and on to the end
 pub bytes_all : (p : Part) (xs : List ℕ) (i : ℕ) → bytes_of p (take i xs) ++ bytes_of p (drop i xs) ≡ bytes_of p xs
 bytes_all p xs i =
-    sym (flat_map-append (λ number. three_bytes (part_of p number)) (take i xs) (drop i xs)) ∙ ap (bytes_of p) (take-append-drop i xs)
+    sym (flat_map-append (λ number. three_bytes (part_of p number)) (take i xs) (drop i xs))
+    ∙ ap (bytes_of p) (take-append-drop i xs)

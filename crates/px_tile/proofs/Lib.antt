@@ -2,8 +2,5 @@ pub mod DrawLemmas
 pub mod FirstLemmas
 pub mod FoundLemmas
 pub mod ImageLemmas
-pub mod PastLemmas
-pub mod SceneLemmas
-pub mod SolidLemmas
 pub mod TileLemmas
 pub mod TilingLemmas

@@ -1,5 +1,7 @@
 -- A tile's solids have at its pixels the cells and the faces that the scene's have in the wide picture.
-use Rattle.std.proofs.Common.{◌≡◌, ℕ, zero, suc, ◌+◌, ◌*◌, ℤ, pos, negsuc, neg_ℤ, ◌+ℤ◌, ◌*ℤ◌, Bool, List, [], ◌∷◌, Option, Some, None, map, slice_get, true, false, if◌then◌else◌, refl, ap, sym, ◌∙◌, arith}
+use Rattle.std.proofs.Common.{◌≡◌, ℕ, zero, suc, ◌+◌, ◌*◌, ℤ, pos, negsuc, neg_ℤ, ◌+ℤ◌, ◌*ℤ◌, Bool, List, [], ◌∷◌}
+use Rattle.std.proofs.Common.{Option, Some, None, map, slice_get, true, false, if◌then◌else◌, refl, ap, sym, ◌∙◌}
+use Rattle.std.proofs.Common.{arith}
 use Rattle.std.specs.List.{fold, list_all}
 use Rattle.std.specs.Option.{option_map, option_map_or}
 use Rattle.std.specs.Int.{int_max, int_min}
@@ -14,8 +16,12 @@ use Rattle.px_expr.specs.Tree.{Tree, leaf, join}
 use Rattle.px_model.specs.declared.solid.Face.{Face}
 use Rattle.px_model.specs.Solids.{SolidView}
 use Rattle.px_model.specs.Scenes.{SceneView}
-use Rattle.px_model.specs.Cells.{Depths, backs_at, depths_of, end_of, enters_at, faces_at, far_of, first, first_cell, first_or, fronts_at, is_inside_at, is_inside_before, is_member_at, leaf_cell, leaves_at, no_cell, picture, scene_cell, sight_at, solid_cell, value_of}
-use Rattle.px_tile.specs.Tiles.{moved_plane, moved_face, moved_solid, tile_scene, wide_scene}
+use Rattle.px_model.specs.Cells.{Depths, backs_at, depths_of, end_of, enters_at, faces_at, far_of, first, first_cell}
+use Rattle.px_model.specs.Cells.{first_or, fronts_at, is_inside_at, is_inside_before, is_member_at, leaf_cell}
+use Rattle.px_model.specs.Cells.{leaves_at, no_cell, picture, scene_cell, sight_at, solid_cell, value_of}
+use Rattle.px_model.specs.declared.pixels.Pixels.TheVariants.{StartingAt}
+use Rattle.px_model.specs.Pixels.{face_over, plane_over, solid_over}
+use Rattle.px_tile.specs.Tiles.{tile_scene, wide_scene}
 
 -- a coefficient times a place that is so much farther
 farther : (a : ℤ) (from x : ℕ) → a *ℤ pos (from + x) ≡ (a *ℤ pos from) +ℤ (a *ℤ pos x)
@@ -31,7 +37,9 @@ farther (negsuc n) from x =
 turned : (p q u v c : ℤ) → (u +ℤ v) +ℤ ((p +ℤ q) +ℤ c) ≡ ((p +ℤ u) +ℤ (q +ℤ v)) +ℤ c
 turned p q u v c = omega (arith, ints)
 
-pub value_moved : (x0 y0 x y : ℕ) (plane : Linear) → value_at (moved_plane x0 y0 plane) x y ≡ value_at plane (x0 + x) (y0 + y)
+pub value_moved : (x0 y0 x y : ℕ) (plane : Linear) → value_at (plane_over (StartingAt x0 y0) plane) x y
+    ≡ value_at plane (x0 + x)
+    (y0 + y)
 value_moved x0 y0 x y plane =
     turned (plane.a *ℤ pos x0) (plane.b *ℤ pos y0) (plane.a *ℤ pos x) (plane.b *ℤ pos y) plane.c
     ∙ sym (rw (farther plane.a x0 x, farther plane.b y0 y) refl)
@@ -47,60 +55,83 @@ map_moved : {X Y Z : Type 0} (f : Y → X) (p : X → Z) (q : Y → Z) → ((y :
 map_moved f p q same [] = refl
 map_moved f p q same (y ∷ ys) = rw (same y, map_moved f p q same ys) refl
 
-with_face : (b : Bool) (f g : Face) (fs gs : List Face) → f.number ≡ g.number → map (λ h. h.number) fs ≡ map (λ h. h.number) gs
+with_face : (b : Bool) (f g : Face) (fs gs : List Face) → f.number ≡ g.number → map (λ h. h.number) fs
+    ≡ map (λ h. h.number) gs
     → map (λ h. h.number) (if b then f ∷ fs else fs) ≡ map (λ h. h.number) (if b then g ∷ gs else gs)
 with_face true f g fs gs same others = rw (same, others) refl
 with_face false f g fs gs same others = others
 
 module _ (x0 y0 x y : ℕ) where
-  value_of_face : (face : Face) → value_at (moved_face x0 y0 face).plane x y ≡ value_at face.plane (x0 + x) (y0 + y)
+  value_of_face : (face : Face) → value_at (face_over (StartingAt x0 y0) face).plane x y ≡ value_at face.plane
+      (x0 + x) (y0 + y)
   value_of_face face = value_moved x0 y0 x y face.plane
 
-  values_moved : (faces : List Face) → map (λ f. value_at f.plane x y) (map (moved_face x0 y0) faces)
+  values_moved : (faces : List Face) → map (λ f. value_at f.plane x y) (map (face_over (StartingAt x0 y0)) faces)
       ≡ map (λ f. value_at f.plane (x0 + x) (y0 + y)) faces
-  values_moved faces = map_moved (moved_face x0 y0) (λ f. value_at f.plane x y) (λ f. value_at f.plane (x0 + x) (y0 + y)) value_of_face faces
+  values_moved faces = map_moved (face_over (StartingAt x0 y0)) (λ f. value_at f.plane x y)
+      (λ f. value_at f.plane (x0 + x) (y0 + y)) value_of_face faces
 
-  enters_moved : (s : SolidView) → enters_at (moved_solid x0 y0 s) x y ≡ enters_at s (x0 + x) (y0 + y)
+  enters_moved : (s : SolidView) → enters_at (solid_over (StartingAt x0 y0) s) x y ≡ enters_at s (x0 + x) (y0 + y)
   enters_moved s = ap (fold int_max (pos 0)) (values_moved s.fronts)
 
-  leaves_moved : (s : SolidView) (end : ℕ) → leaves_at (moved_solid x0 y0 s) end x y ≡ leaves_at s end (x0 + x) (y0 + y)
+  leaves_moved : (s : SolidView) (end : ℕ) → leaves_at (solid_over (StartingAt x0 y0) s) end x y
+      ≡ leaves_at s end (x0 + x) (y0 + y)
   leaves_moved s end = ap (fold int_min (pos end)) (values_moved s.backs)
 
-  faces_moved : (faces : List Face) (v : ℤ) → faces_at (map (moved_face x0 y0) faces) x y v ≡ faces_at faces (x0 + x) (y0 + y) v
+  faces_moved : (faces : List Face) (v : ℤ) → faces_at (map (face_over (StartingAt x0 y0)) faces) x y v
+      ≡ faces_at faces (x0 + x)
+      (y0 + y) v
   faces_moved [] v = refl
   faces_moved (face ∷ faces) v =
       rw (value_of_face face)
-      (with_face (int_eq (value_at face.plane (x0 + x) (y0 + y)) v) (moved_face x0 y0 face) face _ _ refl (faces_moved faces v))
+      (with_face (int_eq (value_at face.plane (x0 + x) (y0 + y)) v) (face_over (StartingAt x0 y0) face) face _ _ refl
+      (faces_moved faces v))
 
-  inside_at_moved : (s : SolidView) (end v : ℕ) → is_inside_at (moved_solid x0 y0 s) end x y v ≡ is_inside_at s end (x0 + x) (y0 + y) v
+  inside_at_moved : (s : SolidView) (end v : ℕ) → is_inside_at (solid_over (StartingAt x0 y0) s) end x y v
+      ≡ is_inside_at s end
+      (x0 + x) (y0 + y) v
   inside_at_moved s end v =
-      let sides = all_moved (moved_plane x0 y0) (λ side. le_z (pos 0) (value_at side x y)) (λ side. le_z (pos 0) (value_at side (x0 + x) (y0 + y)))
+      let sides = all_moved (plane_over (StartingAt x0 y0)) (λ side. le_z (pos 0) (value_at side x y))
+      (λ side. le_z (pos 0) (value_at side (x0 + x) (y0 + y)))
       (λ side. ap (le_z (pos 0)) (value_moved x0 y0 x y side)) s.sides in
-      let fronts = all_moved (moved_face x0 y0) (λ f. le_z (value_at f.plane x y) (pos v)) (λ f. le_z (value_at f.plane (x0 + x) (y0 + y)) (pos v))
+      let fronts = all_moved (face_over (StartingAt x0 y0)) (λ f. le_z (value_at f.plane x y) (pos v))
+      (λ f. le_z (value_at f.plane (x0 + x) (y0 + y)) (pos v))
       (λ f. ap (λ u. le_z u (pos v)) (value_of_face f)) s.fronts in
-      let backs = all_moved (moved_face x0 y0) (λ f. lt_z (pos v) (value_at f.plane x y)) (λ f. lt_z (pos v) (value_at f.plane (x0 + x) (y0 + y)))
+      let backs = all_moved (face_over (StartingAt x0 y0)) (λ f. lt_z (pos v) (value_at f.plane x y))
+      (λ f. lt_z (pos v) (value_at f.plane (x0 + x) (y0 + y)))
       (λ f. ap (lt_z (pos v)) (value_of_face f)) s.backs in
       rw (sides, fronts, backs) refl
 
-  before_moved : (s : SolidView) (d : Depths) (z : ℕ) → is_inside_before (moved_solid x0 y0 s) d x y z ≡ is_inside_before s d (x0 + x) (y0 + y) z
+  before_moved : (s : SolidView) (d : Depths) (z : ℕ) → is_inside_before (solid_over (StartingAt x0 y0) s) d x y z
+      ≡ is_inside_before s d (x0 + x) (y0 + y) z
   before_moved s d zero = refl
   before_moved s d (suc z) = inside_at_moved s (end_of d) (value_of d z)
 
-  fronts_moved : (s : SolidView) (d : Depths) (z : ℕ) → fronts_at (moved_solid x0 y0 s) d x y z ≡ fronts_at s d (x0 + x) (y0 + y) z
+  fronts_moved : (s : SolidView) (d : Depths) (z : ℕ) → fronts_at (solid_over (StartingAt x0 y0) s) d x y z
+      ≡ fronts_at s d (x0 + x) (y0 + y) z
   fronts_moved s d z = rw (enters_moved s, faces_moved s.fronts (enters_at s (x0 + x) (y0 + y))) refl
 
-  backs_moved : (s : SolidView) (d : Depths) (z : ℕ) → backs_at (moved_solid x0 y0 s) d x y z ≡ backs_at s d (x0 + x) (y0 + y) z
+  backs_moved : (s : SolidView) (d : Depths) (z : ℕ) → backs_at (solid_over (StartingAt x0 y0) s) d x y z
+      ≡ backs_at s d (x0 + x)
+      (y0 + y) z
   backs_moved s d z =
-      rw (before_moved s d z, leaves_moved s (end_of d), faces_moved s.backs (leaves_at s (end_of d) (x0 + x) (y0 + y))) refl
+      rw (
+        before_moved s d z,
+        leaves_moved s (end_of d),
+        faces_moved s.backs (leaves_at s (end_of d) (x0 + x) (y0 + y)),
+      ) refl
 
-  solid_moved : (d : Depths) (z : ℕ) (s : SolidView) → solid_cell d x y z (moved_solid x0 y0 s) ≡ solid_cell d (x0 + x) (y0 + y) z s
+  solid_moved : (d : Depths) (z : ℕ) (s : SolidView) → solid_cell d x y z (solid_over (StartingAt x0 y0) s)
+      ≡ solid_cell d (x0 + x) (y0 + y) z s
   solid_moved d z s = rw (inside_at_moved s (end_of d) (value_of d z), fronts_moved s d z, backs_moved s d z) refl
 
   leaf_moved : (solids : List SolidView) (d : Depths) (z solid : ℕ)
-      → leaf_cell (map (moved_solid x0 y0) solids) d x y z solid ≡ leaf_cell solids d (x0 + x) (y0 + y) z solid
+      → leaf_cell (map (solid_over (StartingAt x0 y0)) solids) d x y z solid ≡ leaf_cell solids d (x0 + x)
+      (y0 + y) z solid
   leaf_moved solids d z solid =
-      rw (slice_get-map (moved_solid x0 y0) solids solid) (found (slice_get solids solid)) where
-        found : (s : Option SolidView) → option_map_or (solid_cell d x y z) (option_map (moved_solid x0 y0) s) no_cell
+      rw (slice_get-map (solid_over (StartingAt x0 y0)) solids solid) (found (slice_get solids solid)) where
+        found : (s : Option SolidView) → option_map_or (solid_cell d x y z)
+            (option_map (solid_over (StartingAt x0 y0)) s) no_cell
             ≡ option_map_or (solid_cell d (x0 + x) (y0 + y) z) s no_cell
         found None = refl
         found (Some s) = solid_moved d z s
@@ -123,13 +154,17 @@ tile_shows scene x0 y0 width height wide high x y =
     let tile = tile_scene scene x0 y0 width height in
     let whole = wide_scene scene wide high in
     let cells : (z : ℕ) → scene_cell tile x y z ≡ scene_cell whole (x0 + x) (y0 + y) z =
-    λ z. same_cell (leaf_cell tile.solids (depths_of scene) x y z) (leaf_cell scene.solids (depths_of scene) (x0 + x) (y0 + y) z)
+    λ z. same_cell (leaf_cell tile.solids (depths_of scene) x y z) (leaf_cell scene.solids (depths_of scene) (x0 + x)
+    (y0 + y) z)
     (leaf_moved x0 y0 x y scene.solids (depths_of scene) z) scene.show in
     let firsts : first_cell tile x y ≡ first_cell whole (x0 + x) (y0 + y) =
-    same_first (is_member_at tile x y) (is_member_at whole (x0 + x) (y0 + y)) (λ z. ap (λ c. c.member) (cells z)) (far_of scene) in
+    same_first (is_member_at tile x y) (is_member_at whole (x0 + x) (y0 + y)) (λ z. ap (λ c. c.member) (cells z))
+    (far_of scene) in
     ap (sight_at tile x y) firsts ∙ sights cells (first_cell whole (x0 + x) (y0 + y))
   where
-    sights : ((z : ℕ) → scene_cell (tile_scene scene x0 y0 width height) x y z ≡ scene_cell (wide_scene scene wide high) (x0 + x) (y0 + y) z)
-        → (found : Option ℕ) → sight_at (tile_scene scene x0 y0 width height) x y found ≡ sight_at (wide_scene scene wide high) (x0 + x) (y0 + y) found
+    sights : ((z : ℕ) → scene_cell (tile_scene scene x0 y0 width height) x y z
+        ≡ scene_cell (wide_scene scene wide high) (x0 + x) (y0 + y) z)
+        → (found : Option ℕ) → sight_at (tile_scene scene x0 y0 width height) x y found
+        ≡ sight_at (wide_scene scene wide high) (x0 + x) (y0 + y) found
     sights cells None = refl
     sights cells (Some z) = rw (cells z) refl

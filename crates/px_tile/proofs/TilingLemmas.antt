@@ -11,7 +11,8 @@ some_across size pixels some any =
 -- a tile across begins before the end
 pub begins_inside : (size pixels k : ℕ) → 1 ≤ size → k < tiles_across size pixels → k * size < pixels
 begins_inside size pixels k some low =
-    let cut : (k + 1) * size ≤ pixels + (size - 1) = (le-div_iff_mul-le {k = size} {x = k + 1} {y = pixels + (size - 1)} (omega arith)).0 (omega arith) in
+    let cut : (k + 1) * size ≤ pixels + (size - 1) =
+    (le-div_iff_mul-le {k = size} {x = k + 1} {y = pixels + (size - 1)} (omega arith)).0 (omega arith) in
     let one : (k + 1) * size ≡ k * size + size = grind arith in
     omega arith
 
@@ -23,7 +24,8 @@ row_inside columns rows tile some low =
 -- so many tiles cover the pixels
 pub covers_all : (size pixels x : ℕ) → 1 ≤ size → x < pixels → x / size < tiles_across size pixels
 covers_all size pixels x some inside =
-    let past : pixels + (size - 1) < tiles_across size pixels * size + size = lt-div-mul-add {a = pixels + (size - 1)} {b = size} (omega arith) in
+    let past : pixels + (size - 1) < tiles_across size pixels * size + size =
+    lt-div-mul-add {a = pixels + (size - 1)} {b = size} (omega arith) in
     (div-lt_iff_lt-mul {k = size} {x = x} {y = tiles_across size pixels} (omega arith)).1 (omega arith)
 
 -- a pixel is in the tile of its quotient
@@ -36,10 +38,12 @@ in_part size pixels x k some inside is =
     (omega arith, omega arith)
 
 -- and in no other
-pub part_of_pixel : (size pixels x k : ℕ) → 1 ≤ size → k * size ≤ x → x < k * size + min size (pixels - k * size) → x / size ≡ k
+pub part_of_pixel : (size pixels x k : ℕ) → 1 ≤ size → k * size ≤ x → x < k * size + min size (pixels - k * size)
+    → x / size ≡ k
 part_of_pixel size pixels x k some from to =
     let high : x / size < k + 1 =
-    (div-lt_iff_lt-mul {k = size} {x = x} {y = k + 1} (omega arith)).1 (let one : (k + 1) * size ≡ k * size + size = grind arith in omega arith) in
+    (div-lt_iff_lt-mul {k = size} {x = x} {y = k + 1} (omega arith)).1 (let one : (k + 1) * size ≡ k * size
+    + size = grind arith in omega arith) in
     let low : k ≤ x / size = (le-div_iff_mul-le {k = size} {x = k} {y = x} (omega arith)).1 from in
     omega arith
 
@@ -50,10 +54,12 @@ column_is columns row column low = mod-mul-add row columns column low
 pub row_is : (columns row column : ℕ) → column < columns → (row * columns + column) / columns ≡ row
 row_is columns row column low = div-mul-add row columns column low
 
-pub place_is : (columns tile row column : ℕ) → row ≡ tile / columns → column ≡ tile % columns → row * columns + column ≡ tile
+pub place_is : (columns tile row column : ℕ) → row ≡ tile / columns → column ≡ tile % columns → row * columns
+    + column ≡ tile
 place_is columns tile row column p q = rw (p, q) (div-add-mod' tile columns)
 
-pub place_inside : (columns rows row column : ℕ) → row < rows → column < columns → row * columns + column < columns * rows
+pub place_inside : (columns rows row column : ℕ) → row < rows → column < columns → row * columns + column
+    < columns * rows
 place_inside columns rows row column high low =
     let one : (row + 1) * columns ≡ row * columns + columns = grind arith in
     let more : (row + 1) * columns ≤ rows * columns = mul-le-mul_right columns (omega arith) in

@@ -5,7 +5,6 @@ pub use Rattle.px_control.specs.Standing
 pub use Rattle.px_frame.specs.Picture
 pub use Rattle.px_model.specs.Cells
 pub use Rattle.px_model.specs.Scenes
-pub mod Coefficients
 pub mod Drawn
 pub mod Found
 pub mod Parts

@@ -1,8 +1,9 @@
 -- Why a wide picture is not drawn, in the order in which it is asked. Clauses of public calls stand on it.
-use Rattle.std.specs.Prelude.{ℕ, ℤ, nat_lt, if◌then◌else◌, Option, Some, None, map}
+use Rattle.std.specs.Prelude.{ℕ, ℤ, nat_lt, if◌then◌else◌, List, [], ◌∷◌, Option, Some, None, map}
 use Rattle.std.specs.List.{range_with_len}
 use Rattle.std.specs.Option.{option_map, option_or}
 use Rattle.px_prune.specs.Kept.{crowd_of}
+use Rattle.px_model.specs.Planes.{first_past}
 use Rattle.px_model.specs.Scenes.{SceneView}
 use Rattle.px_sched.specs.Layouts.{layout_of, need_of}
 use Rattle.px_control.specs.declared.fault.JobFault.{JobFault}
@@ -10,8 +11,12 @@ use Rattle.px_control.specs.declared.fault.JobFault.TheVariants as job
 use Rattle.px_tile.specs.declared.fault.WideFault.{WideFault}
 use Rattle.px_tile.specs.declared.fault.WideFault.TheVariants as wide
 use Rattle.px_tile.specs.declared.draw.TheConstants.{MAX_TILES}
-use Rattle.px_tile.specs.Coefficients.{coefficient_past, first_some}
 use Rattle.px_tile.specs.Tilings.{scene_of_tile, tile_count}
+
+-- the first of some answers that is one
+abbrev pub first_some : {X : Type 0} → List (Option X) → Option X
+first_some [] = None
+first_some (answer ∷ answers) = option_or answer (first_some answers)
 
 -- what is first found of a tile by rows, where it is found of one
 abbrev pub first_of_tiles : {X : Type 0} → (SceneView → Option X) → SceneView → (width height : ℕ) → Option X
@@ -20,7 +25,7 @@ first_of_tiles found scene width height =
 
 -- the first coefficient past the limit of the first tile that has one
 abbrev pub first_coefficient : SceneView → (width height : ℕ) → Option ℤ
-first_coefficient scene width height = first_of_tiles (λ tile. coefficient_past tile.solids) scene width height
+first_coefficient scene width height = first_of_tiles (λ tile. first_past tile.solids) scene width height
 
 -- the length of the first wanted list past the limit, of the first tile that has one
 abbrev pub first_crowd : SceneView → (width height : ℕ) → Option ℕ

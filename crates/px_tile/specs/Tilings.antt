@@ -1,5 +1,6 @@
 -- The tiles of a wide picture, by rows from the top and in each from the left. Clauses of public calls stand on it.
 use Rattle.std.specs.Prelude.{ℕ, ◌+◌, ◌-◌, ◌*◌, ◌/◌, ◌%◌, ◌≤◌, min}
+use Rattle.px_model.specs.declared.limits.TheConstants.{MAX_PICTURE_SIZE}
 use Rattle.px_model.specs.Scenes.{SceneView}
 use Rattle.px_tile.specs.Tiles.{tile_scene}
 
@@ -13,9 +14,9 @@ pub record IsWideSize (columns rows : ℕ) : Type 0 where
 -- a tile is 1 to 512 pixels wide, and so high
 pub record IsTileSize (columns rows : ℕ) : Type 0 where
   pub some_width : 1 ≤ columns
-  pub width : columns ≤ 512
+  pub width : columns ≤ MAX_PICTURE_SIZE
   pub some_height : 1 ≤ rows
-  pub height : rows ≤ 512
+  pub height : rows ≤ MAX_PICTURE_SIZE
 
 -- how many tiles of a size it takes to cover so many pixels
 abbrev pub tiles_across : (size pixels : ℕ) → ℕ

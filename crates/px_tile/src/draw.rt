@@ -3,7 +3,7 @@ ghost use Rattle.std.specs.Prelude.{◌≡◌, ◌*◌, ◌^◌, ◌<◌, ◌≤
 ghost use Rattle.std.specs.Option.{option_map};
 ghost use Rattle.px_array.specs.Arrays.{closed};
 ghost use Rattle.px_sched.specs.Layouts.{layout_of, need_of};
-ghost use Rattle.px_tile.specs.Coefficients.{coefficient_past};
+ghost use Rattle.px_model.specs.Planes.{first_past};
 ghost use Rattle.px_tile.specs.Found.{IsFound, PutsTile};
 ghost use Rattle.px_tile.specs.Pictures.{IsLastDrawn, IsTileDrawn, LeavesOnWideRefusal};
 ghost use Rattle.px_tile.specs.Refusals.{first_coefficient, first_crowd, refusal_of, wide_refusal};
@@ -16,14 +16,14 @@ ghost use Rattle.px_tile.specs.Tilings.{
   tile_count,
 };
 
-use crate::coefficient::coefficient_past;
 use crate::fault::WideFault;
 use crate::law::laws_of_tiles;
 use crate::render::render_tile;
 use crate::tile::moved_scene;
 use crate::tiling::{tile_at, tile_count};
 use px_array::Array;
-use px_model::{Scene, laws_of_scenes};
+use px_control::MAX_LAYOUT_BITS;
+use px_model::{Pixels, Scene, laws_of_scenes};
 use px_normal::NormalFault;
 use px_num::Memory;
 use px_prune::plan_of;
@@ -32,9 +32,6 @@ use std::alloc::Global;
 
 /// A picture that is drawn has at most so many tiles.
 pub const MAX_TILES: u32 = 1024;
-
-/// No scene needs more bits of memory in a pixel.
-const MOST_BITS: usize = 74;
 
 /// Whether a picture of `width` by `height` pixels, each from 1 to 4096, can be drawn tile by tile
 /// on an array with pixels of so many memory bits, each tile of the size of the scene's picture, or
@@ -83,10 +80,13 @@ fn first_coefficient(scene: &Scene, width: u32, height: u32) -> Option<i64>
 fn coefficient_of_tile(scene: &Scene, width: u32, height: u32, tile: u32) -> Option<i64>
     requires size { IsWideSize width height }
     requires tile { tile < tile_count scene.now width height }
-    ensures { result ≡ coefficient_past (scene_of_tile scene.now width height tile).solids }
+    ensures { result ≡ first_past (scene_of_tile scene.now width height tile).solids }
 {
     let tile = tile_at(scene, width, height, tile);
-    coefficient_past(scene, tile.x0, tile.y0)
+    scene.first_past(Pixels::StartingAt {
+        x0: tile.x0,
+        y0: tile.y0,
+    })
 }
 
 /// Whether no tile has a wanted list of products past the limit, or the length of the first one.
@@ -117,7 +117,7 @@ fn check_products_of_tile(
 ) -> Result<(), WideFault>
     requires size { IsWideSize width height }
     requires tile { tile < tile_count scene.now width height }
-    requires within { coefficient_past (scene_of_tile scene.now width height tile).solids ≡ None }
+    requires within { first_past (scene_of_tile scene.now width height tile).solids ≡ None }
     ensures ok { OnOk result (crowd_of_tile scene.now width height tile ≡ None) }
     ensures err { IfErr result (λ fault.
         (option_map WideFault.Products (crowd_of_tile scene.now width height tile) ≡ Some fault)
@@ -144,7 +144,7 @@ fn scene_of_tile(
 ) -> Result<Scene, Memory>
     requires size { IsWideSize width height }
     requires tile { tile < tile_count scene.now width height }
-    requires within { coefficient_past (scene_of_tile scene.now width height tile).solids ≡ None }
+    requires within { first_past (scene_of_tile scene.now width height tile).solids ≡ None }
     ensures { IfOk result (λ found. found ≡ scene_of_tile scene.now width height tile) }
 {
     let tile = tile_at(scene, width, height, tile);
@@ -225,7 +225,7 @@ fn draw_tile<A: Array>(
 ) -> Result<(), Memory>
     requires size { IsWideSize width height }
     requires tile { tile < tile_count scene.now width height }
-    requires within { coefficient_past (scene_of_tile scene.now width height tile).solids ≡ None }
+    requires within { first_past (scene_of_tile scene.now width height tile).solids ≡ None }
     requires fits { refusal_of (scene_of_tile scene.now width height tile) A.BITS ≡ None }
     requires room { length found.old ≡ width * height }
     ensures ok { OnOk result (PutsTile (scene_of_tile scene.now width height tile)
@@ -252,5 +252,5 @@ fn memory_bits<A: Array>(scene: &Scene) -> u32
 {
     laws_of_scenes(scene);
     laws_of_passes();
-    A::BITS.min(MOST_BITS) as u32
+    A::BITS.min(MAX_LAYOUT_BITS) as u32
 }

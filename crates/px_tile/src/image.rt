@@ -5,6 +5,7 @@ ghost use Rattle.px_frame.specs.Image.{header, three_bytes};
 ghost use Rattle.px_frame.specs.Picture.{depth_image, face_image};
 ghost use Rattle.px_io.specs.Counts.{HasCause};
 ghost use Rattle.px_io.specs.Told.{TakesAll, TakesFront};
+ghost use Rattle.px_tile.specs.declared.image.TheConstants.{PIECE};
 ghost use Rattle.px_tile.specs.Found.{IsFound};
 ghost use Rattle.px_tile.specs.Parts.{IsSmall, bytes_of, part_image, part_of};
 ghost use Rattle.px_tile.specs.Tiles.{wide_scene};
@@ -20,7 +21,7 @@ use px_model::{Scene, laws_of_scenes};
 const PIECE: usize = 512;
 
 /// Three bytes a pixel.
-const PIECE_BYTES: usize = 1536;
+const PIECE_BYTES: usize = 3 * PIECE;
 
 /// What an image shows of each number.
 #[derive(Clone, Copy, Debug, PartialEq, Eq)]
@@ -101,9 +102,9 @@ fn write_pixels<O: Sink>(found: &[u64], part: Part, out: &mut O) -> Result<(), F
     Ok(())
 }
 
-/// The pixels of at most 512 numbers.
+/// The pixels of at most `PIECE` numbers.
 fn piece_bytes(piece: &[u64], part: Part) -> ArrayVec<u8, PIECE_BYTES>
-    requires few { length piece.now ≤ 512 }
+    requires few { length piece.now ≤ PIECE }
     requires small { All (IsSmall part) piece.now }
     ensures { result.items ≡ bytes_of part piece.now }
 {

@@ -1,7 +1,6 @@
 //! Pictures wider than the array: a scene's tiles, and the wide picture that they make up.
 #![tactic(auto)]
 
-mod coefficient;
 mod draw;
 mod fault;
 mod image;

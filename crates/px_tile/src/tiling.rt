@@ -1,5 +1,6 @@
 //! The tiles of a wide picture: how many there are, and where each of them begins and ends.
 ghost use Rattle.std.specs.Prelude.{◌≡◌, ◌-◌, ◌<◌, ◌≤◌, ◌*◌, ◌+◌, min};
+ghost use Rattle.px_model.specs.declared.limits.TheConstants.{MAX_PICTURE_SIZE};
 ghost use Rattle.px_tile.specs.Tilings.{
   IsTileSize,
   IsWideSize,
@@ -31,7 +32,7 @@ pub(crate) fn tile_count(scene: &Scene, width: u32, height: u32) -> u32
 /// How many tiles of a size it takes to cover so many pixels.
 fn tiles_across(size: u32, pixels: u32) -> u32
     requires some { 1 ≤ size }
-    requires size { size ≤ 512 }
+    requires size { size ≤ MAX_PICTURE_SIZE }
     requires pixels { pixels ≤ 4096 }
     ensures value { result ≡ tiles_across size pixels }
     ensures few { result ≤ 4096 }
@@ -67,13 +68,13 @@ pub(crate) fn tile_at(scene: &Scene, width: u32, height: u32, tile: u32) -> Tile
 /// Where a tile of a row of tiles begins, and how long it is: the last one is cut.
 fn span(size: u32, pixels: u32, tile: u32) -> (u32, u32)
     requires some { 1 ≤ size }
-    requires size { size ≤ 512 }
+    requires size { size ≤ MAX_PICTURE_SIZE }
     requires pixels { pixels ≤ 4096 }
     requires tile { tile < tiles_across size pixels }
     ensures start { result.0 ≡ tile * size }
     ensures length { result.1 ≡ min size (pixels - tile * size) }
     ensures some { 1 ≤ result.1 }
-    ensures few { result.1 ≤ 512 }
+    ensures few { result.1 ≤ MAX_PICTURE_SIZE }
     ensures within { result.0 + result.1 ≤ pixels }
 {
     let start = tile * size;

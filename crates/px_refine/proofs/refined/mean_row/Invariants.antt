@@ -1,11 +1,13 @@
 use Rattle.std.proofs.Common.{◌≡◌, ◌*◌}
 use Rattle.arrayvec.specs.ArrayVec.{array_vec_len}
-use Rattle.px_frame.specs.Image.{row_bytes}
-use Rattle.px_refine.specs.Refined.{mean_number, stored_face_colour}
+use Rattle.px_frame.specs.Image.{row_of_pixels}
+use Rattle.px_frame.specs.Stored.{stored_colour}
+use Rattle.px_refine.specs.Refined.{mean_pixel}
 use Rattle.px_refine.proofs.refined.mean_row.Given as goal
 
 abbrev pub invariant-loop-x : goal.invariant-loop-x
 invariant-loop-x g l = record {
-  filled : l.bytes.items ≡ row_bytes l.x (mean_number l.s (stored_face_colour l.fine l.layout (g.A.Array.device l.array).state)) l.y;
+  filled : l.bytes.items
+      ≡ row_of_pixels l.x (mean_pixel l.s (stored_colour l.fine l.layout (g.A.Array.device l.array).state)) l.y;
   size : array_vec_len l.bytes ≡ 3 * l.x;
 }

@@ -1,13 +1,14 @@
 use Rattle.std.proofs.Common.{◌≡◌, ◌++◌}
 use Rattle.std.specs.List.{flat_map, range_with_len}
 use Rattle.px_io.specs.Told.{TakesAll}
-use Rattle.px_frame.specs.Image.{header, row_bytes}
-use Rattle.px_refine.specs.Refined.{mean_number, stored_face_colour}
+use Rattle.px_frame.specs.Image.{header, row_of_pixels}
+use Rattle.px_frame.specs.Stored.{stored_colour}
+use Rattle.px_refine.specs.Refined.{mean_pixel}
 use Rattle.px_refine.proofs.refined.write_refined.Given as goal
 
 abbrev pub invariant-loop-y : goal.invariant-loop-y
 invariant-loop-y g l =
-    let row = row_bytes l.width (mean_number l.s (stored_face_colour l.fine l.layout (g.A.Array.device l.array).state))
+    let row = row_of_pixels l.width (mean_pixel l.s (stored_colour l.fine l.layout (g.A.Array.device l.array).state))
     in record {
       front : TakesAll (g.O.Sink.written l.fn.out) (g.O.Sink.written l.out)
           (g.O.Sink.finished l.fn.out) (g.O.Sink.finished l.out)

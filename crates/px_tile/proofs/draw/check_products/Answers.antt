@@ -1,6 +1,6 @@
 use Rattle.std.proofs.Common.{◌<◌, arith, inl, inr}
 use Rattle.px_tile.specs.declared.fault.WideFault.TheVariants as wide
-use Rattle.px_tile.specs.Coefficients.{coefficient_past}
+use Rattle.px_model.specs.Planes.{first_past}
 use Rattle.px_tile.specs.Drawn.{crowd_of_tile}
 use Rattle.px_tile.specs.Tilings.{scene_of_tile, tile_count}
 use Rattle.px_tile.proofs.FirstLemmas.{made_first, none_each, none_more}
@@ -10,19 +10,22 @@ pub check_products_of_tile-requires-clause-within : goal.check_products_of_tile-
 check_products_of_tile-requires-clause-within c =
     let count = tile_count c.args.scene.now c.args.width c.args.height in
     let low : c.loop-tile.tile < count = omega (arith, c.tile_count-tile-end.ensures) in
-    none_each (λ tile. coefficient_past (scene_of_tile c.args.scene.now c.args.width c.args.height tile).solids) c.loop-tile.tile
+    none_each (λ tile. first_past (scene_of_tile c.args.scene.now c.args.width c.args.height tile).solids)
+    c.loop-tile.tile
     count c.requires.within low
 
 pub loop-tile-preserved : goal.loop-tile-preserved
 loop-tile-preserved c =
-    none_more (crowd_of_tile c.args.scene.now c.args.width c.args.height) c.loop-tile.tile c.loop-tile.invariant c.in_default.ensures.ok
+    none_more (crowd_of_tile c.args.scene.now c.args.width c.args.height) c.loop-tile.tile c.loop-tile.invariant
+    c.in_default.ensures.ok
 
 pub returns-in-Err-clause-err : goal.returns-in-Err-clause-err
 returns-in-Err-clause-err c =
     let count = tile_count c.args.scene.now c.args.width c.args.height in
     let low : c.loop-tile.tile < count = omega (arith, c.tile_count-tile-end.ensures) in
     elim c.in-Err.ensures.err [
-      | inl here ↦ inl (made_first (λ n. wide.Products n) (crowd_of_tile c.args.scene.now c.args.width c.args.height) c.loop-tile.tile
+      | inl here ↦ inl (made_first (λ n. wide.Products n) (crowd_of_tile c.args.scene.now c.args.width c.args.height)
+          c.loop-tile.tile
           count c.in-Err.fault c.loop-tile.invariant low here)
       | inr memory ↦ inr memory
     ]

@@ -5,17 +5,20 @@ use Rattle.px_tile.proofs.draw.draw_tiles.Goals as goal
 
 pub draw_tile-requires-clause-within : goal.draw_tile-requires-clause-within
 draw_tile-requires-clause-within g c =
-    let low : c.loop-tile.tile < tile_count c.args.scene.now c.args.width c.args.height = omega (arith, c.tile_count-tile-end.ensures) in
+    let low : c.loop-tile.tile < tile_count c.args.scene.now c.args.width c.args.height =
+    omega (arith, c.tile_count-tile-end.ensures) in
     tile_within c.args.scene.now c.args.width c.args.height _ c.loop-tile.tile c.requires.fits low
 
 pub draw_tile-requires-clause-fits : goal.draw_tile-requires-clause-fits
 draw_tile-requires-clause-fits g c =
-    let low : c.loop-tile.tile < tile_count c.args.scene.now c.args.width c.args.height = omega (arith, c.tile_count-tile-end.ensures) in
+    let low : c.loop-tile.tile < tile_count c.args.scene.now c.args.width c.args.height =
+    omega (arith, c.tile_count-tile-end.ensures) in
     tile_fits c.args.scene.now c.args.width c.args.height _ c.loop-tile.tile c.requires.fits low
 
 pub loop-tile-preserved : goal.loop-tile-preserved
 loop-tile-preserved g c =
-    let low : c.loop-tile.tile < tile_count c.args.scene.now c.args.width c.args.height = omega (arith, c.tile_count-tile-end.ensures) in
+    let low : c.loop-tile.tile < tile_count c.args.scene.now c.args.width c.args.height =
+    omega (arith, c.tile_count-tile-end.ensures) in
     let law = c.laws_of_scenes.ensures.scene in
     let numbers = c.as_mut_slice-numbers.ensures in
     let put = rw numbers.value at c.in_default-draw_tile.ensures.ok in
@@ -35,7 +38,8 @@ returns-clause-found g c =
     let law = c.laws_of_scenes.ensures.scene in
     let done : c.loop-tile.tile ≡ tile_count c.args.scene.now c.args.width c.args.height =
     omega (arith, c.tile_count-tile-end.ensures, c.loop-tile.auto.tile-end) in
-    tiles_all c.args.scene.now c.args.width c.args.height law.some_width law.some_height c.requires.size c.loop-tile.found.items
+    tiles_all c.args.scene.now c.args.width c.args.height law.some_width law.some_height c.requires.size
+    c.loop-tile.found.items
     (rw done at c.loop-tile.invariant.tiles)
 
 pub returns-clause-drawn : goal.returns-clause-drawn

@@ -10,6 +10,8 @@ loop-x-preserved g c =
     let inside : c.args.start + x < length c.loop-x.found = omega (arith, c.loop-x.auto.found, c.requires.fits) in
     let sight = c.requires.shows x c.args.y left c.requires.y in
     let stored = c.stored-depth.ensures in
-    row_more c.args.scene.now x c.args.y c.args.start c.number_of.result c.args.found.now c.loop-x.found _ c.loop-x.invariant inside
-    (number_shown _ _ _ (picture c.args.scene.now x c.args.y) c.number_of.ensures (stored.depth ∙ sight.depth) (stored.face ∙ sight.face))
+    row_more c.args.scene.now x c.args.y c.args.start c.number_of.result c.args.found.now c.loop-x.found _
+    c.loop-x.invariant inside
+    (number_shown _ _ _ (picture c.args.scene.now x c.args.y) c.number_of.ensures (stored.depth ∙ sight.depth)
+    (stored.face ∙ sight.face))
     refl

@@ -1,7 +1,7 @@
 use Rattle.std.proofs.Common.{◌^◌, ◌≤◌, ◌%◌, ◌*◌, arith}
 use Rattle.std.proofs.Math.Nat.{mod-le}
 use Rattle.std.proofs.Math.Pow.{pow_mono}
-use Rattle.px_refine.proofs.past.parts.Goals as goal
+use Rattle.px_refine.proofs.finer.parts.Goals as goal
 
 pub returns-clause-few : goal.returns-clause-few
 returns-clause-few c =
