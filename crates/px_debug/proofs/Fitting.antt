@@ -19,10 +19,12 @@ was_passed : (q count now k : ℕ) → AreMarked q count now → count ≤ 4 →
 was_passed q count now k m few low passed =
     elim (cases_lt k count) [
       | inl less ↦ less
-      | inr more ↦ absurd (let s = step_up count k q more in let n = m.next (omega (arith, more, low)) in omega (arith, s, n, passed))
+      | inr more ↦ absurd (let s = step_up count k q more in let n = m.next (omega (arith, more, low)) in
+          omega (arith, s, n, passed))
     ]
 
-pub on_course : (bits : ℕ) (c : Course) (v : SessionView) (device : Device) (slots : List (Option Device)) → v.scene ≡ c.job.scene → v.now ≡ c.job.place.clock →
+pub on_course : (bits : ℕ) (c : Course) (v : SessionView) (device : Device) (slots : List (Option Device))
+    → v.scene ≡ c.job.scene → v.now ≡ c.job.place.clock →
     IsKeptBySession c → Fits bits v device slots → IsOnCourse bits c device slots
 on_course bits c v device slots scene now kept fits = record {
   at = subst (λ n. IsAt bits c.job.scene n device) now (subst (λ s. IsAt bits s v.now device) scene fits.at);
@@ -35,7 +37,8 @@ on_course bits c v device slots scene now kept fits = record {
       rw (q, scene) at there;
 }
 
-pub fits_session : (bits : ℕ) (c : Course) (v : SessionView) (device : Device) (slots : List (Option Device)) → v.scene ≡ c.job.scene → v.now ≡ c.job.place.clock →
+pub fits_session : (bits : ℕ) (c : Course) (v : SessionView) (device : Device) (slots : List (Option Device))
+    → v.scene ≡ c.job.scene → v.now ≡ c.job.place.clock →
     c.quarter ≡ quarter_of c.job.scene → bits ≤ 256 → IsOnCourse bits c device slots → Fits bits v device slots
 fits_session bits c v device slots scene now quarter few course = record {
   few = few;
@@ -43,5 +46,6 @@ fits_session bits c v device slots scene now quarter few course = record {
   kept = λ k low passed.
       let q : quarter_of v.scene ≡ c.quarter = ap quarter_of scene ∙ sym quarter in
       let p : k * c.quarter ≤ c.job.place.clock = rw (q, now) at passed in
-      rw (q, scene) (course.kept k (was_passed c.quarter c.passed c.job.place.clock k course.marked course.marks.few low p));
+      rw (q, scene) (course.kept k (was_passed c.quarter c.passed c.job.place.clock k course.marked course.marks.few
+      low p));
 }

@@ -1,5 +1,7 @@
 -- The places and the slots of the passed quarters, as the clock goes on.
-use Rattle.std.proofs.Common.{◌≡◌, ℕ, ◌+◌, ◌-◌, ◌*◌, ◌/◌, ◌<◌, ◌≤◌, List, [], ◌∷◌, length, get_or, set, Option, Some, None, refl, sym, ap, ◌∙◌, inl, inr, below_more, length-set, get_or-set_same, get_or-set_other, arith}
+use Rattle.std.proofs.Common.{◌≡◌, ℕ, ◌+◌, ◌-◌, ◌*◌, ◌/◌, ◌<◌, ◌≤◌, List, [], ◌∷◌, length, get_or, set, Option, Some}
+use Rattle.std.proofs.Common.{None, refl, sym, ap, ◌∙◌, inl, inr, below_more, length-set, get_or-set_same}
+use Rattle.std.proofs.Common.{get_or-set_other, arith}
 use Rattle.std.specs.Bool.{MatchBool}
 use Rattle.std.specs.Prelude.{nat_eq, unwrap_or}
 use Rattle.std.proofs.Math.Nat.{mul-div_cancel, div-mul-le_self}
@@ -12,9 +14,11 @@ use Rattle.px_control.specs.Program.{IsAt, array_after}
 use Rattle.px_control.specs.Standing.{StandsFor}
 use Rattle.px_debug.specs.Marks.{AreMarked, HasMarks, HasSlots}
 
-pub due : (now q n : ℕ) → 1 ≤ q → n < 4 → now ≤ n * q → MatchBool (nat_eq (now / q) n) ((n < 4) × (now ≡ n * q)) (n < 4 → now < n * q)
+pub due : (now q n : ℕ) → 1 ≤ q → n < 4 → now ≤ n * q → MatchBool (nat_eq (now / q) n) ((n < 4) × (now ≡ n * q))
+    (n < 4 → now < n * q)
 due now q n p few le = elim (eqb_tells (now / q) n) [
-  | inl w ↦ (let b : n * q ≤ now = rw w.1 at (div-mul-le_self now q) in rw w.0 (few, let e : now ≡ n * q = omega arith in e))
+  | inl w ↦ (let b : n * q ≤ now = rw w.1 at (div-mul-le_self now q) in
+      rw w.0 (few, let e : now ≡ n * q = omega arith in e))
   | inr w ↦ (let ne : now ≡ n * q → ⊥ = λ e. w.1 (rw e (mul-div_cancel n (let z : 0 < q = omega arith in z))) in
       rw w.0 (λ f. let l : now < n * q = omega arith in l))
 ]
@@ -30,11 +34,14 @@ marks_more s q n ps p m few st cl =
       some = omega arith;
       few = omega arith;
       long = length-set ps n p ∙ m.long;
-      stands = λ k d h. (below_more (λ i. StandsFor s (get_or (set ps n p) i d)) n (λ i l. rw (front i d l) (m.stands i d l)) (rw (last d) st)) k h;
-      clocks = λ k d h. (below_more (λ i. (get_or (set ps n p) i d).clock ≡ i * q) n (λ i l. rw (front i d l) (m.clocks i d l)) (rw (last d) cl)) k h;
+      stands = λ k d h. (below_more (λ i. StandsFor s (get_or (set ps n p) i d)) n
+          (λ i l. rw (front i d l) (m.stands i d l)) (rw (last d) st)) k h;
+      clocks = λ k d h. (below_more (λ i. (get_or (set ps n p) i d).clock ≡ i * q) n
+          (λ i l. rw (front i d l) (m.clocks i d l)) (rw (last d) cl)) k h;
     }
 
-pub slots_more : (bits : ℕ) (s : SceneView) (q n : ℕ) (device : Device) (slots : List (Option Device)) → HasSlots bits s q n slots → n < length slots →
+pub slots_more : (bits : ℕ) (s : SceneView) (q n : ℕ) (device : Device) (slots : List (Option Device))
+    → HasSlots bits s q n slots → n < length slots →
     IsAt bits s (n * q) device → HasSlots bits s q (n + 1) (after_save n device slots)
 slots_more bits s q n device slots h few at =
     below_more (λ k. slot_of (after_save n device slots) k ≡ Some (array_after bits s (k * q))) n
@@ -42,7 +49,8 @@ slots_more bits s q n device slots h few at =
     (get_or-set_same slots n _ None few ∙ ap (λ x. Some x) at.reached)
 
 -- fewer of them
-pub marks_front : (s : SceneView) (q n count : ℕ) (ps : List Place) → HasMarks s q count ps → 1 ≤ n → n ≤ count → HasMarks s q n ps
+pub marks_front : (s : SceneView) (q n count : ℕ) (ps : List Place) → HasMarks s q count ps → 1 ≤ n → n ≤ count
+    → HasMarks s q n ps
 marks_front s q n count ps m some few = record {
   step = m.step;
   some = some;
@@ -63,7 +71,8 @@ pub same_device : (o : Option Device) (a b : Device) → o ≡ Some a → o ≡ 
 same_device o a b first second = ap (λ x. unwrap_or x a) (sym first ∙ second)
 
 -- four copies of the first place, of which one is in use
-pub first_mark : (s : SceneView) (q : ℕ) (p : Place) → 1 ≤ q → StandsFor s p → p.clock ≡ 0 → HasMarks s q 1 (p ∷ p ∷ p ∷ p ∷ [])
+pub first_mark : (s : SceneView) (q : ℕ) (p : Place) → 1 ≤ q → StandsFor s p → p.clock ≡ 0
+    → HasMarks s q 1 (p ∷ p ∷ p ∷ p ∷ [])
 first_mark s q p some stands first = record {
   step = some;
   some = omega arith;

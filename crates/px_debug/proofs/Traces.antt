@@ -1,5 +1,6 @@
 -- The last broadcasts.
-use Rattle.std.proofs.Common.{◌≡◌, ℕ, ◌+◌, ◌-◌, ◌<◌, ◌≤◌, List, [], ◌∷◌, ◌++◌, length, take, drop, Some, refl, sym, ap, ◌∙◌, append_assoc, length-append, length-drop, arith}
+use Rattle.std.proofs.Common.{◌≡◌, ℕ, ◌+◌, ◌-◌, ◌<◌, ◌≤◌, List, [], ◌∷◌, ◌++◌, length, take, drop, Some, refl, sym}
+use Rattle.std.proofs.Common.{ap, ◌∙◌, append_assoc, length-append, length-drop, arith}
 use Rattle.std.specs.List.{slice_get}
 use Rattle.std.proofs.Math.Seq.{drop-append-add, take-add}
 use Rattle.std.proofs.lemmas.List.{take_more, length-take, take-append-drop, get_or-drop}
@@ -16,14 +17,17 @@ keep_keep k xs ys =
     let j = length (zs ++ ys) - k in
     let front = take d xs in
     let size : length front ≡ d = omega (arith, length-take d xs) in
-    let whole : xs ++ ys ≡ front ++ (zs ++ ys) = ap (λ q. q ++ ys) (sym (take-append-drop d xs)) ∙ append_assoc front zs ys in
-    let n : length (xs ++ ys) - k ≡ length front + j = omega (arith, length-append xs ys, length-append zs ys, length-drop d xs) in
+    let whole : xs ++ ys ≡ front ++ (zs ++ ys) = ap (λ q. q ++ ys) (sym (take-append-drop d xs))
+    ∙ append_assoc front zs ys in
+    let n : length (xs ++ ys) - k ≡ length front + j =
+    omega (arith, length-append xs ys, length-append zs ys, length-drop d xs) in
     sym (rw n (ap (λ q. drop (length front + j) q) whole ∙ drop-append-add front (zs ++ ys) j))
 
 pub keep_all : {X : Type 0} (k : ℕ) (xs : List X) → length xs ≤ k → keep_last k xs ≡ xs
 keep_all k xs h = let e : length xs - k ≡ 0 = omega arith in rw e refl
 
-pub one_more : (p : List Micro) (a m : ℕ) (x : Micro) → slice_get p (a + m) ≡ Some x → take (m + 1) (drop a p) ≡ take m (drop a p) ++ x ∷ []
+pub one_more : (p : List Micro) (a m : ℕ) (x : Micro) → slice_get p (a + m) ≡ Some x → take (m + 1) (drop a p)
+    ≡ take m (drop a p) ++ x ∷ []
 one_more p a m x e =
     let l = slice_get_within p (a + m) x e in
     let w : m < length (drop a p) = omega (arith, length-drop a p) in
@@ -36,18 +40,25 @@ pub drop_drop : {X : Type 0} (p : List X) (a m : ℕ) → a ≤ length p → dro
 drop_drop p a m h =
     let size : length (take a p) ≡ a = omega (arith, length-take a p) in
     let n : a + m ≡ length (take a p) + m = omega arith in
-    sym (rw n (ap (λ q. drop (length (take a p) + m) q) (sym (take-append-drop a p)) ∙ drop-append-add (take a p) (drop a p) m))
+    sym (rw n (ap (λ q. drop (length (take a p) + m) q) (sym (take-append-drop a p))
+    ∙ drop-append-add (take a p) (drop a p) m))
 
 -- a step of a walk
-pub walk_more : (k : ℕ) (ts p : List Micro) (a m : ℕ) → m + a < length p → keep_last k (keep_last k (ts ++ take m (drop a p)) ++ take 1 (drop (a + m) p)) ≡ keep_last k (ts ++ take (m + 1) (drop a p))
-walk_more k ts p a m h = rw (keep_keep k (ts ++ take m (drop a p)) (take 1 (drop (a + m) p)), append_assoc) (ap (λ q. keep_last k (ts ++ q)) (sym (take-add m 1 (drop a p) ∙ ap (λ q. take m (drop a p) ++ take 1 q) (drop_drop p a m (omega arith)))))
+pub walk_more : (k : ℕ) (ts p : List Micro) (a m : ℕ) → m + a < length p
+    → keep_last k (keep_last k (ts ++ take m (drop a p)) ++ take 1 (drop (a + m) p))
+    ≡ keep_last k (ts ++ take (m + 1) (drop a p))
+walk_more k ts p a m h = rw (keep_keep k (ts ++ take m (drop a p)) (take 1 (drop (a + m) p)), append_assoc)
+    (ap (λ q. keep_last k (ts ++ q)) (sym (take-add m 1 (drop a p)
+    ∙ ap (λ q. take m (drop a p) ++ take 1 q) (drop_drop p a m (omega arith)))))
 
 -- after a walk of n clocks from clock a, where the ring held the last before it
-pub last_after : (k : ℕ) (p : List Micro) (a n : ℕ) → keep_last k (keep_last k (take a p) ++ take n (drop a p)) ≡ keep_last k (take (a + n) p)
+pub last_after : (k : ℕ) (p : List Micro) (a n : ℕ) → keep_last k (keep_last k (take a p) ++ take n (drop a p))
+    ≡ keep_last k (take (a + n) p)
 last_after k p a n = rw (keep_keep k (take a p) (take n (drop a p)), take-add) refl
 
 -- the same from an empty ring, where the clock is 0 or the walk fills the ring
-pub last_refilled : {X : Type 0} (k : ℕ) (p : List X) (a n : ℕ) → a + n ≤ length p → k ≤ n → keep_last k (take n (drop a p)) ≡ keep_last k (take (a + n) p)
+pub last_refilled : {X : Type 0} (k : ℕ) (p : List X) (a n : ℕ) → a + n ≤ length p → k ≤ n
+    → keep_last k (take n (drop a p)) ≡ keep_last k (take (a + n) p)
 last_refilled k p a n h f =
     let x = take a p in
     let y = take n (drop a p) in

@@ -1,5 +1,6 @@
 -- The lines of a trace, one after another.
-use Rattle.std.proofs.Common.{◌≡◌, ℕ, ◌+◌, ◌-◌, ◌≤◌, List, [], ◌∷◌, ◌++◌, length, length-drop, min, take, Some, refl, sym, ap, ◌∙◌, append_assoc, arith}
+use Rattle.std.proofs.Common.{◌≡◌, ℕ, ◌+◌, ◌-◌, ◌≤◌, List, [], ◌∷◌, ◌++◌, length, length-drop, min, take, Some, refl}
+use Rattle.std.proofs.Common.{sym, ap, ◌∙◌, append_assoc, arith}
 use Rattle.std.specs.List.{slice_get}
 use Rattle.std.proofs.lemmas.List.{append-nil, length-take, take_more}
 use Rattle.std.proofs.lemmas.Option.{get_or_from_slice_get, slice_get_within}
@@ -10,11 +11,13 @@ use Rattle.px_array.specs.declared.micro.Micro.{Micro}
 use Rattle.px_debug.specs.Answers.{trace_line, trace_lines, trace_text}
 use Rattle.px_debug.specs.Marks.{last_before}
 
-lines_append : (clock : ℕ) (xs ys : List Micro) → trace_lines clock (xs ++ ys) ≡ trace_lines clock xs ++ trace_lines (clock + length xs) ys
+lines_append : (clock : ℕ) (xs ys : List Micro) → trace_lines clock (xs ++ ys) ≡ trace_lines clock xs
+    ++ trace_lines (clock + length xs) ys
 lines_append clock [] ys = ap (λ n. trace_lines n ys) (let z : clock ≡ clock + 0 = omega arith in z)
 lines_append clock (x ∷ xs) ys =
     let n : clock + 1 + length xs ≡ clock + length (x ∷ xs) = omega arith in
-    ap (λ t. trace_line clock x ++ t) (lines_append (clock + 1) xs ys ∙ ap (λ k. trace_lines (clock + 1) xs ++ trace_lines k ys) n)
+    ap (λ t. trace_line clock x ++ t) (lines_append (clock + 1) xs ys
+    ∙ ap (λ k. trace_lines (clock + 1) xs ++ trace_lines k ys) n)
     ∙ sym (append_assoc (trace_line clock x) (trace_lines (clock + 1) xs) (trace_lines (clock + length (x ∷ xs)) ys))
 
 -- a line more
@@ -39,9 +42,11 @@ last_lines : (scene : SceneView) (now : ℕ) → trace_lines (now - 32) (last_be
 unfolding last_before
 last_lines scene now = refl
 
-pub traced_text : (scene : SceneView) (now : ℕ) (b : Buffer Micro) → now ≤ total scene → b ≡ buffer (last_before scene now) 32 →
+pub traced_text : (scene : SceneView) (now : ℕ) (b : Buffer Micro) → now ≤ total scene
+    → b ≡ buffer (last_before scene now) 32 →
     trace_lines (now - length b.items) b.items ≡ trace_text scene now
 traced_text scene now b within is =
     let ms = last_before scene now in
     let n : now - length ms ≡ now - 32 = omega (arith, short_trace scene now within) in
-    ap (λ (x : Buffer Micro). trace_lines (now - length x.items) x.items) is ∙ (ap (λ k. trace_lines k ms) n ∙ last_lines scene now)
+    ap (λ (x : Buffer Micro). trace_lines (now - length x.items) x.items) is
+    ∙ (ap (λ k. trace_lines k ms) n ∙ last_lines scene now)

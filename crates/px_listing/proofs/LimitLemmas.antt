@@ -1,9 +1,8 @@
 -- What a number that passes no limit is.
-use Rattle.std.proofs.Common.{◌≡◌, ℕ, ℤ, pos, ◌≤◌, ◌≤ℤ◌, Option, Some, None, refl, arith}
+use Rattle.std.proofs.Common.{◌≡◌, ℤ, ◌≤◌, ◌≤ℤ◌, Option, Some, None, refl, arith}
 use Rattle.std.proofs.lemmas.Int.{ints}
 use Rattle.std.specs.Option.{option_or}
 use Rattle.px_listing.specs.Limits.{past}
-use Rattle.px_listing.specs.Operations.{size_of}
 use Rattle.px_listing.specs.declared.limit.ListKind.{ListKind}
 
 pub none_first : {A : Type 0} (x y : Option A) → option_or x y ≡ None → x ≡ None

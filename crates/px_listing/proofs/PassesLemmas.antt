@@ -1,15 +1,16 @@
 -- The grid and the passes of a scene, as a listing.
-use Rattle.std.proofs.Common.{◌≡◌, ℕ, zero, suc, ◌+◌, ◌-◌, ◌*◌, ◌^◌, ◌<◌, ◌≤◌, All, List, [], ◌∷◌, ◌++◌, Bool, true, false, Option, Some, None, length, take, drop, get_or, slice_get, nat_lt, inl, inr, refl, ap, sym, ◌∙◌, arith, subst, append_assoc, Result, OnOk, OnErr, count_by}
+use Rattle.std.proofs.Common.{◌≡◌, ℕ, zero, suc, ◌+◌, ◌-◌, ◌*◌, ◌^◌, ◌<◌, ◌≤◌, All, List, [], ◌∷◌, ◌++◌, Bool}
+use Rattle.std.proofs.Common.{false, Option, Some, length, take, drop, slice_get, nat_lt, inl, inr}
+use Rattle.std.proofs.Common.{refl, ap, sym, ◌∙◌, arith, subst, append_assoc, Result, OnOk, OnErr, count_by}
 use Rattle.std.proofs.Math.Pow.{pow_mono}
 use Rattle.std.proofs.lemmas.Bool.{cases_lt}
 use Rattle.std.proofs.lemmas.Bool.Decides.{nat_tests}
-use Rattle.std.proofs.lemmas.List.{append-nil, length-replicate, take_all}
+use Rattle.std.proofs.lemmas.List.{append-nil, length-replicate}
 use Rattle.std.proofs.lemmas.List.Elements.{All-weaker}
 use Rattle.std.proofs.lemmas.Option.{get_or_from_slice_get, slice_get_within}
 use Rattle.px_io.specs.Told.{TakesAll, TakesFront}
 use Rattle.px_io.proofs.ToldLaws.{front_before}
 use Rattle.std.specs.List.{flat_map, range_with_len}
-use Rattle.px_array.specs.Arrays.{State, pixel_of}
 use Rattle.px_macro.specs.Macros.{IsLawful, IsLawfulInMore, PixelBits}
 use Rattle.px_macro.specs.declared.operation.Macro.{Macro}
 use Rattle.px_model.specs.Scenes.{IsGridExponent, IsLawfulScene, SceneView}
@@ -19,13 +20,13 @@ use Rattle.px_sched.specs.Layouts.{layout_of, need_of}
 use Rattle.px_sched.specs.Passes.{passes}
 use Rattle.px_sched.specs.PassesFacts.{LayoutsAreLawful, PassesAreLawful}
 use Rattle.px_sched.specs.PassesLaw.{HasSight, PassesLaw}
-use Rattle.px_tree.specs.Nodes.{IsGrid}
 use Rattle.px_listing.specs.Listings.{macro_line}
 use Rattle.px_listing.specs.Pieces.{Puts}
 use Rattle.px_listing.proofs.PieceLemmas.{err_cut, ok_all, puts_both, puts_cut, puts_none}
 use Rattle.px_listing.proofs.RowLemmas.{listed_cut, listed_more}
-use Rattle.px_listing.specs.PassesText.{CanPlay, PassesAreReadBack, PlayedPassesShowThePicture, exponent_of, passes_listing}
-use Rattle.px_listing.specs.Played.{played, zero_bits}
+use Rattle.px_listing.specs.PassesText.{PassesAreReadBack, PlayedPassesShowThePicture, exponent_of}
+use Rattle.px_listing.specs.PassesText.{passes_listing}
+use Rattle.px_listing.specs.Played.{zero_bits}
 use Rattle.px_listing.specs.RoundTrip.{TextsAreReadBack}
 
 -- a power is less than the size exactly where its exponent is less than the least one
@@ -37,7 +38,11 @@ test_of size n t is some =
     ]
   where
     by_least : t < n → 2 ^ t < size
-    by_least less = elim (cases_lt (2 ^ t) size) [ inl above ↦ above | inr below ↦ absurd (let least = is.least t some below in omega (arith, least, less)) ]
+    by_least less = elim (cases_lt (2 ^ t) size) [
+      | inl above ↦ above
+      | inr below ↦
+          absurd (let least = is.least t some below in omega (arith, least, less))
+    ]
 
 count_is : (n : ℕ) → 1 ≤ n → n ≤ 9 → 1 + count_by (λ t. nat_lt t n) (range_with_len 1 8) ≡ n
 count_is n some few = grind (arith, nat_tests)
@@ -58,7 +63,8 @@ exponent_is size n is few =
     ) (count_is n is.positive most))
 
 -- each operation that is given is one of them
-pub lawful_here : (bits : ℕ) (ops : List Macro) (i : ℕ) (op : Macro) → slice_get ops i ≡ Some op → All (λ m. IsLawful m bits) ops → IsLawful op bits
+pub lawful_here : (bits : ℕ) (ops : List Macro) (i : ℕ) (op : Macro) → slice_get ops i ≡ Some op
+    → All (λ m. IsLawful m bits) ops → IsLawful op bits
 lawful_here bits ops i op is lawful =
     subst (λ o. IsLawful o bits) (get_or_from_slice_get ops i op op is) (lawful i op (slice_get_within ops i op is))
 
@@ -68,7 +74,8 @@ pub puts_start : (a : Option (List ℕ)) (f : Option Bool) (u : List ℕ) (ops :
 puts_start a f u ops n none = rw none (puts_none a f u)
 
 -- the line of the next operation is put
-pub puts_next : (a b c : Option (List ℕ)) (f g h : Option Bool) (u v w line : List ℕ) (ops : List Macro) (i next : ℕ) (op : Macro)
+pub puts_next : (a b c : Option (List ℕ)) (f g h : Option Bool) (u v w line : List ℕ) (ops : List Macro) (i next : ℕ)
+    (op : Macro)
     → slice_get ops i ≡ Some op → next ≡ i + 1 → line ≡ macro_line op
     → Puts a b f g u (flat_map macro_line (take i ops)) v → Puts b c g h v line w
     → Puts a c f h u (flat_map macro_line (take next ops)) w
@@ -76,67 +83,74 @@ puts_next a b c f g h u v w line ops i next op is e written first second =
     let one = get_or_from_slice_get ops i op op is in
     let more : flat_map macro_line (take i ops) ++ macro_line op ≡ flat_map macro_line (take next ops) =
     ap (λ o. flat_map macro_line (take i ops) ++ macro_line o) (sym one)
-    ∙ (listed_more macro_line ops i op (slice_get_within ops i op is) ∙ ap (λ n. flat_map macro_line (take n ops)) (sym e)) in
-    subst (λ bytes. Puts a c f h u bytes w) more (puts_both a b c f g h u v w (flat_map macro_line (take i ops)) (macro_line op) first (rw written at second))
+    ∙ (listed_more macro_line ops i op (slice_get_within ops i op is)
+    ∙ ap (λ n. flat_map macro_line (take n ops)) (sym e)) in
+    subst (λ bytes. Puts a c f h u bytes w) more (puts_both a b c f g h u v w (flat_map macro_line (take i ops))
+    (macro_line op) first (rw written at second))
 
 -- a front of it is put
-pub puts_next_front : (a b c : Option (List ℕ)) (f g h : Option Bool) (u v line : List ℕ) (ops : List Macro) (i : ℕ) (op : Macro)
+pub puts_next_front : (a b c : Option (List ℕ)) (f g h : Option Bool) (u v line : List ℕ) (ops : List Macro) (i : ℕ)
+    (op : Macro)
     → slice_get ops i ≡ Some op → line ≡ macro_line op
     → Puts a b f g u (flat_map macro_line (take i ops)) v → TakesFront b c g h (v ++ line)
     → TakesFront a c f h (u ++ flat_map macro_line ops)
 puts_next_front a b c f g h u v line ops i op is written first second =
     let one = get_or_from_slice_get ops i op op is in
-    let cut : flat_map macro_line (take i ops) ++ (macro_line op ++ flat_map macro_line (drop (i + 1) ops)) ≡ flat_map macro_line ops =
+    let cut : flat_map macro_line (take i ops) ++ (macro_line op ++ flat_map macro_line (drop (i + 1) ops))
+    ≡ flat_map macro_line ops =
     ap (λ o. flat_map macro_line (take i ops) ++ (macro_line o ++ flat_map macro_line (drop (i + 1) ops))) (sym one)
     ∙ listed_cut macro_line ops i op (slice_get_within ops i op is) in
-    puts_cut a b c f g h u v (flat_map macro_line (take i ops)) (macro_line op) (flat_map macro_line (drop (i + 1) ops)) (flat_map macro_line ops)
+    puts_cut a b c f g h u v (flat_map macro_line (take i ops)) (macro_line op)
+    (flat_map macro_line (drop (i + 1) ops)) (flat_map macro_line ops)
     cut first (rw written at second)
-
--- all lines were put
-pub puts_whole : (a b : Option (List ℕ)) (f g : Option Bool) (u v : List ℕ) (ops : List Macro) (n : ℕ) → n ≡ length ops
-    → Puts a b f g u (flat_map macro_line (take n ops)) v → Puts a b f g u (flat_map macro_line ops) v
-puts_whole a b f g u v ops n all put =
-    subst (λ os. Puts a b f g u (flat_map macro_line os) v) (take_all n ops (omega (arith, all))) put
 
 -- a front of the first lines is one of all
 pub front_of_first : (a b : Option (List ℕ)) (f g : Option Bool) (piece first middle last : List ℕ) → piece ≡ []
     → TakesFront a b f g (piece ++ first) → TakesFront a b f g (first ++ middle ++ last)
 front_of_first a b f g piece first middle last empty front =
-    subst (TakesFront a b f g) (sym (append_assoc first middle last)) (front_before a b f g first (middle ++ last) (rw empty at front))
+    subst (TakesFront a b f g) (sym (append_assoc first middle last)) (front_before a b f g first (middle ++ last)
+    (rw empty at front))
 
 -- the first lines, and a front of those in the middle
 pub front_of_middle : (a b c : Option (List ℕ)) (f g h : Option Bool) (piece v first middle last : List ℕ) → piece ≡ []
     → Puts a b f g piece first v → TakesFront b c g h (v ++ middle) → TakesFront a c f h (first ++ middle ++ last)
 front_of_middle a b c f g h piece v first middle last empty put front =
-    puts_cut a b c f g h [] v first middle last (first ++ middle ++ last) (sym (append_assoc first middle last)) (rw empty at put) front
+    puts_cut a b c f g h [] v first middle last (first ++ middle ++ last) (sym (append_assoc first middle last))
+    (rw empty at put) front
 
-pub ok_to_last : {T E : Type 0} (r : Result T E) (a b c d : Option (List ℕ)) (f g h i : Option Bool) (piece v w first middle last : List ℕ) → piece ≡ []
+pub ok_to_last : {T E : Type 0} (r : Result T E) (a b c d : Option (List ℕ)) (f g h i : Option Bool)
+    (piece v w first middle last : List ℕ) → piece ≡ []
     → Puts a b f g piece first v → Puts b c g h v middle w → OnOk r (TakesAll c d h i (w ++ last))
     → OnOk r (TakesAll a d f i (first ++ middle ++ last))
 ok_to_last r a b c d f g h i piece v w first middle last empty one two all =
     ok_all r a c d f h i [] w (first ++ middle) last (first ++ middle ++ last) refl
     (puts_both a b c f g h [] v w first middle (rw empty at one) two) all
 
-pub err_to_last : {T E : Type 0} (r : Result T E) (a b c d : Option (List ℕ)) (f g h i : Option Bool) (piece v w first middle last : List ℕ) → piece ≡ []
+pub err_to_last : {T E : Type 0} (r : Result T E) (a b c d : Option (List ℕ)) (f g h i : Option Bool)
+    (piece v w first middle last : List ℕ) → piece ≡ []
     → Puts a b f g piece first v → Puts b c g h v middle w → OnErr r (TakesFront c d h i (w ++ last))
     → OnErr r (TakesFront a d f i (first ++ middle ++ last))
 err_to_last r a b c d f g h i piece v w first middle last empty one two front =
-    err_cut r a c d f h i [] w (first ++ middle) last [] (first ++ middle ++ last) (ap (λ bytes. (first ++ middle) ++ bytes) (append-nil last))
+    err_cut r a c d f h i [] w (first ++ middle) last [] (first ++ middle ++ last)
+    (ap (λ bytes. (first ++ middle) ++ bytes) (append-nil last))
     (puts_both a b c f g h [] v w first middle (rw empty at one) two) front
 
 -- no scene needs more than 74 bits
 few_bits : LayoutsAreLawful → (scene : SceneView) → IsLawfulScene scene → need_of (layout_of scene) ≤ 256
 few_bits layouts scene lawful = let is = layouts scene lawful in omega (arith, is.depth, is.number)
 
-pub passes_lawful : IsLawfulInMore → PassesAreLawful → (bits : ℕ) (scene : SceneView) → IsLawfulScene scene → All IsLawfulSolid scene.solids
+pub passes_lawful : IsLawfulInMore → PassesAreLawful → (bits : ℕ) (scene : SceneView) → IsLawfulScene scene
+    → All IsLawfulSolid scene.solids
     → need_of (layout_of scene) ≤ bits → All (λ m. IsLawful m bits) (passes scene)
 passes_lawful more lawful bits scene h solids enough =
     All-weaker (λ m. IsLawful m (need_of (layout_of scene))) (λ m. IsLawful m bits)
     (λ m small. more m (need_of (layout_of scene)) bits enough small) (passes scene) (lawful scene h solids)
 
-pub passes_lawful_in_all : IsLawfulInMore → LayoutsAreLawful → PassesAreLawful → (scene : SceneView) → IsLawfulScene scene → All IsLawfulSolid scene.solids
+pub passes_lawful_in_all : IsLawfulInMore → LayoutsAreLawful → PassesAreLawful → (scene : SceneView)
+    → IsLawfulScene scene → All IsLawfulSolid scene.solids
     → All (λ m. IsLawful m 256) (passes scene)
-passes_lawful_in_all more layouts lawful scene h solids = passes_lawful more lawful 256 scene h solids (few_bits layouts scene h)
+passes_lawful_in_all more layouts lawful scene h solids =
+    passes_lawful more lawful 256 scene h solids (few_bits layouts scene h)
 
 -- a scene's grid is one that an array can have, and covers the picture
 exponent_between : (size : ℕ) → (1 ≤ exponent_of size) × (exponent_of size ≤ 9)
@@ -154,7 +168,8 @@ grid_at size k above fits = record {
   enough = fits;
   least = λ m some enough.
       elim (cases_lt m (k + 1)) [
-        | inl less ↦ absurd (let low : 2 ^ m ≤ 2 ^ k = pow_mono (omega (arith, less)) in omega (arith, low, above, enough))
+        | inl less ↦ absurd (let low : 2 ^ m ≤ 2 ^ k = pow_mono (omega (arith, less)) in
+            omega (arith, low, above, enough))
         | inr more ↦ more
       ];
 }
@@ -178,5 +193,7 @@ show_the_picture law bits scene state can has x y left above =
     let column : x < 2 ^ exponent_of scene.width = omega (arith, left, covers scene.width can.scene_is.width) in
     let row : y < 2 ^ exponent_of scene.height = omega (arith, above, covers scene.height can.scene_is.height) in
     let same = ap (λ (p : PixelBits). p.memory) (has x y column row) in
-    let room : need_of (layout_of scene) ≤ length (zero_bits bits).memory = omega (arith, can.enough, length-replicate bits false) in
-    subst (λ memory. HasSight (layout_of scene) memory (picture scene x y)) (sym same) (law scene can.scene_is can.solids x y left above (zero_bits bits) room)
+    let room : need_of (layout_of scene) ≤ length (zero_bits bits).memory =
+    omega (arith, can.enough, length-replicate bits false) in
+    subst (λ memory. HasSight (layout_of scene) memory (picture scene x y)) (sym same)
+    (law scene can.scene_is can.solids x y left above (zero_bits bits) room)

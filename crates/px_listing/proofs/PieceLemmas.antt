@@ -1,7 +1,8 @@
 -- What is put into pieces one after another.
-use Rattle.std.proofs.Common.{◌≡◌, ℕ, ◌+◌, ◌-◌, Bool, List, [], ◌∷◌, ◌++◌, take, drop, length, Option, Some, None, Result, Ok, Err, OnErr, OnOk, append_assoc, refl, sym, ap, ◌∙◌, arith}
+use Rattle.std.proofs.Common.{◌≡◌, ℕ, ◌+◌, ◌-◌, Bool, List, [], ◌∷◌, ◌++◌, Option, Some, None}
+use Rattle.std.proofs.Common.{Result, Ok, Err, OnErr, OnOk, append_assoc, refl, sym, ap, ◌∙◌, arith}
 use Rattle.std.proofs.lemmas.List.{append-nil}
-use Rattle.px_io.specs.Told.{Reopens, TakesAll, TakesFront}
+use Rattle.px_io.specs.Told.{TakesAll, TakesFront}
 use Rattle.px_io.proofs.ToldLaws.{front_after, front_before, takes_both}
 use Rattle.px_listing.specs.Pieces.{Puts}
 
@@ -26,7 +27,8 @@ puts_broken a b c f g h u v xs ys first second =
     rw whole at (front_after a b c f g h first.taken (v ++ ys) first.all second)
 
 -- a front of what waits and ys, which stand in a whole behind xs
-pub puts_cut : (a b c : Option (List ℕ)) (f g h : Option Bool) (u v xs ys rest whole : List ℕ) → xs ++ (ys ++ rest) ≡ whole
+pub puts_cut : (a b c : Option (List ℕ)) (f g h : Option Bool) (u v xs ys rest whole : List ℕ)
+    → xs ++ (ys ++ rest) ≡ whole
     → Puts a b f g u xs v → TakesFront b c g h (v ++ ys) → TakesFront a c f h (u ++ whole)
 puts_cut a b c f g h u v xs ys rest whole is first second =
     let all : (u ++ (xs ++ ys)) ++ rest ≡ u ++ whole =
@@ -34,24 +36,14 @@ puts_cut a b c f g h u v xs ys rest whole is first second =
     rw all at (front_before a c f h (u ++ (xs ++ ys)) rest (puts_broken a b c f g h u v xs ys first second))
 
 -- first xs, of which nothing waits then, and nothing had waited
-pub puts_all : (a b : Option (List ℕ)) (f g : Option Bool) (u xs : List ℕ) → Puts a b f g u xs [] → TakesAll a b f g (u ++ xs)
+pub puts_all : (a b : Option (List ℕ)) (f g : Option Bool) (u xs : List ℕ) → Puts a b f g u xs []
+    → TakesAll a b f g (u ++ xs)
 puts_all a b f g u xs first = rw (sym (append-nil first.taken) ∙ first.rest) at first.all
-
--- a line that waits behind what waited
-pub puts_line : (a b : Option (List ℕ)) (f g : Option Bool) (u v line : List ℕ) → Puts a b f g u [] v → Puts a b f g u line (v ++ line)
-puts_line a b f g u v line first = record {
-  taken = first.taken;
-  all = first.all;
-  rest = sym (append_assoc first.taken v line) ∙ ap (λ bytes. bytes ++ line) (first.rest ∙ append-nil u);
-}
-
--- what waited was taken
-pub puts_waiting : (a b : Option (List ℕ)) (f g : Option Bool) (u : List ℕ) → TakesAll a b f g u → Puts a b f g u [] []
-puts_waiting a b f g u all = record { taken = u; all = all; rest = refl }
 
 takes_none : (a : Option (List ℕ)) (f : Option Bool) → TakesAll a a f f []
 takes_none None f = record { all = tt; end = record { taken = λ some. absurd (omega arith); idle = λ none. refl } }
-takes_none (Some xs) f = record { all = sym (append-nil xs); end = record { taken = λ some. absurd (omega arith); idle = λ none. refl } }
+takes_none (Some xs) f =
+    record { all = sym (append-nil xs); end = record { taken = λ some. absurd (omega arith); idle = λ none. refl } }
 
 -- nothing was done
 pub puts_none : (a : Option (List ℕ)) (f : Option Bool) (u : List ℕ) → Puts a a f f u [] u
@@ -71,7 +63,8 @@ pub ok_both : {T E : Type 0} (r : Result T E) (a b c : Option (List ℕ)) (f g h
 ok_both (Ok x) a b c f g h u v w xs ys first second = puts_both a b c f g h u v w xs ys first second
 ok_both (Err x) a b c f g h u v w xs ys first second = tt
 
-pub ok_all : {T E : Type 0} (r : Result T E) (a b c : Option (List ℕ)) (f g h : Option Bool) (u v xs ys whole : List ℕ) → xs ++ ys ≡ whole
+pub ok_all : {T E : Type 0} (r : Result T E) (a b c : Option (List ℕ)) (f g h : Option Bool)
+    (u v xs ys whole : List ℕ) → xs ++ ys ≡ whole
     → Puts a b f g u xs v → OnOk r (TakesAll b c g h (v ++ ys)) → OnOk r (TakesAll a c f h (u ++ whole))
 ok_all (Ok x) a b c f g h u v xs ys whole is first second = rw is at (takes_behind a b c f g h u v xs ys first second)
 ok_all (Err x) a b c f g h u v xs ys whole is first second = tt
@@ -84,10 +77,12 @@ ok_flushed (Ok x) a b c f g h v w xs first empty second =
     puts_all a c f h [] xs both
 ok_flushed (Err x) a b c f g h v w xs first empty second = tt
 
-pub err_cut : {T E : Type 0} (r : Result T E) (a b c : Option (List ℕ)) (f g h : Option Bool) (u v xs ys rest whole : List ℕ) → xs ++ (ys ++ rest) ≡ whole
+pub err_cut : {T E : Type 0} (r : Result T E) (a b c : Option (List ℕ)) (f g h : Option Bool)
+    (u v xs ys rest whole : List ℕ) → xs ++ (ys ++ rest) ≡ whole
     → Puts a b f g u xs v → OnErr r (TakesFront b c g h (v ++ ys)) → OnErr r (TakesFront a c f h (u ++ whole))
 err_cut (Ok x) a b c f g h u v xs ys rest whole is first second = tt
-err_cut (Err x) a b c f g h u v xs ys rest whole is first second = puts_cut a b c f g h u v xs ys rest whole is first second
+err_cut (Err x) a b c f g h u v xs ys rest whole is first second =
+    puts_cut a b c f g h u v xs ys rest whole is first second
 
 pub if_err : {T E P : Type 0} (r : Result T E) → P → OnErr r P
 if_err (Ok x) p = tt

@@ -1,14 +1,12 @@
 -- Words of listings are plain: no blank, no comment and no line feed stands in them.
-use Prim.Native.Nat.{zero, suc}
-use Rattle.std.proofs.Common.{◌≡◌, ℕ, ℤ, pos, ◌^◌, ◌<◌, ◌≤◌, ◌==◌, List, [], ◌∷◌, ◌++◌, Bool, true, false, not, ◌&&◌, ◌||◌, if◌then◌else◌, Option, Some, None, map, refl, ap, sym, ◌∙◌, arith, nat_le}
+use Rattle.std.proofs.Common.{◌≡◌, ℕ, ℤ, ◌^◌, ◌<◌, ◌≤◌, ◌==◌, List, [], ◌∷◌, ◌++◌, Bool, true, false, ◌&&◌}
+use Rattle.std.proofs.Common.{◌||◌, if◌then◌else◌, Option, Some, None, refl, ◌∙◌, arith}
 use Rattle.std.proofs.lemmas.Bool.Decides.{nat_tests}
 use Rattle.std.proofs.lemmas.List.Folds.{list_all-append}
-use Rattle.std.specs.Fmt.{signed_decimal}
-use Rattle.std.specs.List.{flat_map, list_all}
+use Rattle.std.specs.List.{list_all}
 use Rattle.px_text.specs.Text.{Words, is_some_byte}
 use Rattle.px_text.specs.Word.{is_digit, negative, number_of, positive, size_of}
-use Rattle.px_text.specs.Written.{are_plain, fed, is_no_feed, is_plain, is_plain_byte, spaced}
-use lib.Signed.{mag}
+use Rattle.px_text.specs.Written.{are_plain, is_no_feed, is_plain, is_plain_byte, spaced}
 
 pub both : (p q : Bool) → (p && q) ≡ true → (p ≡ true) × (q ≡ true)
 both true true e = (refl, refl)
@@ -76,5 +74,7 @@ spaced_fed (w ∷ ws) e =
     list_all-append is_no_feed (32 ∷ w) (spaced ws) ∙ rw (plain_fed w each.0, spaced_fed ws each.1) refl
 
 -- a line of plain words has no line feed
-pub line_fed : (w : List ℕ) (ws : Words) → is_plain w ≡ true → are_plain ws ≡ true → list_all is_no_feed (w ++ spaced ws) ≡ true
-line_fed w ws plain others = list_all-append is_no_feed w (spaced ws) ∙ rw (plain_fed w plain, spaced_fed ws others) refl
+pub line_fed : (w : List ℕ) (ws : Words) → is_plain w ≡ true → are_plain ws ≡ true
+    → list_all is_no_feed (w ++ spaced ws) ≡ true
+line_fed w ws plain others =
+    list_all-append is_no_feed w (spaced ws) ∙ rw (plain_fed w plain, spaced_fed ws others) refl

@@ -1,6 +1,7 @@
 -- Lines read one after another, until one is bad.
-use Prim.Native.Nat.{zero, suc}
-use Rattle.std.proofs.Common.{◌≡◌, ℕ, ℤ, pos, ◌+◌, ◌<◌, ◌≤◌, All, List, [], ◌∷◌, ◌++◌, length, take, drop, get_or, map, Option, Some, None, IfSome, Bool, true, false, not, ◌==◌, if◌then◌else◌, ◌&&◌, codes, refl, ap, sym, subst, ◌∙◌, arith, length-take, length-append, Bor}
+use Rattle.std.proofs.Common.{◌≡◌, ℕ, ℤ, pos, ◌+◌, ◌<◌, ◌≤◌, All, List, [], ◌∷◌, ◌++◌, length, take, drop, get_or}
+use Rattle.std.proofs.Common.{map, Option, Some, None, IfSome, Bool, true, false, ◌==◌, if◌then◌else◌, ◌&&◌}
+use Rattle.std.proofs.Common.{codes, refl, ap, sym, subst, ◌∙◌, arith, length-take, length-append, Bor}
 use lib.IntN.{negsuc}
 use Rattle.std.specs.Str.{bytes_eq}
 use Rattle.std.proofs.lemmas.Int.{ints}
@@ -10,17 +11,19 @@ use Rattle.std.proofs.lemmas.Simd.{map-map}
 use Rattle.std.specs.List.{filter_map, cons_option}
 use Rattle.px_macro.specs.Macros.{IsLawful}
 use Rattle.px_macro.specs.declared.operation.Macro.{Macro}
-use Rattle.px_scene.specs.declared.line.Cause.{Cause}
-use Rattle.px_scene.specs.declared.line.Cause.TheVariants as cause
+use Rattle.px_show.specs.declared.fault.Cause.TheVariants as cause
 use Rattle.px_text.specs.Text.{Words, lines_of, words_of, worded}
 use Rattle.px_tree.specs.Nodes.{IsGrid}
 use Rattle.px_listing.specs.Listings.{ListingView}
-use Rattle.px_listing.specs.Drafts.{DraftView, IsDraft, IsDraftOf, IsFirstBad, draft_of, head_of, or_else, taken, with_line, with_operation}
+use Rattle.px_listing.specs.Drafts.{DraftView, IsDraft, IsDraftOf, IsFirstBad, draft_of, head_of, or_else, taken}
+use Rattle.px_listing.specs.Drafts.{with_line, with_operation}
 use Rattle.px_listing.specs.Keywords.{due_after, is_header, is_one, keyword_of}
 use Rattle.px_listing.specs.Limits.{grid_past, limit_of, past}
-use Rattle.px_listing.specs.Lines.{cause_of, form_of, numbers_of}
+use Rattle.px_listing.specs.Lines.{cause_of, numbers_of}
 use Rattle.px_listing.specs.Operations.{operation_of, size_of}
-use Rattle.px_listing.specs.Reading.{Exponents, at_line, due_behind, due_behind_line, exponents_of, fault_of, first_bad, grid_in, is_nothing, judged, last_or, least_grid, listing_of, operation_in, refusal_of}
+use Rattle.px_listing.specs.Reading.{Exponents, at_line, due_behind, due_behind_line, exponents_of, fault_of}
+use Rattle.px_listing.specs.Reading.{first_bad, grid_in, is_nothing, judged, last_or, least_grid, listing_of}
+use Rattle.px_listing.specs.Reading.{operation_in, refusal_of}
 use Rattle.px_listing.specs.declared.keyword.Due.{Due}
 use Rattle.px_listing.specs.declared.keyword.Due.TheVariants as d
 use Rattle.px_listing.specs.declared.keyword.Keyword.{Keyword}
@@ -35,7 +38,8 @@ last_of : {A : Type 0} (a x : A) (xs : List A) → last_or a (xs ++ x ∷ []) �
 last_of a x [] = refl
 last_of a x (y ∷ ys) = last_of y x ys
 
-last_with : {A : Type 0} (a : A) (xs : List A) (o : Option A) → last_or a (xs ++ cons_option o []) ≡ or_else o (last_or a xs)
+last_with : {A : Type 0} (a : A) (xs : List A) (o : Option A) → last_or a (xs ++ cons_option o [])
+    ≡ or_else o (last_or a xs)
 last_with a xs None = ap (last_or a) (append-nil xs)
 last_with a xs (Some x) = last_of a x xs
 
@@ -49,7 +53,8 @@ listed None ops = append-nil ops
 listed (Some op) ops = refl
 
 same_draft : (due due' : Due) (grid grid' : Exponents) (ops ops' : List Macro) → due ≡ due' → grid ≡ grid' → ops ≡ ops'
-    → (let v : DraftView = record { due = due; grid = grid; macros = ops } in v) ≡ record { due = due'; grid = grid'; macros = ops' }
+    → (let v : DraftView = record { due = due; grid = grid; macros = ops } in
+    v) ≡ record { due = due'; grid = grid'; macros = ops' }
 same_draft due due' grid grid' ops ops' p q r = rw (p, q, r) refl
 
 -- the draft of one more line
@@ -70,10 +75,12 @@ draft_more ls l =
 
 -- a grid within its limits
 exponent : (z : ℤ) → past kind.Grid (pos 1) (pos 9) z ≡ None → (1 ≤ size_of z) × (size_of z ≤ 9)
-exponent (pos n) e = let is = within kind.Grid (pos 1) (pos 9) (pos n) e in (omega (arith, ints, is.0), omega (arith, ints, is.1))
+exponent (pos n) e = let is = within kind.Grid (pos 1) (pos 9) (pos n) e in
+    (omega (arith, ints, is.0), omega (arith, ints, is.1))
 exponent (negsuc n) e = let is = within kind.Grid (pos 1) (pos 9) (negsuc n) e in absurd (omega (arith, ints, is.0))
 
-grid_said : (keyword : Keyword) (zs : List ℤ) (g : Exponents) → (keyword ≡ k.Grid → grid_past zs ≡ None) → IsGrid g.nx g.ny
+grid_said : (keyword : Keyword) (zs : List ℤ) (g : Exponents) → (keyword ≡ k.Grid → grid_past zs ≡ None)
+    → IsGrid g.nx g.ny
     → (let h = or_else (exponents_of keyword zs) g in IsGrid h.nx h.ny)
 grid_said k.Grid [] g good grid = grid
 grid_said k.Grid (nx ∷ []) g good grid = grid
@@ -98,10 +105,12 @@ grid_said k.End zs g good grid = grid
 grid_said k.Other zs g good grid = grid
 
 -- the limits of a line of a grid are those of its exponents
-grid_limit : (bits : ℕ) (keyword : Keyword) (zs : List ℤ) → limit_of bits keyword zs ≡ None → keyword ≡ k.Grid → grid_past zs ≡ None
+grid_limit : (bits : ℕ) (keyword : Keyword) (zs : List ℤ) → limit_of bits keyword zs ≡ None → keyword ≡ k.Grid
+    → grid_past zs ≡ None
 grid_limit bits keyword zs good is = rw is at good
 
-all_more : (bits : ℕ) (o : Option Macro) (ops : List Macro) → IfSome o (λ m. IsLawful m bits) → All (λ m. IsLawful m bits) ops
+all_more : (bits : ℕ) (o : Option Macro) (ops : List Macro) → IfSome o (λ m. IsLawful m bits)
+    → All (λ m. IsLawful m bits) ops
     → All (λ m. IsLawful m bits) (with_operation o ops)
 all_more bits None ops one all = all
 all_more bits (Some op) ops one all = All-push (λ m. IsLawful m bits) ops op all one
@@ -116,7 +125,8 @@ one_longer : (o : Option Macro) (ops : List Macro) → length (with_operation o 
 one_longer None ops = omega arith
 one_longer (Some op) ops = omega (arith, length-append ops (op ∷ []))
 
-header_first : (test : Bool) (ws : Words) (other : Keyword) → (test && is_one ws) ≡ true → (if test then k.Pxlist else other) ≡ k.Pxlist
+header_first : (test : Bool) (ws : Words) (other : Keyword) → (test && is_one ws) ≡ true
+    → (if test then k.Pxlist else other) ≡ k.Pxlist
 header_first true ws other e = refl
 header_first false ws other e = cc
 
@@ -124,21 +134,41 @@ header_here : (test : Bool) → (if test then None else Some cause.NotHeader) �
 header_here true e = refl
 header_here false e = cc
 
-few_more : (due : Due) (w : List ℕ) (ws : Words) (ops : List Macro) (count : ℕ) → cause_of due w ws ≡ None → length ops + head_of due ≤ count
-    → length (with_operation (operation_of (keyword_of w) (numbers_of ws)) ops) + head_of (due_after (keyword_of w)) ≤ count + 1
+few_more : (due : Due) (w : List ℕ) (ws : Words) (ops : List Macro) (count : ℕ) → cause_of due w ws ≡ None
+    → length ops + head_of due ≤ count
+    → length (with_operation (operation_of (keyword_of w) (numbers_of ws)) ops) + head_of (due_after (keyword_of w))
+    ≤ count + 1
 few_more d.Header w ws ops count good few =
-    let header : keyword_of w ≡ k.Pxlist = header_first (bytes_eq w (codes "pxlist")) ws _ (header_here (is_header w ws) good) in
+    let header : keyword_of w ≡ k.Pxlist =
+    header_first (bytes_eq w (codes "pxlist")) ws _ (header_here (is_header w ws) good) in
     rw header (omega (arith, few))
 few_more d.Grid w ws ops count good few =
-    omega (arith, few, one_at_most (due_after (keyword_of w)), one_longer (operation_of (keyword_of w) (numbers_of ws)) ops)
+    omega (
+      arith,
+      few,
+      one_at_most (due_after (keyword_of w)),
+      one_longer (operation_of (keyword_of w) (numbers_of ws)) ops,
+    )
 few_more d.Operation w ws ops count good few =
-    omega (arith, few, one_at_most (due_after (keyword_of w)), one_longer (operation_of (keyword_of w) (numbers_of ws)) ops)
+    omega (
+      arith,
+      few,
+      one_at_most (due_after (keyword_of w)),
+      one_longer (operation_of (keyword_of w) (numbers_of ws)) ops,
+    )
 few_more d.Nothing w ws ops count good few =
-    omega (arith, few, one_at_most (due_after (keyword_of w)), one_longer (operation_of (keyword_of w) (numbers_of ws)) ops)
+    omega (
+      arith,
+      few,
+      one_at_most (due_after (keyword_of w)),
+      one_longer (operation_of (keyword_of w) (numbers_of ws)) ops,
+    )
 
 -- a good line keeps a draft lawful
-pub kept_more : (bits count : ℕ) (draft new : DraftView) (w : List ℕ) (ws : Words) (keyword : Keyword) (zs : List ℤ) → keyword ≡ keyword_of w → zs ≡ numbers_of ws
-    → cause_of draft.due w ws ≡ None → limit_of bits keyword zs ≡ None → IfSome (operation_of keyword zs) (λ m. IsLawful m bits)
+pub kept_more : (bits count : ℕ) (draft new : DraftView) (w : List ℕ) (ws : Words) (keyword : Keyword) (zs : List ℤ)
+    → keyword ≡ keyword_of w → zs ≡ numbers_of ws
+    → cause_of draft.due w ws ≡ None → limit_of bits keyword zs ≡ None → IfSome (operation_of keyword zs)
+    (λ m. IsLawful m bits)
     → new ≡ with_line keyword zs draft → IsDraft bits count draft → IsDraft bits (count + 1) new
 kept_more bits count draft new w ws keyword zs word figures cause limit lawful is keeps =
     let kept : IsDraft bits (count + 1) (with_line keyword zs draft) = record {
@@ -154,44 +184,59 @@ pub record IsReadTo (bits : ℕ) (draft : DraftView) (lines : List Words) (i : �
   pub keeps : IsDraft bits i draft
   pub judged : first_bad bits [] lines ≡ first_bad bits (take i lines) (drop i lines)
 
-pub read_start : (bits : ℕ) (draft : DraftView) (lines : List Words) → draft ≡ record { due = d.Header; grid = least_grid; macros = [] } → IsReadTo bits draft lines 0
+pub read_start : (bits : ℕ) (draft : DraftView) (lines : List Words)
+    → draft ≡ record { due = d.Header; grid = least_grid; macros = [] } → IsReadTo bits draft lines 0
 read_start bits draft lines e = rw e (record {
   says = refl;
-  keeps = record { grid = ((omega arith, omega arith), (omega arith, omega arith)); lawful = λ k d low. absurd (omega arith); few = omega arith };
+  keeps = record {
+    grid = ((omega arith, omega arith), (omega arith, omega arith));
+    lawful = λ k d low.
+        absurd (omega arith);
+    few = omega arith;
+  };
   judged = refl;
 })
 
 -- the line that is read next
 here : (bits : ℕ) (lines : List Words) (i : ℕ) (l : Words) → i < length lines → get_or lines i [] ≡ l
     → first_bad bits (take i lines) (drop i lines)
-    ≡ at_line (length (take i lines) + 1) (fault_of bits (due_behind (take i lines)) l) (first_bad bits (take i lines ++ l ∷ []) (drop (i + 1) lines))
-here bits lines i l lt is = ap (first_bad bits (take i lines)) (drop_more lines i [] lt ∙ ap (λ x. x ∷ drop (i + 1) lines) is)
+    ≡ at_line (length (take i lines) + 1) (fault_of bits (due_behind (take i lines)) l)
+    (first_bad bits (take i lines ++ l ∷ []) (drop (i + 1) lines))
+here bits lines i l lt is =
+    ap (first_bad bits (take i lines)) (drop_more lines i [] lt ∙ ap (λ x. x ∷ drop (i + 1) lines) is)
 
 told : (bits : ℕ) (draft : DraftView) (lines : List Words) (i : ℕ) (l : Words) → draft ≡ draft_of (take i lines)
     → fault_of bits (due_behind (take i lines)) l ≡ fault_of bits draft.due l
 told bits draft lines i l says = ap (λ (v : DraftView). fault_of bits v.due l) (sym says)
 
-pub read_next : (bits : ℕ) (draft new : DraftView) (lines : List Words) (i : ℕ) (l : Words) → IsReadTo bits draft lines i → i < length lines → get_or lines i [] ≡ l
-    → fault_of bits draft.due l ≡ None → new ≡ taken draft l → IsDraft bits (i + 1) new → IsReadTo bits new lines (i + 1)
+pub read_next : (bits : ℕ) (draft new : DraftView) (lines : List Words) (i : ℕ) (l : Words)
+    → IsReadTo bits draft lines i → i < length lines → get_or lines i [] ≡ l
+    → fault_of bits draft.due l ≡ None → new ≡ taken draft l → IsDraft bits (i + 1) new
+    → IsReadTo bits new lines (i + 1)
 read_next bits draft new lines i l so lt is good e keeps =
-    let more : take (i + 1) lines ≡ take i lines ++ l ∷ [] = take_more lines i [] lt ∙ ap (λ x. take i lines ++ x ∷ []) is in
+    let more : take (i + 1) lines ≡ take i lines ++ l ∷ [] =
+    take_more lines i [] lt ∙ ap (λ x. take i lines ++ x ∷ []) is in
     let none = told bits draft lines i l so.says ∙ good in
     record {
       says = e ∙ (ap (λ v. taken v l) so.says ∙ (sym (draft_more (take i lines) l) ∙ ap draft_of (sym more)));
       keeps = keeps;
       judged = so.judged ∙ (here bits lines i l lt is
-          ∙ (ap (λ f. at_line (length (take i lines) + 1) f (first_bad bits (take i lines ++ l ∷ []) (drop (i + 1) lines))) none
+          ∙ (ap (λ f. at_line (length (take i lines) + 1) f (first_bad bits (take i lines ++ l ∷ [])
+          (drop (i + 1) lines))) none
           ∙ ap (λ b. first_bad bits b (drop (i + 1) lines)) (sym more)));
     }
 
-pub read_bad : (bits : ℕ) (draft : DraftView) (lines : List Words) (i : ℕ) (l : Words) (f : LineFault) → IsReadTo bits draft lines i → i < length lines → get_or lines i [] ≡ l
+pub read_bad : (bits : ℕ) (draft : DraftView) (lines : List Words) (i : ℕ) (l : Words) (f : LineFault)
+    → IsReadTo bits draft lines i → i < length lines → get_or lines i [] ≡ l
     → fault_of bits draft.due l ≡ Some f → first_bad bits [] lines ≡ Some (i + 1, f)
 read_bad bits draft lines i l f so lt is bad =
     so.judged ∙ (here bits lines i l lt is
-    ∙ (ap (λ g. at_line (length (take i lines) + 1) g (first_bad bits (take i lines ++ l ∷ []) (drop (i + 1) lines))) (told bits draft lines i l so.says ∙ bad)
+    ∙ (ap (λ g. at_line (length (take i lines) + 1) g (first_bad bits (take i lines ++ l ∷ []) (drop (i + 1) lines)))
+    (told bits draft lines i l so.says ∙ bad)
     ∙ ap (λ n. Some (n, f)) (omega (arith, length-take i lines))))
 
-pub read_all : (bits : ℕ) (draft : DraftView) (lines : List Words) (i : ℕ) → IsReadTo bits draft lines i → length lines ≤ i → i ≤ length lines → IsDraftOf bits draft lines
+pub read_all : (bits : ℕ) (draft : DraftView) (lines : List Words) (i : ℕ) → IsReadTo bits draft lines i
+    → length lines ≤ i → i ≤ length lines → IsDraftOf bits draft lines
 read_all bits draft lines i so past within =
     let whole : take i lines ≡ lines = take_all i lines past in
     let count : i ≡ length lines = omega arith in
@@ -202,30 +247,39 @@ read_all bits draft lines i so past within =
     }
 
 -- the words of a line that is read
-pub words_here : (lines : List (Bor (List ℕ))) (i : ℕ) (any : Bor (List ℕ)) → i < length lines → get_or (map (λ m. words_of m.now) lines) i [] ≡ words_of (get_or lines i any).now
+pub words_here : (lines : List (Bor (List ℕ))) (i : ℕ) (any : Bor (List ℕ)) → i < length lines
+    → get_or (map (λ m. words_of m.now) lines) i [] ≡ words_of (get_or lines i any).now
 words_here lines i any lt = get_or-map (λ (m : Bor (List ℕ)). words_of m.now) lines i any [] lt
 
 pub among : (lines : List (Bor (List ℕ))) (i : ℕ) → i < length lines → i < length (map (λ m. words_of m.now) lines)
 among lines i lt = omega (arith, length-map lines (λ (m : Bor (List ℕ)). words_of m.now))
 
-pub worded_is : (lines : List (Bor (List ℕ))) (text : List ℕ) → map (λ l. l.now) lines ≡ lines_of text → map (λ l. words_of l.now) lines ≡ worded text
+pub worded_is : (lines : List (Bor (List ℕ))) (text : List ℕ) → map (λ l. l.now) lines ≡ lines_of text
+    → map (λ l. words_of l.now) lines ≡ worded text
 worded_is lines text e = sym (map-map words_of (λ (l : Bor (List ℕ)). l.now) lines) ∙ ap (map words_of) e
 
-pub refused_bad : (bits : ℕ) (text : List ℕ) (lines : List Words) (f : ListFault) → lines ≡ worded text → IsFirstBad bits f lines → refusal_of bits text ≡ Some f
+pub refused_bad : (bits : ℕ) (text : List ℕ) (lines : List Words) (f : ListFault) → lines ≡ worded text
+    → IsFirstBad bits f lines → refusal_of bits text ≡ Some f
 refused_bad bits text lines f e (bad, first, is) = rw (← e, first, is) refl
 
-pub refused_end : (bits : ℕ) (text : List ℕ) (lines : List Words) (draft : DraftView) (count : ℕ) → lines ≡ worded text → IsDraftOf bits draft lines
-    → is_nothing draft.due ≡ false → count ≡ length (lines_of text) → refusal_of bits text ≡ Some (fault.Malformed count cause.MissingEnd)
+pub refused_end : (bits : ℕ) (text : List ℕ) (lines : List Words) (draft : DraftView) (count : ℕ)
+    → lines ≡ worded text → IsDraftOf bits draft lines
+    → is_nothing draft.due ≡ false → count ≡ length (lines_of text) → refusal_of bits text
+    ≡ Some (fault.Malformed count cause.MissingEnd)
 refused_end bits text lines draft count e is open_still counted =
     let due = ap (λ (v : DraftView). is_nothing v.due) is.says in
     rw (← e, is.good, ← due, open_still, counted) refl
 
-pub accepted : (bits : ℕ) (text : List ℕ) (lines : List Words) (draft : DraftView) → lines ≡ worded text → IsDraftOf bits draft lines
+pub accepted : (bits : ℕ) (text : List ℕ) (lines : List Words) (draft : DraftView) → lines ≡ worded text
+    → IsDraftOf bits draft lines
     → is_nothing draft.due ≡ true → refusal_of bits text ≡ None
 accepted bits text lines draft e is ended =
     let due = ap (λ (v : DraftView). is_nothing v.due) is.says in
     rw (← e, is.good, ← due, ended) refl
 
 pub listing_is : (bits : ℕ) (draft : DraftView) (lines : List Words) → IsDraftOf bits draft lines
-    → (let l : ListingView = record { nx = draft.grid.nx; ny = draft.grid.ny; macros = draft.macros } in l) ≡ listing_of lines
-listing_is bits draft lines is = ap (λ (v : DraftView). let l : ListingView = record { nx = v.grid.nx; ny = v.grid.ny; macros = v.macros } in l) is.says
+    → (let l : ListingView = record { nx = draft.grid.nx; ny = draft.grid.ny; macros = draft.macros } in
+    l) ≡ listing_of lines
+listing_is bits draft lines is =
+    ap (λ (v : DraftView). let l : ListingView = record { nx = v.grid.nx; ny = v.grid.ny; macros = v.macros } in
+    l) is.says

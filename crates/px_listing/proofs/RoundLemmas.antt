@@ -1,34 +1,25 @@
 -- What is read of the canonical text of a listing.
-use Prim.Native.Nat.{zero, suc}
-use Rattle.std.proofs.Common.{◌≡◌, ℕ, ℤ, pos, ◌+◌, ◌-◌, ◌^◌, ◌<◌, ◌≤◌, ◌≤ℤ◌, ◌==◌, All, List, [], ◌∷◌, ◌++◌, Bool, true, false, not, ◌&&◌, ◌||◌, if◌then◌else◌, Option, Some, None, length, map, codes, is_some, unwrap_or, inl, inr, ◌⊎◌, refl, ap, sym, ◌∙◌, arith, append_assoc}
+use Rattle.std.proofs.Common.{◌≡◌, ℕ, ℤ, pos, ◌+◌, ◌-◌, ◌^◌, ◌<◌, ◌≤◌, ◌≤ℤ◌, ◌==◌, All, [], ◌∷◌, ◌++◌, Bool}
+use Rattle.std.proofs.Common.{true, false, ◌&&◌, ◌||◌, if◌then◌else◌, Some, None, length, map}
+use Rattle.std.proofs.Common.{inl, inr, ◌⊎◌, refl, ap, ◌∙◌, arith}
 use Rattle.std.proofs.Math.Pow.{pow_mono}
 use Rattle.std.proofs.lemmas.Int.{ints}
-use Rattle.std.proofs.lemmas.List.{append-nil, map-append}
-use Rattle.std.proofs.lemmas.List.Elements.{filter_map-append}
 use Rattle.std.specs.Fmt.{signed_decimal}
-use Rattle.std.specs.List.{cons_option, filter_map, flat_map, list_all}
-use Rattle.px_macro.specs.Macros.{AreApart, IsField, IsLawful}
+use Rattle.px_macro.specs.Macros.{IsLawful}
 use Rattle.px_macro.specs.declared.operation.Macro.{Macro}
 use Rattle.px_macro.specs.declared.operation.Macro.TheVariants as m
-use Rattle.px_num.specs.Forms.{IsInTreeRange, IsWithin}
-use Rattle.px_text.specs.Text.{Words, lines_of, words_of, worded}
+use Rattle.px_num.specs.Forms.{IsWithin}
+use Rattle.px_text.specs.Text.{Words}
 use Rattle.px_text.specs.Word.{number_of}
-use Rattle.px_text.specs.Written.{are_plain, fed, is_no_feed, is_plain, spaced}
-use Rattle.px_tree.specs.Nodes.{IsGrid}
-use Rattle.px_listing.specs.Keywords.{keyword_of}
-use Rattle.px_listing.specs.Limits.{end_past, field_past, fields_past, form_past, limit_of, overlap, past, value_past}
-use Rattle.px_listing.specs.Lines.{number_line, numbers_of}
-use Rattle.px_listing.specs.Listings.{ListingView, canonical_text, end_line, first_lines, macro_line}
-use Rattle.px_listing.specs.Operations.{bit_number, bit_of, operands_of, operation_of, size_of, word_of}
-use Rattle.px_listing.specs.Reading.{Exponents, at_line, due_behind, due_behind_line, fault_of, first_bad, grid_in, is_nothing, last_or, least_grid, listing_of, operation_in, refusal_of}
-use Rattle.px_listing.specs.RoundTrip.{IsReadAs, TextsAreReadBack}
-use Rattle.px_listing.specs.declared.keyword.Due.{Due}
+use Rattle.px_text.specs.Written.{are_plain, is_plain}
+use Rattle.px_listing.specs.Limits.{end_past, field_past, form_past, overlap, past}
+use Rattle.px_listing.specs.Operations.{bit_number, bit_of, operands_of, word_of}
+use Rattle.px_listing.specs.Reading.{due_behind_line, fault_of, grid_in}
+use Rattle.px_listing.specs.Reading.{operation_in}
 use Rattle.px_listing.specs.declared.keyword.Due.TheVariants as d
-use Rattle.px_listing.specs.declared.limit.LineFault.{LineFault}
 use Rattle.px_listing.specs.declared.limit.ListKind.{ListKind}
 use Rattle.px_listing.specs.declared.limit.ListKind.TheVariants as kind
-use Rattle.px_listing.proofs.PlainLemmas.{line_fed, number_plain}
-use Rattle.px_listing.proofs.ReadLemmas.{said_more}
+use Rattle.px_listing.proofs.PlainLemmas.{number_plain}
 use lib.IntN.{negsuc}
 use lib.Signed.{mag}
 
@@ -60,7 +51,10 @@ end_none bits at len within = grind (arith, ints)
 
 field_none : (bits at len : ℕ) → 1 ≤ len → len ≤ 40 → at + len ≤ bits → field_past bits (pos at) (pos len) ≡ None
 field_none bits at len some few within =
-    rw (past_none kind.Length (pos 1) (pos 40) (pos len) (omega (arith, ints)) (omega (arith, ints)), end_none bits at len within) refl
+    rw (
+      past_none kind.Length (pos 1) (pos 40) (pos len) (omega (arith, ints)) (omega (arith, ints)),
+      end_none bits at len within,
+    ) refl
 
 bit_none : (v : Bool) → past kind.Value (pos 0) (pos 1) (bit_number v) ≡ None
 bit_none true = refl
@@ -95,7 +89,8 @@ pub plain_number : NumbersAreRead → (z : ℤ) → mag z < 10 ^ 18 → is_plain
 plain_number law z few = number_plain (signed_decimal z) z (law z few)
 
 pub op_read : NumbersAreRead → (bits : ℕ) → bits ≤ 256 → (op : Macro) → IsLawful op bits → IsRead bits op
-op_read law bits most m.All lawful = record { good = refl; due = refl; grid = refl; read = refl; word = refl; plain = refl }
+op_read law bits most m.All lawful =
+    record { good = refl; due = refl; grid = refl; read = refl; word = refl; plain = refl }
 op_read law bits most (m.KeepSign form) lawful =
     let a = small_size (2 ^ 27) form.a (omega arith) lawful.a in
     let b = small_size (2 ^ 27) form.b (omega arith) lawful.b in
@@ -111,7 +106,12 @@ op_read law bits most (m.KeepSign form) lawful =
 op_read law bits most (m.KeepBit at v) lawful =
     let place = small_place at (omega (arith, lawful, most)) in
     record {
-      good = rw (law (pos at) place, law (bit_number v) (bit_small v), end_none bits at 1 (omega (arith, lawful)), bit_none v) refl;
+      good = rw (
+        law (pos at) place,
+        law (bit_number v) (bit_small v),
+        end_none bits at 1 (omega (arith, lawful)),
+        bit_none v,
+      ) refl;
       due = refl;
       grid = refl;
       read = rw (law (pos at) place, law (bit_number v) (bit_small v), bit_read v) refl;
@@ -121,7 +121,12 @@ op_read law bits most (m.KeepBit at v) lawful =
 op_read law bits most (m.SetBit at v) lawful =
     let place = small_place at (omega (arith, lawful, most)) in
     record {
-      good = rw (law (pos at) place, law (bit_number v) (bit_small v), end_none bits at 1 (omega (arith, lawful)), bit_none v) refl;
+      good = rw (
+        law (pos at) place,
+        law (bit_number v) (bit_small v),
+        end_none bits at 1 (omega (arith, lawful)),
+        bit_none v,
+      ) refl;
       due = refl;
       grid = refl;
       read = rw (law (pos at) place, law (bit_number v) (bit_small v), bit_read v) refl;
@@ -230,12 +235,17 @@ op_read law bits most (m.LoadConst f c) lawful =
         law (pos f.len) len,
         law (pos c) value,
         field_none bits f.at f.len lawful.0.from_one lawful.0.to_forty lawful.0.within,
-      ) (past_none kind.Value (pos 0) (pos (2 ^ f.len - 1)) (pos c) (omega (arith, ints)) (omega (arith, ints, lawful.1)));
+      ) (past_none kind.Value (pos 0) (pos (2 ^ f.len - 1)) (pos c) (omega (arith, ints))
+          (omega (arith, ints, lawful.1)));
       due = refl;
       grid = refl;
       read = rw (law (pos f.at) at, law (pos f.len) len, law (pos c) value) refl;
       word = refl;
-      plain = rw (plain_number law (pos f.at) at, plain_number law (pos f.len) len, plain_number law (pos c) value) refl;
+      plain = rw (
+        plain_number law (pos f.at) at,
+        plain_number law (pos f.len) len,
+        plain_number law (pos c) value,
+      ) refl;
     }
 op_read law bits most (m.Copy f g) lawful =
     let first = lawful.0.fields.0 in
@@ -258,7 +268,11 @@ op_read law bits most (m.Copy f g) lawful =
       read = rw (law (pos f.at) at, law (pos f.len) len, law (pos g.at) to)
           (ap (λ n. Some (m.Copy f (record { at = g.at; len = n }))) lawful.0.length);
       word = refl;
-      plain = rw (plain_number law (pos f.at) at, plain_number law (pos f.len) len, plain_number law (pos g.at) to) refl;
+      plain = rw (
+        plain_number law (pos f.at) at,
+        plain_number law (pos f.len) len,
+        plain_number law (pos g.at) to,
+      ) refl;
     }
 op_read law bits most (m.KeepLess f g) lawful =
     let first = lawful.fields.0 in
@@ -280,5 +294,9 @@ op_read law bits most (m.KeepLess f g) lawful =
       read = rw (law (pos f.at) at, law (pos f.len) len, law (pos g.at) to)
           (ap (λ n. Some (m.KeepLess f (record { at = g.at; len = n }))) lawful.length);
       word = refl;
-      plain = rw (plain_number law (pos f.at) at, plain_number law (pos f.len) len, plain_number law (pos g.at) to) refl;
+      plain = rw (
+        plain_number law (pos f.at) at,
+        plain_number law (pos f.len) len,
+        plain_number law (pos g.at) to,
+      ) refl;
     }

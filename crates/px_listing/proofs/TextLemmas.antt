@@ -1,6 +1,7 @@
 -- The lines and the words of the canonical text of a listing, and what is read of them.
-use Prim.Native.Nat.{zero, suc}
-use Rattle.std.proofs.Common.{◌≡◌, ℕ, ℤ, pos, ◌+◌, ◌^◌, ◌<◌, ◌≤◌, ◌≤ℤ◌, All, List, [], ◌∷◌, ◌++◌, Bool, true, ◌&&◌, Option, Some, None, length, map, codes, refl, ap, sym, ◌∙◌, arith, append_assoc}
+use Prim.Native.Nat.{suc}
+use Rattle.std.proofs.Common.{◌≡◌, ℕ, pos, ◌+◌, ◌^◌, ◌<◌, ◌≤◌, ◌≤ℤ◌, All, List, [], ◌∷◌, ◌++◌, true, ◌&&◌}
+use Rattle.std.proofs.Common.{Some, None, length, map, codes, refl, ap, sym, ◌∙◌, arith, append_assoc}
 use Rattle.std.proofs.lemmas.Int.{ints}
 use Rattle.std.proofs.lemmas.List.{append-nil}
 use Rattle.std.specs.Fmt.{signed_decimal}
@@ -8,13 +9,13 @@ use Rattle.std.specs.List.{cons_option, filter_map, flat_map, list_all}
 use Rattle.px_macro.specs.Macros.{IsLawful}
 use Rattle.px_macro.specs.declared.operation.Macro.{Macro}
 use Rattle.px_text.specs.Text.{Words, lines_of, words_of, worded}
-use Rattle.px_text.specs.Word.{number_of}
 use Rattle.px_text.specs.Written.{are_plain, fed, is_no_feed, is_plain, spaced}
 use Rattle.px_tree.specs.Nodes.{IsGrid}
 use Rattle.px_listing.specs.Lines.{number_line}
 use Rattle.px_listing.specs.Listings.{ListingView, canonical_text, end_line, header_line, macro_line}
 use Rattle.px_listing.specs.Operations.{operands_of, word_of}
-use Rattle.px_listing.specs.Reading.{Exponents, at_line, due_behind, due_behind_line, fault_of, first_bad, grid_in, is_nothing, last_or, least_grid, listing_of, operation_in, refusal_of}
+use Rattle.px_listing.specs.Reading.{Exponents, at_line, due_behind, due_behind_line, fault_of, first_bad, grid_in}
+use Rattle.px_listing.specs.Reading.{last_or, least_grid, listing_of, operation_in}
 use Rattle.px_listing.specs.RoundTrip.{TextsAreReadBack}
 use Rattle.px_listing.specs.declared.keyword.Due.{Due}
 use Rattle.px_listing.specs.declared.keyword.Due.TheVariants as d
@@ -22,7 +23,8 @@ use Rattle.px_listing.specs.Drafts.{or_else}
 use Rattle.px_listing.specs.declared.limit.ListKind.TheVariants as kind
 use Rattle.px_listing.proofs.PlainLemmas.{line_fed}
 use Rattle.px_listing.proofs.ReadLemmas.{said_more}
-use Rattle.px_listing.proofs.RoundLemmas.{IsRead, NumbersAreRead, op_read, op_words, past_none, plain_number, small_place}
+use Rattle.px_listing.proofs.RoundLemmas.{NumbersAreRead, op_read, op_words, past_none, plain_number}
+use Rattle.px_listing.proofs.RoundLemmas.{small_place}
 
 -- a line by its words, without the line feed
 abbrev bare : Words → List ℕ
@@ -47,14 +49,16 @@ abbrev WordsAreRead : Type 0
 WordsAreRead = (w : List ℕ) (ws : Words) → is_plain w ≡ true → are_plain ws ≡ true → words_of (w ++ spaced ws) ≡ w ∷ ws
 
 abbrev LinesAreRead : Type 0
-LinesAreRead = (lines : List (List ℕ)) → list_all (λ l. list_all is_no_feed l) lines ≡ true → lines_of (fed lines) ≡ lines
+LinesAreRead = (lines : List (List ℕ)) → list_all (λ l. list_all is_no_feed l) lines ≡ true
+    → lines_of (fed lines) ≡ lines
 
 -- the lines are the text
 lines_from : (ops : List Macro) → fed (map bare (words_from ops)) ≡ flat_map macro_line ops ++ end_line
 unfolding number_line
 lines_from [] = append-nil end_line
 lines_from (op ∷ ops) =
-    ap (λ t. macro_line op ++ t) (lines_from ops) ∙ sym (append_assoc (macro_line op) (flat_map macro_line ops) end_line)
+    ap (λ t. macro_line op ++ t) (lines_from ops)
+    ∙ sym (append_assoc (macro_line op) (flat_map macro_line ops) end_line)
 
 text_is : (l : ListingView) → fed (map bare (all_words l)) ≡ canonical_text l
 unfolding header_line number_line
@@ -80,24 +84,33 @@ fed_from : NumbersAreRead → (bits : ℕ) → bits ≤ 256 → (ops : List Macr
 fed_from law bits most [] lawful = refl
 fed_from law bits most (op ∷ ops) lawful =
     let is = op_read law bits most op (first_of bits op ops lawful) in
-    rw (line_fed (word_of op) (map signed_decimal (operands_of op)) is.word is.plain, fed_from law bits most ops (rest_of bits op ops lawful)) refl
+    rw (
+      line_fed (word_of op) (map signed_decimal (operands_of op)) is.word is.plain,
+      fed_from law bits most ops (rest_of bits op ops lawful),
+    ) refl
 
 read_from : NumbersAreRead → WordsAreRead → (bits : ℕ) → bits ≤ 256 → (ops : List Macro) → AreLawful bits ops
     → map words_of (map bare (words_from ops)) ≡ words_from ops
 read_from law words bits most [] lawful = ap (λ ws. ws ∷ []) (words (codes "end") [] refl refl)
 read_from law words bits most (op ∷ ops) lawful =
     let is = op_read law bits most op (first_of bits op ops lawful) in
-    rw (words (word_of op) (map signed_decimal (operands_of op)) is.word is.plain, read_from law words bits most ops (rest_of bits op ops lawful)) refl
+    rw (
+      words (word_of op) (map signed_decimal (operands_of op)) is.word is.plain,
+      read_from law words bits most ops (rest_of bits op ops lawful),
+    ) refl
 
 -- no line is bad
-good_from : NumbersAreRead → (bits : ℕ) → bits ≤ 256 → (before : List Words) (ops : List Macro) → due_behind before ≡ d.Operation → AreLawful bits ops
+good_from : NumbersAreRead → (bits : ℕ) → bits ≤ 256 → (before : List Words) (ops : List Macro) → due_behind before
+    ≡ d.Operation → AreLawful bits ops
     → first_bad bits before (words_from ops) ≡ None
-good_from law bits most before [] due lawful = ap (λ due. at_line (length before + 1) (fault_of bits due (codes "end" ∷ [])) None) due
+good_from law bits most before [] due lawful =
+    ap (λ due. at_line (length before + 1) (fault_of bits due (codes "end" ∷ [])) None) due
 good_from law bits most before (op ∷ ops) due lawful =
     let is = op_read law bits most op (first_of bits op ops lawful) in
     let next : due_behind (before ++ op_words op ∷ []) ≡ d.Operation =
     said_more d.Header due_behind_line before (op_words op) ∙ ap (λ o. or_else o (due_behind before)) is.due in
-    ap (λ due. at_line (length before + 1) (fault_of bits due (op_words op)) (first_bad bits (before ++ op_words op ∷ []) (words_from ops))) due
+    ap (λ due. at_line (length before + 1) (fault_of bits due (op_words op))
+    (first_bad bits (before ++ op_words op ∷ []) (words_from ops))) due
     ∙ (ap (λ f. at_line (length before + 1) f (first_bad bits (before ++ op_words op ∷ []) (words_from ops))) is.good
     ∙ good_from law bits most (before ++ op_words op ∷ []) ops next (rest_of bits op ops lawful))
 
@@ -111,14 +124,17 @@ ended_from law bits most due (op ∷ ops) lawful =
     ∙ ended_from law bits most d.Operation ops (rest_of bits op ops lawful)
 
 -- none of these lines says the grid
-gridless_from : NumbersAreRead → (bits : ℕ) → bits ≤ 256 → (ops : List Macro) → AreLawful bits ops → filter_map grid_in (words_from ops) ≡ []
+gridless_from : NumbersAreRead → (bits : ℕ) → bits ≤ 256 → (ops : List Macro) → AreLawful bits ops
+    → filter_map grid_in (words_from ops) ≡ []
 gridless_from law bits most [] lawful = refl
 gridless_from law bits most (op ∷ ops) lawful =
     let is = op_read law bits most op (first_of bits op ops lawful) in
-    ap (λ o. cons_option o (filter_map grid_in (words_from ops))) is.grid ∙ gridless_from law bits most ops (rest_of bits op ops lawful)
+    ap (λ o. cons_option o (filter_map grid_in (words_from ops))) is.grid
+    ∙ gridless_from law bits most ops (rest_of bits op ops lawful)
 
 -- and they say the operations
-said_from : NumbersAreRead → (bits : ℕ) → bits ≤ 256 → (ops : List Macro) → AreLawful bits ops → filter_map operation_in (words_from ops) ≡ ops
+said_from : NumbersAreRead → (bits : ℕ) → bits ≤ 256 → (ops : List Macro) → AreLawful bits ops
+    → filter_map operation_in (words_from ops) ≡ ops
 said_from law bits most [] lawful = refl
 said_from law bits most (op ∷ ops) lawful =
     let is = op_read law bits most op (first_of bits op ops lawful) in
@@ -146,7 +162,8 @@ grid_read law bits nx ny grid =
       plain = rw (plain_number law (pos nx) x, plain_number law (pos ny) y) refl;
     }
 
-worded_text : NumbersAreRead → WordsAreRead → LinesAreRead → (bits : ℕ) (l : ListingView) → bits ≤ 256 → IsGrid l.nx l.ny → AreLawful bits l.macros
+worded_text : NumbersAreRead → WordsAreRead → LinesAreRead → (bits : ℕ) (l : ListingView) → bits ≤ 256
+    → IsGrid l.nx l.ny → AreLawful bits l.macros
     → worded (canonical_text l) ≡ all_words l
 worded_text law words lines bits l most grid lawful =
     let of_grid = grid_read law bits l.nx l.ny grid in
@@ -178,5 +195,6 @@ read_back law words lines bits l most grid lawful =
     }
   where
     same_listing : (g : Exponents) (nx ny : ℕ) (ops ops' : List Macro) → g ≡ record { nx = nx; ny = ny } → ops ≡ ops'
-        → (let v : ListingView = record { nx = g.nx; ny = g.ny; macros = ops } in v) ≡ record { nx = nx; ny = ny; macros = ops' }
+        → (let v : ListingView = record { nx = g.nx; ny = g.ny; macros = ops } in
+        v) ≡ record { nx = nx; ny = ny; macros = ops' }
     same_listing g nx ny ops ops' p q = rw (p, q) refl

@@ -2,8 +2,8 @@
 use Rattle.std.specs.Prelude.{ℕ, ℤ, pos, ◌==◌, List, [], ◌∷◌, ◌++◌, length, map, Bool, not, if◌then◌else◌, Option, Some, None, is_some, unwrap_or}
 use Rattle.std.specs.Fmt.{signed_decimal}
 use Rattle.std.specs.List.{list_all}
-use Rattle.px_scene.specs.declared.line.Cause.{Cause}
-use Rattle.px_scene.specs.declared.line.Cause.TheVariants as c
+use Rattle.px_show.specs.declared.fault.Cause.{Cause}
+use Rattle.px_show.specs.declared.fault.Cause.TheVariants as c
 use Rattle.px_text.specs.Text.{Words}
 use Rattle.px_text.specs.Word.{number_of}
 use Rattle.px_text.specs.Written.{spaced}

@@ -4,6 +4,7 @@ use Rattle.std.specs.List.{flat_map}
 use Rattle.px_macro.specs.Macros.{IsLawful}
 use Rattle.px_macro.specs.declared.operation.Macro.{Macro}
 use Rattle.px_tree.specs.Nodes.{IsGrid}
+use Rattle.px_listing.specs.declared.listing.TheConstants.{MAX_OPERATIONS}
 use Rattle.px_listing.specs.Lines.{number_line}
 use Rattle.px_listing.specs.Operations.{operands_of, word_of}
 
@@ -16,7 +17,7 @@ pub record ListingView : Type 0 where
 -- what every listing keeps
 pub record IsListing (l : ListingView) : Type 0 where
   pub grid : IsGrid l.nx l.ny
-  pub few : length l.macros ≤ 1048576
+  pub few : length l.macros ≤ MAX_OPERATIONS
   pub lawful : All (λ m. IsLawful m 256) l.macros
 
 -- the line of an operation

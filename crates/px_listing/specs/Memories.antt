@@ -1,11 +1,10 @@
 -- How the memory of every pixel is printed. Clauses of public calls stand on it.
-use Rattle.std.specs.Prelude.{ℕ, ◌^◌, Bool, if◌then◌else◌, List, [], ◌∷◌, ◌++◌, codes, decimal, map}
+use Rattle.std.specs.Prelude.{ℕ, ◌^◌, Bool, if◌then◌else◌, List, [], ◌∷◌, ◌++◌, codes, decimal}
 use Rattle.std.specs.List.{flat_map, range_with_len}
 use Rattle.px_array.specs.Arrays.{State, pixel_of}
 use Rattle.px_asm.specs.Microprograms.{bits_of}
 use Rattle.px_num.specs.Bits.{bit_at}
 use Rattle.px_macro.specs.Macros.{PixelBits}
-use Rattle.px_num.specs.Lists.{tabulate}
 use Rattle.px_listing.specs.Listings.{ListingView}
 use Rattle.px_listing.specs.Played.{played}
 

@@ -9,6 +9,7 @@ ghost use Rattle.px_listing.specs.declared.keyword.Keyword.TheVariants as Keywor
 ghost use Rattle.px_tree.specs.Nodes.{IsGrid};
 ghost use Rattle.px_listing.specs.declared.limit.LineFault.{LineFault};
 ghost use Rattle.px_macro.specs.Macros.{IsLawful};
+ghost use Rattle.px_text.specs.declared.text.TheConstants.{MAX_TEXT_BYTES};
 ghost use Rattle.px_text.specs.Text.{words_of};
 ghost use Rattle.px_text.specs.LentWords.{now_of};
 
@@ -130,7 +131,7 @@ impl Draft {
     /// The listing, where the last line is the end.
     pub(crate) fn into_listing(self) -> Option<Listing>
         requires grid { IsGrid self.nx self.ny }
-        requires few { length self.macros.items + head_of self.due ≤ 1048577 }
+        requires few { length self.macros.items + head_of self.due ≤ MAX_TEXT_BYTES + 1 }
         requires lawful { All (λ m. IsLawful m 256) self.macros.items }
         ensures ended { is_some result ≡ is_nothing self.due }
         ensures listing { IfSome result (λ l.

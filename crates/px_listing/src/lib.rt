@@ -21,7 +21,7 @@ mod write;
 
 pub use law::laws_of_listings;
 pub use limit::ListKind;
-pub use listing::Listing;
+pub use listing::{Listing, MAX_OPERATIONS};
 pub use memory::write_memory;
 pub use passes::write_passes;
 pub use playing::play;

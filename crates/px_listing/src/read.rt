@@ -1,8 +1,9 @@
 //! Reading a listing from its text.
-ghost use Rattle.std.specs.Prelude.{◌≡◌, ◌≤◌, ◌⊎◌, All, IfErr, IfOk, None, Some, length, map};
+ghost use Rattle.std.specs.Prelude.{◌≡◌, ◌+◌, ◌≤◌, ◌⊎◌, All, IfErr, IfOk, None, Some, length, map};
 ghost use Rattle.px_listing.specs.Drafts.{IsDraftOf, IsFirstBad, view_of};
 ghost use Rattle.px_listing.specs.Reading.{fault_at, listing_of, refusal_of};
 ghost use Rattle.px_macro.specs.Macros.{IsLawful};
+ghost use Rattle.px_text.specs.declared.text.TheConstants.{MAX_TEXT_BYTES};
 ghost use Rattle.px_text.specs.Text.{words_of, worded};
 
 use crate::draft::Draft;
@@ -48,11 +49,11 @@ impl From<Memory> for ListFault {
 
 /// Reads a listing for pixels of so many memory bits, 1 to 256 (docs/LISTINGS.md).
 ///
-/// The text has at most 1048576 bytes. `Malformed` and `Limit` come exactly as docs/LISTINGS.md says,
-/// for the first bad line.
+/// The text has at most `MAX_TEXT_BYTES` bytes. `Malformed` and `Limit` come exactly as
+/// docs/LISTINGS.md says, for the first bad line.
 pub fn read_listing(alloc: Global, text: &[u8], bits: u32) -> Result<Listing, ListFault>
     requires bits { bits ≤ 256 }
-    requires short { length text.now ≤ 1048576 }
+    requires short { length text.now ≤ MAX_TEXT_BYTES }
     ensures ok { IfOk result (λ l. (refusal_of bits text.now ≡ None)
         × (l ≡ listing_of (worded text.now))) }
     ensures lawful { IfOk result (λ l. All (λ m. IsLawful m bits) l.macros) }
@@ -76,7 +77,7 @@ pub fn read_listing(alloc: Global, text: &[u8], bits: u32) -> Result<Listing, Li
 /// What the lines say, or the first bad one.
 fn draft_of(alloc: Global, lines: &[&[u8]], bits: u32) -> Result<Draft, ListFault>
     requires bits { bits ≤ 256 }
-    requires few { length lines.now ≤ 1048577 }
+    requires few { length lines.now ≤ MAX_TEXT_BYTES + 1 }
     ensures ok { IfOk result (λ d. IsDraftOf bits (view_of d) (map (λ l. words_of l.now) lines.now)) }
     ensures err { IfErr result (λ f. (f ≡ ListFault.Memory)
         ⊎ IsFirstBad bits f (map (λ l. words_of l.now) lines.now)) }

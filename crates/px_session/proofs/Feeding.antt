@@ -1,5 +1,8 @@
 -- Bytes in pieces, and lines one after another.
-use Rattle.std.proofs.Common.{◌≡◌, ℕ, zero, suc, ◌+◌, ◌<◌, ◌≤◌, Bool, true, false, ◌||◌, ◌==◌, List, [], ◌∷◌, ◌++◌, length, take, drop, get_or, Option, Some, None, Result, Ok, Err, IfOk, OnErr, OnOk, refl, sym, ap, ◌∙◌, append_assoc, append-nil, add_assoc, length-append, arith, if◌then◌else◌}
+use Rattle.std.proofs.Common.{◌≡◌, ℕ, zero, suc, ◌+◌, ◌<◌, ◌≤◌, Bool, true, false, ◌||◌, ◌==◌, List, [], ◌∷◌, ◌++◌}
+use Rattle.std.proofs.Common.{length, take, drop, get_or, Option, Some, None, Result, Ok, Err, IfOk, OnErr, OnOk}
+use Rattle.std.proofs.Common.{refl, sym, ap, ◌∙◌, append_assoc, append-nil, add_assoc, length-append, arith}
+use Rattle.std.proofs.Common.{if◌then◌else◌}
 use Rattle.std.proofs.Math.Seq.{take-append-add}
 use Rattle.std.proofs.lemmas.List.{take_more, take-append-drop, take-append-le as take_within}
 use Rattle.std.specs.Io.KnownBytes.{Appends}
@@ -15,11 +18,13 @@ use Rattle.px_session.specs.Servings.{Answered}
 use Rattle.px_session.specs.Turns.{Broke}
 use Rattle.px_session.specs.Sessions.{after, after_line, answer_line, answers, has_quit, is_last, is_quit, until_quit}
 
-pub ended-append : (held bs cs : List ℕ) → short_ended held (bs ++ cs) ≡ short_ended held bs ++ short_ended (short_left held bs) cs
+pub ended-append : (held bs cs : List ℕ) → short_ended held (bs ++ cs) ≡ short_ended held bs
+    ++ short_ended (short_left held bs) cs
 ended-append held [] cs = refl
 ended-append held (b ∷ bs) cs =
     elim (b == 10) as (λ t. (if t then held ∷ short_ended [] (bs ++ cs) else short_ended (kept held b) (bs ++ cs))
-    ≡ (if t then held ∷ short_ended [] bs else short_ended (kept held b) bs) ++ short_ended (if t then short_left [] bs else short_left (kept held b) bs) cs)
+    ≡ (if t then held ∷ short_ended [] bs else short_ended (kept held b) bs)
+    ++ short_ended (if t then short_left [] bs else short_left (kept held b) bs) cs)
     [ true ↦ ap (λ ls. held ∷ ls) (ended-append [] bs cs) | false ↦ ended-append (kept held b) bs cs ]
 
 pub left-append : (held bs cs : List ℕ) → short_left held (bs ++ cs) ≡ short_left (short_left held bs) cs
@@ -40,12 +45,18 @@ or_right true b e = cc
 pub quit-append : (ls ms : List (List ℕ)) → has_quit (ls ++ ms) ≡ has_quit ls || has_quit ms
 quit-append [] ms = refl
 quit-append (l ∷ ls) ms =
-    elim (is_quit l) as (λ t. t || has_quit (ls ++ ms) ≡ (t || has_quit ls) || has_quit ms) [ true ↦ refl | false ↦ quit-append ls ms ]
+    elim (is_quit l) as (λ t. t || has_quit (ls ++ ms) ≡ (t || has_quit ls) || has_quit ms) [
+      | true ↦ refl
+      | false ↦
+          quit-append ls ms
+    ]
 
-until-append : (ls ms : List (List ℕ)) → until_quit (ls ++ ms) ≡ until_quit ls ++ (if has_quit ls then [] else until_quit ms)
+until-append : (ls ms : List (List ℕ)) → until_quit (ls ++ ms) ≡ until_quit ls
+    ++ (if has_quit ls then [] else until_quit ms)
 until-append [] ms = refl
 until-append (l ∷ ls) ms =
-    elim (is_quit l) as (λ t. l ∷ (if t then [] else until_quit (ls ++ ms)) ≡ (l ∷ (if t then [] else until_quit ls)) ++ (if t || has_quit ls then [] else until_quit ms))
+    elim (is_quit l) as (λ t. l ∷ (if t then [] else until_quit (ls ++ ms)) ≡ (l ∷ (if t then [] else until_quit ls))
+    ++ (if t || has_quit ls then [] else until_quit ms))
     [ true ↦ refl | false ↦ ap (λ ks. l ∷ ks) (until-append ls ms) ]
 
 -- lines none of which is a quit
@@ -77,10 +88,12 @@ pub after-append : (s : SessionView) (ls ms : List (List ℕ)) → after s (ls +
 after-append s [] ms = refl
 after-append s (l ∷ ls) ms = after-append (after_line s l) ls ms
 
-pub answers-append : (bits : ℕ) (s : SessionView) (ls ms : List (List ℕ)) → answers bits s (ls ++ ms) ≡ answers bits s ls ++ answers bits (after s ls) ms
+pub answers-append : (bits : ℕ) (s : SessionView) (ls ms : List (List ℕ)) → answers bits s (ls ++ ms)
+    ≡ answers bits s ls ++ answers bits (after s ls) ms
 answers-append bits s [] ms = refl
 answers-append bits s (l ∷ ls) ms =
-    ap (λ x. answer_line bits s l ++ x) (answers-append bits (after_line s l) ls ms) ∙ sym (append_assoc (answer_line bits s l) _ _)
+    ap (λ x. answer_line bits s l ++ x) (answers-append bits (after_line s l) ls ms)
+    ∙ sym (append_assoc (answer_line bits s l) _ _)
 
 -- a sink that took m bytes and then n
 reopens_both : (f g h : Option Bool) (m n : ℕ) → Reopens f g m → Reopens g h n → Reopens f h (m + n)
@@ -113,35 +126,43 @@ answered_none bits s a p = record {
 }
 
 -- first these lines, and then those
-pub answered_both : (bits : ℕ) (s t u : SessionView) (a b c : Option (List ℕ)) (p q r : Option Bool) (ls ms : List (List ℕ))
+pub answered_both : (bits : ℕ) (s t u : SessionView) (a b c : Option (List ℕ)) (p q r : Option Bool)
+    (ls ms : List (List ℕ))
     → Answered bits s t a b p q ls → Answered bits t u b c q r ms → Answered bits s u a c p r (ls ++ ms)
 answered_both bits s t u a b c p q r ls ms first second = record {
   state = second.state ∙ ap (λ x. after x ms) first.state ∙ sym (after-append s ls ms);
-  wrote = rw (answers-append bits s ls ms, ← first.state) (takes_both a b c p q r (answers bits s ls) (answers bits t ms) first.wrote second.wrote);
+  wrote = rw (answers-append bits s ls ms, ← first.state) (takes_both a b c p q r (answers bits s ls)
+      (answers bits t ms) first.wrote second.wrote);
 }
 
-pub answered_until : (bits : ℕ) (s t u : SessionView) (a b c : Option (List ℕ)) (p q r : Option Bool) (ls ms : List (List ℕ))
+pub answered_until : (bits : ℕ) (s t u : SessionView) (a b c : Option (List ℕ)) (p q r : Option Bool)
+    (ls ms : List (List ℕ))
     → Answered bits s t a b p q ls → has_quit ls ≡ false → Answered bits t u b c q r (until_quit ms)
     → Answered bits s u a c p r (until_quit (ls ++ ms))
 answered_until bits s t u a b c p q r ls ms first quiet second =
     rw (until_then ls ms quiet) (answered_both bits s t u a b c p q r ls (until_quit ms) first second)
 
-pub broke_both : (bits : ℕ) (s t u : SessionView) (a b c : Option (List ℕ)) (p q r : Option Bool) (ls ms : List (List ℕ))
+pub broke_both : (bits : ℕ) (s t u : SessionView) (a b c : Option (List ℕ)) (p q r : Option Bool)
+    (ls ms : List (List ℕ))
     → Answered bits s t a b p q ls → Broke bits t u b c q r ms → Broke bits s u a c p r (ls ++ ms)
 broke_both bits s t u a b c p q r ls ms first second =
     let k = second.whole in
     let t0 : take (length ls + k) (ls ++ ms) ≡ ls ++ take k ms = take-append-add ls ms k in
-    let t1 : take (length ls + k + 1) (ls ++ ms) ≡ ls ++ take (k + 1) ms = rw add_assoc (take-append-add ls ms (k + 1)) in
+    let t1 : take (length ls + k + 1) (ls ++ ms) ≡ ls ++ take (k + 1) ms =
+    rw add_assoc (take-append-add ls ms (k + 1)) in
     let e0 = answers-append bits s ls (take k ms) in
     let e1 = answers-append bits s ls (take (k + 1) ms) in
     record {
       whole = length ls + k;
       within = omega (arith, length-append ls ms, second.within);
-      state = rw t1 (second.state ∙ ap (λ x. after x (take (k + 1) ms)) first.state ∙ sym (after-append s ls (take (k + 1) ms)));
+      state = rw t1 (second.state ∙ ap (λ x. after x (take (k + 1) ms)) first.state
+          ∙ sym (after-append s ls (take (k + 1) ms)));
       count = length (answers bits s ls) + second.count;
-      before = rw (t0, e0, ← first.state) (omega (arith, length-append (answers bits s ls) (answers bits t (take k ms)), second.before));
+      before = rw (t0, e0, ← first.state)
+          (omega (arith, length-append (answers bits s ls) (answers bits t (take k ms)), second.before));
       wrote = rw (t1, e1, ← first.state)
-          (first_after a b c p q r (answers bits s ls) (answers bits t (take (k + 1) ms)) second.count first.wrote second.wrote);
+          (first_after a b c p q r (answers bits s ls) (answers bits t (take (k + 1) ms)) second.count first.wrote
+          second.wrote);
     }
 
 pub broke_more : (bits : ℕ) (s t : SessionView) (a b : Option (List ℕ)) (p q : Option Bool) (ls ms : List (List ℕ))
@@ -159,16 +180,19 @@ broke_more bits s t a b p q ls ms broke =
       wrote = rw t1 broke.wrote;
     }
 
-pub broke_until : (bits : ℕ) (s t u : SessionView) (a b c : Option (List ℕ)) (p q r : Option Bool) (ls ms : List (List ℕ))
+pub broke_until : (bits : ℕ) (s t u : SessionView) (a b c : Option (List ℕ)) (p q r : Option Bool)
+    (ls ms : List (List ℕ))
     → Answered bits s t a b p q ls → has_quit ls ≡ false → Broke bits t u b c q r (until_quit ms)
     → Broke bits s u a c p r (until_quit (ls ++ ms))
 broke_until bits s t u a b c p q r ls ms first quiet second =
     rw (until_then ls ms quiet) (broke_both bits s t u a b c p q r ls (until_quit ms) first second)
 
-pub broke_until_more : (bits : ℕ) (s t : SessionView) (a b : Option (List ℕ)) (p q : Option Bool) (ls ms : List (List ℕ))
+pub broke_until_more : (bits : ℕ) (s t : SessionView) (a b : Option (List ℕ)) (p q : Option Bool)
+    (ls ms : List (List ℕ))
     → Broke bits s t a b p q (until_quit ls) → Broke bits s t a b p q (until_quit (ls ++ ms))
 broke_until_more bits s t a b p q ls ms broke =
-    rw (until-append ls ms) (broke_more bits s t a b p q (until_quit ls) (if has_quit ls then [] else until_quit ms) broke)
+    rw (until-append ls ms) (broke_more bits s t a b p q (until_quit ls)
+    (if has_quit ls then [] else until_quit ms) broke)
 
 -- one line, answered or not
 pub answered_line : (bits : ℕ) (s t : SessionView) (a b : Option (List ℕ)) (p q : Option Bool) (l : List ℕ)
@@ -199,15 +223,18 @@ pub left_more : (h bs m : List ℕ) (i : ℕ) → i < length bs → m ≡ short_
     → short_left h (take (i + 1) bs) ≡ short_left m (get_or bs i 0 ∷ [])
 left_more h bs m i l e = rw (take_more bs i 0 l, left-append, e) refl
 
-pub ended_rest : (h bs : List ℕ) (i : ℕ) → short_ended h bs ≡ short_ended h (take i bs) ++ short_ended (short_left h (take i bs)) (drop i bs)
+pub ended_rest : (h bs : List ℕ) (i : ℕ) → short_ended h bs ≡ short_ended h (take i bs)
+    ++ short_ended (short_left h (take i bs)) (drop i bs)
 ended_rest h bs i = rw (← ended-append h (take i bs) (drop i bs), take-append-drop i bs) refl
 
 -- what is said of a line by the session that was given it
-pub state_is : (s t : SessionView) (l : List ℕ) → t ≡ record { scene = s.scene; now = moved s.scene s.now (command_of l); lines = s.lines + 1 } → t ≡ after_line s l
+pub state_is : (s t : SessionView) (l : List ℕ)
+    → t ≡ record { scene = s.scene; now = moved s.scene s.now (command_of l); lines = s.lines + 1 } → t ≡ after_line s l
 unfolding after_line
 state_is s t l is = is
 
-pub answer_is : (bits : ℕ) (s t : SessionView) (l : List ℕ) → t ≡ record { scene = s.scene; now = moved s.scene s.now (command_of l); lines = s.lines + 1 }
+pub answer_is : (bits : ℕ) (s t : SessionView) (l : List ℕ)
+    → t ≡ record { scene = s.scene; now = moved s.scene s.now (command_of l); lines = s.lines + 1 }
     → answer bits t.scene t.now t.lines (command_of l) ≡ answer_line bits s l
 unfolding answer_line
 answer_is bits s t l is = rw is refl
@@ -222,13 +249,15 @@ quit_is on l is = rw is (sym (quit_one l ∙ quit_of l))
 -- a line given, whose answer was written or not
 pub given_answered : (bits : ℕ) (s t : SessionView) (a b : Option (List ℕ)) (p q : Option Bool) (l : List ℕ)
     → t ≡ record { scene = s.scene; now = moved s.scene s.now (command_of l); lines = s.lines + 1 }
-    → TakesAll a b p q (answer bits t.scene t.now t.lines (command_of l)) → Answered bits s t a b p q (until_quit (l ∷ []))
+    → TakesAll a b p q (answer bits t.scene t.now t.lines (command_of l))
+    → Answered bits s t a b p q (until_quit (l ∷ []))
 given_answered bits s t a b p q l is wrote =
     answered_line bits s t a b p q l (state_is s t l is) (rw (answer_is bits s t l is) at wrote)
 
 pub given_broke : (bits : ℕ) (s t : SessionView) (a b : Option (List ℕ)) (p q : Option Bool) (l : List ℕ)
     → t ≡ record { scene = s.scene; now = moved s.scene s.now (command_of l); lines = s.lines + 1 }
-    → TakesFront a b p q (answer bits t.scene t.now t.lines (command_of l)) → Broke bits s t a b p q (until_quit (l ∷ []))
+    → TakesFront a b p q (answer bits t.scene t.now t.lines (command_of l))
+    → Broke bits s t a b p q (until_quit (l ∷ []))
 given_broke bits s t a b p q l is wrote =
     broke_line bits s t a b p q l (state_is s t l is) (rw (answer_is bits s t l is) at wrote)
 
@@ -241,7 +270,8 @@ pub on_err_by : {T E : Type 0} {P Q : Type 0} (r : Result T E) → OnErr r P →
 on_err_by (Ok x) p f = tt
 on_err_by (Err e) p f = f p
 
-pub going_is : {E : Type 0} (r : Result Going E) (l : List ℕ) → IfOk r (λ on. on ≡ going (command_of l)) → IfOk r (λ on. is_last on ≡ has_quit (l ∷ []))
+pub going_is : {E : Type 0} (r : Result Going E) (l : List ℕ) → IfOk r (λ on. on ≡ going (command_of l))
+    → IfOk r (λ on. is_last on ≡ has_quit (l ∷ []))
 going_is (Ok on) l is = quit_is on l is
 going_is (Err e) l is = tt
 
@@ -253,8 +283,14 @@ pub last_more : (on : Going) (ls : List (List ℕ)) → on ≡ g.More → is_las
 last_more on ls is last = sym last ∙ rw is refl
 
 -- no line after no line
-pub answers_grow : (bits : ℕ) (s : SessionView) (ls : List (List ℕ)) (n : ℕ) → length (answers bits s (take n ls)) ≤ length (answers bits s ls)
+pub answers_grow : (bits : ℕ) (s : SessionView) (ls : List (List ℕ)) (n : ℕ) → length (answers bits s (take n ls))
+    ≤ length (answers bits s ls)
 answers_grow bits s ls n =
     let parts : answers bits s ls ≡ answers bits s (take n ls) ++ answers bits (after s (take n ls)) (drop n ls) =
     ap (λ ks. answers bits s ks) (sym (take-append-drop n ls)) ∙ answers-append bits s (take n ls) (drop n ls) in
-    omega (arith, ap length parts, length-append (answers bits s (take n ls)) (answers bits (after s (take n ls)) (drop n ls)))
+    omega (
+      arith,
+      ap length parts,
+      length-append (answers bits s (take n ls))
+          (answers bits (after s (take n ls)) (drop n ls)),
+    )

@@ -1,5 +1,6 @@
 -- From lines in a buffer to lines, and from the last answer to the end of the output.
-use Rattle.std.proofs.Common.{◌≡◌, ℕ, ◌+◌, ◌-◌, Bool, true, false, List, [], ◌∷◌, ◌++◌, length, take, map, Option, refl, sym, ap, ◌∙◌, ◌⊎◌, inl, inr, ◌≢◌, append_assoc, append-nil, arith}
+use Rattle.std.proofs.Common.{◌≡◌, ℕ, ◌+◌, ◌-◌, Bool, true, false, List, [], ◌∷◌, ◌++◌, length, take, map, Option}
+use Rattle.std.proofs.Common.{refl, sym, ap, ◌∙◌, ◌⊎◌, inl, inr, ◌≢◌, append_assoc, append-nil, arith}
 use Rattle.std.specs.Io.KnownBytes.{Keeps}
 use Rattle.std.proofs.lemmas.List.{take_all}
 use Rattle.std.proofs.lemmas.List.{map-append}
@@ -14,20 +15,24 @@ use Rattle.px_session.specs.Sessions.{answers, has_quit, until_quit}
 use Rattle.px_session.specs.Turns.{Broke, Ended, HasAnswered, HasStopped, Stopped, lines_at_end, seen_lines}
 use Rattle.px_session.specs.declared.serving.Ending.{Ending}
 use Rattle.px_session.specs.declared.serving.Ending.TheVariants as e
-use Rattle.px_session.proofs.Feeding.{answered_both, answered_until, answers_grow, broke_until, broke_until_more, ended-append, left-append, quits_then, until_more, until_quiet}
+use Rattle.px_session.proofs.Feeding.{answered_both, answered_until, answers_grow, broke_until, broke_until_more}
+use Rattle.px_session.proofs.Feeding.{ended-append, left-append, quits_then, until_more, until_quiet}
 use Rattle.px_session.proofs.Turning.{seen_none}
-use Rattle.px_session.proofs.Shortening.{answered_short, broke_short, ended_short, last_short, left_short, quits_short, short, until_short}
+use Rattle.px_session.proofs.Shortening.{answered_short, broke_short, ended_short, last_short, left_short}
+use Rattle.px_session.proofs.Shortening.{quits_short, short, until_short}
 
 -- the whole lines of a text, and all of them, as a buffer has them
 pub whole_short : (text : List ℕ) → short_ended [] text ≡ map short (whole_lines text)
 whole_short text = ended_short [] text
 
 pub all_short : (text : List ℕ) → short_ended [] text ++ last_of (short_left [] text) ≡ map short (all_lines text)
-all_short text = rw (ended_short [] text, left_short [] text, last_short (left [] text)) (sym (map-append short (ended [] text) (last_of (left [] text))))
+all_short text = rw (ended_short [] text, left_short [] text, last_short (left [] text))
+    (sym (map-append short (ended [] text) (last_of (left [] text))))
 
 -- what was read before, and here
 record Texts (read : List ℕ) (more : ℕ) (bytes : List ℕ) : Type 0 where
-  pub whole : short_ended [] (read ++ seen more bytes) ≡ short_ended [] read ++ seen_lines more (short_left [] read) bytes
+  pub whole : short_ended [] (read ++ seen more bytes) ≡ short_ended [] read
+      ++ seen_lines more (short_left [] read) bytes
   pub all : short_ended [] (read ++ seen more bytes) ++ last_of (short_left [] (read ++ seen more bytes))
       ≡ short_ended [] read ++ lines_at_end more (short_left [] read) bytes
 
@@ -39,8 +44,10 @@ texts_of read more bytes =
       all = rw (whole, left-append [] read (seen more bytes)) (append_assoc (short_ended [] read) _ _);
     }
 
-pub stopped_both : (ending : Ending) (bits : ℕ) (read held : List ℕ) (more : ℕ) (s t u : SessionView) (x y a b c : Option (List ℕ)) (p q r : Option Bool)
-    → Answered bits s t a b p q (until_quit (short_ended [] read)) → has_quit (short_ended [] read) ≡ false → held ≡ short_left [] read
+pub stopped_both : (ending : Ending) (bits : ℕ) (read held : List ℕ) (more : ℕ) (s t u : SessionView)
+    (x y a b c : Option (List ℕ)) (p q r : Option Bool)
+    → Answered bits s t a b p q (until_quit (short_ended [] read)) → has_quit (short_ended [] read) ≡ false
+    → held ≡ short_left [] read
     → Ended ending more bits held t u x y b c q r → Stopped ending bits read more s u x y a c p r
 stopped_both ending bits read held more s t u x y a b c p q r first quiet is last = record {
   bytes = last.bytes;
@@ -64,19 +71,23 @@ stopped_both ending bits read held more s t u x y a b c p q r first quiet is las
     all : short_ended [] read ++ lines_at_end more (short_left [] read) last.bytes ≡ map short (all_lines text)
     all = sym texts.all ∙ all_short text
 
-    quits : (e : Bool) → has_quit (seen_lines more (short_left [] read) last.bytes) ≡ e → has_quit (whole_lines text) ≡ e
-    quits e is = sym (quits_short (whole_lines text)) ∙ ap has_quit (sym whole) ∙ quits_then (short_ended [] read) _ e quiet is
+    quits : (e : Bool) → has_quit (seen_lines more (short_left [] read) last.bytes) ≡ e
+        → has_quit (whole_lines text) ≡ e
+    quits e is = sym (quits_short (whole_lines text)) ∙ ap has_quit (sym whole)
+        ∙ quits_then (short_ended [] read) _ e quiet is
 
     by_ending : (ending : Ending) → HasAnswered ending more bits (short_left [] read) last.bytes t u y b c q r
         → HasStopped ending bits s u a c p r text last.bytes more y
     by_ending e.Quit served = (
       answered_short bits s u a c p r (until_quit (whole_lines text))
-          (rw (← until_short (whole_lines text), ← whole) (answered_until bits s t u a b c p q r (short_ended [] read) _ before quiet served.0)),
+          (rw (← until_short (whole_lines text), ← whole) (answered_until bits s t u a b c p q r (short_ended [] read)
+          _ before quiet served.0)),
       quits true served.1,
     )
     by_ending e.End served = (
       answered_short bits s u a c p r (until_quit (all_lines text))
-          (rw (← until_short (all_lines text), ← all) (answered_until bits s t u a b c p q r (short_ended [] read) _ before quiet served.0)),
+          (rw (← until_short (all_lines text), ← all) (answered_until bits s t u a b c p q r (short_ended [] read) _
+          before quiet served.0)),
       quits false served.1,
       served.2,
       served.3,
@@ -94,13 +105,15 @@ stopped_both ending bits read held more s t u x y a b c p q r first quiet is las
     )
     by_ending e.WriteFault served =
         broke_short bits s u a c p r (until_quit (all_lines text))
-        (rw (← until_short (all_lines text), ← all) (broke_until bits s t u a b c p q r (short_ended [] read) _ before quiet served))
+        (rw (← until_short (all_lines text), ← all) (broke_until bits s t u a b c p q r (short_ended [] read) _ before
+        quiet served))
 
 nothing_seen : (read : List ℕ) (more : ℕ) → read ++ seen more [] ≡ read
 nothing_seen read more = rw (seen_none more) (append-nil read)
 
 -- a quit among the lines that were read before
-pub stopped_quit : (bits : ℕ) (read : List ℕ) (more : ℕ) (s t : SessionView) (x a b : Option (List ℕ)) (p q : Option Bool)
+pub stopped_quit : (bits : ℕ) (read : List ℕ) (more : ℕ) (s t : SessionView) (x a b : Option (List ℕ))
+    (p q : Option Bool)
     → Answered bits s t a b p q (until_quit (short_ended [] read)) → has_quit (short_ended [] read) ≡ true
     → Stopped e.Quit bits read more s t x x a b p q
 stopped_quit bits read more s t x a b p q answered quits = record {
@@ -108,20 +121,23 @@ stopped_quit bits read more s t x a b p q answered quits = record {
   few = omega arith;
   taken = consumes_none x;
   stopped = rw (nothing_seen read more) (
-    answered_short bits s t a b p q (until_quit (whole_lines read)) (rw (← until_short (whole_lines read), ← whole_short read) answered),
+    answered_short bits s t a b p q (until_quit (whole_lines read))
+        (rw (← until_short (whole_lines read), ← whole_short read) answered),
     sym (quits_short (whole_lines read)) ∙ ap has_quit (sym (whole_short read)) ∙ quits,
   );
 }
 
 -- a write that failed in an answer to them
-pub stopped_broke : (bits : ℕ) (read : List ℕ) (more : ℕ) (s t : SessionView) (x a b : Option (List ℕ)) (p q : Option Bool)
+pub stopped_broke : (bits : ℕ) (read : List ℕ) (more : ℕ) (s t : SessionView) (x a b : Option (List ℕ))
+    (p q : Option Bool)
     → Broke bits s t a b p q (until_quit (short_ended [] read)) → Stopped e.WriteFault bits read more s t x x a b p q
 stopped_broke bits read more s t x a b p q broke = record {
   bytes = [];
   few = omega arith;
   taken = consumes_none x;
   stopped = rw (nothing_seen read more) (broke_short bits s t a b p q (until_quit (all_lines read))
-      (rw (← until_short (all_lines read), ← all_short read) (broke_until_more bits s t a b p q (short_ended [] read) (last_of (short_left [] read)) broke)));
+      (rw (← until_short (all_lines read), ← all_short read) (broke_until_more bits s t a b p q (short_ended [] read)
+      (last_of (short_left [] read)) broke)));
 }
 
 finished : (bits : ℕ) (s t : SessionView) (a b c : Option (List ℕ)) (p q r : Option Bool) (ls : List (List ℕ))
@@ -172,9 +188,11 @@ broken_in bits s t a b p q ls broke =
 
 -- what finishing says of the output and of its result
 abbrev pub Finishes : (ending result : Ending) (q r : Option Bool) (m n : ℕ) → Type 0
-Finishes ending result q r m n = (Tells r true × (result ≡ ending) × (n ≡ m)) ⊎ ((r ≡ q) × (result ≡ e.WriteFault) × Rose m n)
+Finishes ending result q r m n =
+    (Tells r true × (result ≡ ending) × (n ≡ m)) ⊎ ((r ≡ q) × (result ≡ e.WriteFault) × Rose m n)
 
-pub served_quit : (result : Ending) (bits : ℕ) (read : List ℕ) (more : ℕ) (s t : SessionView) (x y a b c : Option (List ℕ)) (p q r : Option Bool) (m n : ℕ)
+pub served_quit : (result : Ending) (bits : ℕ) (read : List ℕ) (more : ℕ) (s t : SessionView)
+    (x y a b c : Option (List ℕ)) (p q r : Option Bool) (m n : ℕ)
     → Stopped e.Quit bits read more s t x y a b p q → Keeps b c → Finishes e.Quit result q r m n
     → Serves result bits read more s t x y a c p r
 served_quit result bits read more s t x y a b c p q r m n stopped kept (inl (end, is, calm)) = rw is (record {
@@ -189,17 +207,24 @@ served_quit result bits read more s t x y a b c p q r m n stopped kept (inr (sam
   taken = stopped.taken;
   served =
       let text = read ++ seen more stopped.bytes in
-      rw (until_more (whole_lines text) (last_of (left [] text)) stopped.stopped.1) (broken_end bits s t a b c p q r _ stopped.stopped.0 kept same);
+      rw (until_more (whole_lines text) (last_of (left [] text)) stopped.stopped.1)
+      (broken_end bits s t a b c p q r _ stopped.stopped.0 kept same);
 })
 
-pub served_end : (result : Ending) (bits : ℕ) (read : List ℕ) (more : ℕ) (s t : SessionView) (x y a b c : Option (List ℕ)) (p q r : Option Bool) (m n : ℕ)
+pub served_end : (result : Ending) (bits : ℕ) (read : List ℕ) (more : ℕ) (s t : SessionView)
+    (x y a b c : Option (List ℕ)) (p q r : Option Bool) (m n : ℕ)
     → Stopped e.End bits read more s t x y a b p q → Keeps b c → Finishes e.End result q r m n
     → Serves result bits read more s t x y a c p r
 served_end result bits read more s t x y a b c p q r m n stopped kept (inl (end, is, calm)) = rw is (record {
   bytes = stopped.bytes;
   few = stopped.few;
   taken = stopped.taken;
-  served = (finished bits s t a b c p q r _ stopped.stopped.0 kept end, stopped.stopped.1, stopped.stopped.2, stopped.stopped.3);
+  served = (
+    finished bits s t a b c p q r _ stopped.stopped.0 kept end,
+    stopped.stopped.1,
+    stopped.stopped.2,
+    stopped.stopped.3,
+  );
 })
 served_end result bits read more s t x y a b c p q r m n stopped kept (inr (same, is, rose)) = rw is (record {
   bytes = stopped.bytes;
@@ -209,8 +234,10 @@ served_end result bits read more s t x y a b c p q r m n stopped kept (inr (same
 })
 
 -- without finishing
-pub served_as : (ending : Ending) (bits : ℕ) (read : List ℕ) (more : ℕ) (s t : SessionView) (x y a b : Option (List ℕ)) (p q : Option Bool)
-    → ending ≢ e.Quit → ending ≢ e.End → Stopped ending bits read more s t x y a b p q → Serves ending bits read more s t x y a b p q
+pub served_as : (ending : Ending) (bits : ℕ) (read : List ℕ) (more : ℕ) (s t : SessionView)
+    (x y a b : Option (List ℕ)) (p q : Option Bool)
+    → ending ≢ e.Quit → ending ≢ e.End → Stopped ending bits read more s t x y a b p q
+    → Serves ending bits read more s t x y a b p q
 served_as e.Quit bits read more s t x y a b p q not_quit not_end stopped = absurd (not_quit refl)
 served_as e.End bits read more s t x y a b p q not_quit not_end stopped = absurd (not_end refl)
 served_as e.Long bits read more s t x y a b p q not_quit not_end stopped =
@@ -218,21 +245,36 @@ served_as e.Long bits read more s t x y a b p q not_quit not_end stopped =
 served_as e.ReadFault bits read more s t x y a b p q not_quit not_end stopped =
     record { bytes = stopped.bytes; few = stopped.few; taken = stopped.taken; served = stopped.stopped }
 served_as e.WriteFault bits read more s t x y a b p q not_quit not_end stopped =
-    record { bytes = stopped.bytes; few = stopped.few; taken = stopped.taken; served = broken_in bits s t a b p q _ stopped.stopped }
+    record {
+      bytes = stopped.bytes;
+      few = stopped.few;
+      taken = stopped.taken;
+      served = broken_in bits s t a b p q _
+          stopped.stopped;
+    }
 
 -- the same, where the buffer was empty before
-pub begun_both : (ending : Ending) (bits : ℕ) (start read held : List ℕ) (more : ℕ) (s t u : SessionView) (x y a b c : Option (List ℕ)) (p q r : Option Bool)
-    → start ≡ [] → Answered bits s t a b p q (until_quit (short_ended start read)) → has_quit (short_ended start read) ≡ false
-    → held ≡ short_left start read → Ended ending more bits held t u x y b c q r → Stopped ending bits read more s u x y a c p r
+pub begun_both : (ending : Ending) (bits : ℕ) (start read held : List ℕ) (more : ℕ) (s t u : SessionView)
+    (x y a b c : Option (List ℕ)) (p q r : Option Bool)
+    → start ≡ [] → Answered bits s t a b p q (until_quit (short_ended start read))
+    → has_quit (short_ended start read) ≡ false
+    → held ≡ short_left start read → Ended ending more bits held t u x y b c q r → Stopped ending bits read more s u
+    x y a c p r
 begun_both ending bits start read held more s t u x y a b c p q r none first quiet is last =
-    stopped_both ending bits read held more s t u x y a b c p q r (rw none at first) (rw none at quiet) (rw none at is) last
+    stopped_both ending bits read held more s t u x y a b c p q r (rw none at first) (rw none at quiet)
+    (rw none at is) last
 
-pub begun_quit : (bits : ℕ) (start read : List ℕ) (more : ℕ) (s t : SessionView) (x a b : Option (List ℕ)) (p q : Option Bool)
-    → start ≡ [] → Answered bits s t a b p q (until_quit (short_ended start read)) → has_quit (short_ended start read) ≡ true
+pub begun_quit : (bits : ℕ) (start read : List ℕ) (more : ℕ) (s t : SessionView) (x a b : Option (List ℕ))
+    (p q : Option Bool)
+    → start ≡ [] → Answered bits s t a b p q (until_quit (short_ended start read))
+    → has_quit (short_ended start read) ≡ true
     → Stopped e.Quit bits read more s t x x a b p q
 begun_quit bits start read more s t x a b p q none answered quits =
     stopped_quit bits read more s t x a b p q (rw none at answered) (rw none at quits)
 
-pub begun_broke : (bits : ℕ) (start read : List ℕ) (more : ℕ) (s t : SessionView) (x a b : Option (List ℕ)) (p q : Option Bool)
-    → start ≡ [] → Broke bits s t a b p q (until_quit (short_ended start read)) → Stopped e.WriteFault bits read more s t x x a b p q
-begun_broke bits start read more s t x a b p q none broke = stopped_broke bits read more s t x a b p q (rw none at broke)
+pub begun_broke : (bits : ℕ) (start read : List ℕ) (more : ℕ) (s t : SessionView) (x a b : Option (List ℕ))
+    (p q : Option Bool)
+    → start ≡ [] → Broke bits s t a b p q (until_quit (short_ended start read)) → Stopped e.WriteFault bits read more
+    s t x x a b p q
+begun_broke bits start read more s t x a b p q none broke =
+    stopped_broke bits read more s t x a b p q (rw none at broke)

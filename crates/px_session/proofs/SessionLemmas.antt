@@ -1,5 +1,6 @@
 -- The laws of sessions.
-use Rattle.std.proofs.Common.{◌≡◌, ℕ, ◌==◌, true, false, List, [], ◌∷◌, ◌++◌, refl, ap, ◌∙◌, append_assoc, if◌then◌else◌}
+use Rattle.std.proofs.Common.{◌≡◌, ℕ, ◌==◌, true, false, List, [], ◌∷◌, ◌++◌, refl, ap, ◌∙◌, append_assoc}
+use Rattle.std.proofs.Common.{if◌then◌else◌}
 use Rattle.px_debug.specs.Moves.{SessionView}
 use Rattle.px_lines.specs.Lines.{ended, last_of, left, whole_lines}
 use Rattle.px_session.specs.SessionLaws.{StaysOver}
@@ -18,7 +19,8 @@ lines-append : (line xs ys : List ℕ) → ended line (xs ++ ys) ≡ ended line 
 lines-append line [] ys = refl
 lines-append line (b ∷ xs) ys =
     elim (b == 10) as (λ t. (if t then line ∷ ended [] (xs ++ ys) else ended (line ++ b ∷ []) (xs ++ ys))
-    ≡ (if t then line ∷ ended [] xs else ended (line ++ b ∷ []) xs) ++ ended (if t then left [] xs else left (line ++ b ∷ []) xs) ys)
+    ≡ (if t then line ∷ ended [] xs else ended (line ++ b ∷ []) xs)
+    ++ ended (if t then left [] xs else left (line ++ b ∷ []) xs) ys)
     [ true ↦ ap (λ ls. line ∷ ls) (lines-append [] xs ys) | false ↦ lines-append (line ++ b ∷ []) xs ys ]
 
 pub quit_ends : (xs ys : List ℕ) → has_quit (whole_lines xs) ≡ true → StaysOver xs ys
@@ -27,5 +29,6 @@ quit_ends xs ys quits =
     let last = last_of (left [] (xs ++ ys)) in
     record {
       quits = rw (lines-append [] xs ys) (quits_more (whole_lines xs) more quits);
-      lines = rw (lines-append [] xs ys, append_assoc (whole_lines xs) more last) (until_more (whole_lines xs) (more ++ last) quits);
+      lines = rw (lines-append [] xs ys, append_assoc (whole_lines xs) more last)
+          (until_more (whole_lines xs) (more ++ last) quits);
     }

@@ -1,5 +1,7 @@
 -- A line's first 256 bytes say what the line says.
-use Rattle.std.proofs.Common.{◌≡◌, ℕ, ◌+◌, ◌<◌, ◌≤◌, Bool, true, false, ◌==◌, List, [], ◌∷◌, ◌++◌, Option, length, take, map, refl, sym, ap, ◌∙◌, inl, inr, length-append, length-take, arith, if◌then◌else◌, nat_lt}
+use Rattle.std.proofs.Common.{◌≡◌, ℕ, ◌+◌, ◌<◌, ◌≤◌, Bool, true, false, ◌==◌, List, [], ◌∷◌, ◌++◌, Option, length}
+use Rattle.std.proofs.Common.{take, map, refl, sym, ap, ◌∙◌, inl, inr, length-append, length-take, arith}
+use Rattle.std.proofs.Common.{if◌then◌else◌, nat_lt}
 use Rattle.std.proofs.lemmas.Bool.{cases_lt}
 use Rattle.std.proofs.lemmas.Bool.Decides.{nat_tests}
 use Rattle.std.proofs.lemmas.List.{length-map, take_all, take-append-le, take-map}
@@ -22,7 +24,8 @@ lt_false a b more = grind (arith, nat_tests)
 
 kept_short : (h : List ℕ) (b : ℕ) → kept (short h) b ≡ short (h ++ b ∷ [])
 kept_short h b = elim (cases_lt (length h) 256) [
-  | inl less ↦ rw (take_all 256 h (omega arith), lt_true (length h) 256 less) (sym (take_all 256 (h ++ b ∷ []) (omega (arith, length-append h (b ∷ [])))))
+  | inl less ↦ rw (take_all 256 h (omega arith), lt_true (length h) 256 less)
+      (sym (take_all 256 (h ++ b ∷ []) (omega (arith, length-append h (b ∷ [])))))
   | inr more ↦ (
       let full : length (take 256 h) ≡ 256 = omega (arith, length-take 256 h) in
       rw (take-append-le 256 h (b ∷ []) more, full) refl)
@@ -31,13 +34,15 @@ kept_short h b = elim (cases_lt (length h) 256) [
 pub ended_short : (h bs : List ℕ) → short_ended (short h) bs ≡ map short (ended h bs)
 ended_short h [] = refl
 ended_short h (b ∷ bs) =
-    elim (b == 10) as (λ t. (if t then short h ∷ short_ended [] bs else short_ended (kept (short h) b) bs) ≡ map short (if t then h ∷ ended [] bs else ended (h ++ b ∷ []) bs))
+    elim (b == 10) as (λ t. (if t then short h ∷ short_ended [] bs else short_ended (kept (short h) b) bs)
+    ≡ map short (if t then h ∷ ended [] bs else ended (h ++ b ∷ []) bs))
     [ true ↦ ap (λ ls. short h ∷ ls) (ended_short [] bs) | false ↦ rw (kept_short h b) (ended_short (h ++ b ∷ []) bs) ]
 
 pub left_short : (h bs : List ℕ) → short_left (short h) bs ≡ short (left h bs)
 left_short h [] = refl
 left_short h (b ∷ bs) =
-    elim (b == 10) as (λ t. (if t then short_left [] bs else short_left (kept (short h) b) bs) ≡ short (if t then left [] bs else left (h ++ b ∷ []) bs))
+    elim (b == 10) as (λ t. (if t then short_left [] bs else short_left (kept (short h) b) bs)
+    ≡ short (if t then left [] bs else left (h ++ b ∷ []) bs))
     [ true ↦ left_short [] bs | false ↦ rw (kept_short h b) (left_short (h ++ b ∷ []) bs) ]
 
 pub last_short : (l : List ℕ) → last_of (short l) ≡ map short (last_of l)
@@ -47,7 +52,10 @@ last_short (b ∷ bs) = refl
 command_short : (l : List ℕ) → command_of (short l) ≡ command_of l
 command_short l = elim (cases_lt (length l) 257) [
   | inl less ↦ ap (λ line. command_of line) (take_all 256 l (omega arith))
-  | inr more ↦ rw (lt_true 255 (length (take 256 l)) (omega (arith, length-take 256 l)), lt_true 255 (length l) (omega arith)) refl
+  | inr more ↦ rw (
+    lt_true 255 (length (take 256 l)) (omega (arith, length-take 256 l)),
+    lt_true 255 (length l) (omega arith),
+  ) refl
 ]
 
 quit_short : (l : List ℕ) → is_quit (short l) ≡ is_quit l
@@ -80,7 +88,8 @@ quits_short (l ∷ ls) = rw (quit_short l, quits_short ls) refl
 pub until_short : (ls : List (List ℕ)) → until_quit (map short ls) ≡ map short (until_quit ls)
 until_short [] = refl
 until_short (l ∷ ls) =
-    rw (quit_short l) (elim (is_quit l) as (λ t. short l ∷ (if t then [] else until_quit (map short ls)) ≡ map short (l ∷ (if t then [] else until_quit ls)))
+    rw (quit_short l) (elim (is_quit l) as (λ t. short l ∷ (if t then [] else until_quit (map short ls))
+    ≡ map short (l ∷ (if t then [] else until_quit ls)))
     [ true ↦ refl | false ↦ ap (λ ks. short l ∷ ks) (until_short ls) ])
 
 pub answered_short : (bits : ℕ) (s t : SessionView) (a b : Option (List ℕ)) (p q : Option Bool) (ls : List (List ℕ))

@@ -1,5 +1,6 @@
 -- One turn after another.
-use Rattle.std.proofs.Common.{◌≡◌, ℕ, ◌+◌, ◌-◌, ◌<◌, ◌≤◌, Bool, true, false, List, [], ◌++◌, length, take, Option, refl, sym, ◌∙◌, min, append_assoc, length-append, arith}
+use Rattle.std.proofs.Common.{◌≡◌, ℕ, ◌+◌, ◌-◌, ◌<◌, ◌≤◌, Bool, true, false, List, [], ◌++◌, length, take, Option}
+use Rattle.std.proofs.Common.{refl, sym, ◌∙◌, min, append_assoc, length-append, arith}
 use Rattle.std.specs.Io.KnownBytes.{Consumes, Keeps}
 use Rattle.std.proofs.Math.Seq.{take-append-add}
 use Rattle.std.proofs.lemmas.List.{take_all, take_min, length-take, take-take, take-append-le as take_within}
@@ -12,7 +13,8 @@ use Rattle.px_session.specs.Sessions.{has_quit, until_quit}
 use Rattle.px_session.specs.Turns.{Broke, Ended, HasAnswered, Went, lines_at_end, seen_left, seen_lines}
 use Rattle.px_session.specs.declared.serving.Ending.{Ending}
 use Rattle.px_session.specs.declared.serving.Ending.TheVariants as e
-use Rattle.px_session.proofs.Feeding.{answered_both, answered_none, answered_until, broke_until, broke_until_more, ended-append, left-append, quits_then, until_quiet}
+use Rattle.px_session.proofs.Feeding.{answered_both, answered_none, answered_until, broke_until, broke_until_more}
+use Rattle.px_session.proofs.Feeding.{ended-append, left-append, quits_then, until_quiet}
 
 seen_both : (limit : ℕ) (xs ys : List ℕ) → length xs < limit → seen limit (xs ++ ys) ≡ xs ++ seen (limit - length xs) ys
 seen_both limit xs ys some =
@@ -39,17 +41,23 @@ went_none limit bits held s rest a p =
     }
 
 -- the lines of some bytes and of more
-lines_both : (limit m : ℕ) (held held' xs ys : List ℕ) → length xs < limit → m ≡ limit - length xs → held' ≡ seen_left limit held xs
+lines_both : (limit m : ℕ) (held held' xs ys : List ℕ) → length xs < limit → m ≡ limit - length xs
+    → held' ≡ seen_left limit held xs
     → seen_lines limit held (xs ++ ys) ≡ seen_lines limit held xs ++ seen_lines m held' ys
-lines_both limit m held held' xs ys some left kept = rw (seen_both limit xs ys some, ended-append, kept, seen_all limit xs some, left) refl
+lines_both limit m held held' xs ys some left kept =
+    rw (seen_both limit xs ys some, ended-append, kept, seen_all limit xs some, left) refl
 
-left_both : (limit m : ℕ) (held held' xs ys : List ℕ) → length xs < limit → m ≡ limit - length xs → held' ≡ seen_left limit held xs
+left_both : (limit m : ℕ) (held held' xs ys : List ℕ) → length xs < limit → m ≡ limit - length xs
+    → held' ≡ seen_left limit held xs
     → seen_left limit held (xs ++ ys) ≡ seen_left m held' ys
-left_both limit m held held' xs ys some left kept = rw (seen_both limit xs ys some, left-append, kept, seen_all limit xs some, left) refl
+left_both limit m held held' xs ys some left kept =
+    rw (seen_both limit xs ys some, left-append, kept, seen_all limit xs some, left) refl
 
-pub went_both : (limit n k c m bits : ℕ) (h h' h'' : List ℕ) (s t u : SessionView) (x y z a b c' : Option (List ℕ)) (p q r : Option Bool)
+pub went_both : (limit n k c m bits : ℕ) (h h' h'' : List ℕ) (s t u : SessionView) (x y z a b c' : Option (List ℕ))
+    (p q r : Option Bool)
     → n < limit → c ≡ n + k → m ≡ limit - n
-    → Went limit n bits h h' s t x y a b p q → Went m k bits h' h'' t u y z b c' q r → Went limit c bits h h'' s u x z a c' p r
+    → Went limit n bits h h' s t x y a b p q → Went m k bits h' h'' t u y z b c' q r
+    → Went limit c bits h h'' s u x z a c' p r
 went_both limit n k c m bits h h' h'' s t u x y z a b c' p q r less is left first second =
     let some : length first.bytes < limit = omega (arith, first.size) in
     let behind : m ≡ limit - length first.bytes = omega (arith, first.size) in
@@ -69,16 +77,19 @@ record Lines (limit m : ℕ) (h h' xs ys : List ℕ) : Type 0 where
   pub whole : seen_lines limit h (xs ++ ys) ≡ seen_lines limit h xs ++ seen_lines m h' ys
   pub all : lines_at_end limit h (xs ++ ys) ≡ seen_lines limit h xs ++ lines_at_end m h' ys
 
-lines_of : (limit m : ℕ) (h h' xs ys : List ℕ) → length xs < limit → m ≡ limit - length xs → h' ≡ seen_left limit h xs → Lines limit m h h' xs ys
+lines_of : (limit m : ℕ) (h h' xs ys : List ℕ) → length xs < limit → m ≡ limit - length xs → h' ≡ seen_left limit h xs
+    → Lines limit m h h' xs ys
 lines_of limit m h h' xs ys some left kept =
     let whole = lines_both limit m h h' xs ys some left kept in
     record {
       whole = whole;
-      all = rw (whole, left_both limit m h h' xs ys some left kept) (append_assoc (seen_lines limit h xs) (seen_lines m h' ys) (last_of (seen_left m h' ys)));
+      all = rw (whole, left_both limit m h h' xs ys some left kept)
+          (append_assoc (seen_lines limit h xs) (seen_lines m h' ys) (last_of (seen_left m h' ys)));
     }
 
 abbrev Both : Ending → Type 0
-Both ending = (limit m bits : ℕ) (h h' xs ys : List ℕ) (s t u : SessionView) (rest a b c : Option (List ℕ)) (p q r : Option Bool)
+Both ending =
+    (limit m bits : ℕ) (h h' xs ys : List ℕ) (s t u : SessionView) (rest a b c : Option (List ℕ)) (p q r : Option Bool)
     → length xs < limit → m ≡ limit - length xs → h' ≡ seen_left limit h xs
     → Answered bits s t a b p q (seen_lines limit h xs) → has_quit (seen_lines limit h xs) ≡ false
     → HasAnswered ending m bits h' ys t u rest b c q r → HasAnswered ending limit bits h (xs ++ ys) s u rest a c p r
@@ -111,7 +122,8 @@ both_answered e.WriteFault limit m bits h h' xs ys s t u rest a b c p q r some l
     let lines = lines_of limit m h h' xs ys some left kept in
     rw lines.all (broke_until bits s t u a b c p q r _ _ first quiet second)
 
-pub ended_both : (ending : Ending) (limit n m bits : ℕ) (h h' : List ℕ) (s t u : SessionView) (x y z a b c : Option (List ℕ)) (p q r : Option Bool)
+pub ended_both : (ending : Ending) (limit n m bits : ℕ) (h h' : List ℕ) (s t u : SessionView)
+    (x y z a b c : Option (List ℕ)) (p q r : Option Bool)
     → n < limit → m ≡ limit - n → Went limit n bits h h' s t x y a b p q → Ended ending m bits h' t u y z b c q r
     → Ended ending limit bits h s u x z a c p r
 ended_both ending limit n m bits h h' s t u x y z a b c p q r less left first last =
@@ -121,21 +133,13 @@ ended_both ending limit n m bits h h' s t u x y z a b c p q r less left first la
       bytes = first.bytes ++ last.bytes;
       few = omega (arith, length-append first.bytes last.bytes, first.size, last.few);
       taken = consumes_both x y z first.bytes last.bytes first.taken last.taken;
-      answered = both_answered ending limit m bits h h' first.bytes last.bytes s t u z a b c p q r some behind first.kept first.answered first.quiet last.answered;
+      answered = both_answered ending limit m bits h h' first.bytes last.bytes s t u z a b c p q r some behind
+          first.kept first.answered first.quiet last.answered;
     }
 
--- as many bytes were read as may be
-pub ended_long : (limit bits : ℕ) (h h' : List ℕ) (s t : SessionView) (x y a b : Option (List ℕ)) (p q : Option Bool)
-    → Went limit limit bits h h' s t x y a b p q → Ended e.Long limit bits h s t x y a b p q
-ended_long limit bits h h' s t x y a b p q went = record {
-  bytes = went.bytes;
-  few = omega (arith, went.size);
-  taken = went.taken;
-  answered = (went.answered, went.quiet, went.size);
-}
-
 -- what a read gave, of which the last byte that may be read is not seen
-pub seen_read : (limit n k : ℕ) (buf ys : List ℕ) → n ≤ length buf → k ≡ min n (limit - 1) → take k (buf ++ ys) ≡ seen limit (take n buf)
+pub seen_read : (limit n k : ℕ) (buf ys : List ℕ) → n ≤ length buf → k ≡ min n (limit - 1) → take k (buf ++ ys)
+    ≡ seen limit (take n buf)
 seen_read limit n k buf ys within is =
     let t = take n buf in
     let len = length-take n buf in
@@ -143,18 +147,21 @@ seen_read limit n k buf ys within is =
     let whole : take k t ≡ take (limit - 1) t = rw m at (take_min (limit - 1) t) in
     take_within k buf ys (omega arith) ∙ sym (take-take k n buf (omega arith)) ∙ whole
 
-pub ended_broke : (limit bits : ℕ) (h bytes fed : List ℕ) (s t : SessionView) (x y a b : Option (List ℕ)) (p q : Option Bool)
+pub ended_broke : (limit bits : ℕ) (h bytes fed : List ℕ) (s t : SessionView) (x y a b : Option (List ℕ))
+    (p q : Option Bool)
     → length bytes ≤ limit → Consumes x y bytes → fed ≡ seen limit bytes
     → Broke bits s t a b p q (until_quit (short_ended h fed)) → Ended e.WriteFault limit bits h s t x y a b p q
 ended_broke limit bits h bytes fed s t x y a b p q few taken is broke = record {
   bytes = bytes;
   few = few;
   taken = taken;
-  answered = broke_until_more bits s t a b p q (seen_lines limit h bytes) (last_of (seen_left limit h bytes)) (rw is at broke);
+  answered = broke_until_more bits s t a b p q (seen_lines limit h bytes) (last_of (seen_left limit h bytes))
+      (rw is at broke);
 }
 
 -- a read failed
-pub ended_fault : (limit bits : ℕ) (h : List ℕ) (s : SessionView) (x y a : Option (List ℕ)) (p : Option Bool) → Keeps x y
+pub ended_fault : (limit bits : ℕ) (h : List ℕ) (s : SessionView) (x y a : Option (List ℕ)) (p : Option Bool)
+    → Keeps x y
     → Ended e.ReadFault limit bits h s s x y a a p p
 ended_fault limit bits h s x y a p kept =
     let none = seen_none limit in
@@ -166,9 +173,11 @@ ended_fault limit bits h s x y a p kept =
     }
 
 -- bytes were read and fed
-pub went_fed : (limit n bits : ℕ) (h h' buf fed : List ℕ) (s t : SessionView) (x y a b : Option (List ℕ)) (p q : Option Bool)
+pub went_fed : (limit n bits : ℕ) (h h' buf fed : List ℕ) (s t : SessionView) (x y a b : Option (List ℕ))
+    (p q : Option Bool)
     → n ≤ length buf → Consumes x y (take n buf) → fed ≡ seen limit (take n buf)
-    → Answered bits s t a b p q (until_quit (short_ended h fed)) → has_quit (short_ended h fed) ≡ false → h' ≡ short_left h fed
+    → Answered bits s t a b p q (until_quit (short_ended h fed)) → has_quit (short_ended h fed) ≡ false
+    → h' ≡ short_left h fed
     → Went limit n bits h h' s t x y a b p q
 went_fed limit n bits h h' buf fed s t x y a b p q within taken is answered quiet kept = record {
   bytes = take n buf;
@@ -179,7 +188,8 @@ went_fed limit n bits h h' buf fed s t x y a b p q within taken is answered quie
   kept = rw (← is) kept;
 }
 
-pub ended_quit : (limit n bits : ℕ) (h buf fed : List ℕ) (s t : SessionView) (x y a b : Option (List ℕ)) (p q : Option Bool)
+pub ended_quit : (limit n bits : ℕ) (h buf fed : List ℕ) (s t : SessionView) (x y a b : Option (List ℕ))
+    (p q : Option Bool)
     → n ≤ length buf → n ≤ limit → Consumes x y (take n buf) → fed ≡ seen limit (take n buf)
     → Answered bits s t a b p q (until_quit (short_ended h fed)) → has_quit (short_ended h fed) ≡ true
     → Ended e.Quit limit bits h s t x y a b p q

@@ -1,24 +1,23 @@
 -- What the shadow passes leave in an array that stores the picture, and the image of it.
-use Rattle.std.proofs.Common.{◌≡◌, ◌<◌, ◌≤◌, ◌+◌, ◌-◌, ◌*◌, ◌^◌, ◌∙◌, ℕ, zero, suc, Bool, List, ◌++◌, length, take, refl, ap, subst, sym, arith}
+use Rattle.std.proofs.Common.{◌≡◌, ◌<◌, ◌≤◌, ◌+◌, ◌-◌, ◌*◌, ◌^◌, ◌∙◌, ℕ, List, ◌++◌, length}
+use Rattle.std.proofs.Common.{refl, ap, subst, sym, arith}
 use Rattle.std.specs.Prelude.{All}
-use Rattle.std.specs.List.{flat_map, range_with_len}
-use Rattle.std.proofs.lemmas.Nat.{pow-add}
 use Rattle.std.proofs.lemmas.List.Elements.{All-weaker}
-use Rattle.px_array.specs.Arrays.{Device, State, pixel_of, zero_state}
+use Rattle.px_array.specs.Arrays.{Device, pixel_of}
 use Rattle.px_array.specs.Clocks.{all_clocked}
 use Rattle.px_asm.specs.Micros.{all_micros}
 use Rattle.px_asm.specs.Microprograms.{LeaveTheMeanings, bits_of}
-use Rattle.px_macro.specs.Fields.{number_of}
 use Rattle.px_num.specs.Bits.{bit_at}
-use Rattle.px_macro.specs.Macros.{IsLawful, IsLawfulInMore, PixelBits, after_macros}
+use Rattle.px_macro.specs.Macros.{IsLawful, IsLawfulInMore, PixelBits}
 use Rattle.px_normal.specs.declared.set.SolidSet.{SolidSet}
 use Rattle.px_model.specs.Scenes.{IsLawfulScene, SceneView}
-use Rattle.px_sched.specs.Layouts.{LayoutView, layout_of}
+use Rattle.px_sched.specs.Layouts.{layout_of}
 use Rattle.px_control.specs.GridLaw.{GridLaw, SizeLaw}
 use Rattle.px_control.specs.PictureLaw.{PictureLaw}
-use Rattle.px_control.specs.Program.{IsAt, array_after, columns_of, program, rows_of, total}
+use Rattle.px_control.specs.Program.{IsAt, array_after, rows_of, total}
 use Rattle.px_frame.proofs.RowLaws.{same_image}
-use Rattle.px_shadow.specs.Lights.{is_lit, light_at, mask_at, mask_image}
+use Rattle.px_shadow.specs.declared.passes.TheConstants.{MAX_LIGHTS}
+use Rattle.px_shadow.specs.Lights.{is_lit, light_at, mask_at}
 use Rattle.px_shadow.specs.ShadowLaws.{MaskLaw, ShadedGridLaw, ShadedLaw, ShadowLaw, ShadowPassesAreLawful}
 use Rattle.px_shadow.specs.Shaded.{IsShaded, shaded, shadow_program}
 use Rattle.px_shadow.specs.Carrying.{CanCarryOut, carried_out}
@@ -29,35 +28,30 @@ use Rattle.px_prune.specs.Kept.{plan_of}
 use Rattle.px_model.specs.Solids.{IsLawfulSolid}
 use Rattle.px_sched.specs.PassesFacts.{LayoutsAreLawful}
 use Rattle.px_shadow.specs.ShadowPasses.{light_bit, need_with, shadow_passes}
-use Rattle.px_shadow.specs.Stored.{StoresTheLights, stored_mask, stored_masks}
-use Rattle.px_shadow.proofs.DeviceLemmas.{columns_stay, rows_stay}
+use Rattle.px_shadow.specs.Stored.{stored_mask}
+use Rattle.px_control.proofs.ArrayLaws.{columns_at, rows_at}
+use Rattle.px_array.proofs.ClockLaws.{nx-after_clocks, ny-after_clocks}
+use Rattle.px_tree.proofs.PlaceLaws.{index_below}
 use Rattle.px_shadow.proofs.SolidLemmas.{same_numbers}
 use Rattle.px_normal.specs.declared.product.TheConstants.{MAX_PRODUCTS}
-
-place_below : (nx ny x y : ℕ) → x < 2 ^ nx → y < 2 ^ ny → x * 2 ^ ny + y < 2 ^ (nx + ny)
-place_below nx ny x y column row = rw (pow-add 2 nx ny) (grind (arith, column, row))
-
-columns_at : (bits : ℕ) (scene : SceneView) (n : ℕ) → (array_after bits scene n).state.tree.nx ≡ columns_of scene
-unfolding array_after
-columns_at bits scene n = columns_stay (take n (program scene)) (zero_state bits (columns_of scene) (rows_of scene))
-
-rows_at : (bits : ℕ) (scene : SceneView) (n : ℕ) → (array_after bits scene n).state.tree.ny ≡ rows_of scene
-unfolding array_after
-rows_at bits scene n = rows_stay (take n (program scene)) (zero_state bits (columns_of scene) (rows_of scene))
 
 -- the array that stores the picture
 abbrev drawn : (bits : ℕ) → SceneView → Device
 drawn bits scene = array_after bits scene (total scene)
 
-pub shaded_is : (bits : ℕ) (scene : SceneView) (lights : List SolidSet) → shaded bits scene lights ≡ carried_out (shadow_passes scene (layout_of scene) lights) (drawn bits scene)
+pub shaded_is : (bits : ℕ) (scene : SceneView) (lights : List SolidSet) → shaded bits scene lights
+    ≡ carried_out (shadow_passes scene (layout_of scene) lights) (drawn bits scene)
 unfolding shaded shadow_program carried_out
 shaded_is bits scene lights =
     let ms = shadow_passes scene (layout_of scene) lights in
-    ap (λ n. all_clocked (all_micros ms n (rows_of scene)) (drawn bits scene)) (sym (columns_at bits scene (total scene)))
-    ∙ ap (λ n. all_clocked (all_micros ms (drawn bits scene).state.tree.nx n) (drawn bits scene)) (sym (rows_at bits scene (total scene)))
+    ap (λ n. all_clocked (all_micros ms n (rows_of scene)) (drawn bits scene))
+    (sym (columns_at bits scene (total scene)))
+    ∙ ap (λ n. all_clocked (all_micros ms (drawn bits scene).state.tree.nx n) (drawn bits scene))
+    (sym (rows_at bits scene (total scene)))
 
 -- fewer bits are enough for the scene alone
-drawn_at : (bits : ℕ) (scene : SceneView) (lights : List SolidSet) (device : Device) → IsShaded bits scene lights device → IsAt bits scene (total scene) (drawn bits scene)
+drawn_at : (bits : ℕ) (scene : SceneView) (lights : List SolidSet) (device : Device)
+    → IsShaded bits scene lights device → IsAt bits scene (total scene) (drawn bits scene)
 drawn_at bits scene lights device at = record { enough = omega (arith, at.enough); reached = refl }
 
 pub grid_law : GridLaw → ShadedGridLaw
@@ -68,17 +62,21 @@ grid_law grids bits scene lights device lawful at =
     let covers = grids bits scene (total scene) before lawful (drawn_at bits scene lights device at) in
     let all = all_micros ms before.state.tree.nx before.state.tree.ny in
     let reached = at.reached ∙ shaded_is bits scene lights in
-    let columns : device.state.tree.nx ≡ before.state.tree.nx = ap (λ (d : Device). d.state.tree.nx) reached ∙ columns_stay all before.state in
-    let rows : device.state.tree.ny ≡ before.state.tree.ny = ap (λ (d : Device). d.state.tree.ny) reached ∙ rows_stay all before.state in
+    let columns : device.state.tree.nx ≡ before.state.tree.nx =
+    ap (λ (d : Device). d.state.tree.nx) reached ∙ nx-after_clocks all before.state in
+    let rows : device.state.tree.ny ≡ before.state.tree.ny =
+    ap (λ (d : Device). d.state.tree.ny) reached ∙ ny-after_clocks all before.state in
     record {
       is_open = subst (λ n. 1 ≤ n) (sym columns) covers.is_open;
       columns = subst (λ n. scene.width ≤ 2 ^ n) (sym columns) covers.columns;
       rows = subst (λ n. scene.height ≤ 2 ^ n) (sym rows) covers.rows;
     }
 
-pub shaded_law : ShadowLaw → ShadowPassesAreLawful → IsLawfulInMore → LeaveTheMeanings → GridLaw → SizeLaw → PictureLaw → ShadedLaw
+pub shaded_law : ShadowLaw → ShadowPassesAreLawful → IsLawfulInMore → LeaveTheMeanings → GridLaw → SizeLaw
+    → PictureLaw → ShadedLaw
 unfolding carried_out
-shaded_law law passes_lawful more meanings grids sizes pictures bits scene lights device lawful solids known at x y left up place below =
+shaded_law law passes_lawful more meanings grids sizes pictures bits scene lights device lawful solids known at x y
+    left up place below =
     let l = layout_of scene in
     let ms = shadow_passes scene l lights in
     let before = drawn bits scene in
@@ -89,18 +87,22 @@ shaded_law law passes_lawful more meanings grids sizes pictures bits scene light
     let sized = sizes bits scene (total scene) before lawful first in
     let column : x < 2 ^ nx = omega (arith, covers.columns, left) in
     let row : y < 2 ^ ny = omega (arith, covers.rows, up) in
-    let fit = All-weaker (λ m. IsLawful m (need_with l (length lights))) (λ m. IsLawful m bits) (λ m small. more m (need_with l (length lights)) bits at.enough small) ms
+    let fit = All-weaker (λ m. IsLawful m (need_with l (length lights))) (λ m. IsLawful m bits)
+    (λ m small. more m (need_with l (length lights)) bits at.enough small) ms
     (passes_lawful scene lawful solids lights known) in
     let meant = meanings bits nx ny sized.grid ms fit before.state sized.pixels x y column row in
-    let long = sized.pixels.memory (x * 2 ^ ny + y) (place_below nx ny x y column row) in
-    ap (λ (d : Device). bit_at (pixel_of d.state x y).memory (light_bit l (place + 1))) (at.reached ∙ shaded_is bits scene lights)
+    let long = sized.pixels.memory (x * 2 ^ ny + y) (index_below nx ny x y column row) in
+    ap (λ (d : Device). bit_at (pixel_of d.state x y).memory (light_bit l (place + 1))) (at.reached
+    ∙ shaded_is bits scene lights)
     ∙ ap (λ (p : PixelBits). bit_at p.memory (light_bit l (place + 1))) meant
-    ∙ law scene lawful solids lights x y left up (bits_of (pixel_of before.state x y)) (omega (arith, at.enough, long)) (pictures bits scene before lawful solids first x y left up) place below
+    ∙ law scene lawful solids lights x y left up (bits_of (pixel_of before.state x y))
+    (omega (arith, at.enough, long)) (pictures bits scene before lawful solids first x y left up) place below
 
 pub mask_law : MaskLaw
 mask_law scene l lights state stores =
     same_image scene.width scene.height (stored_mask l (length lights) state) (mask_at scene lights) (λ x y left up.
-    same_numbers (λ t. bit_at (pixel_of state x y).memory (light_bit l 1 + t)) (λ place. is_lit scene (light_at lights place) x y) (length lights) (λ t low.
+    same_numbers (λ t. bit_at (pixel_of state x y).memory (light_bit l 1 + t))
+    (λ place. is_lit scene (light_at lights place) x y) (length lights) (λ t low.
     let e : light_bit l 1 + t ≡ light_bit l (t + 1) = omega arith in
     ap (bit_at (pixel_of state x y).memory) e ∙ stores x y left up t low))
 
@@ -110,11 +112,14 @@ clocks_at bits scene n = refl
 
 -- the array that stores the picture can carry the shadow passes out
 pub can_shade : LayoutsAreLawful → IsLawfulInMore → ShadowPassesAreLawful → ShadowPassesAreFew → ClockBound → SizeLaw →
-    (bits : ℕ) (scene : SceneView) (lights : List SolidSet) (device : Device) → IsLawfulScene scene → All IsLawfulSolid scene.solids →
-    length (plan_of scene) ≤ MAX_PRODUCTS → IsAt bits scene (total scene) device → All (IsBelow (length scene.solids)) lights →
-    need_with (layout_of scene) (length lights) ≤ bits → length lights ≤ 8 →
+    (bits : ℕ) (scene : SceneView) (lights : List SolidSet) (device : Device) → IsLawfulScene scene
+    → All IsLawfulSolid scene.solids →
+    length (plan_of scene) ≤ MAX_PRODUCTS → IsAt bits scene (total scene) device → All (IsBelow (length scene.solids))
+    lights →
+    need_with (layout_of scene) (length lights) ≤ bits → length lights ≤ MAX_LIGHTS →
     CanCarryOut bits (shadow_passes scene (layout_of scene) lights) device
-can_shade layouts more passes_lawful few bound sizes bits scene lights device lawful solids products at known enough most =
+can_shade layouts more passes_lawful few bound sizes bits scene lights device lawful solids products at known
+    enough most =
     let l = layout_of scene in
     let need = need_with l (length lights) in
     let ms = shadow_passes scene l lights in
@@ -125,22 +130,40 @@ can_shade layouts more passes_lawful few bound sizes bits scene lights device la
       sized = sizes bits scene (total scene) device lawful at;
       lawful = All-weaker (λ m. IsLawful m need) (λ m. IsLawful m 256) (λ m h. more m need 256 small h) ms fit;
       places = All-weaker (λ m. IsLawful m need) (λ m. IsLawful m bits) (λ m h. more m need bits enough h) ms fit;
-      counted = omega (arith, ap (λ (d : Device). d.clocks) at.reached, clocks_at bits scene (total scene), bound scene lawful solids products, few scene lawful solids lights known, most);
+      counted = omega (
+        arith,
+        ap (λ (d : Device). d.clocks) at.reached,
+        clocks_at bits scene (total scene),
+        bound scene lawful solids products,
+        few scene lawful solids lights known,
+        most,
+      );
     }
 
-pub is_shaded : (bits : ℕ) (scene : SceneView) (lights : List SolidSet) (device now : Device) → IsAt bits scene (total scene) device →
-    need_with (layout_of scene) (length lights) ≤ bits → now ≡ carried_out (shadow_passes scene (layout_of scene) lights) device → IsShaded bits scene lights now
+pub is_shaded : (bits : ℕ) (scene : SceneView) (lights : List SolidSet) (device now : Device)
+    → IsAt bits scene (total scene) device →
+    need_with (layout_of scene) (length lights) ≤ bits
+    → now ≡ carried_out (shadow_passes scene (layout_of scene) lights) device → IsShaded bits scene lights now
 is_shaded bits scene lights device now at enough is = record {
   enough = enough;
-  reached = is ∙ ap (carried_out (shadow_passes scene (layout_of scene) lights)) at.reached ∙ sym (shaded_is bits scene lights);
+  reached = is ∙ ap (carried_out (shadow_passes scene (layout_of scene) lights)) at.reached
+      ∙ sym (shaded_is bits scene lights);
 }
 
-shaded_clocks : (bits : ℕ) (scene : SceneView) (lights : List SolidSet) → (shaded bits scene lights).clocks ≡ total scene + length (shadow_program scene lights)
+shaded_clocks : (bits : ℕ) (scene : SceneView) (lights : List SolidSet) → (shaded bits scene lights).clocks
+    ≡ total scene + length (shadow_program scene lights)
 unfolding shaded array_after
 shaded_clocks bits scene lights = refl
 
 -- the clocks that were made
-pub clocks_made : (bits : ℕ) (scene : SceneView) (lights : List SolidSet) (device now : Device) → IsAt bits scene (total scene) device → IsShaded bits scene lights now →
+pub clocks_made : (bits : ℕ) (scene : SceneView) (lights : List SolidSet) (device now : Device)
+    → IsAt bits scene (total scene) device → IsShaded bits scene lights now →
     now.clocks - device.clocks ≡ length (shadow_program scene lights)
 clocks_made bits scene lights device now at made =
-    omega (arith, ap (λ (d : Device). d.clocks) at.reached, clocks_at bits scene (total scene), ap (λ (d : Device). d.clocks) made.reached, shaded_clocks bits scene lights)
+    omega (
+      arith,
+      ap (λ (d : Device). d.clocks) at.reached,
+      clocks_at bits scene (total scene),
+      ap (λ (d : Device). d.clocks) made.reached,
+      shaded_clocks bits scene lights,
+    )

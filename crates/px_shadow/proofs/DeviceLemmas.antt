@@ -1,18 +1,20 @@
 -- Operations that are carried out on an array, one after another.
 use Prim.Native.Nat.{suc}
 use Rattle.std.proofs.Math.Seq.{drop-cons}
-use Rattle.std.proofs.Common.{drop, get_or, ◌≡◌, ◌<◌, ◌≤◌, ◌+◌, ◌-◌, ◌*◌, ◌^◌, ◌∙◌, ℕ, List, [], ◌∷◌, ◌++◌, length, All, Option, refl, ap, sym, subst, arith, add_assoc, append_assoc, add-zero, length-append}
+use Rattle.std.proofs.Common.{drop, get_or, ◌≡◌, ◌<◌, ◌≤◌, ◌+◌, ◌-◌, ◌*◌, ◌^◌, ◌∙◌, ℕ, List, [], ◌∷◌, ◌++◌, length}
+use Rattle.std.proofs.Common.{All, Option, refl, ap, sym, subst, arith, append_assoc, add-zero}
+use Rattle.std.proofs.Common.{length-append}
 use Rattle.std.specs.List.{flat_map}
 use Rattle.std.proofs.lemmas.Grind.{flat_map-append}
 use Rattle.std.proofs.lemmas.List.{append-nil, drop_all}
 use Rattle.std.proofs.lemmas.List.Elements.{All-cons, All-head, All-nil, All-tail}
-use Rattle.px_array.specs.declared.micro.Micro.{Micro}
 use Rattle.px_array.specs.Arrays.{Device, HasGrid, State}
-use Rattle.px_array.specs.Clocks.{after_clock, after_clocks, all_clocked}
-use Rattle.px_array.proofs.ClockLaws.{after_clocks-append, grid_after_clocks, nx-after_tree_op, ny-after_tree_op}
+use Rattle.px_array.specs.Clocks.{after_clocks, all_clocked}
+use Rattle.px_array.proofs.ClockLaws.{all_clocked-append, grid_after_clocks, nx-after_clocks, ny-after_clocks}
 use Rattle.px_array.specs.Slots.{worked}
 use Rattle.px_num.proofs.ListLaws.{length-tabulate}
 use Rattle.px_tree.specs.Nodes.{IsGrid}
+use Rattle.px_asm.proofs.CycleLaws.{few_cycles}
 use Rattle.px_asm.specs.Making.{cycles_on, micros_on}
 use Rattle.px_asm.specs.Micros.{all_micros, cycles, micro_at, micros}
 use Rattle.px_macro.specs.Macros.{IsLawful}
@@ -20,20 +22,6 @@ use Rattle.px_macro.specs.declared.operation.Macro.{Macro}
 use Rattle.px_macro.specs.declared.operation.Macro.TheVariants as m
 use Rattle.px_control.specs.GridLaw.{IsSizedArray}
 use Rattle.px_shadow.specs.Carrying.{CanCarryOut, CarriesOut, IsLeft, carried_out}
-
-pub columns_stay : (ms : List Micro) (s : State) → (after_clocks ms s).tree.nx ≡ s.tree.nx
-columns_stay [] s = refl
-columns_stay (m ∷ ms) s = columns_stay ms (after_clock m s) ∙ nx-after_tree_op m.tree s.tree
-
-pub rows_stay : (ms : List Micro) (s : State) → (after_clocks ms s).tree.ny ≡ s.tree.ny
-rows_stay [] s = refl
-rows_stay (m ∷ ms) s = rows_stay ms (after_clock m s) ∙ ny-after_tree_op m.tree s.tree
-
-clocked_both : (ms ns : List Micro) (d : Device) → all_clocked (ms ++ ns) d ≡ all_clocked ns (all_clocked ms d)
-clocked_both ms ns d =
-    ap (λ s. record { state = s; clocks = d.clocks + length (ms ++ ns) }) (after_clocks-append ms ns d.state)
-    ∙ ap (λ n. record { state = after_clocks ns (after_clocks ms d.state); clocks = n })
-    (ap (λ n. d.clocks + n) (length-append ms ns) ∙ sym (add_assoc d.clocks (length ms) (length ns)))
 
 pub carried_none : (d : Device) → carried_out [] d ≡ d
 unfolding carried_out
@@ -46,16 +34,18 @@ carried_both ms ns d =
     let ny = d.state.tree.ny in
     let mid = all_clocked (all_micros ms nx ny) d in
     ap (λ k. all_clocked k d) (flat_map-append (λ m. micros m nx ny) ms ns)
-    ∙ clocked_both (all_micros ms nx ny) (all_micros ns nx ny) d
-    ∙ ap (λ k. all_clocked (all_micros ns k ny) mid) (sym (columns_stay (all_micros ms nx ny) d.state))
-    ∙ ap (λ k. all_clocked (all_micros ns mid.state.tree.nx k) mid) (sym (rows_stay (all_micros ms nx ny) d.state))
+    ∙ all_clocked-append (all_micros ms nx ny) (all_micros ns nx ny) d
+    ∙ ap (λ k. all_clocked (all_micros ns k ny) mid) (sym (nx-after_clocks (all_micros ms nx ny) d.state))
+    ∙ ap (λ k. all_clocked (all_micros ns mid.state.tree.nx k) mid)
+    (sym (ny-after_clocks (all_micros ms nx ny) d.state))
 
 pub carried_one : (m : Macro) (d : Device) → carried_out (m ∷ []) d ≡ all_clocked (micros_on d m) d
 unfolding carried_out
 carried_one m d = ap (λ ms. all_clocked ms d) (append-nil (micros_on d m))
 
 -- the array keeps its size
-sized_with : (bits nx ny a b : ℕ) (s : State) → a ≡ nx → b ≡ ny → IsGrid nx ny → HasGrid bits nx ny s → IsGrid a b × HasGrid bits a b s
+sized_with : (bits nx ny a b : ℕ) (s : State) → a ≡ nx → b ≡ ny → IsGrid nx ny → HasGrid bits nx ny s
+    → IsGrid a b × HasGrid bits a b s
 sized_with bits nx ny a b s columns rows grid pixels = rw (columns, rows) (grid, pixels)
 
 pub sized_after : (bits : ℕ) (ms : List Macro) (d : Device) → IsSizedArray bits d → IsSizedArray bits (carried_out ms d)
@@ -64,28 +54,17 @@ sized_after bits ms d sized =
     let nx = d.state.tree.nx in
     let ny = d.state.tree.ny in
     let all = all_micros ms nx ny in
-    let both = sized_with bits nx ny _ _ (after_clocks all d.state) (columns_stay all d.state) (rows_stay all d.state)
+    let both = sized_with bits nx ny _ _ (after_clocks all d.state) (nx-after_clocks all d.state)
+    (ny-after_clocks all d.state)
     sized.grid (grid_after_clocks bits nx ny all d.state sized.pixels) in
     record { grid = both.0; pixels = both.1 }
 
--- an operation takes few clocks
-cycles_few : (m : Macro) (nx ny : ℕ) → IsLawful m 256 → IsGrid nx ny → cycles m nx ny ≤ 82
-cycles_few m.All nx ny lawful grid = omega arith
-cycles_few (m.KeepSign form) nx ny lawful grid = omega (arith, grid.0.1, grid.1.1)
-cycles_few (m.KeepBit at v) nx ny lawful grid = omega arith
-cycles_few (m.LoadLinear form f) nx ny lawful grid = omega (arith, grid.0.1, grid.1.1, lawful.1.to_forty)
-cycles_few (m.KeepAtMost form f) nx ny lawful grid = omega (arith, grid.0.1, grid.1.1, lawful.1.to_forty)
-cycles_few (m.AddLinear form f) nx ny lawful grid = omega (arith, grid.0.1, grid.1.1, lawful.1.to_forty)
-cycles_few (m.LoadConst f c) nx ny lawful grid = omega (arith, lawful.0.to_forty)
-cycles_few (m.SetBit at v) nx ny lawful grid = omega arith
-cycles_few (m.Toggle at) nx ny lawful grid = omega arith
-cycles_few (m.Copy f g) nx ny lawful grid = omega (arith, lawful.0.fields.0.to_forty)
-cycles_few (m.KeepLess f g) nx ny lawful grid = omega (arith, lawful.fields.0.to_forty)
-
 micros_few : (m : Macro) (nx ny : ℕ) → IsLawful m 256 → IsGrid nx ny → length (micros m nx ny) ≤ 82
-micros_few m nx ny lawful grid = omega (arith, length-tabulate (cycles m nx ny) (micro_at m nx ny), cycles_few m nx ny lawful grid)
+micros_few m nx ny lawful grid =
+    omega (arith, length-tabulate (cycles m nx ny) (micro_at m nx ny), few_cycles m nx ny grid lawful)
 
-all_micros_few : (ms : List Macro) (nx ny : ℕ) → All (λ m. IsLawful m 256) ms → IsGrid nx ny → length (all_micros ms nx ny) ≤ 82 * length ms
+all_micros_few : (ms : List Macro) (nx ny : ℕ) → All (λ m. IsLawful m 256) ms → IsGrid nx ny
+    → length (all_micros ms nx ny) ≤ 82 * length ms
 all_micros_few [] nx ny lawful grid = omega arith
 all_micros_few (m ∷ ms) nx ny lawful grid =
     omega (
@@ -95,13 +74,15 @@ all_micros_few (m ∷ ms) nx ny lawful grid =
       all_micros_few ms nx ny (All-tail (λ m. IsLawful m 256) m ms lawful) grid,
     )
 
-pub clocks_after : (ms : List Macro) (d : Device) → (carried_out ms d).clocks ≡ d.clocks + length (all_micros ms d.state.tree.nx d.state.tree.ny)
+pub clocks_after : (ms : List Macro) (d : Device) → (carried_out ms d).clocks ≡ d.clocks
+    + length (all_micros ms d.state.tree.nx d.state.tree.ny)
 unfolding carried_out
 clocks_after ms d = refl
 
 all_first : {X : Type 0} (P : X → Type 0) (xs ys : List X) → All P (xs ++ ys) → All P xs
 all_first P [] ys all = All-nil P
-all_first P (x ∷ xs) ys all = All-cons P x xs (All-head P x (xs ++ ys) all) (all_first P xs ys (All-tail P x (xs ++ ys) all))
+all_first P (x ∷ xs) ys all =
+    All-cons P x xs (All-head P x (xs ++ ys) all) (all_first P xs ys (All-tail P x (xs ++ ys) all))
 
 all_second : {X : Type 0} (P : X → Type 0) (xs ys : List X) → All P (xs ++ ys) → All P ys
 all_second P [] ys all = all
@@ -116,9 +97,11 @@ can_first bits xs ys d can = record {
   counted = omega (arith, can.counted, length-append xs ys);
 }
 
-pub can_second : (bits : ℕ) (xs ys : List Macro) (d now : Device) → CanCarryOut bits (xs ++ ys) d → now ≡ carried_out xs d → CanCarryOut bits ys now
+pub can_second : (bits : ℕ) (xs ys : List Macro) (d now : Device) → CanCarryOut bits (xs ++ ys) d
+    → now ≡ carried_out xs d → CanCarryOut bits ys now
 can_second bits xs ys d now can is =
-    let few = all_micros_few xs d.state.tree.nx d.state.tree.ny (all_first (λ m. IsLawful m 256) xs ys can.lawful) can.sized.grid in
+    let few = all_micros_few xs d.state.tree.nx d.state.tree.ny (all_first (λ m. IsLawful m 256) xs ys can.lawful)
+    can.sized.grid in
     rw is (record {
       sized = sized_after bits xs d can.sized;
       lawful = all_second (λ m. IsLawful m 256) xs ys can.lawful;
@@ -127,18 +110,22 @@ can_second bits xs ys d now can is =
     })
 
 -- the rest is carried out on what the first part leaves
-pub rest_of : (xs ys : List Macro) (d now : Device) → now ≡ carried_out xs d → carried_out ys now ≡ carried_out (xs ++ ys) d
+pub rest_of : (xs ys : List Macro) (d now : Device) → now ≡ carried_out xs d → carried_out ys now
+    ≡ carried_out (xs ++ ys) d
 rest_of xs ys d now is = ap (carried_out ys) is ∙ sym (carried_both xs ys d)
 
 -- an array with what is told of it
 module _ {A : Type 0} (bits : ℕ) (device : A → Device) (slots : A → List (Option Device)) (work : A → ℕ) where
-  pub all_left : (whole : List Macro) (start : A) → CanCarryOut bits whole (device start) → IsLeft bits device slots work whole whole start start
+  pub all_left : (whole : List Macro) (start : A) → CanCarryOut bits whole (device start)
+      → IsLeft bits device slots work whole whole start start
   all_left whole start can = record { can = can; same = refl; clocks = omega arith; slots = refl; work = omega arith }
 
-  pub left_first : (whole xs ys : List Macro) (start now : A) → IsLeft bits device slots work whole (xs ++ ys) start now → CanCarryOut bits xs (device now)
+  pub left_first : (whole xs ys : List Macro) (start now : A) → IsLeft bits device slots work whole (xs ++ ys) start
+      now → CanCarryOut bits xs (device now)
   left_first whole xs ys start now left = can_first bits xs ys (device now) left.can
 
-  pub left_next : (whole xs ys : List Macro) (start before now : A) → IsLeft bits device slots work whole (xs ++ ys) start before →
+  pub left_next : (whole xs ys : List Macro) (start before now : A) → IsLeft bits device slots work whole (xs ++ ys)
+      start before →
       CarriesOut device slots work xs before now → IsLeft bits device slots work whole ys start now
   left_next whole xs ys start before now left made = record {
     can = can_second bits xs ys (device before) (device now) left.can made.device;
@@ -148,7 +135,8 @@ module _ {A : Type 0} (bits : ℕ) (device : A → Device) (slots : A → List (
     work = omega (arith, left.work, left.clocks, made.work, made.clocks);
   }
 
-  pub none_left : (whole : List Macro) (start now : A) → IsLeft bits device slots work whole [] start now → CarriesOut device slots work whole start now
+  pub none_left : (whole : List Macro) (start now : A) → IsLeft bits device slots work whole [] start now
+      → CarriesOut device slots work whole start now
   none_left whole start now left = record {
     device = sym (carried_none (device now)) ∙ left.same;
     clocks = left.clocks;
@@ -163,9 +151,12 @@ module _ {A : Type 0} (bits : ℕ) (device : A → Device) (slots : A → List (
       none_left whole start now (left_next whole ms [] start before now (rw (append-nil ms) left) made)
 
   -- one operation
-  pub one_made : (whole ms : List Macro) (i : ℕ) (start before now : A) → i < length ms → IsLeft bits device slots work whole (drop i ms) start before →
-      device now ≡ all_clocked (micros_on (device before) (get_or ms i m.All)) (device before) → slots now ≡ slots before →
-      work now ≡ worked (cycles_on (device before) (get_or ms i m.All)) (work before) → IsLeft bits device slots work whole (drop (i + 1) ms) start now
+  pub one_made : (whole ms : List Macro) (i : ℕ) (start before now : A) → i < length ms
+      → IsLeft bits device slots work whole (drop i ms) start before →
+      device now ≡ all_clocked (micros_on (device before) (get_or ms i m.All)) (device before)
+      → slots now ≡ slots before →
+      work now ≡ worked (cycles_on (device before) (get_or ms i m.All)) (work before)
+      → IsLeft bits device slots work whole (drop (i + 1) ms) start now
   one_made whole ms i start before now there left is same grown =
       let next : suc i ≡ i + 1 = omega arith in
       let one = get_or ms i m.All in
@@ -173,7 +164,8 @@ module _ {A : Type 0} (bits : ℕ) (device : A → Device) (slots : A → List (
       let out : device now ≡ carried_out (one ∷ []) (device before) = is ∙ sym (carried_one one (device before)) in
       let count : (device now).clocks ≡ (device before).clocks + cycles_on (device before) one =
       ap (λ (d : Device). d.clocks) is
-      ∙ ap (λ n. (device before).clocks + n) (length-tabulate (cycles_on (device before) one) (micro_at one (device before).state.tree.nx (device before).state.tree.ny)) in
+      ∙ ap (λ n. (device before).clocks + n) (length-tabulate (cycles_on (device before) one)
+      (micro_at one (device before).state.tree.nx (device before).state.tree.ny)) in
       left_next whole (one ∷ []) (drop (i + 1) ms) start before now (rw cut at left)
       (record { device = out; clocks = omega (arith, count); slots = same; work = omega (arith, grown, count) })
 
@@ -182,9 +174,11 @@ module _ {A : Type 0} (bits : ℕ) (device : A → Device) (slots : A → List (
       flat_map f (drop i xs) ≡ f x ++ flat_map f (drop (i + 1) xs)
   cut_each f xs i x d there is =
       let next : suc i ≡ i + 1 = omega arith in
-      ap (flat_map f) (drop-cons xs i d there ∙ ap (λ k. get_or xs i d ∷ drop k xs) next ∙ ap (λ y. y ∷ drop (i + 1) xs) is)
+      ap (flat_map f) (drop-cons xs i d there ∙ ap (λ k. get_or xs i d ∷ drop k xs) next
+      ∙ ap (λ y. y ∷ drop (i + 1) xs) is)
 
-  pub each_cut : {X : Type 0} (f : X → List Macro) (xs : List X) (i : ℕ) (x d : X) (whole tail : List Macro) (start now : A) → i < length xs → get_or xs i d ≡ x →
+  pub each_cut : {X : Type 0} (f : X → List Macro) (xs : List X) (i : ℕ) (x d : X) (whole tail : List Macro)
+      (start now : A) → i < length xs → get_or xs i d ≡ x →
       IsLeft bits device slots work whole (flat_map f (drop i xs) ++ tail) start now →
       IsLeft bits device slots work whole (f x ++ (flat_map f (drop (i + 1) xs) ++ tail)) start now
   each_cut f xs i x d whole tail start now there is left =
@@ -192,18 +186,26 @@ module _ {A : Type 0} (bits : ℕ) (device : A → Device) (slots : A → List (
       ap (λ ms. ms ++ tail) (cut_each f xs i x d there is) ∙ append_assoc (f x) (flat_map f (drop (i + 1) xs)) tail in
       subst (λ ms. IsLeft bits device slots work whole ms start now) cut left
 
-  pub each_first : {X : Type 0} (f : X → List Macro) (xs : List X) (i : ℕ) (x d : X) (whole tail : List Macro) (start now : A) → i < length xs → get_or xs i d ≡ x →
-      IsLeft bits device slots work whole (flat_map f (drop i xs) ++ tail) start now → CanCarryOut bits (f x) (device now)
+  pub each_first : {X : Type 0} (f : X → List Macro) (xs : List X) (i : ℕ) (x d : X) (whole tail : List Macro)
+      (start now : A) → i < length xs → get_or xs i d ≡ x →
+      IsLeft bits device slots work whole (flat_map f (drop i xs) ++ tail) start now
+      → CanCarryOut bits (f x) (device now)
   each_first f xs i x d whole tail start now there is left =
-      left_first whole (f x) (flat_map f (drop (i + 1) xs) ++ tail) start now (each_cut f xs i x d whole tail start now there is left)
+      left_first whole (f x) (flat_map f (drop (i + 1) xs) ++ tail) start now
+      (each_cut f xs i x d whole tail start now there is left)
 
-  pub each_next : {X : Type 0} (f : X → List Macro) (xs : List X) (i : ℕ) (x d : X) (whole tail : List Macro) (start before now : A) → i < length xs → get_or xs i d ≡ x →
-      IsLeft bits device slots work whole (flat_map f (drop i xs) ++ tail) start before → CarriesOut device slots work (f x) before now →
+  pub each_next : {X : Type 0} (f : X → List Macro) (xs : List X) (i : ℕ) (x d : X) (whole tail : List Macro)
+      (start before now : A) → i < length xs → get_or xs i d ≡ x →
+      IsLeft bits device slots work whole (flat_map f (drop i xs) ++ tail) start before
+      → CarriesOut device slots work (f x) before now →
       IsLeft bits device slots work whole (flat_map f (drop (i + 1) xs) ++ tail) start now
   each_next f xs i x d whole tail start before now there is left made =
-      left_next whole (f x) (flat_map f (drop (i + 1) xs) ++ tail) start before now (each_cut f xs i x d whole tail start before there is left) made
+      left_next whole (f x) (flat_map f (drop (i + 1) xs) ++ tail) start before now
+      (each_cut f xs i x d whole tail start before there is left) made
 
-  pub each_done : {X : Type 0} (f : X → List Macro) (xs : List X) (i : ℕ) (whole tail : List Macro) (start now : A) → length xs ≤ i →
-      IsLeft bits device slots work whole (flat_map f (drop i xs) ++ tail) start now → IsLeft bits device slots work whole tail start now
+  pub each_done : {X : Type 0} (f : X → List Macro) (xs : List X) (i : ℕ) (whole tail : List Macro) (start now : A)
+      → length xs ≤ i →
+      IsLeft bits device slots work whole (flat_map f (drop i xs) ++ tail) start now
+      → IsLeft bits device slots work whole tail start now
   each_done f xs i whole tail start now past left =
       subst (λ ys. IsLeft bits device slots work whole (flat_map f ys ++ tail) start now) (drop_all i xs past) left

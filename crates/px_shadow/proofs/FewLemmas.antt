@@ -1,11 +1,13 @@
 -- How many operations the shadow passes are.
-use Rattle.std.proofs.Common.{◌≡◌, ◌<◌, ◌≤◌, ◌+◌, ◌*◌, ◌∙◌, ℕ, Bool, true, false, List, [], ◌∷◌, ◌++◌, length, map, filter, refl, ap, arith, length-append}
+use Rattle.std.proofs.Common.{◌≡◌, ◌<◌, ◌≤◌, ◌+◌, ◌*◌, ◌∙◌, ℕ, Bool, true, false, List, [], ◌∷◌, ◌++◌, length, map}
+use Rattle.std.proofs.Common.{filter, refl, ap, arith, length-append}
 use Prim.Native.Nat.{zero, suc}
 use Rattle.std.specs.Prelude.{All}
 use Rattle.std.specs.List.{flat_map, range_with_len}
 use Rattle.std.proofs.lemmas.List.{length-map}
 use Rattle.std.proofs.lemmas.List.FromFn.{length-map-range_with_len, length-range_with_len}
 use Rattle.std.proofs.lemmas.List.Elements.{All-head, All-tail, All-weaker, filter-append}
+use Rattle.px_num.proofs.RangeLaws.{range_all}
 use Rattle.px_macro.specs.declared.operation.Macro.{Macro}
 use Rattle.px_macro.specs.declared.operation.Macro.TheVariants as m
 use Rattle.px_normal.specs.declared.set.SolidSet.{SolidSet}
@@ -17,11 +19,13 @@ use Rattle.px_face.specs.Edges.{edges}
 use Rattle.px_face.specs.Faces.{face_count, plane_of}
 use Rattle.px_sched.specs.Layouts.{LayoutView, deep_part, number_part}
 use Rattle.px_sched.specs.Passes.{no_solid, solid_of}
-use Rattle.px_shadow.specs.ShadowPasses.{background_passes, light_bit, light_passes, passes_from, solid_passes, stored_turn}
-use Rattle.px_shadow.proofs.FitLemmas.{Ranges, range_all}
+use Rattle.px_shadow.specs.ShadowPasses.{background_passes, light_bit, light_passes, passes_from, solid_passes}
+use Rattle.px_shadow.specs.ShadowPasses.{stored_turn}
+use Rattle.px_shadow.proofs.FitLemmas.{Ranges}
 use Rattle.px_shadow.proofs.StepLemmas.{all_known}
 
-flat_few : {X : Type 0} (f : X → List Macro) (most : ℕ) (xs : List X) → All (λ x. length (f x) ≤ most) xs → length (flat_map f xs) ≤ most * length xs
+flat_few : {X : Type 0} (f : X → List Macro) (most : ℕ) (xs : List X) → All (λ x. length (f x) ≤ most) xs
+    → length (flat_map f xs) ≤ most * length xs
 flat_few f most [] each = omega arith
 flat_few f most (x ∷ xs) each =
     omega (
@@ -45,22 +49,33 @@ solids_few : (set : SolidSet) (n : ℕ) → n ≡ 256 → length (solids set) �
 unfolding solids
 solids_few set n e = omega (arith, ap (λ k. length (filter (has set) (below k))) e, below_few (has set) n)
 
-module _ (laws : Ranges) (scene : SceneView) (each : All IsLawfulSolid scene.solids) (l : LayoutView) (number : l.number_bits ≤ 12) where
+module _ (laws : Ranges) (scene : SceneView) (each : All IsLawfulSolid scene.solids) (l : LayoutView)
+    (number : l.number_bits ≤ 12) where
   abbrev end : ℕ
   end = end_of (depths_of scene)
 
-  turn_few : (s : SolidView) → IsLawfulSolid s → (face : ℕ) → face < face_count s → length (stored_turn l end s face) ≤ 100
+  turn_few : (s : SolidView) → IsLawfulSolid s → (face : ℕ) → face < face_count s
+      → length (stored_turn l end s face) ≤ 100
   turn_few s h face there =
       let signs = map m.KeepSign (edges s end face) in
       let last = m.KeepAtMost (plane_of s end face) (deep_part l l.key_b) ∷ m.Toggle l.par ∷ [] in
-      omega (arith, length-append signs last, length-map (edges s end face) m.KeepSign, laws.count s end face there, h.fronts.few, h.backs.few, h.few_sides)
+      omega (
+        arith,
+        length-append signs last,
+        length-map (edges s end face) m.KeepSign,
+        laws.count s end face there,
+        h.fronts.few,
+        h.backs.few,
+        h.few_sides,
+      )
 
   solid_few : (light : ℕ) (s : SolidView) → IsLawfulSolid s → length (solid_passes l end light s) ≤ 6605
   solid_few light s h =
       let faces = range_with_len 0 (face_count s) in
       let turns = flat_map (stored_turn l end s) faces in
       let last = m.All ∷ m.KeepBit l.par true ∷ m.SetBit (light_bit l light) false ∷ [] in
-      let few = flat_few (stored_turn l end s) 100 faces (range_all (λ face. length (stored_turn l end s face) ≤ 100) 0 (face_count s) (λ i low high. turn_few s h i (omega arith))) in
+      let few = flat_few (stored_turn l end s) 100 faces (range_all (λ face. length (stored_turn l end s face) ≤ 100)
+      0 (face_count s) (λ i low high. turn_few s h i (omega arith))) in
       omega (arith, length-append turns last, few, length-range_with_len 0 (face_count s), h.fronts.few, h.backs.few)
 
   background_few : (light : ℕ) → length (background_passes l light) ≤ 14
@@ -73,12 +88,14 @@ module _ (laws : Ranges) (scene : SceneView) (each : All IsLawfulSolid scene.sol
         number,
       )
 
-  light_few : (light : ℕ) (set : SolidSet) → IsBelow (length scene.solids) set → length (light_passes scene l light set) ≤ 1690896
+  light_few : (light : ℕ) (set : SolidSet) → IsBelow (length scene.solids) set
+      → length (light_passes scene l light set) ≤ 1690896
   light_few light set known =
       let f : ℕ → List Macro = λ q. solid_passes l end light (solid_of scene q) in
       let all = flat_map f (solids set) in
       let few = flat_few f 6605 (solids set)
-      (All-weaker (λ q. q < length scene.solids) (λ q. length (f q) ≤ 6605) (λ q low. solid_few light (solid_of scene q) (each q no_solid low)) (solids set)
+      (All-weaker (λ q. q < length scene.solids) (λ q. length (f q) ≤ 6605)
+      (λ q low. solid_few light (solid_of scene q) (each q no_solid low)) (solids set)
       (all_known laws.sets (length scene.solids) set known)) in
       omega (arith, length-append all (background_passes l light), few, background_few light, solids_few set 256 refl)
 

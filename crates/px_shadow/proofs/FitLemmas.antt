@@ -1,12 +1,10 @@
 -- The shadow passes are lawful in as many memory bits as they need, and few.
-use Rattle.std.proofs.Common.{◌<◌, ◌≤◌, ◌+◌, ◌^◌, ℕ, ℤ, false, true, lit≤, List, [], ◌∷◌, ◌++◌, length, map, sym, subst, arith}
-use Prim.Native.Nat.{zero, suc}
+use Rattle.std.proofs.Common.{◌<◌, ◌≤◌, ◌+◌, ◌^◌, ℕ, false, true, List, [], ◌∷◌, ◌++◌, length, map, sym}
+use Rattle.std.proofs.Common.{subst, arith}
 use Rattle.std.specs.Prelude.{All}
 use Rattle.std.specs.List.{flat_map, range_with_len}
 use Rattle.std.proofs.lemmas.List.Elements.{All-append, All-cons, All-head, All-map, All-nil, All-tail}
-use Rattle.std.proofs.lemmas.Int.{ints}
-use Rattle.px_num.specs.declared.linear.Linear.{Linear}
-use Rattle.px_num.specs.Forms.{IsInTreeRange, IsWithin}
+use Rattle.px_num.proofs.RangeLaws.{range_all}
 use Rattle.px_macro.specs.declared.operation.Macro.{Macro}
 use Rattle.px_macro.specs.declared.operation.Macro.TheVariants as m
 use Rattle.px_macro.specs.Macros.{IsField, IsLawful}
@@ -14,15 +12,17 @@ use Rattle.px_normal.specs.declared.set.SolidSet.{SolidSet}
 use Rattle.px_normal.specs.SetLaws.{LawsOfSets}
 use Rattle.px_normal.specs.Sets.{IsBelow, solids}
 use Rattle.px_model.specs.Scenes.{IsLawfulScene, SceneView}
-use Rattle.px_model.specs.Solids.{IsLawfulSolid, IsPlane, SolidView}
+use Rattle.px_model.specs.Solids.{IsLawfulSolid, SolidView}
 use Rattle.px_model.specs.Cells.{depths_of, end_of}
 use Rattle.px_model.proofs.CellLaws.{end_is_within}
+use Rattle.px_model.proofs.PlaneLaws.{plane_range}
 use Rattle.px_face.specs.EdgeLaws.{EdgesAreCounted, EdgesAreInRange, PlanesAreInRange}
 use Rattle.px_face.specs.Edges.{edges}
 use Rattle.px_face.specs.Faces.{face_count, plane_of}
 use Rattle.px_sched.specs.Layouts.{IsLayout, LayoutView, deep_part, layout_with, need_of, number_part}
 use Rattle.px_sched.specs.Passes.{keep_covered, no_solid, solid_of}
-use Rattle.px_shadow.specs.ShadowPasses.{background_passes, light_bit, light_passes, passes_from, solid_passes, stored_turn}
+use Rattle.px_shadow.specs.ShadowPasses.{background_passes, light_bit, light_passes, passes_from, solid_passes}
+use Rattle.px_shadow.specs.ShadowPasses.{stored_turn}
 use Rattle.px_shadow.proofs.StepLemmas.{all_known}
 
 -- what the operations need of a layout in so many memory bits
@@ -31,7 +31,8 @@ record HasRoom (l : LayoutView) (bits : ℕ) : Type 0 where
   number : (number_part l l.key_b).at + l.number_bits ≤ bits
   par : l.par < bits
 
-room_with : (w f i bits : ℕ) → 1 ≤ w → w + f ≤ 24 → need_of (layout_with w f i) ≤ bits → HasRoom (layout_with w f i) bits
+room_with : (w f i bits : ℕ) → 1 ≤ w → w + f ≤ 24 → need_of (layout_with w f i) ≤ bits
+    → HasRoom (layout_with w f i) bits
 room_with w f i bits some most enough = record {
   deep = record { from_one = omega arith; to_forty = omega arith; within = omega arith };
   number = omega arith;
@@ -40,16 +41,14 @@ room_with w f i bits some most enough = record {
 
 room_of : (l : LayoutView) (bits : ℕ) → IsLayout l → need_of l ≤ bits → HasRoom l bits
 room_of l bits h enough =
-    subst (λ k. HasRoom k bits) (sym h.fields) (room_with l.depth_bits l.fraction_bits l.number_bits bits h.some_depth h.depth enough)
+    subst (λ k. HasRoom k bits) (sym h.fields) (room_with l.depth_bits l.fraction_bits l.number_bits bits h.some_depth
+    h.depth enough)
 
-all_flat : {X : Type 0} (P : Macro → Type 0) (Q : X → Type 0) (f : X → List Macro) → ((x : X) → Q x → All P (f x)) → (xs : List X) → All Q xs → All P (flat_map f xs)
+all_flat : {X : Type 0} (P : Macro → Type 0) (Q : X → Type 0) (f : X → List Macro) → ((x : X) → Q x → All P (f x))
+    → (xs : List X) → All Q xs → All P (flat_map f xs)
 all_flat P Q f each [] all = All-nil P
-all_flat P Q f each (x ∷ xs) all = All-append P (f x) (flat_map f xs) (each x (All-head Q x xs all)) (all_flat P Q f each xs (All-tail Q x xs all))
-
--- the numbers of a range
-pub range_all : (P : ℕ → Type 0) (a n : ℕ) → ((i : ℕ) → a ≤ i → i < a + n → P i) → All P (range_with_len a n)
-range_all P a zero each = All-nil P
-range_all P a (suc n) each = All-cons P a (range_with_len (a + 1) n) (each a (omega arith) (omega arith)) (range_all P (a + 1) n (λ i low high. each i (omega arith) (omega arith)))
+all_flat P Q f each (x ∷ xs) all =
+    All-append P (f x) (flat_map f xs) (each x (All-head Q x xs all)) (all_flat P Q f each xs (All-tail Q x xs all))
 
 -- the laws of the layers below
 pub record Ranges : Type 0 where
@@ -57,12 +56,6 @@ pub record Ranges : Type 0 where
   pub edges : EdgesAreInRange
   pub planes : PlanesAreInRange
   pub sets : LawsOfSets
-
-wider : (m n : ℕ) (v : ℤ) → m ≤ n → IsWithin m v → IsWithin n v
-wider m n v le (low, high) = (omega (arith, ints), omega (arith, ints))
-
-in_range : {p : Linear} → IsPlane p → IsInTreeRange p
-in_range {p} h = record { a = wider (2 ^ 23) (2 ^ 27) p.a (lit≤ tt) h.a; b = wider (2 ^ 23) (2 ^ 27) p.b (lit≤ tt) h.b; c = wider (2 ^ 33) (2 ^ 38) p.c (lit≤ tt) h.c }
 
 module _ (laws : Ranges) (scene : SceneView) (lawful : IsLawfulScene scene) (each : All IsLawfulSolid scene.solids)
     (l : LayoutView) (layout : IsLayout l) (bits : ℕ) (enough : need_of l ≤ bits) where
@@ -91,8 +84,9 @@ module _ (laws : Ranges) (scene : SceneView) (lawful : IsLawfulScene scene) (eac
       let signs = keep_covered end s face in
       let limits = laws.planes s h end face small there in
       cons m.All (signs ++ (test ∷ toggle ∷ [])) tt
-      (All-append Fits signs (test ∷ toggle ∷ []) (All-map Fits m.KeepSign (edges s end face) (laws.edges s h end face small there))
-      (cons test (toggle ∷ []) (in_range limits, room.deep) (one toggle room.par)))
+      (All-append Fits signs (test ∷ toggle ∷ []) (All-map Fits m.KeepSign (edges s end face)
+      (laws.edges s h end face small there))
+      (cons test (toggle ∷ []) (plane_range _ limits, room.deep) (one toggle room.par)))
 
   module _ (light : ℕ) (there : light_bit l light < bits) where
     solid_fits : (s : SolidView) → IsLawfulSolid s → All Fits (solid_passes l end light s)
@@ -102,10 +96,12 @@ module _ (laws : Ranges) (scene : SceneView) (lawful : IsLawfulScene scene) (eac
         cons m.All (m.SetBit l.par false ∷ (faces ++ last)) tt
         (cons (m.SetBit l.par false) (faces ++ last) room.par
         (All-append Fits faces last
-        (all_flat Fits (λ face. face < face_count s) (stored_turn l end s) (turn_fits s h) (range_with_len 0 (face_count s))
+        (all_flat Fits (λ face. face < face_count s) (stored_turn l end s) (turn_fits s h)
+        (range_with_len 0 (face_count s))
         (range_all (λ face. face < face_count s) 0 (face_count s) (λ i low high. omega arith)))
         (cons m.All (m.KeepBit l.par true ∷ m.SetBit (light_bit l light) false ∷ []) tt
-        (cons (m.KeepBit l.par true) (m.SetBit (light_bit l light) false ∷ []) room.par (one (m.SetBit (light_bit l light) false) there)))))
+        (cons (m.KeepBit l.par true) (m.SetBit (light_bit l light) false ∷ []) room.par
+        (one (m.SetBit (light_bit l light) false) there)))))
 
     background_fits : All Fits (background_passes l light)
     background_fits =
@@ -114,7 +110,8 @@ module _ (laws : Ranges) (scene : SceneView) (lawful : IsLawfulScene scene) (eac
         let last = m.SetBit (light_bit l light) false in
         cons m.All (tests ++ (last ∷ [])) tt
         (All-append Fits tests (last ∷ [])
-        (All-map Fits test (range_with_len 0 l.number_bits) (range_all (λ t. Fits (test t)) 0 l.number_bits (λ i low high. omega (arith, room.number))))
+        (All-map Fits test (range_with_len 0 l.number_bits) (range_all (λ t. Fits (test t)) 0 l.number_bits
+        (λ i low high. omega (arith, room.number))))
         (one last there))
 
     light_fits : (set : SolidSet) → IsBelow (length scene.solids) set → All Fits (light_passes scene l light set)
@@ -125,11 +122,13 @@ module _ (laws : Ranges) (scene : SceneView) (lawful : IsLawfulScene scene) (eac
         cons m.All (on ∷ (all ++ background_passes l light)) tt
         (cons on (all ++ background_passes l light) there
         (All-append Fits all (background_passes l light)
-        (all_flat Fits (λ q. q < length scene.solids) f (λ q low. solid_fits (solid_of scene q) (each q no_solid low)) (solids set)
+        (all_flat Fits (λ q. q < length scene.solids) f (λ q low. solid_fits (solid_of scene q) (each q no_solid low))
+        (solids set)
         (all_known laws.sets (length scene.solids) set known))
         background_fits))
 
-  pub lights_fit : (light : ℕ) (sets : List SolidSet) → light_bit l light + length sets ≤ bits → All (IsBelow (length scene.solids)) sets →
+  pub lights_fit : (light : ℕ) (sets : List SolidSet) → light_bit l light + length sets ≤ bits
+      → All (IsBelow (length scene.solids)) sets →
       All Fits (passes_from scene l light sets)
   lights_fit light [] there known = All-nil Fits
   lights_fit light (set ∷ sets) there known =

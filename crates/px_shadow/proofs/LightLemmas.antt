@@ -1,5 +1,7 @@
 -- What the passes of a light leave in the memory of a pixel, and those of all lights.
-use Rattle.std.proofs.Common.{◌≡◌, ◌≢◌, ◌<◌, ◌≤◌, ◌+◌, ◌^◌, ◌==◌, ◌∙◌, ℕ, Bool, true, false, ◌&&◌, not, List, [], ◌∷◌, ◌++◌, length, map, slice_set, if◌then◌else◌, refl, ap, sym, arith, get_or-set_same, length-set}
+use Rattle.std.proofs.Common.{◌≡◌, ◌≢◌, ◌<◌, ◌≤◌, ◌+◌, ◌^◌, ◌==◌, ◌∙◌, ℕ, Bool, true, false, ◌&&◌, not, List, [], ◌∷◌}
+use Rattle.std.proofs.Common.{◌++◌, length, map, slice_set, if◌then◌else◌, refl, ap, sym, arith, get_or-set_same}
+use Rattle.std.proofs.Common.{length-set}
 use Prim.Native.Nat.{zero, suc}
 use Rattle.std.specs.Bool.{beq}
 use Rattle.std.specs.List.{flat_map, list_all, range_with_len}
@@ -9,6 +11,7 @@ use Rattle.px_num.proofs.BitLaws.{pow_above}
 use Rattle.px_macro.specs.declared.operation.Macro.TheVariants as m
 use Rattle.px_macro.specs.Fields.{number_in, number_of}
 use Rattle.px_num.specs.Bits.{bit_at}
+use Rattle.px_num.proofs.RangeLaws.{range_more}
 use Rattle.px_macro.specs.Macros.{PixelBits, after_macros}
 use Rattle.px_normal.specs.declared.set.SolidSet.{SolidSet}
 use Rattle.px_normal.specs.Sets.{solids}
@@ -19,14 +22,9 @@ use Rattle.px_sched.specs.Passes.{solid_of}
 use Rattle.px_shadow.specs.Lights.{light_at}
 use Rattle.px_shadow.specs.ShadowPasses.{background_passes, light_bit, light_passes, passes_from, solid_passes}
 use Rattle.px_shadow.proofs.TurnLemmas.{Below, pixel}
-use Rattle.px_shadow.proofs.SolidLemmas.{GoesOut, Keeps, keeps_all, keeps_bit, keeps_both, keeps_if, number_kept, out_bit, solid_goes_out}
+use Rattle.px_shadow.proofs.SolidLemmas.{GoesOut, Keeps, keeps_all, keeps_bit, keeps_both, keeps_if, number_kept}
+use Rattle.px_shadow.proofs.SolidLemmas.{out_bit, solid_goes_out}
 use Rattle.px_sched.proofs.CoverLaws.{and_true, and_both}
-
-range_more : (a n : ℕ) → range_with_len a (suc n) ≡ range_with_len a n ++ ((a + n) ∷ [])
-range_more a zero = let e : a + 0 ≡ a = omega arith in rw e refl
-range_more a (suc n) =
-    let e : a + 1 + n ≡ a + suc n = omega arith
-    in ap (λ l. a ∷ l) (range_more (a + 1) n ∙ ap (λ k. range_with_len (a + 1) n ++ (k ∷ [])) e)
 
 -- a number is 0 where each of its bits is
 is_zero : (bit : ℕ → Bool) (n : ℕ) → list_all (λ t. beq (bit t) false) (range_with_len 0 n) ≡ (number_of bit n == 0)
@@ -38,7 +36,8 @@ is_zero bit (suc n) =
     ∙ ap (λ b. b && (beq (bit n) false && true)) (is_zero bit n)
     ∙ last (bit n) (number_of bit n) (2 ^ n) (pow_above n)
   where
-    last : (b : Bool) (low high : ℕ) → 0 < high → ((low == 0) && (beq b false && true)) ≡ (low + (if b then high else 0) == 0)
+    last : (b : Bool) (low high : ℕ) → 0 < high → ((low == 0) && (beq b false && true))
+        ≡ (low + (if b then high else 0) == 0)
     last true low high some = grind (arith, nat_tests)
     last false low high some = grind (arith, nat_tests)
 
@@ -57,18 +56,21 @@ module _ (laws : Below) (l : LayoutView) (light : ℕ) (some : 0 < light) (x y :
   bit = light_bit l light
 
   background_goes_out : (p : PixelBits) → bit < length p.memory →
-      GoesOut l.par bit (number_in (number_part l l.key_b) p.memory == 0) p.memory (after_macros (background_passes l light) x y p).memory
+      GoesOut l.par bit (number_in (number_part l l.key_b) p.memory == 0) p.memory
+      (after_macros (background_passes l light) x y p).memory
   background_goes_out p room =
       let memory = p.memory in
       let at = (number_part l l.key_b).at in
       let none = number_in (number_part l l.key_b) memory == 0 in
       let bits = map (λ t. m.KeepBit (at + t) false) (range_with_len 0 l.number_bits) in
       let last = m.SetBit bit false ∷ [] in
-      let is : (after_macros (background_passes l light) x y p).memory ≡ (if none then slice_set memory bit false else memory) =
+      let is : (after_macros (background_passes l light) x y p).memory
+      ≡ (if none then slice_set memory bit false else memory) =
       ap (λ (q : PixelBits). q.memory)
       (laws.join bits last x y (pixel memory true)
       ∙ ap (after_macros last x y) (bits_kept at (range_with_len 0 l.number_bits) x y memory true))
-      ∙ ap (λ b. if b then slice_set memory bit false else memory) (is_zero (λ t. bit_at memory (at + t)) l.number_bits) in
+      ∙ ap (λ b. if b then slice_set memory bit false else memory)
+      (is_zero (λ t. bit_at memory (at + t)) l.number_bits) in
       rw is record {
         keeps = keeps_if l.par bit none memory _ _ (keeps_bit l.par bit memory false) (keeps_all l.par bit memory);
         light = out_bit l.par bit none memory room;
@@ -80,7 +82,8 @@ pub record IsReady (l : LayoutView) (end : ℕ) : Type 0 where
   pub deep : (deep_part l l.key_b).at + (deep_part l l.key_b).len ≤ l.par
   pub number : (number_part l l.key_b).at + (number_part l l.key_b).len ≤ l.par
 
-module _ (laws : Below) (scene : SceneView) (l : LayoutView) (ready : IsReady l (end_of (depths_of scene))) (x y : ℕ) where
+module _ (laws : Below) (scene : SceneView) (l : LayoutView) (ready : IsReady l (end_of (depths_of scene)))
+    (x y : ℕ) where
   abbrev end : ℕ
   end = end_of (depths_of scene)
 
@@ -102,7 +105,8 @@ module _ (laws : Below) (scene : SceneView) (l : LayoutView) (ready : IsReady l 
       let now = (after_macros (flat_map (λ q. solid_passes l end light (solid_of scene q)) qs) x y p).memory in
       Keeps l.par (light_bit l light) p.memory now
       × (bit_at now (light_bit l light) ≡ (bit_at p.memory (light_bit l light) && outside (deep p.memory) qs))
-  solids_go_out light some [] p room = (keeps_all l.par (light_bit l light) p.memory, sym (and_true (bit_at p.memory (light_bit l light))))
+  solids_go_out light some [] p room =
+      (keeps_all l.par (light_bit l light) p.memory, sym (and_true (bit_at p.memory (light_bit l light))))
   solids_go_out light some (q ∷ qs) p room =
       let bit = light_bit l light in
       let s = solid_of scene q in
@@ -110,7 +114,8 @@ module _ (laws : Below) (scene : SceneView) (l : LayoutView) (ready : IsReady l 
       let next = after_macros (solid_passes l end light s) x y p in
       let one = solid_goes_out laws l light some x y end s ready.big ready.deep p room in
       let others = solids_go_out light some qs next (omega (arith, one.keeps.size)) in
-      let same : deep next.memory ≡ deep p.memory = number_kept l.par bit (deep_part l l.key_b) p.memory next.memory ready.deep (omega arith) one.keeps in
+      let same : deep next.memory ≡ deep p.memory =
+      number_kept l.par bit (deep_part l l.key_b) p.memory next.memory ready.deep (omega arith) one.keeps in
       rw (laws.join (solid_passes l end light s) rest x y p) (
         keeps_both l.par bit _ _ _ one.keeps others.0,
         others.1
@@ -133,10 +138,13 @@ module _ (laws : Below) (scene : SceneView) (l : LayoutView) (ready : IsReady l 
       let each = flat_map (λ q. solid_passes l end light (solid_of scene q)) (solids set) in
       let between = after_macros each x y start in
       let all = solids_go_out light some (solids set) start (omega (arith, length-set p.memory bit true)) in
-      let none = background_goes_out laws l light some x y between (omega (arith, all.0.size, length-set p.memory bit true)) in
+      let none = background_goes_out laws l light some x y between
+      (omega (arith, all.0.size, length-set p.memory bit true)) in
       let both = keeps_both l.par bit _ _ _ on all.0 in
-      let same_deep : deep start.memory ≡ deep p.memory = number_kept l.par bit (deep_part l l.key_b) p.memory start.memory ready.deep (omega arith) on in
-      let same_number : number between.memory ≡ number p.memory = number_kept l.par bit (number_part l l.key_b) p.memory between.memory ready.number (omega arith) both in
+      let same_deep : deep start.memory ≡ deep p.memory =
+      number_kept l.par bit (deep_part l l.key_b) p.memory start.memory ready.deep (omega arith) on in
+      let same_number : number between.memory ≡ number p.memory =
+      number_kept l.par bit (number_part l l.key_b) p.memory between.memory ready.number (omega arith) both in
       rw (laws.join each (background_passes l light) x y start) (
         keeps_both l.par bit _ _ _ both none.keeps,
         none.light
@@ -149,10 +157,12 @@ module _ (laws : Below) (scene : SceneView) (l : LayoutView) (ready : IsReady l 
   -- what the passes of lights from one on leave: the bits before them, but for the parity, and each light
   pub record AreLit (light : ℕ) (sets : List SolidSet) (before now : List Bool) : Type 0 where
     pub rest : (place : ℕ) → place ≢ l.par → place < light_bit l light → bit_at now place ≡ bit_at before place
-    pub lights : (place : ℕ) → place < length sets → bit_at now (light_bit l light + place) ≡ lit (light_at sets place) before
+    pub lights : (place : ℕ) → place < length sets → bit_at now (light_bit l light + place)
+        ≡ lit (light_at sets place) before
 
   -- a light is told by the stored key alone
-  lit_same : (set : SolidSet) (light : ℕ) (before now : List Bool) → Keeps l.par (light_bit l light) before now → lit set now ≡ lit set before
+  lit_same : (set : SolidSet) (light : ℕ) (before now : List Bool) → Keeps l.par (light_bit l light) before now
+      → lit set now ≡ lit set before
   lit_same set light before now keeps =
       rw (
         number_kept l.par (light_bit l light) (deep_part l l.key_b) before now ready.deep (omega arith) keeps,
@@ -160,8 +170,10 @@ module _ (laws : Below) (scene : SceneView) (l : LayoutView) (ready : IsReady l 
       ) refl
 
   lights_of : (light : ℕ) → 0 < light → (set : SolidSet) (sets : List SolidSet) (before mid now : List Bool) →
-      Keeps l.par (light_bit l light) before mid → bit_at mid (light_bit l light) ≡ lit set before → AreLit (light + 1) sets mid now →
-      (place : ℕ) → place < length (set ∷ sets) → bit_at now (light_bit l light + place) ≡ lit (light_at (set ∷ sets) place) before
+      Keeps l.par (light_bit l light) before mid → bit_at mid (light_bit l light) ≡ lit set before
+      → AreLit (light + 1) sets mid now →
+      (place : ℕ) → place < length (set ∷ sets) → bit_at now (light_bit l light + place)
+      ≡ lit (light_at (set ∷ sets) place) before
   lights_of light some set sets before mid now keeps here others zero below =
       let e : light_bit l light + 0 ≡ light_bit l light = omega arith in
       rw e (others.rest (light_bit l light) (λ e. omega arith) (omega arith) ∙ here)
@@ -169,7 +181,8 @@ module _ (laws : Below) (scene : SceneView) (l : LayoutView) (ready : IsReady l 
       let e : light_bit l light + suc place ≡ light_bit l (light + 1) + place = omega arith in
       rw e (others.lights place (omega arith) ∙ lit_same (light_at sets place) light before mid keeps)
 
-  pub are_lit : (light : ℕ) → 0 < light → (sets : List SolidSet) (p : PixelBits) → light_bit l light + length sets ≤ length p.memory →
+  pub are_lit : (light : ℕ) → 0 < light → (sets : List SolidSet) (p : PixelBits) → light_bit l light + length sets
+      ≤ length p.memory →
       AreLit light sets p.memory (after_macros (passes_from scene l light sets) x y p).memory
   are_lit light some [] p room = record { rest = λ place a b. refl; lights = λ place none. absurd (omega arith) }
   are_lit light some (set ∷ sets) p room =

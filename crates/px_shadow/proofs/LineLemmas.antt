@@ -1,7 +1,9 @@
 -- The first bad line, and the lights of the lines before it.
-use Rattle.std.proofs.Common.{◌≡◌, ◌<◌, ◌≤◌, ◌+◌, ◌∙◌, ℕ, Bool, true, false, ◌&&◌, List, [], ◌∷◌, ◌++◌, All, Option, Some, None, length, map, take, get_or, nat_lt, cond, refl, ap, subst, sym, arith, inl, inr, if◌then◌else◌}
+use Rattle.std.proofs.Common.{◌≡◌, ◌<◌, ◌≤◌, ◌+◌, ◌∙◌, ℕ, Bool, true, false, ◌&&◌, List, [], ◌∷◌, ◌++◌, All, Option}
+use Rattle.std.proofs.Common.{Some, None, length, map, take, get_or, nat_lt, cond, refl, ap, subst, sym, arith, inl}
+use Rattle.std.proofs.Common.{inr, if◌then◌else◌}
 use Prim.Native.Nat.{zero, suc}
-use Rattle.std.specs.List.{cons_option, filter_map, fold, list_all, position}
+use Rattle.std.specs.List.{cons_option, filter_map, fold, list_all}
 use Rattle.std.specs.Option.{option_or}
 use Rattle.std.proofs.lemmas.Bool.{cases_lt}
 use Rattle.std.proofs.lemmas.Bool.Decides.{nat_tests}
@@ -18,8 +20,9 @@ use Rattle.std.specs.Prelude.{Ok, Err, OnOk, Result, codes, not}
 use Rattle.std.specs.Str.{bytes_eq}
 use Rattle.std.specs.List.{position_or_len}
 use Rattle.px_text.specs.Word.{is_name}
-use Rattle.px_scene.specs.declared.line.Cause.TheVariants.{BadName, Unexpected, UnknownName}
-use Rattle.px_shadow.specs.LightLines.{as_light, fault_at, fault_of, first_fault, is_solid, light_in, light_of, lights_of, line_fault, named, solid_named}
+use Rattle.px_show.specs.declared.fault.Cause.TheVariants.{BadName, Unexpected, UnknownName}
+use Rattle.px_shadow.specs.LightLines.{as_light, fault_at, fault_of, first_fault, is_solid, light_in, light_of}
+use Rattle.px_shadow.specs.LightLines.{lights_of, line_fault, named, solid_named}
 use Rattle.px_shadow.specs.Saying.{AreRead}
 
 or_none : (x : Option LightFault) → option_or None x ≡ x
@@ -33,7 +36,8 @@ good_more f k before here =
     rw next (rw before here)
 
 -- the first bad line decides
-pub bad_stays : (f : ℕ → Option LightFault) (k n : ℕ) (fault : LightFault) → k < n → first_fault f k ≡ None → f k ≡ Some fault → first_fault f n ≡ Some fault
+pub bad_stays : (f : ℕ → Option LightFault) (k n : ℕ) (fault : LightFault) → k < n → first_fault f k ≡ None
+    → f k ≡ Some fault → first_fault f n ≡ Some fault
 bad_stays f k zero fault low before here = absurd (omega arith)
 bad_stays f k (suc n) fault low before here = elim (cases_lt k n) [
   | inl less ↦ ap (λ x. option_or x (f n)) (bad_stays f k n fault less before here)
@@ -42,7 +46,8 @@ bad_stays f k (suc n) fault low before here = elim (cases_lt k n) [
 
 -- one line more
 pub lights_more : (ss : List SolidView) (lines : List Words) (k : ℕ) → k < length lines →
-    lights_of ss (take (k + 1) lines) ≡ lights_of ss (take k lines) ++ cons_option (light_in (light_of ss (get_or lines k []))) []
+    lights_of ss (take (k + 1) lines) ≡ lights_of ss (take k lines)
+    ++ cons_option (light_in (light_of ss (get_or lines k []))) []
 lights_more ss lines k low =
     ap (lights_of ss) (take_more lines k [] low)
     ∙ filter_map-append (λ line. light_in (light_of ss line)) (take k lines) (get_or lines k [] ∷ [])
@@ -58,7 +63,8 @@ both_true a b p q = rw (p, q) refl
 
 -- a set of solids that pass a test
 set_passes : LawsOfSets → (test : ℕ → Bool) → ((q : ℕ) → test q ≡ true → q < 256) → (qs : List ℕ) (a : SolidSet) →
-    list_all test (solids a) ≡ true → list_all test qs ≡ true → list_all test (solids (fold (λ set q. joined set (one q)) a qs)) ≡ true
+    list_all test (solids a) ≡ true → list_all test qs ≡ true
+    → list_all test (solids (fold (λ set q. joined set (one q)) a qs)) ≡ true
 set_passes laws test low [] a held each = held
 set_passes laws test low (q ∷ qs) a held each =
     let here : test q ≡ true = both_left (test q) (list_all test qs) each in
@@ -85,27 +91,33 @@ place_low ss w k e = by_test (nat_lt (position_or_len (λ s. bytes_eq s.name w) 
         rw (← same) (lt_holds _ _ low)
     by_test false low h = absurd (cc)
 
-places_low : (ss : List SolidView) (ws : Words) → list_all (λ q. nat_lt q (length ss)) (filter_map (solid_named ss) ws) ≡ true
+places_low : (ss : List SolidView) (ws : Words) → list_all (λ q. nat_lt q (length ss))
+    (filter_map (solid_named ss) ws) ≡ true
 places_low ss [] = refl
 places_low ss (w ∷ ws) = by_place (solid_named ss w) refl (places_low ss ws)
   where
-    by_place : (o : Option ℕ) → solid_named ss w ≡ o → list_all (λ q. nat_lt q (length ss)) (filter_map (solid_named ss) ws) ≡ true →
+    by_place : (o : Option ℕ) → solid_named ss w ≡ o → list_all (λ q. nat_lt q (length ss))
+        (filter_map (solid_named ss) ws) ≡ true →
         list_all (λ q. nat_lt q (length ss)) (cons_option o (filter_map (solid_named ss) ws)) ≡ true
     by_place None e rest = rest
     by_place (Some k) e rest = both_true _ _ (lt_true k (length ss) (place_low ss w k e)) rest
 
-set_known : LawsOfSets → (ss : List SolidView) → length ss ≤ 255 → (ws : Words) → IsBelow (length ss) (set_of (filter_map (solid_named ss) ws))
+set_known : LawsOfSets → (ss : List SolidView) → length ss ≤ 255 → (ws : Words)
+    → IsBelow (length ss) (set_of (filter_map (solid_named ss) ws))
 set_known laws ss few ws q low h =
     let test : ℕ → Bool = λ q. nat_lt q (length ss) in
-    let passes = set_passes laws test (λ q e. omega (arith, lt_holds q (length ss) e, few)) (filter_map (solid_named ss) ws) empty (laws.all_of_none test) (places_low ss ws) in
+    let passes = set_passes laws test (λ q e. omega (arith, lt_holds q (length ss) e, few))
+    (filter_map (solid_named ss) ws) empty (laws.all_of_none test) (places_low ss ws) in
     lt_holds q (length ss) ((laws.each test (set_of (filter_map (solid_named ss) ws))).0 passes q low h)
 
 -- a light has solids of the scene alone
-pub light_known : LawsOfSets → (ss : List SolidView) → length ss ≤ 255 → (line : Words) (set : SolidSet) → light_of ss line ≡ Ok (Some set) → IsBelow (length ss) set
+pub light_known : LawsOfSets → (ss : List SolidView) → length ss ≤ 255 → (line : Words) (set : SolidSet)
+    → light_of ss line ≡ Ok (Some set) → IsBelow (length ss) set
 light_known laws ss few [] set e = absurd (cc)
 light_known laws ss few (w ∷ ws) set e = by_first (bytes_eq w (codes "light")) ws e
   where
-    by_tests : (ws : Words) (n k : Bool) → as_light (if not n then Err BadName else if not k then Err UnknownName else Ok (set_of (filter_map (solid_named ss) ws))) ≡ Ok (Some set) → IsBelow (length ss) set
+    by_tests : (ws : Words) (n k : Bool) → as_light (if not n then Err BadName else if not k then Err UnknownName else
+        Ok (set_of (filter_map (solid_named ss) ws))) ≡ Ok (Some set) → IsBelow (length ss) set
     by_tests ws true true h =
         let same : set_of (filter_map (solid_named ss) ws) ≡ set = cc in
         subst (IsBelow (length ss)) same (set_known laws ss few ws)
@@ -116,43 +128,52 @@ light_known laws ss few (w ∷ ws) set e = by_first (bytes_eq w (codes "light"))
     by_names [] h = absurd (cc)
     by_names (v ∷ vs) h = by_tests (v ∷ vs) (list_all is_name (v ∷ vs)) (list_all (is_solid ss) (v ∷ vs)) h
 
-    by_first : (b : Bool) (ws : Words) → (if b then as_light (named ss ws) else Err Unexpected) ≡ Ok (Some set) → IsBelow (length ss) set
+    by_first : (b : Bool) (ws : Words) → (if b then as_light (named ss ws) else Err Unexpected) ≡ Ok (Some set)
+        → IsBelow (length ss) set
     by_first true ws h = by_names ws h
     by_first false ws h = absurd (cc)
 
 -- a line by its piece
-pub line_at : (pieces : List (List ℕ)) (k : ℕ) (piece : List ℕ) → k < length pieces → piece ≡ get_or pieces k piece → get_or (map words_of pieces) k [] ≡ words_of piece
+pub line_at : (pieces : List (List ℕ)) (k : ℕ) (piece : List ℕ) → k < length pieces → piece ≡ get_or pieces k piece
+    → get_or (map words_of pieces) k [] ≡ words_of piece
 line_at pieces k piece low is = get_or-map_at pieces k piece low ∙ ap words_of (sym is)
   where
-    get_or-map_at : (xs : List (List ℕ)) (k : ℕ) (d : List ℕ) → k < length xs → get_or (map words_of xs) k [] ≡ words_of (get_or xs k d)
+    get_or-map_at : (xs : List (List ℕ)) (k : ℕ) (d : List ℕ) → k < length xs → get_or (map words_of xs) k []
+        ≡ words_of (get_or xs k d)
     get_or-map_at [] k d low = absurd (omega arith)
     get_or-map_at (x ∷ xs) zero d low = refl
     get_or-map_at (x ∷ xs) (suc k) d low = get_or-map_at xs k d (omega arith)
 
 -- a line that is taken
-pub step_good : (ss : List SolidView) (first : ℕ) (lines : List Words) (k line : ℕ) (old : List SolidSet) (ws : Words) → get_or lines k [] ≡ ws →
+pub step_good : (ss : List SolidView) (first : ℕ) (lines : List Words) (k line : ℕ) (old : List SolidSet) (ws : Words)
+    → get_or lines k [] ≡ ws →
     line ≡ first + k → old ≡ lights_of ss (take k lines) → first_fault (fault_at ss first lines) k ≡ None →
     line_fault line (length old) (light_of ss ws) ≡ None → first_fault (fault_at ss first lines) (k + 1) ≡ None
 step_good ss first lines k line old ws is number each before here =
     good_more (fault_at ss first lines) k before (rw (is, ← number, ← each) here)
 
 -- a line that is bad
-pub step_bad : (ss : List SolidView) (first : ℕ) (lines : List Words) (k line : ℕ) (old : List SolidSet) (ws : Words) (fault : LightFault) → k < length lines → get_or lines k [] ≡ ws →
+pub step_bad : (ss : List SolidView) (first : ℕ) (lines : List Words) (k line : ℕ) (old : List SolidSet) (ws : Words)
+    (fault : LightFault) → k < length lines → get_or lines k [] ≡ ws →
     line ≡ first + k → old ≡ lights_of ss (take k lines) → first_fault (fault_at ss first lines) k ≡ None →
     line_fault line (length old) (light_of ss ws) ≡ Some fault → fault_of ss first lines ≡ Some fault
 step_bad ss first lines k line old ws fault low is number each before here =
     bad_stays (fault_at ss first lines) k (length lines) fault low before (rw (is, ← number, ← each) here)
 
-pub step_each : (ss : List SolidView) (lines : List Words) (k : ℕ) (old now : List SolidSet) (ws : Words) → k < length lines → get_or lines k [] ≡ ws →
-    old ≡ lights_of ss (take k lines) → now ≡ old ++ cons_option (light_in (light_of ss ws)) [] → now ≡ lights_of ss (take (k + 1) lines)
+pub step_each : (ss : List SolidView) (lines : List Words) (k : ℕ) (old now : List SolidSet) (ws : Words)
+    → k < length lines → get_or lines k [] ≡ ws →
+    old ≡ lights_of ss (take k lines) → now ≡ old ++ cons_option (light_in (light_of ss ws)) []
+    → now ≡ lights_of ss (take (k + 1) lines)
 step_each ss lines k old now ws low is each more =
     more ∙ ap (λ xs. xs ++ cons_option (light_in (light_of ss ws)) []) each
     ∙ ap (λ line. lights_of ss (take k lines) ++ cons_option (light_in (light_of ss line)) []) (sym is)
     ∙ sym (lights_more ss lines k low)
 
 -- all lines are taken
-pub all_read : (ss : List SolidView) (first : ℕ) (lines : List Words) (k : ℕ) (lights : List SolidSet) → k ≡ length lines →
-    first_fault (fault_at ss first lines) k ≡ None → lights ≡ lights_of ss (take k lines) → All (IsBelow (length ss)) lights → AreRead ss first lines lights
+pub all_read : (ss : List SolidView) (first : ℕ) (lines : List Words) (k : ℕ) (lights : List SolidSet)
+    → k ≡ length lines →
+    first_fault (fault_at ss first lines) k ≡ None → lights ≡ lights_of ss (take k lines)
+    → All (IsBelow (length ss)) lights → AreRead ss first lines lights
 all_read ss first lines k lights all good each known = record {
   good = ap (first_fault (fault_at ss first lines)) (sym all) ∙ good;
   each = each ∙ ap (lights_of ss) (take_all k lines (omega (arith, all)));
@@ -160,9 +181,11 @@ all_read ss first lines k lights all good each known = record {
 }
 
 -- one light more
-pub more_known : (n : ℕ) (old now : List SolidSet) (light : SolidSet) → All (IsBelow n) old → IsBelow n light → now ≡ old ++ light ∷ [] → All (IsBelow n) now
+pub more_known : (n : ℕ) (old now : List SolidSet) (light : SolidSet) → All (IsBelow n) old → IsBelow n light
+    → now ≡ old ++ light ∷ [] → All (IsBelow n) now
 more_known n old now light held here is =
-    subst (All (IsBelow n)) (sym is) (All-append (IsBelow n) old (light ∷ []) held (All-cons (IsBelow n) light [] here (All-nil (IsBelow n))))
+    subst (All (IsBelow n)) (sym is) (All-append (IsBelow n) old (light ∷ []) held
+    (All-cons (IsBelow n) light [] here (All-nil (IsBelow n))))
 
 pub on_ok : {T E P Q : Type 0} (r : Result T E) → OnOk r P → (P → Q) → OnOk r Q
 on_ok (Ok x) p f = f p

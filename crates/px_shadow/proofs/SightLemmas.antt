@@ -1,5 +1,6 @@
 -- Where a pixel stores what it shows, the stored key says by which lights it is lit.
-use Rattle.std.proofs.Common.{◌≡◌, ◌+◌, ◌==◌, ◌∙◌, ℕ, Bool, true, false, ◌&&◌, not, List, Option, Some, None, refl, ap, sym, arith}
+use Rattle.std.proofs.Common.{◌≡◌, ◌+◌, ◌==◌, ◌∙◌, ℕ, Bool, true, false, ◌&&◌, not, List, Option, Some, None, refl}
+use Rattle.std.proofs.Common.{ap, sym, arith}
 use Rattle.std.proofs.lemmas.Bool.Decides.{nat_tests}
 use Rattle.px_macro.specs.Fields.{number_in}
 use Rattle.px_macro.specs.FieldLaws.{NumberOfParts}
@@ -31,8 +32,10 @@ ready scene = record {
 }
 
 -- the stored depth with its fraction is the value of the first cell
-deep_is : NumberOfParts → (scene : SceneView) (memory : List Bool) (x y : ℕ) → HasSight (layout_of scene) memory (picture scene x y) →
-    number_in (deep_part (layout_of scene) (layout_of scene).key_b) memory ≡ value_of (depths_of scene) (picture scene x y).depth
+deep_is : NumberOfParts → (scene : SceneView) (memory : List Bool) (x y : ℕ) → HasSight (layout_of scene) memory
+    (picture scene x y) →
+    number_in (deep_part (layout_of scene) (layout_of scene).key_b) memory ≡ value_of (depths_of scene)
+    (picture scene x y).depth
 deep_is parts scene memory x y sight =
     let w = scene.depth_bits in
     let f = scene.fraction_bits in
@@ -45,20 +48,24 @@ not_zero : (n : ℕ) → (n ≡ 0 → ⊥) → not (n == 0) ≡ true
 not_zero n h = grind (arith, nat_tests)
 
 module _ (laws : Below) (parts : NumberOfParts) (scene : SceneView) (memory : List Bool) (x y : ℕ)
-    (sight : HasSight (layout_of scene) memory (picture scene x y)) (background : ShowsBackground scene x y) (set : SolidSet) where
+    (sight : HasSight (layout_of scene) memory (picture scene x y)) (background : ShowsBackground scene x y)
+    (set : SolidSet) where
   abbrev clear : ℕ → Bool
   clear v = outside laws scene (layout_of scene) (ready scene) x y v (solids set)
 
-  by_cell : (o : Option ℕ) → first_cell scene x y ≡ o → lit laws scene (layout_of scene) (ready scene) x y set memory ≡ is_lit scene set x y
+  by_cell : (o : Option ℕ) → first_cell scene x y ≡ o → lit laws scene (layout_of scene) (ready scene) x y set memory
+      ≡ is_lit scene set x y
   by_cell None e =
-      ap (λ n. clear (number_in (deep_part (layout_of scene) (layout_of scene).key_b) memory) && not (n == 0)) (sight.face ∙ background.face.1 e)
+      ap (λ n. clear (number_in (deep_part (layout_of scene) (layout_of scene).key_b) memory) && not (n == 0))
+      (sight.face ∙ background.face.1 e)
       ∙ and_false (clear (number_in (deep_part (layout_of scene) (layout_of scene).key_b) memory))
       ∙ sym (ap (is_lit_at scene set x y) e)
   by_cell (Some z) e =
       let depth : (picture scene x y).depth ≡ z = ap (λ o. (sight_at scene x y o).depth) e in
       ap (λ n. clear n && not (number_in (number_part (layout_of scene) (layout_of scene).key_b) memory == 0))
       (deep_is parts scene memory x y sight ∙ ap (value_of (depths_of scene)) depth)
-      ∙ ap (λ b. clear (value_of (depths_of scene) z) && b) (not_zero _ (λ h. let same = background.face.0 (sym sight.face ∙ h) in cc))
+      ∙ ap (λ b. clear (value_of (depths_of scene) z) && b)
+      (not_zero _ (λ h. let same = background.face.0 (sym sight.face ∙ h) in cc))
       ∙ and_true (clear (value_of (depths_of scene) z))
       ∙ sym (ap (is_lit_at scene set x y) e)
 
@@ -70,4 +77,5 @@ shadow_law laws parts backgrounds scene lawful solids lights x y left up p room 
     let l = layout_of scene in
     let all = are_lit laws scene l (ready scene) x y 1 (omega arith) lights p (omega (arith, room)) in
     let e : light_bit l (place + 1) ≡ light_bit l 1 + place = omega arith in
-    rw e (all.lights place below ∙ lit_is laws parts scene p.memory x y sight (backgrounds scene lawful solids x y) (light_at lights place))
+    rw e (all.lights place below ∙ lit_is laws parts scene p.memory x y sight (backgrounds scene lawful solids x y)
+    (light_at lights place))

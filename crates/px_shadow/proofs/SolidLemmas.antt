@@ -1,12 +1,11 @@
 -- What the passes of a solid, of the background and of a light leave in the memory of a pixel.
-use Rattle.std.proofs.Common.{◌≡◌, ◌≢◌, ◌<◌, ◌≤◌, ◌+◌, ◌^◌, ◌==◌, ◌∙◌, ℕ, Bool, true, false, ◌&&◌, not, List, [], ◌∷◌, ◌++◌, length, map, slice_set, if◌then◌else◌, refl, ap, sym, arith, get_or-set_same, get_or-set_other, length-set}
+use Rattle.std.proofs.Common.{◌≡◌, ◌≢◌, ◌<◌, ◌≤◌, ◌+◌, ◌^◌, ◌==◌, ◌∙◌, ℕ, Bool, true, false, ◌&&◌, not, List, [], ◌∷◌}
+use Rattle.std.proofs.Common.{◌++◌, length, slice_set, if◌then◌else◌, refl, ap, sym, arith, get_or-set_same}
+use Rattle.std.proofs.Common.{get_or-set_other, length-set}
 use Prim.Native.Nat.{zero, suc}
 use Rattle.std.specs.Bool.{beq}
-use Rattle.std.specs.List.{flat_map, list_all, range_with_len}
-use Rattle.std.proofs.lemmas.Bool.Decides.{nat_tests}
-use Rattle.std.proofs.lemmas.List.Folds.{list_all-append}
+use Rattle.std.specs.List.{flat_map, range_with_len}
 use Rattle.px_macro.specs.declared.field.Field.{Field}
-use Rattle.px_macro.specs.declared.operation.Macro.{Macro}
 use Rattle.px_macro.specs.declared.operation.Macro.TheVariants as m
 use Rattle.px_macro.specs.Fields.{number_in, number_of}
 use Rattle.px_num.specs.Bits.{bit_at}
@@ -14,8 +13,8 @@ use Rattle.px_macro.specs.Macros.{PixelBits, after_macros}
 use Rattle.px_model.specs.Solids.{SolidView}
 use Rattle.px_model.specs.Cells.{is_inside_at}
 use Rattle.px_face.specs.Faces.{face_count}
-use Rattle.px_sched.specs.Layouts.{LayoutView, deep_part, number_part}
-use Rattle.px_shadow.specs.ShadowPasses.{background_passes, light_bit, solid_passes, stored_turn}
+use Rattle.px_sched.specs.Layouts.{LayoutView, deep_part}
+use Rattle.px_shadow.specs.ShadowPasses.{light_bit, solid_passes, stored_turn}
 use Rattle.px_shadow.proofs.TurnLemmas.{Below, all_turned, pixel}
 
 -- what passes of a light write: the parity bit and the light's
@@ -44,7 +43,8 @@ keeps_bit par bit memory v = record {
   rest = λ place p q. get_or-set_other memory bit place v false q;
 }
 
-pub keeps_if : (par bit : ℕ) (c : Bool) (a b d : List Bool) → Keeps par bit a b → Keeps par bit a d → Keeps par bit a (if c then b else d)
+pub keeps_if : (par bit : ℕ) (c : Bool) (a b d : List Bool) → Keeps par bit a b → Keeps par bit a d
+    → Keeps par bit a (if c then b else d)
 keeps_if par bit true a b d first second = first
 keeps_if par bit false a b d first second = second
 
@@ -93,7 +93,8 @@ module _ (laws : Below) (l : LayoutView) (light : ℕ) (some : 0 < light) (x y :
   pub solid_goes_out : (end : ℕ) (s : SolidView) → end < 2 ^ (deep_part l l.key_b).len →
       (deep_part l l.key_b).at + (deep_part l l.key_b).len ≤ l.par →
       (p : PixelBits) → bit < length p.memory →
-      GoesOut l.par bit (is_stored_inside end s p.memory) p.memory (after_macros (solid_passes l end light s) x y p).memory
+      GoesOut l.par bit (is_stored_inside end s p.memory) p.memory (after_macros (solid_passes l end light s) x y
+      p).memory
   solid_goes_out end s big low p room =
       let memory = p.memory in
       let inside = is_stored_inside end s memory in
@@ -101,13 +102,16 @@ module _ (laws : Below) (l : LayoutView) (light : ℕ) (some : 0 < light) (x y :
       let faces = flat_map (stored_turn l end s) (range_with_len 0 (face_count s)) in
       let last = m.All ∷ m.KeepBit l.par true ∷ m.SetBit bit false ∷ [] in
       let odd = slice_set memory l.par inside in
-      let is : (after_macros (solid_passes l end light s) x y p).memory ≡ (if inside then slice_set odd bit false else odd) =
+      let is : (after_macros (solid_passes l end light s) x y p).memory
+      ≡ (if inside then slice_set odd bit false else odd) =
       ap (λ (q : PixelBits). q.memory) (laws.join faces last x y start)
       ∙ ap (λ mem. if true && beq (bit_at mem l.par) true then slice_set mem bit false else mem)
       (all_turned laws s end x y l memory (omega arith)
-      (λ v. number_kept l.par bit (deep_part l l.key_b) memory (slice_set memory l.par v) low (omega arith) (keeps_par l.par bit memory v))
+      (λ v. number_kept l.par bit (deep_part l l.key_b) memory (slice_set memory l.par v) low (omega arith)
+      (keeps_par l.par bit memory v))
       big true)
-      ∙ ap (λ b. if true && beq b true then slice_set odd bit false else odd) (get_or-set_same memory l.par inside false (omega arith))
+      ∙ ap (λ b. if true && beq b true then slice_set odd bit false else odd)
+      (get_or-set_same memory l.par inside false (omega arith))
       ∙ ap (λ b. if b then slice_set odd bit false else odd) (beq_true inside) in
       rw is record {
         keeps =

@@ -1,5 +1,6 @@
 -- The steps of the shadow passes as the functions make them, one after another.
-use Rattle.std.proofs.Common.{◌≡◌, ◌<◌, ◌+◌, ◌-◌, ◌∙◌, ℕ, false, List, [], ◌∷◌, ◌++◌, drop, length, map, ap, arith, refl, sym}
+use Rattle.std.proofs.Common.{◌≡◌, ◌<◌, ◌+◌, ◌-◌, ◌∙◌, ℕ, false, List, [], ◌∷◌, ◌++◌, drop, length, map, ap, arith}
+use Rattle.std.proofs.Common.{sym}
 use Rattle.std.specs.List.{flat_map, range_with_len}
 use Rattle.std.proofs.lemmas.List.Concat.{flat_map_single}
 use Rattle.std.proofs.lemmas.List.FromFn.{get_or-range_with_len}
@@ -28,7 +29,8 @@ bit_test l t = m.KeepBit ((number_part l l.key_b).at + t) false ∷ []
 abbrev pub edge_test : Linear → List Macro
 edge_test form = m.KeepSign form ∷ []
 
-pub tests_are : {X : Type 0} (f : X → Macro) (xs : List X) (tail : List Macro) → map f xs ++ tail ≡ flat_map (λ x. f x ∷ []) xs ++ tail
+pub tests_are : {X : Type 0} (f : X → Macro) (xs : List X) (tail : List Macro) → map f xs ++ tail
+    ≡ flat_map (λ x. f x ∷ []) xs ++ tail
 tests_are f xs tail = ap (λ ms. ms ++ tail) (sym (flat_map_single f xs))
 
 pub number_at : (n t : ℕ) → t < n → get_or (range_with_len 0 n) t 0 ≡ t
@@ -47,7 +49,8 @@ all_known laws count set known =
     (AllPass-from_list_all (λ q. nat_lt q count) (solids set)
     ((laws.each (λ q. nat_lt q count) set).1 (λ q low h. lt_true q count (known q low h))))
 
-pub same_solid : (l : LayoutView) (light : ℕ) (a b : ℕ) (s t : SolidView) → a ≡ b → s ≡ t → solid_passes l a light s ≡ solid_passes l b light t
+pub same_solid : (l : LayoutView) (light : ℕ) (a b : ℕ) (s t : SolidView) → a ≡ b → s ≡ t → solid_passes l a light s
+    ≡ solid_passes l b light t
 same_solid l light a b s t ends same = ap (λ e. solid_passes l e light s) ends ∙ ap (λ u. solid_passes l b light u) same
 
 -- stands where no light is
@@ -55,7 +58,9 @@ abbrev pub no_light : SolidSet
 no_light = record { words = [] }
 
 pub next_lights : (scene : SceneView) (l : LayoutView) (sets : List SolidSet) (i : ℕ) → i < length sets →
-    passes_from scene l (i + 1) (drop i sets) ≡ light_passes scene l (i + 1) (get_or sets i no_light) ++ passes_from scene l (i + 1 + 1) (drop (i + 1) sets)
+    passes_from scene l (i + 1) (drop i sets) ≡ light_passes scene l (i + 1) (get_or sets i no_light)
+    ++ passes_from scene l (i + 1 + 1) (drop (i + 1) sets)
 next_lights scene l sets i there =
     let next : suc i ≡ i + 1 = omega arith in
-    ap (passes_from scene l (i + 1)) (drop-cons sets i no_light there ∙ ap (λ k. get_or sets i no_light ∷ drop k sets) next)
+    ap (passes_from scene l (i + 1)) (drop-cons sets i no_light there
+    ∙ ap (λ k. get_or sets i no_light ∷ drop k sets) next)

@@ -1,5 +1,6 @@
 -- What the faces of a solid leave in the memory of a pixel: the parity bit says whether the stored cell is inside.
-use Rattle.std.proofs.Common.{◌≡◌, ◌<◌, ◌≤◌, ◌+◌, ◌^◌, ◌∙◌, ℕ, Bool, true, false, ◌&&◌, not, nat_le, List, [], ◌∷◌, length, map, slice_set, if◌then◌else◌, refl, ap, sym, arith, get_or-set_same}
+use Rattle.std.proofs.Common.{◌≡◌, ◌<◌, ◌≤◌, ◌+◌, ◌^◌, ◌∙◌, ℕ, Bool, true, false, ◌&&◌, not, nat_le, List, [], ◌∷◌}
+use Rattle.std.proofs.Common.{length, map, slice_set, if◌then◌else◌, refl, ap, sym, arith, get_or-set_same}
 use Prim.Native.Nat.{zero, suc}
 use Rattle.std.specs.Int.{is_negative}
 use Rattle.std.specs.List.{flat_map, fold, range_with_len}
@@ -45,7 +46,8 @@ kept (f ∷ fs) x y memory e =
 
 module _ (laws : Below) (s : SolidView) (end x y : ℕ) where
   module _ (l : LayoutView) (memory : List Bool) (room : l.par < length memory)
-      (apart : (v : Bool) → number_in (deep_part l l.key_b) (slice_set memory l.par v) ≡ number_in (deep_part l l.key_b) memory)
+      (apart : (v : Bool) → number_in (deep_part l l.key_b) (slice_set memory l.par v)
+      ≡ number_in (deep_part l l.key_b) memory)
       (big : end < 2 ^ (deep_part l l.key_b).len) where
     abbrev stored : ℕ
     stored = number_in (deep_part l l.key_b) memory
@@ -58,23 +60,28 @@ module _ (laws : Below) (s : SolidView) (end x y : ℕ) where
     with_parity odd = slice_set memory l.par odd
 
     turned_memory : (c odd now : Bool) → now ≡ odd →
-        (if c then slice_set (with_parity odd) l.par (not now) else with_parity odd) ≡ with_parity (if c then not odd else odd)
+        (if c then slice_set (with_parity odd) l.par (not now) else with_parity odd)
+        ≡ with_parity (if c then not odd else odd)
     turned_memory true odd now e = rw e (set-set memory l.par odd (not odd))
     turned_memory false odd now e = refl
 
     one_turned : (i : ℕ) → i < face_count s → (odd e : Bool) →
-        (after_macros (stored_turn l end s i) x y (pixel (with_parity odd) e)).memory ≡ with_parity (turned_where passed odd i)
+        (after_macros (stored_turn l end s i) x y (pixel (with_parity odd) e)).memory
+        ≡ with_parity (turned_where passed odd i)
     one_turned i there odd e =
         let c = covers s end i x y in
         let v = value_at (plane_of s end i) x y in
         let last = m.KeepAtMost (plane_of s end i) (deep_part l l.key_b) ∷ m.Toggle l.par ∷ [] in
-        let test : (c && nat_le (modulo v (deep_part l l.key_b).len) (number_in (deep_part l l.key_b) (with_parity odd))) ≡ passed i =
+        let test : (c && nat_le (modulo v (deep_part l l.key_b).len)
+        (number_in (deep_part l l.key_b) (with_parity odd))) ≡ passed i =
         ap (λ n. c && nat_le (modulo v (deep_part l l.key_b).len) n) (apart odd)
-        ∙ and_same c _ _ (λ h. at_most_is v end (deep_part l l.key_b).len stored big (covering_value laws.covering end s x y i there h)) in
+        ∙ and_same c _ _ (λ h. at_most_is v end (deep_part l l.key_b).len stored big
+        (covering_value laws.covering end s x y i there h)) in
         ap (λ (p : PixelBits). p.memory)
         (laws.join (keep_covered end s i) last x y (pixel (with_parity odd) true)
         ∙ ap (after_macros last x y) (kept (edges s end i) x y (with_parity odd) true))
-        ∙ ap (λ b. if b then slice_set (with_parity odd) l.par (not (bit_at (with_parity odd) l.par)) else with_parity odd) test
+        ∙ ap (λ b. if b then slice_set (with_parity odd) l.par (not (bit_at (with_parity odd) l.par)) else with_parity
+        odd) test
         ∙ turned_memory (passed i) odd (bit_at (with_parity odd) l.par) (get_or-set_same memory l.par odd false room)
 
     some_turned : (a n : ℕ) → a + n ≤ face_count s → (odd e : Bool) →
@@ -94,8 +101,10 @@ module _ (laws : Below) (s : SolidView) (end x y : ℕ) where
 
     -- an odd number of faces is passed where the stored cell is inside
     pub all_turned : (e : Bool) →
-        (after_macros (flat_map (stored_turn l end s) (range_with_len 0 (face_count s))) x y (pixel (with_parity false) e)).memory
+        (after_macros (flat_map (stored_turn l end s) (range_with_len 0 (face_count s))) x y
+        (pixel (with_parity false) e)).memory
         ≡ with_parity (is_inside_at s end x y stored)
     all_turned e =
         some_turned 0 (face_count s) (omega arith) false e
-        ∙ ap with_parity (turned_is_odd passed false (range_with_len 0 (face_count s)) ∙ itself _ ∙ sym (laws.parity s end x y stored))
+        ∙ ap with_parity (turned_is_odd passed false (range_with_len 0 (face_count s)) ∙ itself _
+        ∙ sym (laws.parity s end x y stored))

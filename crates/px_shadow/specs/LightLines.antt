@@ -1,5 +1,5 @@
 -- Light lines: which solids each of them names, and why the first bad line is bad. Clauses of public calls stand on it.
-use Rattle.std.specs.Prelude.{ℕ, ◌+◌, ◌==◌, Bool, true, false, not, List, [], ◌∷◌, length, map, take, filter, get_or, codes, if◌then◌else◌, Option, Some, None, is_some, Result, Ok, Err}
+use Rattle.std.specs.Prelude.{ℕ, ◌+◌, ◌==◌, Bool, not, List, [], ◌∷◌, length, take, get_or, codes, if◌then◌else◌, Option, Some, None, is_some, Result, Ok, Err}
 use Prim.Native.Nat.{zero, suc}
 use Rattle.std.specs.List.{filter_map, list_all, position}
 use Rattle.std.specs.Option.{option_or}
@@ -9,9 +9,10 @@ use Rattle.px_text.specs.Word.{is_name}
 use Rattle.px_normal.specs.declared.set.SolidSet.{SolidSet}
 use Rattle.px_model.specs.Solids.{SolidView}
 use Rattle.px_prune.specs.Kept.{set_of}
-use Rattle.px_scene.specs.declared.line.Cause.{Cause}
-use Rattle.px_scene.specs.declared.line.Cause.TheVariants.{BadName, Unexpected, UnknownName, WordCount}
+use Rattle.px_show.specs.declared.fault.Cause.{Cause}
+use Rattle.px_show.specs.declared.fault.Cause.TheVariants.{BadName, Unexpected, UnknownName, WordCount}
 use Rattle.px_shadow.specs.declared.light.LightFault.{LightFault}
+use Rattle.px_shadow.specs.declared.passes.TheConstants.{MAX_LIGHTS}
 use Rattle.px_shadow.specs.declared.light.LightFault.TheVariants.{Limit, Malformed}
 
 -- the index of the solid of this name
@@ -50,7 +51,7 @@ lights_of ss lines = filter_map (λ line. light_in (light_of ss line)) lines
 abbrev pub line_fault : (number lights_before : ℕ) → Result (Option SolidSet) Cause → Option LightFault
 line_fault number before (Err cause) = Some (Malformed number cause)
 line_fault number before (Ok None) = None
-line_fault number before (Ok (Some light)) = if before == 8 then Some (Limit number 9) else None
+line_fault number before (Ok (Some light)) = if before == MAX_LIGHTS then Some (Limit number (MAX_LIGHTS + 1)) else None
 
 -- what is bad of a line by its place, where the first line has this number
 abbrev pub fault_at : List SolidView → (first : ℕ) → List Words → (place : ℕ) → Option LightFault

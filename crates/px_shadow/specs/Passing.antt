@@ -1,5 +1,5 @@
 -- How many operations the shadow passes are. Only proofs and private functions stand on it.
-use Rattle.std.specs.Prelude.{ℕ, ◌≤◌, ◌*◌, All, List, length}
+use Rattle.std.specs.Prelude.{◌≤◌, ◌*◌, All, List, length}
 use Rattle.px_normal.specs.declared.set.SolidSet.{SolidSet}
 use Rattle.px_normal.specs.Sets.{IsBelow}
 use Rattle.px_model.specs.Scenes.{IsLawfulScene, SceneView}

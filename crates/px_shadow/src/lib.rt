@@ -12,4 +12,4 @@ mod tests;
 pub use law::laws_of_shadows;
 pub use light::{LightFault, read_lights};
 pub use masks::write_masks;
-pub use passes::{need, shade};
+pub use passes::{MAX_LIGHTS, need, shade};

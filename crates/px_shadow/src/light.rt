@@ -1,9 +1,10 @@
 //! Light lines (docs/SHADOWS.md, "Light lines").
-ghost use Rattle.std.specs.Prelude.{◌≡◌, ◌<◌, ◌≤◌, ◌++◌, ◌∷◌, ◌&&◌, ◌↔◌, [], All, IfErr, IfOk, IfSome, IsOk, List, None, Ok, OnOk, Some, length, true};
+ghost use Rattle.std.specs.Prelude.{◌≡◌, ◌<◌, ◌≤◌, ◌++◌, ◌∷◌, ◌&&◌, ◌+◌, ◌↔◌, [], All, IfErr, IfOk, IfSome, IsOk, List, None, Ok, OnOk, Some, length, true};
 ghost use Rattle.std.specs.List.{cons_option};
 ghost use Rattle.px_model.specs.Solids.{SolidView};
 ghost use Rattle.px_text.specs.Word.{is_name};
 ghost use Rattle.px_normal.specs.Sets.{IsBelow};
+ghost use Rattle.px_text.specs.declared.text.TheConstants.{MAX_TEXT_BYTES};
 ghost use Rattle.px_text.specs.Text.{Words, words_of, worded};
 ghost use Rattle.px_shadow.specs.declared.light.Said.TheVariants as s;
 ghost use Rattle.px_shadow.specs.Saying.{AreRead, pieces_of, said_of, with_solid};
@@ -17,7 +18,7 @@ ghost use Rattle.px_shadow.specs.LightLines.{
   solid_named,
 };
 
-use crate::passes::MOST_LIGHTS;
+use crate::passes::MAX_LIGHTS;
 use arrayvec::ArrayVec;
 use px_model::{Scene, laws_of_scenes};
 use px_normal::{SolidSet, laws_of_sets};
@@ -39,15 +40,15 @@ pub enum LightFault {
 /// Reads lines of lights, of which the first has the number `first_line` (docs/SHADOWS.md, "Light
 /// lines").
 ///
-/// There is a light for each line with words, at most 8, in order: the set of the solids that the
+/// There is a light for each line with words, at most `MAX_LIGHTS`, in order: the set of the solids that the
 /// line names. A fault is that of the first bad line.
 pub fn read_lights(
     scene: &Scene,
     text: &[u8],
     first_line: u32,
-) -> Result<ArrayVec<SolidSet, 8>, LightFault>
-    requires line { first_line ≤ 1048577 }
-    requires text { length text.now ≤ 1048576 }
+) -> Result<ArrayVec<SolidSet, MAX_LIGHTS>, LightFault>
+    requires line { first_line ≤ MAX_TEXT_BYTES + 1 }
+    requires text { length text.now ≤ MAX_TEXT_BYTES }
     ensures lights { IfOk result (λ lights.
         lights.items ≡ lights_of scene.now.solids (worded text.now)) }
     ensures good { IsOk result
@@ -68,9 +69,9 @@ fn read_pieces(
     scene: &Scene,
     text: &[u8],
     first_line: u32,
-) -> Result<ArrayVec<SolidSet, 8>, LightFault>
-    requires line { first_line ≤ 1048577 }
-    requires text { length text.now ≤ 1048576 }
+) -> Result<ArrayVec<SolidSet, MAX_LIGHTS>, LightFault>
+    requires line { first_line ≤ MAX_TEXT_BYTES + 1 }
+    requires text { length text.now ≤ MAX_TEXT_BYTES }
     ensures ok { IfOk result (λ lights. AreRead scene.now.solids first_line
         (pieces_of text.now) lights.items) }
     ensures fault { IfErr result (λ fault.
@@ -92,7 +93,7 @@ fn take_line(
     scene: &Scene,
     piece: &[u8],
     line: u32,
-    lights: &mut ArrayVec<SolidSet, 8>,
+    lights: &mut ArrayVec<SolidSet, MAX_LIGHTS>,
 ) -> Result<(), LightFault>
     requires { All (IsBelow (length scene.now.solids)) lights.old.items }
     ensures good { OnOk result (line_fault line (length lights.old.items)
@@ -116,15 +117,18 @@ fn take_line(
 fn add_light(
     light: SolidSet,
     line: u32,
-    lights: &mut ArrayVec<SolidSet, 8>,
+    lights: &mut ArrayVec<SolidSet, MAX_LIGHTS>,
 ) -> Result<(), LightFault>
     ensures good { OnOk result (line_fault line (length lights.old.items) (Ok (Some light)) ≡ None) }
     ensures fault { IfErr result (λ fault.
         line_fault line (length lights.old.items) (Ok (Some light)) ≡ Some fault) }
     ensures lights { OnOk result (lights.new.items ≡ lights.old.items ++ light ∷ []) }
 {
-    if lights.len() == MOST_LIGHTS {
-        return Err(LightFault::Limit { line, found: 9 });
+    if lights.len() == MAX_LIGHTS {
+        return Err(LightFault::Limit {
+            line,
+            found: lights.len() as u32 + 1,
+        });
     }
     lights.push(light);
     Ok(())

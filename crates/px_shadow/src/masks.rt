@@ -3,8 +3,9 @@ ghost use Rattle.std.specs.Prelude.{◌≡◌, ◌+◌, ◌^◌, ◌<◌, ◌≤
 ghost use Rattle.px_io.specs.Counts.{HasCause};
 ghost use Rattle.px_io.specs.Told.{TakesAll, TakesFront};
 ghost use Rattle.px_array.specs.Arrays.{HasPixel, IsOpen};
-ghost use Rattle.px_frame.specs.Image.{row_bytes};
+ghost use Rattle.px_frame.specs.Rows.{row_bytes};
 ghost use Rattle.px_frame.specs.Stored.{HasColumns, HasRows};
+ghost use Rattle.px_shadow.specs.declared.passes.TheConstants.{MAX_LIGHTS};
 ghost use Rattle.px_shadow.specs.ShadowPasses.{need_with};
 ghost use Rattle.px_shadow.specs.Stored.{lights_field, stored_masks, stored_number};
 
@@ -34,7 +35,7 @@ pub fn write_masks<A: Array, O: Sink>(
     requires open { IsOpen (A.device array.now) }
     requires columns { HasColumns scene.now (A.device array.now).state }
     requires rows { HasRows scene.now (A.device array.now).state }
-    requires few { lights ≤ 8 }
+    requires few { lights ≤ MAX_LIGHTS }
     requires room { need_with layout.now lights ≤ A.BITS }
     ensures ok { OnOk result (TakesAll (O.written out.old) (O.written out.new)
         (O.finished out.old) (O.finished out.new)
@@ -56,7 +57,7 @@ pub fn write_masks<A: Array, O: Sink>(
 
 /// The memory bits of so many lights, as a field.
 fn lights_field(layout: &Layout, lights: usize) -> Field
-    requires { lights ≤ 8 }
+    requires { lights ≤ MAX_LIGHTS }
     ensures field { result ≡ lights_field layout.now lights }
     ensures room { result.at + result.len ≡ need_with layout.now lights }
     ensures low { result.at ≤ 256 }
@@ -74,7 +75,7 @@ fn mask_row<A: Array>(array: &A, field: &Field, scene: &Scene, y: u32) -> ArrayV
     requires rows { HasRows scene.now (A.device array.now).state }
     requires room { field.now.at + field.now.len ≤ A.BITS }
     requires low { field.now.at ≤ 256 }
-    requires few { field.now.len ≤ 8 }
+    requires few { field.now.len ≤ MAX_LIGHTS }
     requires y { y < scene.now.height }
     ensures { result.items ≡ row_bytes scene.now.width
         (stored_number field.now (A.device array.now).state) y }
@@ -92,7 +93,7 @@ fn mask_at<A: Array>(array: &A, field: Field, x: u32, y: u32) -> u32
     requires pixel { HasPixel (A.device array.now) x y }
     requires room { field.at + field.len ≤ A.BITS }
     requires low { field.at ≤ 256 }
-    requires few { field.len ≤ 8 }
+    requires few { field.len ≤ MAX_LIGHTS }
     ensures number { result ≡ stored_number field (A.device array.now).state x y }
     ensures small { result < 2 ^ 24 }
 {

@@ -9,6 +9,7 @@ ghost use Rattle.px_sched.specs.Layouts.{layout_of};
 ghost use Rattle.px_control.specs.GridLaw.{CoversThePicture};
 ghost use Rattle.px_control.specs.Program.{IsAt, total};
 ghost use Rattle.px_sched.specs.Passes.{solid_of};
+ghost use Rattle.px_shadow.specs.declared.passes.TheConstants.{MAX_LIGHTS};
 ghost use Rattle.px_shadow.specs.Carrying.{CanCarryOut, CarriesOut};
 ghost use Rattle.px_shadow.specs.Shaded.{IsShaded, shadow_program};
 ghost use Rattle.px_shadow.specs.Stored.{StoresTheLights};
@@ -33,13 +34,13 @@ use px_model::{Scene, Solid, laws_of_scenes};
 use px_normal::{MAX_PRODUCTS, SolidSet, laws_of_sets};
 use px_sched::{Layout, laws_of_passes};
 
-/// How many lights there can be.
-pub(crate) const MOST_LIGHTS: usize = 8;
+/// A scene is lit by at most so many lights.
+pub const MAX_LIGHTS: usize = 8;
 
-/// How many memory bits a pixel needs for the keys of a layout and so many lights, at most 8
-/// (docs/SHADOWS.md, "Memory").
+/// How many memory bits a pixel needs for the keys of a layout and so many lights, at most
+/// `MAX_LIGHTS` (docs/SHADOWS.md, "Memory").
 pub fn need(layout: &Layout, lights: usize) -> u32
-    requires { lights ≤ 8 }
+    requires { lights ≤ MAX_LIGHTS }
     ensures { result ≡ need_with layout.now lights }
 {
     layout.par + 1 + lights as u32
@@ -54,7 +55,7 @@ pub fn need(layout: &Layout, lights: usize) -> u32
 pub fn shade<A: Array>(
     scene: &Scene,
     layout: &Layout,
-    lights: &ArrayVec<SolidSet, 8>,
+    lights: &ArrayVec<SolidSet, MAX_LIGHTS>,
     array: &mut A,
 )
     requires layout { layout.now ≡ layout_of scene.now }
@@ -82,7 +83,7 @@ pub fn shade<A: Array>(
 
 /// The passes of all lights.
 fn all_lights<A: Array>(array: &mut A, scene: &Scene, layout: &Layout, lights: &[SolidSet])
-    requires few { length lights.now ≤ 8 }
+    requires few { length lights.now ≤ MAX_LIGHTS }
     requires known { All (IsBelow (length scene.now.solids)) lights.now }
     requires can { CanCarryOut A.BITS (shadow_passes scene.now layout.now lights.now)
         (A.device array.old) }
@@ -96,7 +97,7 @@ fn all_lights<A: Array>(array: &mut A, scene: &Scene, layout: &Layout, lights: &
 
 /// The passes of a light.
 fn one_light<A: Array>(array: &mut A, scene: &Scene, layout: &Layout, light: u32, solids: &SolidSet)
-    requires number { light ≤ 8 }
+    requires number { light ≤ MAX_LIGHTS }
     requires known { IsBelow (length scene.now.solids) solids.now }
     requires can { CanCarryOut A.BITS (light_passes scene.now layout.now light solids.now)
         (A.device array.old) }
@@ -117,7 +118,7 @@ fn one_light<A: Array>(array: &mut A, scene: &Scene, layout: &Layout, light: u32
 
 /// The passes of a solid of a light, which put the light out where the stored cell is inside it.
 fn one_solid<A: Array>(array: &mut A, layout: &Layout, end: u32, light: u32, solid: &Solid)
-    requires number { light ≤ 8 }
+    requires number { light ≤ MAX_LIGHTS }
     requires can { CanCarryOut A.BITS (solid_passes layout.now end light solid.now)
         (A.device array.old) }
     ensures { CarriesOut A.device A.slots A.work (solid_passes layout.now end light solid.now)
@@ -162,7 +163,7 @@ fn one_face<A: Array>(array: &mut A, layout: &Layout, end: u32, solid: &Solid, f
 
 /// The passes that put a light out where no face is stored.
 fn background<A: Array>(array: &mut A, layout: &Layout, light: u32)
-    requires number { light ≤ 8 }
+    requires number { light ≤ MAX_LIGHTS }
     requires can { CanCarryOut A.BITS (background_passes layout.now light) (A.device array.old) }
     ensures { CarriesOut A.device A.slots A.work (background_passes layout.now light)
         array.old array.new }
@@ -177,7 +178,7 @@ fn background<A: Array>(array: &mut A, layout: &Layout, light: u32)
 
 /// The memory bit of a light; lights are counted from 1.
 fn light_bit(layout: &Layout, light: u32) -> u32
-    requires { light ≤ 8 }
+    requires { light ≤ MAX_LIGHTS }
     ensures { result ≡ light_bit layout.now light }
 {
     layout.par + light

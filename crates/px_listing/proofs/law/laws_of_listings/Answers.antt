@@ -12,7 +12,8 @@ returns-clause-printed c = show_the_played
 pub returns-clause-passes : goal.returns-clause-passes
 returns-clause-passes c =
     let law = c.written_law.ensures in
-    passes_read_back c.laws_of_operations.ensures.more c.laws_of_passes.ensures.lawful (read_back law.numbers law.words law.lines)
+    passes_read_back c.laws_of_operations.ensures.more c.laws_of_passes.ensures.lawful
+    (read_back law.numbers law.words law.lines)
 
 pub returns-clause-picture : goal.returns-clause-picture
 returns-clause-picture c = show_the_picture c.laws_of_passes.ensures.picture

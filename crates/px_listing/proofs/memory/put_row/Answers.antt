@@ -23,6 +23,7 @@ loop-x-preserved g c =
     let f : ℕ → List ℕ = λ x. pixel_line g.A.Array.BITS x c.args.y (bits_of (pixel_of state x c.args.y)) in
     let line = c.as_str.ensures.value ∙ c.pixel_line.ensures in
     record {
-      put = rw (made_more f c.loop-x.x) at (puts_both _ _ _ _ _ _ _ _ _ _ _ c.loop-x.invariant.put (rw line at c.in_ok-put.ensures.ok));
+      put = rw (made_more f c.loop-x.x) at (puts_both _ _ _ _ _ _ _ _ _ _ _ c.loop-x.invariant.put
+          (rw line at c.in_ok-put.ensures.ok));
       calm = c.in_ok-put.ensures.cause.calm ∙ c.loop-x.invariant.calm;
     }

@@ -6,7 +6,6 @@ use Rattle.px_asm.specs.Microprograms.{bits_of}
 use Rattle.px_listing.specs.Memories.{row_lines}
 use Rattle.px_listing.proofs.PieceLemmas.{err_cut, if_err, ok_flushed, puts_both, puts_cut}
 use Rattle.px_listing.proofs.RowLemmas.{made_cut, made_more}
-use Rattle.px_listing.proofs.memory.write_memory.Given.{Over}
 use Rattle.px_listing.proofs.memory.write_memory.Goals as goal
 
 pub returns-in_err-put_row-clause-err : goal.returns-in_err-put_row-clause-err
@@ -53,4 +52,5 @@ returns-clause-err g c =
     let all : c.loop-y.y ≡ 2 ^ state.tree.ny = omega (arith, end, c.loop-y-test.false, c.loop-y.auto.y-end) in
     let put = rw (columns, all) at c.loop-y.invariant.put in
     let text = flat_map f (range_with_len 0 (2 ^ state.tree.ny)) in
-    err_cut _ _ _ _ _ _ _ [] _ text [] [] text (append-nil text) put (rw (sym (append-nil c.loop-y.piece.bytes)) at c.flush.ensures.err)
+    err_cut _ _ _ _ _ _ _ [] _ text [] [] text (append-nil text) put (rw (sym (append-nil c.loop-y.piece.bytes)) at
+    c.flush.ensures.err)

@@ -12,6 +12,7 @@ invariant-loop-y g l =
     record {
       put : Puts (g.O.Sink.written l.fn.out) (g.O.Sink.written l.out)
           (g.O.Sink.finished l.fn.out) (g.O.Sink.finished l.out) []
-          (flat_map (row_lines g.A.Array.BITS (2 ^ l.nx) (λ x y. bits_of (pixel_of state x y))) (range_with_len 0 l.y)) l.piece.bytes;
+          (flat_map (row_lines g.A.Array.BITS (2 ^ l.nx) (λ x y. bits_of (pixel_of state x y)))
+          (range_with_len 0 l.y)) l.piece.bytes;
       calm : g.O.Sink.faults l.out ≡ g.O.Sink.faults l.fn.out;
     }

@@ -8,14 +8,14 @@ use Rattle.px_asm.specs.Microprograms.{bits_of}
 use Rattle.px_macro.specs.Macros.{after_macros}
 use Rattle.px_macro.specs.declared.operation.Macro.{Macro}
 use Rattle.px_macro.specs.declared.operation.Macro.TheVariants as m
-use Rattle.px_tree.specs.Nodes.{IsGrid}
 use Rattle.px_listing.specs.Listings.{IsListing, ListingView}
-use Rattle.px_listing.proofs.PlayLemmas.{counted_more, few_cycles, grid_of_played, played_more, zero_in_grid}
-use Rattle.px_listing.proofs.playing.play.Given.{Over}
+use Rattle.px_asm.proofs.CycleLaws.{few_cycles}
+use Rattle.px_listing.proofs.PlayLemmas.{counted_more, grid_of_played, played_more, zero_in_grid}
 use Rattle.px_listing.proofs.playing.play.Goals as goal
 
 -- the grid at each operation
-sized : (bits nx ny : ℕ) (ops : List Macro) (d : Device) → d ≡ all_clocked (all_micros ops nx ny) (opened bits nx ny) → HasGrid bits nx ny d.state
+sized : (bits nx ny : ℕ) (ops : List Macro) (d : Device) → d ≡ all_clocked (all_micros ops nx ny) (opened bits nx ny)
+    → HasGrid bits nx ny d.state
 sized bits nx ny ops d is = rw is (grid_of_played bits nx ny (all_micros ops nx ny))
 
 pub make_operation-requires-clause-grid : goal.make_operation-requires-clause-grid
@@ -58,7 +58,8 @@ loop-m-preserved g c =
     let work = rw (items, size.columns, size.rows) at made.work in
     let few = few_cycles op l.nx l.ny kept.grid (kept.lawful i m.All within) in
     record {
-      device = device ∙ (ap (all_clocked (micros op l.nx l.ny)) before.device ∙ sym (played_more l.macros l.nx l.ny i m.All (opened g.A.Array.BITS l.nx l.ny) within));
+      device = device ∙ (ap (all_clocked (micros op l.nx l.ny)) before.device
+          ∙ sym (played_more l.macros l.nx l.ny i m.All (opened g.A.Array.BITS l.nx l.ny) within));
       clocks = omega (arith, clocks, before.clocks, counted_more (λ o. cycles o l.nx l.ny) l.macros i m.All within);
       few = omega (arith, clocks, before.few, few);
       slots = made.slots ∙ before.slots;
@@ -74,7 +75,8 @@ returns-clause-played g c x y column row =
     let all = take_all c.loop-m.m-index l.macros (rw items at c.loop-m-test.false) in
     let device = rw all at c.loop-m.invariant.device in
     ap (λ (d : Device). bits_of (pixel_of d.state x y)) device
-    ∙ (c.law_of_microprograms.ensures.meanings bits l.nx l.ny kept.grid l.macros c.requires.lawful (zero_state bits l.nx l.ny)
+    ∙ (c.law_of_microprograms.ensures.meanings bits l.nx l.ny kept.grid l.macros c.requires.lawful
+    (zero_state bits l.nx l.ny)
     (grid_of_zero_state bits l.nx l.ny) x y column row
     ∙ ap (after_macros l.macros x y) (zero_in_grid bits l.nx l.ny x y column row))
 

@@ -10,7 +10,8 @@ abbrev pub invariant-loop-m : goal.invariant-loop-m
 invariant-loop-m g l =
     let ops = take l.m-index l.listing.macros in
     record {
-      device : g.A.Array.device l.array ≡ all_clocked (all_micros ops l.listing.nx l.listing.ny) (opened g.A.Array.BITS l.listing.nx l.listing.ny);
+      device : g.A.Array.device l.array ≡ all_clocked (all_micros ops l.listing.nx l.listing.ny)
+          (opened g.A.Array.BITS l.listing.nx l.listing.ny);
       clocks : (g.A.Array.device l.array).clocks ≡ sum_by (λ m. cycles m l.listing.nx l.listing.ny) ops;
       few : (g.A.Array.device l.array).clocks ≤ 82 * l.m-index;
       slots : g.A.Array.slots l.array ≡ no_slots;

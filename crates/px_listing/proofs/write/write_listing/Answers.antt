@@ -1,4 +1,5 @@
-use Rattle.std.proofs.Common.{◌≡◌, ◌<◌, ◌+◌, ◌++◌, [], ◌∙◌, List, ap, refl, sym, arith, append_assoc, length, take, drop, get_or}
+use Rattle.std.proofs.Common.{◌≡◌, ◌<◌, ◌+◌, ◌++◌, [], ◌∙◌, ap, refl, append_assoc, length, take}
+use Rattle.std.proofs.Common.{drop, get_or}
 use Rattle.std.specs.List.{flat_map}
 use Rattle.std.proofs.lemmas.List.{append-nil, take_all}
 use Rattle.px_macro.specs.declared.operation.Macro.TheVariants as m
@@ -16,9 +17,11 @@ returns-in_err-put-clause-err g c =
     let line = c.as_str.ensures.value ∙ (c.macro_line.ensures ∙ ap (λ os. macro_line (get_or os i m.All)) items) in
     let others = flat_map macro_line (drop (i + 1) l.macros) ++ end_line in
     let first = first_lines l.nx l.ny in
-    let cut = behind first (flat_map macro_line (take i l.macros)) (macro_line (get_or l.macros i m.All)) (flat_map macro_line (drop (i + 1) l.macros))
+    let cut = behind first (flat_map macro_line (take i l.macros)) (macro_line (get_or l.macros i m.All))
+    (flat_map macro_line (drop (i + 1) l.macros))
     end_line (flat_map macro_line l.macros) (listed_cut macro_line l.macros i m.All within) in
-    if_err _ (puts_cut _ _ _ _ _ _ [] _ _ _ others (canonical_text l) cut c.loop-m.invariant.put (rw line at c.in_err-put.ensures.err))
+    if_err _ (puts_cut _ _ _ _ _ _ [] _ _ _ others (canonical_text l) cut c.loop-m.invariant.put
+    (rw line at c.in_err-put.ensures.err))
 
 pub loop-m-preserved : goal.loop-m-preserved
 loop-m-preserved g c =

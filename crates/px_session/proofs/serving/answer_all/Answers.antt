@@ -5,7 +5,8 @@ use Rattle.px_session.proofs.serving.answer_all.Goals as goal
 pub returns-in-Ok-More-clause-stopped : goal.returns-in-Ok-More-clause-stopped
 returns-in-Ok-More-clause-stopped g c =
     begun_both _ _ _ _ _ _ _ _ _ _ _ _ _ _ _ _ _ c.new-held.ensures c.in-Ok-More.ensures.ok
-    (last_more _ _ c.in-Ok-More.field-0-is c.in-Ok-More.ensures.going) (c.in-Ok-More.ensures.held c.in-Ok-More.field-0-is) c.read_on.ensures.ended
+    (last_more _ _ c.in-Ok-More.field-0-is c.in-Ok-More.ensures.going)
+    (c.in-Ok-More.ensures.held c.in-Ok-More.field-0-is) c.read_on.ensures.ended
 
 pub returns-in-Ok-Quit-clause-stopped : goal.returns-in-Ok-Quit-clause-stopped
 returns-in-Ok-Quit-clause-stopped g c =

@@ -9,7 +9,8 @@ loop-more-preserved g c =
     record {
       fits = c.turn.ensures.fits;
       within = omega arith;
-      went = went_both _ _ _ _ _ _ _ _ _ _ _ _ _ _ _ _ _ _ _ _ _ less (omega (arith, c.in-Ok.ensures.count)) (omega arith) i.went c.in-Ok.ensures.on;
+      went = went_both _ _ _ _ _ _ _ _ _ _ _ _ _ _ _ _ _ _ _ _ _ less (omega (arith, c.in-Ok.ensures.count))
+          (omega arith) i.went c.in-Ok.ensures.on;
       few = omega (arith, c.in-Ok.ensures.count);
       calm_in = c.in-Ok.ensures.calm.0 ∙ i.calm_in;
       calm_out = c.in-Ok.ensures.calm.1 ∙ i.calm_out;

@@ -12,4 +12,5 @@ loop-m-preserved g c =
 
 pub returns : goal.returns
 returns g c =
-    none_left _ _ _ _ _ _ _ (rw (drop_all c.loop-m.m-index c.args.operations.now c.loop-m-test.false) at c.loop-m.invariant)
+    none_left _ _ _ _ _ _ _ (rw (drop_all c.loop-m.m-index c.args.operations.now c.loop-m-test.false) at
+    c.loop-m.invariant)

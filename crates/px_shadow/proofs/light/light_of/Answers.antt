@@ -13,7 +13,8 @@ returns c =
     (YieldsList-end
     (YieldsList-at c.into_iter-word-iterator.ensures.into_iter_gives
     (YieldsList-from_filter _ is_some_byte
-    (YieldsList-from_slice_split _ is_blank (before_first (λ b. b == 35) c.args.line.now) (cc) (cc) (grind arith) (λ x b q k. search rules))
+    (YieldsList-from_slice_split _ is_blank (before_first (λ b. b == 35) c.args.line.now) (cc) (cc) (grind arith)
+    (λ x b q k. search rules))
     c.filter-word-items.ensures.closure (λ x b q k. search rules)))
     c.loop-word.yielded _ c.loop-word.yielded_by _ _ c.in-None.is c.next.ensures.steps).0 in
     c.light.ensures ss (words_of c.args.line.now) (c.loop-word.invariant ∙ ap (said_of ss) all)

@@ -1,4 +1,5 @@
-use Rattle.std.proofs.Common.{rules, ◌≡◌, ◌<◌, ◌+◌, ◌==◌, ◌∙◌, List, ℕ, [], ◌∷◌, ◌++◌, length, map, ap, arith, length-append}
+use Rattle.std.proofs.Common.{rules, ◌≡◌, ◌<◌, ◌+◌, ◌==◌, ◌∙◌, [], ◌∷◌, ◌++◌, length, arith}
+use Rattle.std.proofs.Common.{length-append}
 use Rattle.std.specs.List.{slice_split}
 use Rattle.std.proofs.lemmas.Iterator.Consumers.{YieldsList-at, YieldsList-end, YieldsList-turn}
 use Rattle.std.proofs.lemmas.Iterator.Splits.{YieldsList-from_slice_split}
@@ -23,7 +24,8 @@ loop-piece-preserved c =
     c.loop-piece.yielded _ c.loop-piece.yielded_by _ _ c.in-Some.piece c.in-Some.is c.next.ensures.steps in
     let low : k < length lines = omega (arith, turn.0, length-map pieces words_of) in
     let is = line_at pieces k c.in-Some.piece.now turn.0 turn.1 in
-    let next : length (c.loop-piece.yielded ++ c.in-Some.piece ∷ []) ≡ k + 1 = length-append c.loop-piece.yielded (c.in-Some.piece ∷ []) in
+    let next : length (c.loop-piece.yielded ++ c.in-Some.piece ∷ []) ≡ k + 1 =
+    length-append c.loop-piece.yielded (c.in-Some.piece ∷ []) in
     let made = c.in-Ok.ensures in
     rw next (record {
       good = step_good ss c.args.first_line lines k c.loop-piece.line _ _ is i.line i.each i.good made.good;
@@ -47,7 +49,8 @@ returns-in-Err-clause-fault c =
     c.loop-piece.yielded _ c.loop-piece.yielded_by _ _ c.in-Some.piece c.in-Some.is c.next.ensures.steps in
     let low : k < length lines = omega (arith, turn.0, length-map pieces words_of) in
     let is = line_at pieces k c.in-Some.piece.now turn.0 turn.1 in
-    step_bad ss c.args.first_line lines k c.loop-piece.line _ _ c.in-Err.fault low is i.line i.each i.good c.in-Err.ensures.fault
+    step_bad ss c.args.first_line lines k c.loop-piece.line _ _ c.in-Err.fault low is i.line i.each i.good
+    c.in-Err.ensures.fault
 
 pub returns-clause-ok : goal.returns-clause-ok
 returns-clause-ok c =
@@ -58,5 +61,7 @@ returns-clause-ok c =
     (YieldsList-from_slice_split _ (λ b. b == 10) _ c.split-piece-items.ensures.rest c.split-piece-items.ensures.done
     c.split-piece-items.ensures.closure (λ x b q k. search rules)))
     c.loop-piece.yielded _ c.loop-piece.yielded_by _ _ c.in-None.is c.next.ensures.steps in
-    all_read c.args.scene.now.solids c.args.first_line (pieces_of c.args.text.now) (length c.loop-piece.yielded) c.loop-piece.lights.items
-    (all.1 ∙ omega (arith, length-map pieces words_of)) c.loop-piece.invariant.good c.loop-piece.invariant.each c.loop-piece.invariant.known
+    all_read c.args.scene.now.solids c.args.first_line (pieces_of c.args.text.now) (length c.loop-piece.yielded)
+    c.loop-piece.lights.items
+    (all.1 ∙ omega (arith, length-map pieces words_of)) c.loop-piece.invariant.good c.loop-piece.invariant.each
+    c.loop-piece.invariant.known

@@ -1,6 +1,6 @@
 use Rattle.std.proofs.Common.{◌≡◌, ◌*◌}
 use Rattle.arrayvec.specs.ArrayVec.{array_vec_len}
-use Rattle.px_frame.specs.Image.{row_bytes}
+use Rattle.px_frame.specs.Rows.{row_bytes}
 use Rattle.px_shadow.specs.Stored.{stored_number}
 use Rattle.px_shadow.proofs.masks.mask_row.Given as goal
 

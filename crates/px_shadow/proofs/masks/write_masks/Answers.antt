@@ -1,8 +1,7 @@
-use Rattle.std.proofs.Common.{◌≡◌, ◌<◌, ◌++◌, arith, ap, Result, Ok, Err, OnErr}
-use Rattle.std.specs.List.{flat_map, range_with_len}
-use Rattle.px_macro.specs.declared.field.Field.{Field}
+use Rattle.std.proofs.Common.{◌≡◌, ◌<◌, ◌++◌, arith, Result, Ok, Err, OnErr}
 use Rattle.px_io.proofs.ToldLaws.{front_before}
-use Rattle.px_frame.specs.Image.{header, row_bytes}
+use Rattle.px_frame.specs.Image.{header}
+use Rattle.px_frame.specs.Rows.{row_bytes}
 use Rattle.px_frame.proofs.RowLaws.{rows_broken, rows_grown}
 use Rattle.px_shadow.specs.Stored.{stored_number}
 use Rattle.px_shadow.proofs.masks.write_masks.Goals as goal
@@ -20,7 +19,8 @@ pub returns-in_err-write_whole-2-clause-err : goal.returns-in_err-write_whole-2-
 returns-in_err-write_whole-2-clause-err g c =
     let row = rw (c.as_slice.ensures.value, c.mask_row-row.ensures) at c.in_err-write_whole-2.ensures.err
     in let above : c.loop-y.y < c.args.scene.now.height = omega (arith, c.height-y-end.ensures.value)
-    in on_err _ (rw c.lights_field-field.ensures.field at (rows_broken _ _ _ _ _ _ _ _ _ _ above c.loop-y.invariant.front row))
+    in on_err _ (rw c.lights_field-field.ensures.field at
+    (rows_broken _ _ _ _ _ _ _ _ _ _ above c.loop-y.invariant.front row))
 
 pub loop-y-preserved : goal.loop-y-preserved
 loop-y-preserved g c =

@@ -17,7 +17,8 @@ carry_out-requires g c =
 
 pub loop-solid-init : goal.loop-solid-init
 loop-solid-init g c =
-    let start = all_left _ _ _ _ (light_passes c.args.scene.now c.args.layout.now c.args.light c.args.solids.now) _ c.requires.can in
+    let start = all_left _ _ _ _ (light_passes c.args.scene.now c.args.layout.now c.args.light c.args.solids.now) _
+    c.requires.can in
     left_next _ _ _ _ _ (m.All ∷ m.SetBit (light_bit c.args.layout.now c.args.light) true ∷ []) _ _ _ _ start
     (rw c.light_bit.ensures at c.carry_out.ensures)
 
@@ -25,42 +26,55 @@ pub solid_at-requires : goal.solid_at-requires
 solid_at-requires g c =
     let items = c.as_slice-solid-items.ensures.value ∙ c.solids-list.ensures in
     let there = ap (λ (qs : List ℕ). length qs) items in
-    rw items (all_known c.laws_of_sets.ensures (length c.args.scene.now.solids) c.args.solids.now c.requires.known c.loop-solid.solid-index 0 (omega (arith, there, c.loop-solid-test.true)))
+    rw items (all_known c.laws_of_sets.ensures (length c.args.scene.now.solids) c.args.solids.now c.requires.known
+    c.loop-solid.solid-index 0 (omega (arith, there, c.loop-solid-test.true)))
 
 pub one_solid-requires-clause-can : goal.one_solid-requires-clause-can
 one_solid-requires-clause-can g c =
     let scene = c.args.scene.now in
-    let f : ℕ → List Macro = λ q. solid_passes c.args.layout.now (end_of (depths_of scene)) c.args.light (solid_of scene q) in
+    let f : ℕ → List Macro =
+    λ q. solid_passes c.args.layout.now (end_of (depths_of scene)) c.args.light (solid_of scene q) in
     let items = c.as_slice-solid-items.ensures.value ∙ c.solids-list.ensures in
     let i = c.loop-solid.solid-index in
-    let there : i < length (solids c.args.solids.now) = omega (arith, ap (λ (qs : List ℕ). length qs) items, c.loop-solid-test.true) in
+    let there : i < length (solids c.args.solids.now) =
+    omega (arith, ap (λ (qs : List ℕ). length qs) items, c.loop-solid-test.true) in
     let same = same_solid c.args.layout.now c.args.light _ _ _ _ c.end.ensures.value c.solid_at.ensures in
     subst (λ ms. CanCarryOut g.A.Array.BITS ms (g.A.Array.device c.loop-solid.array)) (sym same)
-    (each_first _ _ _ _ f (solids c.args.solids.now) i _ 0 _ _ _ _ there (ap (λ (qs : List ℕ). get_or qs i 0) (sym items)) c.loop-solid.invariant)
+    (each_first _ _ _ _ f (solids c.args.solids.now) i _ 0 _ _ _ _ there
+    (ap (λ (qs : List ℕ). get_or qs i 0) (sym items)) c.loop-solid.invariant)
 
 pub loop-solid-preserved : goal.loop-solid-preserved
 loop-solid-preserved g c =
     let scene = c.args.scene.now in
-    let f : ℕ → List Macro = λ q. solid_passes c.args.layout.now (end_of (depths_of scene)) c.args.light (solid_of scene q) in
+    let f : ℕ → List Macro =
+    λ q. solid_passes c.args.layout.now (end_of (depths_of scene)) c.args.light (solid_of scene q) in
     let items = c.as_slice-solid-items.ensures.value ∙ c.solids-list.ensures in
     let i = c.loop-solid.solid-index in
-    let there : i < length (solids c.args.solids.now) = omega (arith, ap (λ (qs : List ℕ). length qs) items, c.loop-solid-test.true) in
+    let there : i < length (solids c.args.solids.now) =
+    omega (arith, ap (λ (qs : List ℕ). length qs) items, c.loop-solid-test.true) in
     let same = same_solid c.args.layout.now c.args.light _ _ _ _ c.end.ensures.value c.solid_at.ensures in
-    each_next _ _ _ _ f (solids c.args.solids.now) i _ 0 _ _ _ _ _ there (ap (λ (qs : List ℕ). get_or qs i 0) (sym items)) c.loop-solid.invariant
-    (subst (λ ms. CarriesOut g.A.Array.device g.A.Array.slots g.A.Array.work ms c.loop-solid.array c.one_solid.new.array) same c.one_solid.ensures)
+    each_next _ _ _ _ f (solids c.args.solids.now) i _ 0 _ _ _ _ _ there
+    (ap (λ (qs : List ℕ). get_or qs i 0) (sym items)) c.loop-solid.invariant
+    (subst (λ ms. CarriesOut g.A.Array.device g.A.Array.slots g.A.Array.work ms c.loop-solid.array
+    c.one_solid.new.array) same c.one_solid.ensures)
 
 pub background-requires-clause-can : goal.background-requires-clause-can
 background-requires-clause-can g c =
     let scene = c.args.scene.now in
-    let f : ℕ → List Macro = λ q. solid_passes c.args.layout.now (end_of (depths_of scene)) c.args.light (solid_of scene q) in
+    let f : ℕ → List Macro =
+    λ q. solid_passes c.args.layout.now (end_of (depths_of scene)) c.args.light (solid_of scene q) in
     let items = c.as_slice-solid-items.ensures.value ∙ c.solids-list.ensures in
-    let past : length (solids c.args.solids.now) ≤ c.loop-solid.solid-index = omega (arith, ap (λ (qs : List ℕ). length qs) items, c.loop-solid-test.false) in
+    let past : length (solids c.args.solids.now) ≤ c.loop-solid.solid-index =
+    omega (arith, ap (λ (qs : List ℕ). length qs) items, c.loop-solid-test.false) in
     (each_done _ _ _ _ f (solids c.args.solids.now) c.loop-solid.solid-index _ _ _ _ past c.loop-solid.invariant).can
 
 pub returns : goal.returns
 returns g c =
     let scene = c.args.scene.now in
-    let f : ℕ → List Macro = λ q. solid_passes c.args.layout.now (end_of (depths_of scene)) c.args.light (solid_of scene q) in
+    let f : ℕ → List Macro =
+    λ q. solid_passes c.args.layout.now (end_of (depths_of scene)) c.args.light (solid_of scene q) in
     let items = c.as_slice-solid-items.ensures.value ∙ c.solids-list.ensures in
-    let past : length (solids c.args.solids.now) ≤ c.loop-solid.solid-index = omega (arith, ap (λ (qs : List ℕ). length qs) items, c.loop-solid-test.false) in
-    last_made _ _ _ _ _ _ _ _ _ (each_done _ _ _ _ f (solids c.args.solids.now) c.loop-solid.solid-index _ _ _ _ past c.loop-solid.invariant) c.background.ensures
+    let past : length (solids c.args.solids.now) ≤ c.loop-solid.solid-index =
+    omega (arith, ap (λ (qs : List ℕ). length qs) items, c.loop-solid-test.false) in
+    last_made _ _ _ _ _ _ _ _ _ (each_done _ _ _ _ f (solids c.args.solids.now) c.loop-solid.solid-index _ _ _ _ past
+    c.loop-solid.invariant) c.background.ensures

@@ -10,7 +10,9 @@ use Rattle.px_shadow.proofs.passes.one_light.Given as goal
 -- the solids from one on are left
 abbrev pub invariant-loop-solid : goal.invariant-loop-solid
 invariant-loop-solid g l =
-    IsLeft g.A.Array.BITS g.A.Array.device g.A.Array.slots g.A.Array.work (light_passes l.scene l.layout l.light l.fn.solids)
-    (flat_map (λ q. solid_passes l.layout (end_of (depths_of l.scene)) l.light (solid_of l.scene q)) (drop l.solid-index (solids l.fn.solids))
+    IsLeft g.A.Array.BITS g.A.Array.device g.A.Array.slots g.A.Array.work
+    (light_passes l.scene l.layout l.light l.fn.solids)
+    (flat_map (λ q. solid_passes l.layout (end_of (depths_of l.scene)) l.light (solid_of l.scene q))
+    (drop l.solid-index (solids l.fn.solids))
     ++ background_passes l.layout l.light)
     l.fn.array l.array

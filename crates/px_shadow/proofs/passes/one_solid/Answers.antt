@@ -1,4 +1,4 @@
-use Rattle.std.proofs.Common.{◌≡◌, ◌<◌, ◌≤◌, ◌+◌, ◌∙◌, false, true, [], ◌∷◌, ◌++◌, length, ap, sym, arith}
+use Rattle.std.proofs.Common.{◌≡◌, ◌<◌, ◌≤◌, ◌+◌, ◌∙◌, false, true, [], ◌∷◌, ◌++◌, length, ap, arith}
 use Rattle.std.specs.List.{range_with_len}
 use Rattle.std.proofs.lemmas.List.FromFn.{length-range_with_len}
 use Rattle.px_face.specs.Faces.{face_count}
@@ -18,37 +18,59 @@ pub carry_out-requires-2 : goal.carry_out-requires-2
 carry_out-requires-2 g c =
     let s = c.args.solid.now in
     let xs = range_with_len 0 (face_count s) in
-    let past : length xs ≤ c.loop-face.face = omega (arith, c.loop-face-test.false, c.face_count-face-end.ensures.count, length-range_with_len 0 (face_count s)) in
+    let past : length xs ≤ c.loop-face.face =
+    omega (
+      arith,
+      c.loop-face-test.false,
+      c.face_count-face-end.ensures.count,
+      length-range_with_len 0 (face_count s),
+    ) in
     let par : c.layout.inside.par ≡ c.args.layout.now.par = ap (λ (v : LayoutView). v.par) c.layout.view_is in
     rw (par, c.light_bit.ensures)
-    ((each_done _ _ _ _ (stored_turn c.args.layout.now c.args.«end» s) xs c.loop-face.face _ _ _ _ past c.loop-face.invariant).can)
+    ((each_done _ _ _ _ (stored_turn c.args.layout.now c.args.«end» s) xs c.loop-face.face _ _ _ _ past
+    c.loop-face.invariant).can)
 
 pub one_face-requires-clause-can : goal.one_face-requires-clause-can
 one_face-requires-clause-can g c =
     let s = c.args.solid.now in
-    let there : c.loop-face.face < face_count s = omega (arith, c.loop-face-test.true, c.face_count-face-end.ensures.count) in
-    each_first _ _ _ _ (stored_turn c.args.layout.now c.args.«end» s) (range_with_len 0 (face_count s)) c.loop-face.face c.loop-face.face 0 _ _ _ _
-    (omega (arith, there, length-range_with_len 0 (face_count s))) (number_at (face_count s) c.loop-face.face there) c.loop-face.invariant
+    let there : c.loop-face.face < face_count s =
+    omega (arith, c.loop-face-test.true, c.face_count-face-end.ensures.count) in
+    each_first _ _ _ _ (stored_turn c.args.layout.now c.args.«end» s) (range_with_len 0 (face_count s))
+    c.loop-face.face c.loop-face.face 0 _ _ _ _
+    (omega (arith, there, length-range_with_len 0 (face_count s))) (number_at (face_count s) c.loop-face.face there)
+    c.loop-face.invariant
 
 pub loop-face-init : goal.loop-face-init
 loop-face-init g c =
     let par : c.layout.inside.par ≡ c.args.layout.now.par = ap (λ (v : LayoutView). v.par) c.layout.view_is in
-    let start = all_left _ _ _ _ (solid_passes c.args.layout.now c.args.«end» c.args.light c.args.solid.now) _ c.requires.can in
-    left_next _ _ _ _ _ (m.All ∷ m.SetBit c.args.layout.now.par false ∷ []) _ _ _ _ start (rw par at c.carry_out.ensures)
+    let start = all_left _ _ _ _ (solid_passes c.args.layout.now c.args.«end» c.args.light c.args.solid.now) _
+    c.requires.can in
+    left_next _ _ _ _ _ (m.All ∷ m.SetBit c.args.layout.now.par false ∷ []) _ _ _ _ start
+    (rw par at c.carry_out.ensures)
 
 pub loop-face-preserved : goal.loop-face-preserved
 loop-face-preserved g c =
     let s = c.args.solid.now in
-    let there : c.loop-face.face < face_count s = omega (arith, c.loop-face-test.true, c.face_count-face-end.ensures.count) in
-    each_next _ _ _ _ (stored_turn c.args.layout.now c.args.«end» s) (range_with_len 0 (face_count s)) c.loop-face.face c.loop-face.face 0 _ _ _ _ _
-    (omega (arith, there, length-range_with_len 0 (face_count s))) (number_at (face_count s) c.loop-face.face there) c.loop-face.invariant
+    let there : c.loop-face.face < face_count s =
+    omega (arith, c.loop-face-test.true, c.face_count-face-end.ensures.count) in
+    each_next _ _ _ _ (stored_turn c.args.layout.now c.args.«end» s) (range_with_len 0 (face_count s))
+    c.loop-face.face c.loop-face.face 0 _ _ _ _ _
+    (omega (arith, there, length-range_with_len 0 (face_count s))) (number_at (face_count s) c.loop-face.face there)
+    c.loop-face.invariant
     c.one_face.ensures
 
 pub returns : goal.returns
 returns g c =
     let s = c.args.solid.now in
     let xs = range_with_len 0 (face_count s) in
-    let past : length xs ≤ c.loop-face.face = omega (arith, c.loop-face-test.false, c.face_count-face-end.ensures.count, length-range_with_len 0 (face_count s)) in
+    let past : length xs ≤ c.loop-face.face =
+    omega (
+      arith,
+      c.loop-face-test.false,
+      c.face_count-face-end.ensures.count,
+      length-range_with_len 0 (face_count s),
+    ) in
     let par : c.layout.inside.par ≡ c.args.layout.now.par = ap (λ (v : LayoutView). v.par) c.layout.view_is in
-    last_made _ _ _ _ _ _ _ _ _ (each_done _ _ _ _ (stored_turn c.args.layout.now c.args.«end» s) xs c.loop-face.face _ _ _ _ past c.loop-face.invariant)
+    last_made _ _ _ _ _ _ _ _ _ (each_done _ _ _ _ (stored_turn c.args.layout.now c.args.«end» s) xs c.loop-face.face
+    _ _ _ _ past c.loop-face.invariant)
     (rw (par, c.light_bit.ensures) at c.carry_out-2.ensures)

@@ -9,7 +9,8 @@ use Rattle.px_shadow.proofs.passes.one_solid.Given as goal
 -- the faces from one on are left
 abbrev pub invariant-loop-face : goal.invariant-loop-face
 invariant-loop-face g l =
-    IsLeft g.A.Array.BITS g.A.Array.device g.A.Array.slots g.A.Array.work (solid_passes l.layout l.«end» l.light l.solid)
+    IsLeft g.A.Array.BITS g.A.Array.device g.A.Array.slots g.A.Array.work
+    (solid_passes l.layout l.«end» l.light l.solid)
     (flat_map (stored_turn l.layout l.«end» l.solid) (drop l.face (range_with_len 0 (face_count l.solid)))
     ++ m.All ∷ m.KeepBit l.layout.par true ∷ m.SetBit (light_bit l.layout l.light) false ∷ [])
     l.fn.array l.array

@@ -2,6 +2,7 @@ use Rattle.std.proofs.Common.{◌≡◌, ◌≤◌, List, length, ap, subst, sym
 use Rattle.px_array.specs.Slots.{worked}
 use Rattle.px_normal.specs.declared.set.SolidSet.{SolidSet}
 use Rattle.px_sched.specs.Layouts.{layout_of}
+use Rattle.px_shadow.specs.declared.passes.TheConstants.{MAX_LIGHTS}
 use Rattle.px_shadow.specs.Carrying.{CanCarryOut, carried_out}
 use Rattle.px_shadow.specs.ShadowPasses.{need_with, shadow_passes}
 use Rattle.px_shadow.specs.Shaded.{IsShaded}
@@ -18,14 +19,19 @@ all_lights-requires-clause-can g c =
     let device = g.A.Array.device c.args.array.now in
     let layout = c.requires.layout in
     let passes = c.law_of_shadow_passes.ensures in
-    let enough : need_with (layout_of scene) (length lights) ≤ bits = subst (λ l. need_with l (length lights) ≤ bits) layout c.requires.need in
-    let few : length lights ≤ 8 = omega (arith, c.as_slice.ensures.fits, ap (λ (sets : List SolidSet). length sets) c.as_slice.ensures.value) in
+    let enough : need_with (layout_of scene) (length lights) ≤ bits =
+    subst (λ l. need_with l (length lights) ≤ bits) layout c.requires.need in
+    let few : length lights ≤ MAX_LIGHTS =
+    omega (arith, c.as_slice.ensures.fits, ap (λ (sets : List SolidSet). length sets) c.as_slice.ensures.value) in
     subst (λ sets. CanCarryOut bits (shadow_passes scene c.args.layout.now sets) device) (sym c.as_slice.ensures.value)
     (subst (λ l. CanCarryOut bits (shadow_passes scene l lights) device) (sym layout)
-    (can_shade c.laws_of_passes.ensures.layout c.laws_of_operations.ensures.more passes.lawful passes.few c.law_of_clocks.ensures.bound c.law_of_sizes.ensures
-    bits scene lights device c.laws_of_scenes.ensures.scene c.laws_of_scenes.ensures.solids c.requires.products c.requires.at c.requires.known enough few))
+    (can_shade c.laws_of_passes.ensures.layout c.laws_of_operations.ensures.more passes.lawful passes.few
+    c.law_of_clocks.ensures.bound c.law_of_sizes.ensures
+    bits scene lights device c.laws_of_scenes.ensures.scene c.laws_of_scenes.ensures.solids c.requires.products
+    c.requires.at c.requires.known enough few))
 
-made : (g : Over) (c : goal.After-all_lights g) → IsShaded g.A.Array.BITS c.args.scene.now c.args.lights.now.items (g.A.Array.device c.all_lights.new.array)
+made : (g : Over) (c : goal.After-all_lights g) → IsShaded g.A.Array.BITS c.args.scene.now c.args.lights.now.items
+    (g.A.Array.device c.all_lights.new.array)
 made g c =
     let bits = g.A.Array.BITS in
     let scene = c.args.scene.now in
@@ -47,11 +53,13 @@ returns-clause-lights g c =
     let lights = c.args.lights.now.items in
     let now = g.A.Array.device c.all_lights.new.array in
     subst (λ l. StoresTheLights scene l lights now.state) (sym c.requires.layout)
-    (c.laws_of_shadows.ensures.shaded g.A.Array.BITS scene lights now c.laws_of_scenes.ensures.scene c.laws_of_scenes.ensures.solids c.requires.known (made g c))
+    (c.laws_of_shadows.ensures.shaded g.A.Array.BITS scene lights now c.laws_of_scenes.ensures.scene
+    c.laws_of_scenes.ensures.solids c.requires.known (made g c))
 
 pub returns-clause-grid : goal.returns-clause-grid
 returns-clause-grid g c =
-    c.laws_of_shadows.ensures.grid g.A.Array.BITS c.args.scene.now c.args.lights.now.items (g.A.Array.device c.all_lights.new.array) c.laws_of_scenes.ensures.scene (made g c)
+    c.laws_of_shadows.ensures.grid g.A.Array.BITS c.args.scene.now c.args.lights.now.items
+    (g.A.Array.device c.all_lights.new.array) c.laws_of_scenes.ensures.scene (made g c)
 
 pub returns-clause-work : goal.returns-clause-work
 returns-clause-work g c =
@@ -59,4 +67,5 @@ returns-clause-work g c =
     let lights = c.args.lights.now.items in
     c.all_lights.ensures.work
     ∙ ap (λ n. worked n (g.A.Array.work c.args.array.now))
-    (clocks_made g.A.Array.BITS scene lights (g.A.Array.device c.args.array.now) (g.A.Array.device c.all_lights.new.array) c.requires.at (made g c))
+    (clocks_made g.A.Array.BITS scene lights (g.A.Array.device c.args.array.now)
+    (g.A.Array.device c.all_lights.new.array) c.requires.at (made g c))

@@ -27,7 +27,8 @@ returns-then-clocks-lt-LAST-clause-trace g c =
     ] in
     let w = c.walk.ensures in
     rw (w.same.scene, w.clock)
-    ((rw traced at w.trace) ∙ ap (λ q. buffer q 32) (last_after 32 (program old.job.scene) old.job.place.clock (c.args.target - c.now.result)))
+    ((rw traced at w.trace) ∙ ap (λ q. buffer q 32) (last_after 32 (program old.job.scene) old.job.place.clock
+    (c.args.target - c.now.result)))
 
 pub returns-else-clocks-lt-LAST-clause-trace : goal.returns-else-clocks-lt-LAST-clause-trace
 unfolding last_before
@@ -39,7 +40,8 @@ returns-else-clocks-lt-LAST-clause-trace g c =
     let w = c.walk-else-clocks-lt-LAST.ensures in
     let end : from + 32 ≡ c.args.target = omega (arith, c.if-clocks-lt-LAST.false) in
     let inside : from + 32 ≤ length p = omega (arith, end, c.requires.within) in
-    let cleared : c.clear.new.self ≡ buffer [] 32 = c.clear.ensures ∙ ap (λ n. buffer [] n) (ap (λ (b : Buffer Micro). b.capacity) r.trace ∙ c.requires.capacity) in
+    let cleared : c.clear.new.self ≡ buffer [] 32 =
+    c.clear.ensures ∙ ap (λ n. buffer [] n) (ap (λ (b : Buffer Micro). b.capacity) r.trace ∙ c.requires.capacity) in
     let t = rw (cleared, r.clock, r.same.scene) at w.trace in
     rw (w.same.scene, r.same.scene, w.clock, r.clock)
     (t ∙ ap (λ q. buffer q 32) (last_refilled 32 p from 32 inside (omega arith)))

@@ -13,7 +13,8 @@ invariant-loop g l =
       same : IsSameCourse old now;
       forth : old.job.place.clock ≤ now.job.place.clock;
       left : after_ends l.count (ends_after old.job.scene old.job.place.clock) old.job.place.clock (total old.job.scene)
-          ≡ after_ends (l.count - l.counter) (ends_after now.job.scene now.job.place.clock) now.job.place.clock (total now.job.scene);
+          ≡ after_ends (l.count - l.counter) (ends_after now.job.scene now.job.place.clock) now.job.place.clock
+          (total now.job.scene);
       trace : IsTraced now;
       work : g.A.Array.work l.array ≤ g.A.Array.work l.fn.array + (now.job.place.clock - old.job.place.clock);
     }

@@ -20,10 +20,12 @@ returns-then-is_due-clause-course g c =
     subst (λ n. IsAt g.A.Array.BITS old.job.scene n (g.A.Array.device c.args.array.now)) now course.at in
     record {
       at = rw c.save.ensures.device course.at;
-      marks = marks_more old.job.scene old.quarter count old.places c.place.result course.marks due.0 c.place.ensures.stands place;
+      marks = marks_more old.job.scene old.quarter count old.places c.place.result course.marks due.0
+          c.place.ensures.stands place;
       marked = marked_at old.quarter count old.job.place.clock course.marks.step now;
       kept = rw c.save.ensures.slots
-          (slots_more g.A.Array.BITS old.job.scene old.quarter count (g.A.Array.device c.args.array.now) (g.A.Array.slots c.args.array.now)
+          (slots_more g.A.Array.BITS old.job.scene old.quarter count (g.A.Array.device c.args.array.now)
+          (g.A.Array.slots c.args.array.now)
           course.kept (omega (arith, due.0, c.save.ensures.four)) here);
     }
 

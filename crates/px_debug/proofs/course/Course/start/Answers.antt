@@ -15,6 +15,7 @@ returns-clause-kept c =
     record {
       marks = first_mark job.scene q p some c.place-place.ensures.stands first;
       marked = record { passed = omega (arith, c.requires.start); next = λ few. omega (arith, c.requires.start, some) };
-      traced = c.requires.trace ∙ ap (λ ms. buffer ms 32) (sym (none_before job.scene job.place.clock c.requires.start));
+      traced = c.requires.trace
+          ∙ ap (λ ms. buffer ms 32) (sym (none_before job.scene job.place.clock c.requires.start));
       quarter = grind (arith, c.max-quarter.ensures, c.total_clocks.ensures.value);
     }

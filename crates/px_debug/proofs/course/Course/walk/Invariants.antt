@@ -10,6 +10,7 @@ invariant-loop g l = record {
   same : IsSameCourse l.fn.self l.self;
   clock : l.self.job.place.clock ≡ l.fn.self.job.place.clock + l.counter;
   trace : l.self.trace ≡ buffer (keep_last l.fn.self.trace.capacity
-      (l.fn.self.trace.items ++ take l.counter (drop l.fn.self.job.place.clock (program l.fn.self.job.scene)))) l.fn.self.trace.capacity;
+      (l.fn.self.trace.items ++ take l.counter (drop l.fn.self.job.place.clock (program l.fn.self.job.scene))))
+      l.fn.self.trace.capacity;
   work : g.A.Array.work l.array ≤ g.A.Array.work l.fn.array + l.counter;
 }

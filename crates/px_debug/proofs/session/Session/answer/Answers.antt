@@ -8,17 +8,20 @@ use Rattle.px_debug.proofs.session.Session.answer.Goals as goal
 pub pixel_answer-requires-clause-grid : goal.pixel_answer-requires-clause-grid
 pixel_answer-requires-clause-grid g c =
     (c.law_of_sizes.ensures g.A.Array.BITS _ _ _ c.now-now.ensures.can_run.lawful
-    (subst (λ (v : SessionView). IsAt g.A.Array.BITS v.scene v.now (g.A.Array.device c.args.array.now)) (sym c.self.view_is) c.requires.fits.at)).grid
+    (subst (λ (v : SessionView). IsAt g.A.Array.BITS v.scene v.now (g.A.Array.device c.args.array.now))
+    (sym c.self.view_is) c.requires.fits.at)).grid
 
 pub field_answer-requires-clause-grid : goal.field_answer-requires-clause-grid
 field_answer-requires-clause-grid g c =
     (c.law_of_sizes.ensures g.A.Array.BITS _ _ _ c.now-now.ensures.can_run.lawful
-    (subst (λ (v : SessionView). IsAt g.A.Array.BITS v.scene v.now (g.A.Array.device c.args.array.now)) (sym c.self.view_is) c.requires.fits.at)).grid
+    (subst (λ (v : SessionView). IsAt g.A.Array.BITS v.scene v.now (g.A.Array.device c.args.array.now))
+    (sym c.self.view_is) c.requires.fits.at)).grid
 
 pub tree_answer-requires : goal.tree_answer-requires
 tree_answer-requires g c = record {
   grid = (c.law_of_sizes.ensures g.A.Array.BITS _ _ _ c.now-now.ensures.can_run.lawful
-      (subst (λ (v : SessionView). IsAt g.A.Array.BITS v.scene v.now (g.A.Array.device c.args.array.now)) (sym c.self.view_is) c.requires.fits.at)).grid;
+      (subst (λ (v : SessionView). IsAt g.A.Array.BITS v.scene v.now (g.A.Array.device c.args.array.now))
+      (sym c.self.view_is) c.requires.fits.at)).grid;
 }
 
 pub trace_text-requires-clause-few : goal.trace_text-requires-clause-few
@@ -44,4 +47,5 @@ returns-in-Trace g c =
     let job = c.self.inside.course.job in
     rw (c.in-Trace.is, ← c.self.view_is)
     ((rw c.now-now.ensures.clock at c.trace_text.ensures)
-    ∙ traced_text job.scene job.place.clock c.self.inside.course.trace (omega (arith, c.now-now.ensures.clock, c.now-now.ensures.within)) c.self.invariant.traced)
+    ∙ traced_text job.scene job.place.clock c.self.inside.course.trace
+    (omega (arith, c.now-now.ensures.clock, c.now-now.ensures.within)) c.self.invariant.traced)

@@ -7,7 +7,8 @@ use Rattle.px_debug.proofs.Marking.{slots_more}
 use Rattle.px_debug.proofs.session.Session.new.Goals as goal
 
 pub save-requires-clause-is_open : goal.save-requires-clause-is_open
-save-requires-clause-is_open g c = (c.law_of_grids.ensures.covers g.A.Array.BITS _ _ _ c.now-now.ensures.can_run.lawful c.requires.at).is_open
+save-requires-clause-is_open g c =
+    (c.law_of_grids.ensures.covers g.A.Array.BITS _ _ _ c.now-now.ensures.can_run.lawful c.requires.at).is_open
 
 pub returns-clause-fits : goal.returns-clause-fits
 returns-clause-fits g c =
@@ -22,7 +23,8 @@ returns-clause-fits g c =
     subst (λ n. IsAt g.A.Array.BITS course.job.scene n before) (let z : 0 ≡ 0 * course.quarter = omega arith in z)
     (subst (λ s. IsAt g.A.Array.BITS s 0 before) (sym scene) c.requires.at) in
     let one : HasSlots g.A.Array.BITS course.job.scene course.quarter 1 (g.A.Array.slots c.save.new.self) =
-    rw c.save.ensures.slots (slots_more g.A.Array.BITS course.job.scene course.quarter 0 before (g.A.Array.slots c.args.array.now)
+    rw c.save.ensures.slots (slots_more g.A.Array.BITS course.job.scene course.quarter 0 before
+    (g.A.Array.slots c.args.array.now)
     (λ k low. absurd (omega (arith, low))) (omega (arith, c.save.ensures.four)) here) in
     fits_session g.A.Array.BITS course _ after (g.A.Array.slots c.save.new.self) refl refl kept.quarter c.requires.few
     record {
