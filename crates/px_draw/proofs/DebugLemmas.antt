@@ -1,7 +1,8 @@
 -- What a session over an input is, by what was read of it.
-use Rattle.std.proofs.Common.{ℕ, pos, ◌≡◌, ◌+◌, ◌-◌, ◌<◌, ◌≤◌, ◌++◌, ◌&&◌, not, inl, inr, List, [], length, take, true, false, Bool, Option, Some, None, Result, refl, ap, sym, ◌∙◌, arith, append_assoc, append-nil, length-append, is_some, subst, if◌then◌else◌}
+use Rattle.std.proofs.Common.{ℕ, pos, ◌≡◌, ◌+◌, ◌-◌, ◌<◌, ◌≤◌, ◌++◌, ◌&&◌, not, inl, inr, List, [], length, take}
+use Rattle.std.proofs.Common.{true, false, Bool, Option, Some, None, Result, refl, ap, sym, ◌∙◌, arith, append_assoc}
+use Rattle.std.proofs.Common.{append-nil, length-append, is_some, subst, if◌then◌else◌}
 use Rattle.std.proofs.lemmas.Bool.{cases_lt}
-use Rattle.std.proofs.lemmas.Bool.Decides.{nat_tests}
 use Rattle.std.proofs.lemmas.List.{take_all, take-append-le, drop-append-le}
 use Rattle.std.proofs.Math.Seq.{take-append-add}
 use Rattle.std.specs.Io.KnownBytes.{Consumes, IsAtEnd}
@@ -18,16 +19,19 @@ use Rattle.px_session.specs.SessionLaws.{QuitEnds, SceneStays}
 use Rattle.px_session.specs.Sessions.{after, answers, has_quit, opened, until_quit}
 use Rattle.px_session.specs.declared.serving.Ending.{Ending}
 use Rattle.px_session.specs.declared.serving.Ending.TheVariants as e
-use Rattle.px_scene.specs.declared.line.LimitKind.TheVariants as kind
-use Rattle.px_draw.specs.declared.command.Command.TheVariants as c
+use Rattle.px_show.specs.declared.fault.LimitKind.TheVariants as kind
+use Rattle.px_command.specs.declared.command.Command.TheVariants as c
 use Rattle.px_draw.specs.declared.refusal.Kind.TheVariants as k
 use Rattle.px_draw.specs.declared.stop.Stop.{Stop}
-use Rattle.px_draw.specs.Debugs.{IsAfter, IsAnswered, IsBroken, IsOver, admitted, all_commands, answered, command_text, debugged, has_part, is_long, part_of, part_scene, scene_written, session_of, whole_commands, within_limit}
+use Rattle.px_draw.specs.Debugs.{IsAfter, IsAnswered, IsBroken, IsOver, admitted, all_commands, answered}
+use Rattle.px_draw.specs.Debugs.{command_text, debugged, has_part, is_long, part_of, part_scene, scene_written}
+use Rattle.px_draw.specs.Debugs.{session_of, whole_commands, within_limit}
 use Rattle.px_draw.specs.Outcomes.{Outcome, cut, done, drawable, unless_refused}
 use Rattle.px_draw.specs.Refusals.{text_refusal, too_long}
 use Rattle.px_draw.specs.Runs.{IsInput, HasOutput}
 use Rattle.px_draw.specs.Sittings.{Sits, result_of}
 use Rattle.px_draw.specs.Stops.{Performs}
+use Rattle.px_draw.proofs.LimitLemmas.{not_filled, past_limit}
 
 cut_both : (n : ℕ) (xs ys : List ℕ) → take n (xs ++ ys) ≡ take n xs ++ take (n - length xs) ys
 cut_both n xs ys = elim (cases_lt n (length xs)) [
@@ -36,7 +40,8 @@ cut_both n xs ys = elim (cases_lt n (length xs)) [
       rw (take-append-le n xs ys (omega arith), none) (sym (append-nil (take n xs))))
   | inr more ↦ (
       let is : n ≡ length xs + (n - length xs) = omega arith in
-      ap (λ k. take k (xs ++ ys)) is ∙ take-append-add xs ys (n - length xs) ∙ ap (λ t. t ++ take (n - length xs) ys) (sym (take_all n xs (omega arith))))
+      ap (λ k. take k (xs ++ ys)) is ∙ take-append-add xs ys (n - length xs)
+      ∙ ap (λ t. t ++ take (n - length xs) ys) (sym (take_all n xs (omega arith))))
 ]
 
 -- how many bytes may yet be read
@@ -54,10 +59,12 @@ pub record Grown (text z : List ℕ) : Type 0 where
   pub behind : command_text (text ++ z) ≡ command_text text ++ seen (more_than text) z
   pub holds : has_part (text ++ z) ≡ true
 
-part_grown : (w x : List ℕ) (n : ℕ) → n ≤ length w → part_end w ≡ Some n → part_end (w ++ x) ≡ Some n → scene_part (w ++ x) ≡ scene_part w
+part_grown : (w x : List ℕ) (n : ℕ) → n ≤ length w → part_end w ≡ Some n → part_end (w ++ x) ≡ Some n
+    → scene_part (w ++ x) ≡ scene_part w
 part_grown w x n less is end = rw (end, is) (take-append-le n w x less)
 
-behind_grown : (w x : List ℕ) (n : ℕ) → n ≤ length w → part_end w ≡ Some n → part_end (w ++ x) ≡ Some n → behind_part (w ++ x) ≡ behind_part w ++ x
+behind_grown : (w x : List ℕ) (n : ℕ) → n ≤ length w → part_end w ≡ Some n → part_end (w ++ x) ≡ Some n
+    → behind_part (w ++ x) ≡ behind_part w ++ x
 behind_grown w x n less is end = rw (end, is) (drop-append-le n w x less)
 
 pub grown : PartIsKept → PartIsWithin → (text z : List ℕ) (n : ℕ) → part_end (within_limit text) ≡ Some n → Grown text z
@@ -115,17 +122,20 @@ admits_is part bits scene good same draws o =
     let drawn : drawable bits (scene_written part) o ≡ o = subst (λ s. drawable bits s o ≡ o) same (draws o) in
     ap (λ reason. unless_refused reason (drawable bits (scene_written part) o)) good ∙ drawn
 
-holds : Laws → (bits n : ℕ) (text : List ℕ) (scene : SceneView) → Seated bits n text scene → (z : List ℕ) → Holds bits scene (text ++ z)
+holds : Laws → (bits n : ℕ) (text : List ℕ) (scene : SceneView) → Seated bits n text scene → (z : List ℕ)
+    → Holds bits scene (text ++ z)
 holds laws bits n text scene seated z =
     let more = grown laws.kept laws.within text z n seated.part in
     record {
       scene = ap scene_written more.part ∙ sym seated.scene;
-      admits = λ o. ap (λ part. admitted part bits o) more.part ∙ admits_is (part_of text) bits scene seated.good seated.scene seated.draws o;
+      admits = λ o. ap (λ part. admitted part bits o) more.part
+          ∙ admits_is (part_of text) bits scene seated.good seated.scene seated.draws o;
       part = more.holds;
     }
 
 -- the outcome of bytes whose part is whole, or that are not past the limit
-pub debugged_is : (bytes : List ℕ) (bits : ℕ) → (is_long bytes && not (has_part bytes)) ≡ false → debugged bytes bits ≡ admitted (part_of bytes) bits (answered bytes bits)
+pub debugged_is : (bytes : List ℕ) (bits : ℕ) → (is_long bytes && not (has_part bytes)) ≡ false → debugged bytes bits
+    ≡ admitted (part_of bytes) bits (answered bytes bits)
 unfolding debugged
 debugged_is bytes bits whole = rw whole refl
 
@@ -133,7 +143,8 @@ pub and_not : (a b : Bool) → b ≡ true → (a && not b) ≡ false
 and_not true b is = rw is refl
 and_not false b is = refl
 
-outcome_is : (bits : ℕ) (scene : SceneView) (bytes : List ℕ) → Holds bits scene bytes → debugged bytes bits ≡ answered bytes bits
+outcome_is : (bits : ℕ) (scene : SceneView) (bytes : List ℕ) → Holds bits scene bytes → debugged bytes bits
+    ≡ answered bytes bits
 outcome_is bits scene bytes holds =
     debugged_is bytes bits (and_not (is_long bytes) (has_part bytes) holds.part) ∙ holds.admits (answered bytes bits)
 
@@ -141,34 +152,43 @@ outcome_is bits scene bytes holds =
 has_output : (bytes : List ℕ) (bits : ℕ) → HasOutput (answered bytes bits)
 unfolding answered
 has_output bytes bits =
-    elim (is_long bytes && not (has_quit (whole_commands bytes))) as (λ t. HasOutput (if t then cut (answers bits (session_of bytes) (whole_commands bytes)) too_long
+    elim (is_long bytes && not (has_quit (whole_commands bytes))) as (λ t.
+    HasOutput (if t then cut (answers bits (session_of bytes) (whole_commands bytes)) too_long
     else done (answers bits (session_of bytes) (until_quit (all_commands bytes))))) [ true ↦ tt | false ↦ tt ]
 
 -- the array after lines
-stands : SceneStays → (bits : ℕ) (bytes : List ℕ) (from now : SessionView) (lines : List (List ℕ)) (device : Device) (slots : List (Option Device))
+stands : SceneStays → (bits : ℕ) (bytes : List ℕ) (from now : SessionView) (lines : List (List ℕ)) (device : Device)
+    (slots : List (Option Device))
     → from ≡ session_of bytes → now ≡ after from lines → Fits bits now device slots → IsAfter bits bytes lines device
 stands stays bits bytes from now lines device slots start state fits =
     let here : now ≡ after (session_of bytes) lines = state ∙ ap (λ x. after x lines) start in
-    let scene : now.scene ≡ part_scene bytes = ap (λ (x : SessionView). x.scene) here ∙ stays (session_of bytes) lines in
+    let scene : now.scene ≡ part_scene bytes =
+    ap (λ (x : SessionView). x.scene) here ∙ stays (session_of bytes) lines in
     rw (← here, ← scene) fits.at
 
-over : SceneStays → (bits : ℕ) (bytes : List ℕ) (from now : SessionView) (lines : List (List ℕ)) (a b : Option (List ℕ)) (q : Option Bool) (device : Device) (slots : List (Option Device))
-    → from ≡ session_of bytes → Fits bits now device slots → Finished bits from now a b q lines → IsOver bits bytes lines a b q device
+over : SceneStays → (bits : ℕ) (bytes : List ℕ) (from now : SessionView) (lines : List (List ℕ))
+    (a b : Option (List ℕ)) (q : Option Bool) (device : Device) (slots : List (Option Device))
+    → from ≡ session_of bytes → Fits bits now device slots → Finished bits from now a b q lines
+    → IsOver bits bytes lines a b q device
 over stays bits bytes from now lines a b q device slots start fits finished = record {
   wrote = rw (← start) finished.wrote;
   end = finished.end;
   array = stands stays bits bytes from now lines device slots start finished.state fits;
 }
 
-all_answered : SceneStays → (bits : ℕ) (bytes : List ℕ) (from now : SessionView) (lines : List (List ℕ)) (a b : Option (List ℕ)) (p q : Option Bool) (device : Device) (slots : List (Option Device))
-    → from ≡ session_of bytes → Fits bits now device slots → Answered bits from now a b p q lines → IsAnswered bits bytes lines a b p q device
+all_answered : SceneStays → (bits : ℕ) (bytes : List ℕ) (from now : SessionView) (lines : List (List ℕ))
+    (a b : Option (List ℕ)) (p q : Option Bool) (device : Device) (slots : List (Option Device))
+    → from ≡ session_of bytes → Fits bits now device slots → Answered bits from now a b p q lines
+    → IsAnswered bits bytes lines a b p q device
 all_answered stays bits bytes from now lines a b p q device slots start fits said = record {
   wrote = rw (← start) said.wrote;
   array = stands stays bits bytes from now lines device slots start said.state fits;
 }
 
-broken : SceneStays → (bits : ℕ) (bytes : List ℕ) (from now : SessionView) (lines : List (List ℕ)) (a b : Option (List ℕ)) (p q : Option Bool) (device : Device) (slots : List (Option Device))
-    → from ≡ session_of bytes → Fits bits now device slots → Broken bits from now a b p q lines → IsBroken bits bytes lines a b p q device
+broken : SceneStays → (bits : ℕ) (bytes : List ℕ) (from now : SessionView) (lines : List (List ℕ))
+    (a b : Option (List ℕ)) (p q : Option Bool) (device : Device) (slots : List (Option Device))
+    → from ≡ session_of bytes → Fits bits now device slots → Broken bits from now a b p q lines
+    → IsBroken bits bytes lines a b p q device
 broken stays bits bytes from now lines a b p q device slots start fits broke = record {
   count = broke.count;
   within = broke.within;
@@ -180,7 +200,8 @@ broken stays bits bytes from now lines a b p q device slots start fits broke = r
 }
 
 -- a session over a scene part, and what was read behind it
-pub record Sat (bits n : ℕ) (text z : List ℕ) (scene : SceneView) (known rest : Option (List ℕ)) (from now : SessionView)
+pub record Sat (bits n : ℕ) (text z : List ℕ) (scene : SceneView) (known rest : Option (List ℕ))
+    (from now : SessionView)
     (device : Device) (slots : List (Option Device)) : Type 0 where
   pub laws : Laws
   pub seated : Seated bits n text scene
@@ -197,11 +218,13 @@ record Sees (bits : ℕ) (text z more bytes : List ℕ) (scene : SceneView) (fro
   pub start_taken : from ≡ session_of (text ++ z)
   pub start_all : from ≡ session_of bytes
 
-sees : (laws : Laws) (bits n : ℕ) (text z more bytes : List ℕ) (scene : SceneView) (from : SessionView) → Seated bits n text scene
+sees : (laws : Laws) (bits n : ℕ) (text z more bytes : List ℕ) (scene : SceneView) (from : SessionView)
+    → Seated bits n text scene
     → from ≡ opened scene → bytes ≡ text ++ (z ++ more) → Sees bits text z more bytes scene from
 sees laws bits n text z more bytes scene from seated start whole =
     let taken = holds laws bits n text scene seated z in
-    let all : Holds bits scene bytes = subst (λ t. Holds bits scene t) (sym whole) (holds laws bits n text scene seated (z ++ more)) in
+    let all : Holds bits scene bytes =
+    subst (λ t. Holds bits scene t) (sym whole) (holds laws bits n text scene seated (z ++ more)) in
     let front = command_text text in
     let rest = take (more_than text - 1 - length z) more in
     let here = (grown laws.kept laws.within text z n seated.part).behind in
@@ -217,11 +240,11 @@ sees laws bits n text z more bytes scene from seated start whole =
 
 pub long_is : (bytes : List ℕ) → 1048577 ≤ length bytes → is_long bytes ≡ true
 unfolding is_long
-long_is bytes long = grind (arith, nat_tests)
+long_is bytes long = past_limit (length bytes) long
 
 pub short_is : (bytes : List ℕ) → length bytes < 1048577 → is_long bytes ≡ false
 unfolding is_long
-short_is bytes short = grind (arith, nat_tests)
+short_is bytes short = not_filled (length bytes) short
 
 -- the session's answers where a quit stands among the whole lines, where the input ends, and past the limit
 answered_quit : (bytes : List ℕ) (bits : ℕ) → has_quit (whole_commands bytes) ≡ true
@@ -241,8 +264,10 @@ answered_long bytes bits long quiet = rw (long, quiet) refl
 
 -- what a session does, by how it ended
 abbrev ServedAs : Ending → Type 0
-ServedAs ending = (bits n : ℕ) (text z : List ℕ) (scene : SceneView) (known rest a b : Option (List ℕ)) (p q : Option Bool)
-    (from now : SessionView) (before device : Device) (slots : List (Option Device)) → Sat bits n text z scene known rest from now device slots
+ServedAs ending =
+    (bits n : ℕ) (text z : List ℕ) (scene : SceneView) (known rest a b : Option (List ℕ)) (p q : Option Bool)
+    (from now : SessionView) (before device : Device) (slots : List (Option Device))
+    → Sat bits n text z scene known rest from now device slots
     → HasServed ending bits from now a b p q (command_text (text ++ z)) z (more_than text) rest
     → Performs (result_of ending) (Some c.Debug) bits known rest a b p q before device
 
@@ -250,7 +275,8 @@ served_as : (ending : Ending) → ServedAs ending
 served_as e.Quit bits n text z scene known rest a b p q from now before device slots sat served =
     let ext = extends known rest (text ++ z) sat.consumed in
     let bytes = ext.bytes in
-    let see = sees sat.laws bits n text z ext.more bytes scene from sat.seated sat.start (ext.whole ∙ append_assoc text z ext.more) in
+    let see = sees sat.laws bits n text z ext.more bytes scene from sat.seated sat.start (ext.whole
+    ∙ append_assoc text z ext.more) in
     let behind = command_text (text ++ z) in
     let stays = sat.laws.quit behind (take (more_than text - 1 - length z) ext.more) served.1 in
     let quits : has_quit (whole_commands bytes) ≡ true = rw see.behind stays.quits in
@@ -263,13 +289,16 @@ served_as e.Quit bits n text z scene known rest a b p q from now before device s
       consumed = sat.consumed;
       status = rw is refl;
       line = tt;
-      leaves = over sat.laws.scene bits bytes from now (until_quit (all_commands bytes)) a b q device slots see.start_all sat.fits (rw lines served.0);
+      leaves = over sat.laws.scene bits bytes from now (until_quit (all_commands bytes)) a b q device slots
+          see.start_all sat.fits (rw lines served.0);
     }
 served_as e.End bits n text z scene known rest a b p q from now before device slots sat served =
     let ext = extends known rest (text ++ z) sat.consumed in
     let bytes = ext.bytes in
-    let see = sees sat.laws bits n text z ext.more bytes scene from sat.seated sat.start (ext.whole ∙ append_assoc text z ext.more) in
-    let same : bytes ≡ text ++ z = ext.whole ∙ ap (λ more. (text ++ z) ++ more) (ext.end served.3) ∙ append-nil (text ++ z) in
+    let see = sees sat.laws bits n text z ext.more bytes scene from sat.seated sat.start (ext.whole
+    ∙ append_assoc text z ext.more) in
+    let same : bytes ≡ text ++ z = ext.whole ∙ ap (λ more. (text ++ z) ++ more) (ext.end served.3)
+    ∙ append-nil (text ++ z) in
     let short = short_is bytes (rw same (omega (arith, length-append text z, served.2, sat.few))) in
     let is = outcome_is bits scene bytes see.all ∙ answered_end bytes bits short in
     record {
@@ -279,16 +308,24 @@ served_as e.End bits n text z scene known rest a b p q from now before device sl
       consumed = sat.consumed;
       status = rw is refl;
       line = tt;
-      leaves = over sat.laws.scene bits bytes from now (until_quit (all_commands bytes)) a b q device slots see.start_all sat.fits (rw same served.0);
+      leaves = over sat.laws.scene bits bytes from now (until_quit (all_commands bytes)) a b q device slots
+          see.start_all sat.fits (rw same served.0);
     }
 served_as e.Long bits n text z scene known rest a b p q from now before device slots sat served =
     let ext = extends known rest (text ++ z) sat.consumed in
     let bytes = ext.bytes in
-    let see = sees sat.laws bits n text z ext.more bytes scene from sat.seated sat.start (ext.whole ∙ append_assoc text z ext.more) in
+    let see = sees sat.laws bits n text z ext.more bytes scene from sat.seated sat.start (ext.whole
+    ∙ append_assoc text z ext.more) in
     let none : more_than text - 1 - length z ≡ 0 = omega (arith, served.2) in
     let behind : command_text bytes ≡ command_text (text ++ z) =
     see.behind ∙ ap (λ k. command_text (text ++ z) ++ take k ext.more) none ∙ append-nil (command_text (text ++ z)) in
-    let long = long_is bytes (rw ext.whole (omega (arith, length-append (text ++ z) ext.more, length-append text z, served.2, sat.few))) in
+    let long = long_is bytes (rw ext.whole (omega (
+      arith,
+      length-append (text ++ z) ext.more,
+      length-append text z,
+      served.2,
+      sat.few,
+    ))) in
     let quiet : has_quit (whole_commands bytes) ≡ false = rw behind served.1 in
     let is = outcome_is bits scene bytes see.all ∙ answered_long bytes bits long quiet in
     record {
@@ -298,12 +335,14 @@ served_as e.Long bits n text z scene known rest a b p q from now before device s
       consumed = sat.consumed;
       status = (0, k.Scene kind.Text, pos 1048577, rw is refl);
       line = rw is refl;
-      leaves = rw is (all_answered sat.laws.scene bits bytes from now (whole_commands bytes) a b p q device slots see.start_all sat.fits (rw behind served.0));
+      leaves = rw is (all_answered sat.laws.scene bits bytes from now (whole_commands bytes) a b p q device slots
+          see.start_all sat.fits (rw behind served.0));
     }
 served_as e.ReadFault bits n text z scene known rest a b p q from now before device slots sat served =
     let ext = extends known rest (text ++ z) sat.consumed in
     let bytes = ext.bytes in
-    let see = sees sat.laws bits n text z ext.more bytes scene from sat.seated sat.start (ext.whole ∙ append_assoc text z ext.more) in
+    let see = sees sat.laws bits n text z ext.more bytes scene from sat.seated sat.start (ext.whole
+    ∙ append_assoc text z ext.more) in
     record {
       bytes = bytes;
       taken = text ++ z;
@@ -315,7 +354,8 @@ served_as e.ReadFault bits n text z scene known rest a b p q from now before dev
         whole = λ part. record {
           admits = see.taken.admits;
           quiet = served.1;
-          answered = all_answered sat.laws.scene bits (text ++ z) from now (whole_commands (text ++ z)) a b p q device slots see.start_taken sat.fits served.0;
+          answered = all_answered sat.laws.scene bits (text ++ z) from now (whole_commands (text ++ z)) a b p q device
+              slots see.start_taken sat.fits served.0;
         };
         other = λ none. absurd (let two : true ≡ false = sym see.taken.part ∙ none in cc);
       };
@@ -323,7 +363,8 @@ served_as e.ReadFault bits n text z scene known rest a b p q from now before dev
 served_as e.WriteFault bits n text z scene known rest a b p q from now before device slots sat served =
     let ext = extends known rest (text ++ z) sat.consumed in
     let bytes = ext.bytes in
-    let see = sees sat.laws bits n text z ext.more bytes scene from sat.seated sat.start (ext.whole ∙ append_assoc text z ext.more) in
+    let see = sees sat.laws bits n text z ext.more bytes scene from sat.seated sat.start (ext.whole
+    ∙ append_assoc text z ext.more) in
     record {
       bytes = bytes;
       taken = text ++ z;
@@ -331,19 +372,25 @@ served_as e.WriteFault bits n text z scene known rest a b p q from now before de
       consumed = sat.consumed;
       status = rw (outcome_is bits scene bytes see.all) (has_output bytes bits);
       line = refl;
-      leaves = broken sat.laws.scene bits (text ++ z) from now (until_quit (all_commands (text ++ z))) a b p q device slots see.start_taken sat.fits served;
+      leaves = broken sat.laws.scene bits (text ++ z) from now (until_quit (all_commands (text ++ z))) a b p q device
+          slots see.start_taken sat.fits served;
     }
 
 -- command lines were answered behind a scene part
-pub performs_sat : (laws : Laws) (result : Result (Unit {0}) Stop) (bits n : ℕ) (text read : List ℕ) (more : ℕ) (scene : SceneView)
-    (known rest rest' a b : Option (List ℕ)) (p q : Option Bool) (from now : SessionView) (before device : Device) (slots : List (Option Device))
-    → Seated bits n text scene → length text ≤ 1048577 → Consumes known rest text → from ≡ opened scene → Fits bits now device slots
+pub performs_sat : (laws : Laws) (result : Result (Unit {0}) Stop) (bits n : ℕ) (text read : List ℕ) (more : ℕ)
+    (scene : SceneView)
+    (known rest rest' a b : Option (List ℕ)) (p q : Option Bool) (from now : SessionView) (before device : Device)
+    (slots : List (Option Device))
+    → Seated bits n text scene → length text ≤ 1048577 → Consumes known rest text → from ≡ opened scene
+    → Fits bits now device slots
     → read ≡ command_text text → more ≡ more_than text → Sits result bits read more from now rest rest' a b p q
     → Performs result (Some c.Debug) bits known rest' a b p q before device
-performs_sat laws result bits n text read more scene known rest rest' a b p q from now before device slots seated few opens start fits behind left sits =
+performs_sat laws result bits n text read more scene known rest rest' a b p q from now before device slots seated few
+    opens start fits behind left sits =
     let serves = sits.serves in
     let z = serves.bytes in
-    let here = subst (λ m. HasServed sits.ending bits from now a b p q (read ++ seen m z) z m rest') left serves.served in
+    let here = subst (λ m. HasServed sits.ending bits from now a b p q (read ++ seen m z) z m rest') left
+    serves.served in
     let whole : read ++ seen (more_than text) z ≡ command_text (text ++ z) =
     ap (λ t. t ++ seen (more_than text) z) behind ∙ sym (grown laws.kept laws.within text z n seated.part).behind in
     let served = subst (λ t. HasServed sits.ending bits from now a b p q t z (more_than text) rest') whole here in
@@ -356,8 +403,10 @@ performs_sat laws result bits n text read more scene known rest rest' a b p q fr
       fits = fits;
     }) served)
 
-pub took_sat : (result : Result (Unit {0}) Stop) (bits : ℕ) (text read : List ℕ) (more : ℕ) (known rest rest' a b : Option (List ℕ)) (p q : Option Bool)
-    (from now : SessionView) → length text ≤ 1048577 → Consumes known rest text → more ≡ more_than text → Sits result bits read more from now rest rest' a b p q
+pub took_sat : (result : Result (Unit {0}) Stop) (bits : ℕ) (text read : List ℕ) (more : ℕ)
+    (known rest rest' a b : Option (List ℕ)) (p q : Option Bool)
+    (from now : SessionView) → length text ≤ 1048577 → Consumes known rest text → more ≡ more_than text
+    → Sits result bits read more from now rest rest' a b p q
     → ConsumesAtMost known rest' 1048577
 took_sat result bits text read more known rest rest' a b p q from now few opens left sits = (
   text ++ sits.serves.bytes,

@@ -1,6 +1,7 @@
 pub mod DebugLemmas
 pub mod ErrLemmas
 pub mod ImageLemmas
+pub mod LimitLemmas
 pub mod ListedLemmas
 pub mod MeanLemmas
 pub mod OpenLemmas

@@ -17,16 +17,20 @@ pub means_drawn : MeansAreRefined → (s : ℕ) (scene fine : SceneView) (layout
     → fine ≡ fine_scene s scene → layout ≡ drawn → ShowsThePicture fine drawn (λ x y. (pixel_of state x y).memory)
     → stored_means s fine layout state ≡ refined_image s scene
 means_drawn law s scene fine layout drawn state is same shows =
-    let here = subst (λ (l : LayoutView). ShowsThePicture fine l (λ x y. (pixel_of state x y).memory)) (sym same) shows in
+    let here = subst (λ (l : LayoutView). ShowsThePicture fine l (λ x y. (pixel_of state x y).memory)) (sym same)
+    shows in
     ap (λ f. stored_means s f layout state) is
-    ∙ law s scene layout state (subst (λ (f : SceneView). ShowsThePicture f layout (λ x y. (pixel_of state x y).memory)) is here)
+    ∙ law s scene layout state
+    (subst (λ (f : SceneView). ShowsThePicture f layout (λ x y. (pixel_of state x y).memory)) is here)
 
 -- what serves the finer scene serves its refinement
 pub serves_refined : (result : Result (Unit {0}) Stop) (s t : ℕ) (scene fine : SceneView) (bits : ℕ)
-    (a b : Option (List ℕ)) (p q : Option Bool) (m n : ℕ) → s ≡ t → fine_refusal s scene ≡ None → fine ≡ fine_scene s scene
+    (a b : Option (List ℕ)) (p q : Option Bool) (m n : ℕ) → s ≡ t → fine_refusal s scene ≡ None
+    → fine ≡ fine_scene s scene
     → Serves result (drawable bits fine (done (refined_image s scene))) a b p q m n
     → Serves result (refined t scene bits) a b p q m n
 serves_refined result s t scene fine bits a b p q m n same none is serves =
     subst (λ (k : ℕ). Serves result (refined k scene bits) a b p q m n) same
-    (subst (λ (r : Option Refusal). Serves result (unless_refused r (drawable bits (fine_scene s scene) (done (refined_image s scene)))) a b p q m n) (sym none)
+    (subst (λ (r : Option Refusal). Serves result
+    (unless_refused r (drawable bits (fine_scene s scene) (done (refined_image s scene)))) a b p q m n) (sym none)
     (subst (λ (f : SceneView). Serves result (drawable bits f (done (refined_image s scene))) a b p q m n) is serves))

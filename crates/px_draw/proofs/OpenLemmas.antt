@@ -1,5 +1,7 @@
 -- What a run of `debug` is whose session did not begin, or has no command lines.
-use Rattle.std.proofs.Common.{ℕ, ◌≡◌, ◌-◌, ◌<◌, ◌++◌, ◌&&◌, not, inl, inr, List, [], length, take, is_some, subst, true, false, Bool, Option, Some, None, Result, Ok, Err, refl, ap, sym, ◌∙◌, arith, append-nil, length-append}
+use Rattle.std.proofs.Common.{ℕ, ◌≡◌, ◌-◌, ◌<◌, ◌++◌, ◌&&◌, not, inl, inr, List, [], length, take, is_some, subst}
+use Rattle.std.proofs.Common.{true, false, Bool, Option, Some, None, Result, Ok, Err, refl, ap, sym, ◌∙◌, arith}
+use Rattle.std.proofs.Common.{append-nil, length-append}
 use Rattle.std.proofs.Math.Seq.{drop-length}
 use Rattle.std.specs.Io.KnownBytes.{Appends, Consumes, IsAtEnd, Keeps}
 use Rattle.px_io.specs.Told.{ConsumesAtMost}
@@ -11,30 +13,35 @@ use Rattle.px_lines.specs.Parts.{holds_part, part_end}
 use Rattle.px_lines.specs.declared.reading.Opening.{Opening}
 use Rattle.px_lines.specs.Lines.{all_lines}
 use Rattle.px_session.specs.Sessions.{answers, opened, until_quit}
-use Rattle.px_draw.specs.declared.command.Command.TheVariants as c
+use Rattle.px_command.specs.declared.command.Command.TheVariants as c
 use Rattle.px_draw.specs.declared.refusal.Refusal.{Refusal}
 use Rattle.px_draw.specs.declared.refusal.Refusal.TheVariants as r
 use Rattle.px_draw.specs.declared.stop.Stop.{Stop}
 use Rattle.px_draw.specs.declared.stop.Stop.TheVariants as s
-use Rattle.px_draw.specs.Debugs.{IsKeptOrOpened, IsOver, admitted, all_commands, answered, command_text, debugged, has_part, is_long, part_of, part_scene, scene_written, session_of, within_limit}
+use Rattle.px_draw.specs.Debugs.{IsKeptOrOpened, IsOver, admitted, all_commands, answered, command_text, debugged}
+use Rattle.px_draw.specs.Debugs.{has_part, is_long, part_of, part_scene, scene_written, session_of, within_limit}
 use Rattle.px_draw.specs.Outcomes.{Outcome, done, drawable, output, refused, unless_refused}
 use Rattle.px_draw.specs.Runs.{HasOutput}
 use Rattle.px_draw.specs.Refusals.{text_refusal, too_long}
 use Rattle.px_draw.specs.Sittings.{Finishes, IsOpenStop, IsPartStop, LeavesClosed, Opens, OpensOn}
 use Rattle.px_draw.specs.Stops.{HasCauses, Performs, StopsAt, status_of}
 use Rattle.px_draw.specs.Untouched.{IsUntouched}
-use Rattle.px_draw.proofs.DebugLemmas.{Extends, Laws, admits_is, and_not, answered_end, debugged_is, extends, grown, long_is, short_is, within_both}
+use Rattle.px_draw.proofs.DebugLemmas.{Extends, Laws, admits_is, and_not, answered_end, debugged_is, extends, grown}
+use Rattle.px_draw.proofs.DebugLemmas.{long_is, short_is, within_both}
 
 keeps_same : (a : Option (List ℕ)) → Keeps a a
 keeps_same None = tt
 keeps_same (Some bytes) = refl
 
-untouched : (a : Option (List ℕ)) (p : Option Bool) (before now : Device) → now ≡ before → IsUntouched a a p p before now
+untouched : (a : Option (List ℕ)) (p : Option Bool) (before now : Device) → now ≡ before
+    → IsUntouched a a p p before now
 untouched a p before now same = record { wrote = keeps_same a; finished = refl; array = same }
 
 -- a refusal before any output
-refused_by : (reason : Refusal) (bits : ℕ) (taken : List ℕ) (known rest a : Option (List ℕ)) (p : Option Bool) (before now : Device)
-    → (ext : Extends known rest taken) → Consumes known rest taken → now ≡ before → debugged ext.bytes bits ≡ refused reason
+refused_by : (reason : Refusal) (bits : ℕ) (taken : List ℕ) (known rest a : Option (List ℕ)) (p : Option Bool)
+    (before now : Device)
+    → (ext : Extends known rest taken) → Consumes known rest taken → now ≡ before → debugged ext.bytes bits
+    ≡ refused reason
     → Performs (Err (s.Refused reason)) (Some c.Debug) bits known rest a a p p before now
 refused_by (r.Malformed line cause) bits taken known rest a p before now ext consumed same is = record {
   bytes = ext.bytes;
@@ -56,8 +63,10 @@ refused_by (r.Limit line kind found) bits taken known rest a p before now ext co
 }
 
 -- want of memory
-no_memory : (bits : ℕ) (taken : List ℕ) (known rest a : Option (List ℕ)) (p : Option Bool) (before now : Device) → Consumes known rest taken
-    → IsKeptOrOpened bits (part_scene taken) before now → Performs (Err s.Memory) (Some c.Debug) bits known rest a a p p before now
+no_memory : (bits : ℕ) (taken : List ℕ) (known rest a : Option (List ℕ)) (p : Option Bool) (before now : Device)
+    → Consumes known rest taken
+    → IsKeptOrOpened bits (part_scene taken) before now → Performs (Err s.Memory) (Some c.Debug) bits known rest a a
+    p p before now
 no_memory bits taken known rest a p before now consumed kept =
     let ext = extends known rest taken consumed in
     record {
@@ -75,12 +84,14 @@ unfolding has_part
 no_part bytes none part = (let two : false ≡ true = sym (ap is_some none) ∙ part in cc)
 
 -- the input was not read as far as the scene part
-pub performs_open : (result : Result (Unit {0}) Stop) (bits : ℕ) (stop : Stop) (known rest a : Option (List ℕ)) (p : Option Bool) (device : Device)
+pub performs_open : (result : Result (Unit {0}) Stop) (bits : ℕ) (stop : Stop) (known rest a : Option (List ℕ))
+    (p : Option Bool) (device : Device)
     → result ≡ Err stop → IsOpenStop stop known rest → ConsumesAtMost known rest 1048577
     → Performs result (Some c.Debug) bits known rest a a p p device device
 performs_open result bits stop known rest a p device is why most = rw is (by_stop stop why)
   where
-    by_stop : (stop : Stop) → IsOpenStop stop known rest → Performs (Err stop) (Some c.Debug) bits known rest a a p p device device
+    by_stop : (stop : Stop) → IsOpenStop stop known rest → Performs (Err stop) (Some c.Debug) bits known rest a a p p
+        device device
     by_stop s.ReadFault (taken, consumed, few, none) =
         let ext = extends known rest taken consumed in
         record {
@@ -108,8 +119,10 @@ record Judged (text bytes : List ℕ) : Type 0 where
 not_long : (bytes : List ℕ) → is_long bytes ≡ false → (is_long bytes && not (has_part bytes)) ≡ false
 not_long bytes short = rw short refl
 
-judged : Laws → (text : List ℕ) (known rest : Option (List ℕ)) (part : Option ℕ) → (ext : Extends known rest text) → part ≡ part_end (within_limit text)
-    → (part ≡ None → length text < 1048577) → (part ≡ None → length text < 1048577 → IsAtEnd rest) → Judged text ext.bytes
+judged : Laws → (text : List ℕ) (known rest : Option (List ℕ)) (part : Option ℕ) → (ext : Extends known rest text)
+    → part ≡ part_end (within_limit text)
+    → (part ≡ None → length text < 1048577) → (part ≡ None → length text < 1048577 → IsAtEnd rest)
+    → Judged text ext.bytes
 judged laws text known rest (Some n) ext is short end =
     let more = grown laws.kept laws.within text ext.more n (sym is) in
     record {
@@ -117,21 +130,25 @@ judged laws text known rest (Some n) ext is short end =
       whole = and_not (is_long ext.bytes) (has_part ext.bytes) (ap has_part ext.whole ∙ more.holds);
     }
 judged laws text known rest None ext is short end =
-    let same : ext.bytes ≡ text = ext.whole ∙ ap (λ more. text ++ more) (ext.end (end refl (short refl))) ∙ append-nil text in
+    let same : ext.bytes ≡ text = ext.whole ∙ ap (λ more. text ++ more) (ext.end (end refl (short refl)))
+    ∙ append-nil text in
     record {
       part = ap part_of same;
       whole = not_long ext.bytes (ap is_long same ∙ short_is text (short refl));
     }
 
-refuses : (part : List ℕ) (bits : ℕ) (reason : Refusal) (o : Outcome) → text_refusal part ≡ Some reason → admitted part bits o ≡ refused reason
+refuses : (part : List ℕ) (bits : ℕ) (reason : Refusal) (o : Outcome) → text_refusal part ≡ Some reason
+    → admitted part bits o ≡ refused reason
 unfolding admitted
 refuses part bits reason o bad = ap (λ why. unless_refused why (drawable bits (scene_written part) o)) bad
 
 -- the part is refused
-refused_part : (text bytes : List ℕ) (bits : ℕ) (reason : Refusal) → Judged text bytes → text_refusal (part_of text) ≡ Some reason
+refused_part : (text bytes : List ℕ) (bits : ℕ) (reason : Refusal) → Judged text bytes → text_refusal (part_of text)
+    ≡ Some reason
     → debugged bytes bits ≡ refused reason
 refused_part text bytes bits reason judged bad =
-    debugged_is bytes bits judged.whole ∙ ap (λ part. admitted part bits (answered bytes bits)) judged.part ∙ refuses (part_of text) bits reason (answered bytes bits) bad
+    debugged_is bytes bits judged.whole ∙ ap (λ part. admitted part bits (answered bytes bits)) judged.part
+    ∙ refuses (part_of text) bits reason (answered bytes bits) bad
 
 -- or it is not whole within the limit
 refused_long : (text more : List ℕ) (bits : ℕ) → part_end (within_limit text) ≡ None → length text ≡ 1048577
@@ -144,17 +161,21 @@ refused_long text more bits none full =
     let part : holds_part (within_limit (text ++ more)) ≡ false = ap holds_part same ∙ ap is_some none in
     rw (long_is (text ++ more) (omega (arith, length-append text more)), part) refl
 
-pub performs_part : (laws : Laws) (result : Result (Unit {0}) Stop) (bits : ℕ) (stop : Stop) (o : Opening) (known rest a : Option (List ℕ)) (p : Option Bool) (device : Device)
-    → result ≡ Err stop → Opens o known rest → IsPartStop stop o → Performs result (Some c.Debug) bits known rest a a p p device device
+pub performs_part : (laws : Laws) (result : Result (Unit {0}) Stop) (bits : ℕ) (stop : Stop) (o : Opening)
+    (known rest a : Option (List ℕ)) (p : Option Bool) (device : Device)
+    → result ≡ Err stop → Opens o known rest → IsPartStop stop o → Performs result (Some c.Debug) bits known rest a a
+    p p device device
 performs_part laws result bits stop o known rest a p device is opens part = rw is (by_stop stop part)
   where
     ext : Extends known rest o.text.items
     ext = extends known rest o.text.items opens.taken
 
-    by_stop : (stop : Stop) → IsPartStop stop o → Performs (Err stop) (Some c.Debug) bits known rest a a p p device device
+    by_stop : (stop : Stop) → IsPartStop stop o → Performs (Err stop) (Some c.Debug) bits known rest a a p p
+        device device
     by_stop (s.Refused reason) (inl (bad, short)) =
         refused_by reason bits o.text.items known rest a p device device ext opens.taken refl
-        (refused_part o.text.items ext.bytes bits reason (judged laws o.text.items known rest o.part ext opens.part short opens.end) bad)
+        (refused_part o.text.items ext.bytes bits reason (judged laws o.text.items known rest o.part ext opens.part
+        short opens.end) bad)
     by_stop (s.Refused reason) (inr (none, full, long)) =
         refused_by reason bits o.text.items known rest a p device device ext opens.taken refl
         (rw (ext.whole, long) (refused_long o.text.items ext.more bits (sym opens.part ∙ none) full))
@@ -163,18 +184,23 @@ performs_part laws result bits stop o known rest a p device is opens part = rw i
     by_stop s.ReadFault part = absurd part
     by_stop s.WriteFault part = absurd part
 
-closed_by : (part : List ℕ) (bits : ℕ) (scene : SceneView) (o : Outcome) (reason : Refusal) → text_refusal part ≡ None → scene ≡ scene_written part
+closed_by : (part : List ℕ) (bits : ℕ) (scene : SceneView) (o : Outcome) (reason : Refusal) → text_refusal part ≡ None
+    → scene ≡ scene_written part
     → drawable bits scene o ≡ refused reason → admitted part bits o ≡ refused reason
 unfolding admitted
 closed_by part bits scene o reason good same meets =
-    ap (λ why. unless_refused why (drawable bits (scene_written part) o)) good ∙ subst (λ s. drawable bits s o ≡ refused reason) same meets
+    ap (λ why. unless_refused why (drawable bits (scene_written part) o)) good
+    ∙ subst (λ s. drawable bits s o ≡ refused reason) same meets
 
 -- no session began
-pub performs_closed : (laws : Laws) (result : Result (Unit {0}) Stop) (bits : ℕ) (stop : Stop) (o : Opening) (scene : SceneView)
-    (known rest a : Option (List ℕ)) (p : Option Bool) (before now : Device) → result ≡ Err stop → Opens o known rest → OpensOn o scene
+pub performs_closed : (laws : Laws) (result : Result (Unit {0}) Stop) (bits : ℕ) (stop : Stop) (o : Opening)
+    (scene : SceneView)
+    (known rest a : Option (List ℕ)) (p : Option Bool) (before now : Device) → result ≡ Err stop → Opens o known rest
+    → OpensOn o scene
     → StopsAt (drawable bits scene) stop → LeavesClosed (status_of stop) bits scene before now
     → Performs result (Some c.Debug) bits known rest a a p p before now
-performs_closed laws result bits stop o scene known rest a p before now is opens on stops leaves = rw is (by_stop stop stops leaves)
+performs_closed laws result bits stop o scene known rest a p before now is opens on stops leaves =
+    rw is (by_stop stop stops leaves)
   where
     ext : Extends known rest o.text.items
     ext = extends known rest o.text.items opens.taken
@@ -182,19 +208,24 @@ performs_closed laws result bits stop o scene known rest a p before now is opens
     bytes : List ℕ
     bytes = ext.bytes
 
-    refusal : (reason : Refusal) → StopsAt (drawable bits scene) (s.Refused reason) → debugged bytes bits ≡ refused reason
+    refusal : (reason : Refusal) → StopsAt (drawable bits scene) (s.Refused reason) → debugged bytes bits
+        ≡ refused reason
     refusal reason stops =
         let j = judged laws o.text.items known rest o.part ext opens.part on.short opens.end in
         debugged_is bytes bits j.whole ∙ ap (λ part. admitted part bits (answered bytes bits)) j.part
-        ∙ closed_by (part_of o.text.items) bits scene (answered bytes bits) reason on.good on.scene (stops.meets (answered bytes bits))
+        ∙ closed_by (part_of o.text.items) bits scene (answered bytes bits) reason on.good on.scene
+        (stops.meets (answered bytes bits))
 
     by_stop : (stop : Stop) → StopsAt (drawable bits scene) stop → LeavesClosed (status_of stop) bits scene before now
         → Performs (Err stop) (Some c.Debug) bits known rest a a p p before now
     by_stop (s.Refused (r.Malformed line cause)) stops same =
-        refused_by (r.Malformed line cause) bits o.text.items known rest a p before now ext opens.taken same (refusal (r.Malformed line cause) stops)
+        refused_by (r.Malformed line cause) bits o.text.items known rest a p before now ext opens.taken same
+        (refusal (r.Malformed line cause) stops)
     by_stop (s.Refused (r.Limit line kind found)) stops same =
-        refused_by (r.Limit line kind found) bits o.text.items known rest a p before now ext opens.taken same (refusal (r.Limit line kind found) stops)
-    by_stop s.Memory stops kept = no_memory bits o.text.items known rest a p before now opens.taken (subst (λ s. IsKeptOrOpened bits s before now) on.scene kept)
+        refused_by (r.Limit line kind found) bits o.text.items known rest a p before now ext opens.taken same
+        (refusal (r.Limit line kind found) stops)
+    by_stop s.Memory stops kept = no_memory bits o.text.items known rest a p before now opens.taken
+        (subst (λ s. IsKeptOrOpened bits s before now) on.scene kept)
     by_stop s.Usage stops leaves = absurd stops.scene
     by_stop s.ReadFault stops leaves = absurd stops.scene
     by_stop s.WriteFault stops leaves = absurd stops.scene
@@ -204,11 +235,14 @@ unfolding command_text
 nothing_behind text none = rw none (drop-length (within_limit text))
 
 -- the scene part is the whole input
-pub performs_empty : (laws : Laws) (result : Result (Unit {0}) Stop) (bits : ℕ) (o : Opening) (scene : SceneView) (known rest a b : Option (List ℕ)) (p q : Option Bool)
+pub performs_empty : (laws : Laws) (result : Result (Unit {0}) Stop) (bits : ℕ) (o : Opening) (scene : SceneView)
+    (known rest a b : Option (List ℕ)) (p q : Option Bool)
     (before device : Device) (slots : List (Option Device)) → Opens o known rest → OpensOn o scene → o.part ≡ None
-    → ((outcome : Outcome) → drawable bits scene outcome ≡ outcome) → Fits bits (opened scene) device slots → Keeps a b → Finishes result p q
+    → ((outcome : Outcome) → drawable bits scene outcome ≡ outcome) → Fits bits (opened scene) device slots
+    → Keeps a b → Finishes result p q
     → Performs result (Some c.Debug) bits known rest a b p q before device
-performs_empty laws result bits o scene known rest a b p q before device slots opens on none draws fits kept finishes = by_result result finishes
+performs_empty laws result bits o scene known rest a b p q before device slots opens on none draws fits kept
+    finishes = by_result result finishes
   where
     text : List ℕ
     text = o.text.items
@@ -227,7 +261,8 @@ performs_empty laws result bits o scene known rest a b p q before device slots o
 
     is : debugged text bits ≡ done []
     is =
-        debugged_is text bits (not_long text short) ∙ admits_is (part_of text) bits scene on.good on.scene draws (answered text bits)
+        debugged_is text bits (not_long text short) ∙ admits_is (part_of text) bits scene on.good on.scene draws
+        (answered text bits)
         ∙ answered_end text bits short ∙ ap (λ ls. done (answers bits (session_of text) ls)) lines
 
     appended : (a b : Option (List ℕ)) → Keeps a b → Appends a b []
@@ -235,7 +270,8 @@ performs_empty laws result bits o scene known rest a b p q before device slots o
     appended (Some xs) None kept = absurd kept
     appended (Some xs) (Some ys) kept = rw kept (sym (append-nil xs))
 
-    by_result : (result : Result (Unit {0}) Stop) → Finishes result p q → Performs result (Some c.Debug) bits known rest a b p q before device
+    by_result : (result : Result (Unit {0}) Stop) → Finishes result p q → Performs result (Some c.Debug) bits known
+        rest a b p q before device
     by_result (Ok u) end = record {
       bytes = ext.bytes;
       taken = text;
@@ -244,7 +280,12 @@ performs_empty laws result bits o scene known rest a b p q before device slots o
       status = subst (λ t. debugged t bits ≡ done (output (debugged t bits))) (sym same) (rw is refl);
       line = tt;
       leaves = subst (λ t. IsOver bits t (until_quit (all_commands t)) a b q device) (sym same)
-          (rw lines (record { wrote = appended a b kept; end = end; array = subst (λ s. IsAt bits s 0 device) on.scene fits.at }));
+          (rw lines (record {
+            wrote = appended a b kept;
+            end = end;
+            array = subst (λ s. IsAt bits s 0 device) on.scene
+                fits.at;
+          }));
     }
     by_result (Err s.WriteFault) idle = record {
       bytes = ext.bytes;
@@ -259,7 +300,11 @@ performs_empty laws result bits o scene known rest a b p q before device slots o
         some = λ e. refl;
         gained = 0;
         before = omega arith;
-        wrote = record { within = omega arith; front = appended a b kept; end = record { taken = λ some. absurd (omega arith); idle = λ e. idle } };
+        wrote = record {
+          within = omega arith;
+          front = appended a b kept;
+          end = record { taken = λ some. absurd (omega arith); idle = λ e. idle };
+        };
         array = subst (λ s. IsAt bits s 0 device) on.scene fits.at;
       });
     }
@@ -269,5 +314,6 @@ performs_empty laws result bits o scene known rest a b p q before device slots o
     by_result (Err s.Memory) end = absurd end
 
 -- a piece that reads nothing, behind reads that left the count of faults
-pub causes_behind : (result : Result (Unit {0}) Stop) (m n k l : ℕ) → n ≡ m → ((i : ℕ) → HasCauses result i i k l) → HasCauses result m n k l
+pub causes_behind : (result : Result (Unit {0}) Stop) (m n k l : ℕ) → n ≡ m → ((i : ℕ) → HasCauses result i i k l)
+    → HasCauses result m n k l
 causes_behind result m n k l calm causes = subst (λ i. HasCauses result m i k l) (sym calm) (causes m)

@@ -1,14 +1,14 @@
 -- What was played of a text that was read, it was played of the input.
-use Rattle.std.proofs.Common.{ℕ, ◌≡◌, ◌≤◌, ◌^◌, inl, inr, List, length, take, true, nat_lt, Bool, Option, Some, None, Result, Ok, Err, refl, ap, subst, sym, ◌∙◌, arith, length-take}
+use Rattle.std.proofs.Common.{ℕ, ◌≡◌, ◌≤◌, inl, inr, List, length, take, Bool, Option, Some, None}
+use Rattle.std.proofs.Common.{Result, Ok, Err, refl, ap, subst, sym, ◌∙◌, arith, length-take}
 use Rattle.std.proofs.lemmas.Bool.{cases_lt}
-use Rattle.std.proofs.lemmas.Bool.Decides.{nat_tests}
 use Rattle.std.proofs.lemmas.List.{take_all}
 use Rattle.std.specs.Io.KnownBytes.{Consumes}
 use Rattle.px_io.specs.Told.{ConsumesAtMost, IsFrontOf}
 use Rattle.px_array.specs.Arrays.{Device}
 use Rattle.px_listing.specs.Listings.{ListingView}
 use Rattle.px_listing.specs.Memories.{played_text}
-use Rattle.px_draw.specs.declared.command.Command.TheVariants as c
+use Rattle.px_command.specs.declared.command.Command.TheVariants as c
 use Rattle.px_draw.specs.declared.refusal.Refusal.{Refusal}
 use Rattle.px_draw.specs.declared.refusal.Refusal.TheVariants as r
 use Rattle.px_draw.specs.declared.stop.Stop.{Stop}
@@ -19,40 +19,46 @@ use Rattle.px_draw.specs.Refusals.{too_long}
 use Rattle.px_draw.specs.Runs.{IsInput}
 use Rattle.px_draw.specs.Stops.{IsListStop, IsReadStop, Meets, Performs, PlaysOn, Serves, Writes, status_in}
 use Rattle.px_draw.proofs.WorkLemmas.{bytes_of, is_input, keeps_same, line_meets, status_meets, wrote}
+use Rattle.px_draw.proofs.LimitLemmas.{past_limit}
 
 -- a text past the limit is refused for it
 long_refused : (bits : ℕ) (text : List ℕ) → 1048577 ≤ length text → list_refusal bits text ≡ Some too_long
 unfolding list_refusal
 long_refused bits text le =
-    let long : nat_lt (2 ^ 20) (length text) ≡ true = grind (arith, nat_tests) in
-    rw long refl
+    rw (past_limit (length text) le) refl
 
 -- a text's front of one byte past the limit is refused as it is
 refusal_front : (bits : ℕ) (bytes : List ℕ) → list_refusal bits (take 1048577 bytes) ≡ list_refusal bits bytes
 refusal_front bits bytes = elim (cases_lt (length bytes) 1048577) [
   | inl short ↦ ap (λ text. list_refusal bits text) (take_all 1048577 bytes (omega arith))
-  | inr past ↦ long_refused bits (take 1048577 bytes) (omega (arith, length-take 1048577 bytes)) ∙ sym (long_refused bits bytes past)
+  | inr past ↦ long_refused bits (take 1048577 bytes) (omega (arith, length-take 1048577 bytes))
+      ∙ sym (long_refused bits bytes past)
 ]
 
 -- a text of which no more than its front was read is its front, where that is a listing's
 whole_text : (bits : ℕ) (bytes : List ℕ) → list_refusal bits (take 1048577 bytes) ≡ None → take 1048577 bytes ≡ bytes
 whole_text bits bytes good = elim (cases_lt (length bytes) 1048577) [
   | inl short ↦ take_all 1048577 bytes (omega arith)
-  | inr past ↦ let long = sym good ∙ long_refused bits (take 1048577 bytes) (omega (arith, length-take 1048577 bytes)) in cc
+  | inr past ↦ let long =
+      sym good ∙ long_refused bits (take 1048577 bytes) (omega (arith, length-take 1048577 bytes)) in cc
 ]
 
 -- what is played of a text that is refused, and of one that is not
-refused_out : (bits : ℕ) (text : List ℕ) (reason : Refusal) → list_refusal bits text ≡ Some reason → played_out text bits ≡ refused reason
+refused_out : (bits : ℕ) (text : List ℕ) (reason : Refusal) → list_refusal bits text ≡ Some reason
+    → played_out text bits ≡ refused reason
 refused_out bits text reason bad =
     ap (λ (found : Option Refusal). unless_refused found (done (played_text bits (listing_written text)))) bad
 
-played_good : (bits : ℕ) (text : List ℕ) → list_refusal bits text ≡ None → played_out text bits ≡ done (played_text bits (listing_written text))
+played_good : (bits : ℕ) (text : List ℕ) → list_refusal bits text ≡ None → played_out text bits
+    ≡ done (played_text bits (listing_written text))
 played_good bits text good =
     ap (λ (found : Option Refusal). unless_refused found (done (played_text bits (listing_written text)))) good
 
 -- what a refusal leaves of the array does not speak of the listing
-plays_refused : (result : Result (Unit {0}) Stop) (bits : ℕ) (one other : ListingView) (before now : Device) (reason : Refusal)
-    → Meets result (refused reason) → Plays (status_in result) bits one before now → Plays (status_in result) bits other before now
+plays_refused : (result : Result (Unit {0}) Stop) (bits : ℕ) (one other : ListingView) (before now : Device)
+    (reason : Refusal)
+    → Meets result (refused reason) → Plays (status_in result) bits one before now
+    → Plays (status_in result) bits other before now
 plays_refused (Ok u) bits one other before now reason meets is = cc
 plays_refused (Err s.WriteFault) bits one other before now reason meets is = cc
 plays_refused (Err s.Usage) bits one other before now reason meets is = is
@@ -67,16 +73,21 @@ plays_front : (result : Result (Unit {0}) Stop) (bytes : List ℕ) (bits : ℕ)
     → PlaysOn result (take 1048577 bytes) bits a b p q before now → PlaysOn result bytes bits a b p q before now
 plays_front result bytes bits a b p q before now plays = by_refusal (list_refusal bits (take 1048577 bytes)) refl
   where
-    by_refusal : (reason : Option Refusal) → list_refusal bits (take 1048577 bytes) ≡ reason → PlaysOn result bytes bits a b p q before now
-    by_refusal None good = subst (λ (text : List ℕ). PlaysOn result text bits a b p q before now) (whole_text bits bytes good) plays
+    by_refusal : (reason : Option Refusal) → list_refusal bits (take 1048577 bytes) ≡ reason
+        → PlaysOn result bytes bits a b p q before now
+    by_refusal None good =
+        subst (λ (text : List ℕ). PlaysOn result text bits a b p q before now) (whole_text bits bytes good) plays
     by_refusal (Some reason) bad =
-        let front : played_out (take 1048577 bytes) bits ≡ refused reason = refused_out bits (take 1048577 bytes) reason bad in
-        let whole : played_out bytes bits ≡ refused reason = refused_out bits bytes reason (sym (refusal_front bits bytes) ∙ bad) in
+        let front : played_out (take 1048577 bytes) bits ≡ refused reason =
+        refused_out bits (take 1048577 bytes) reason bad in
+        let whole : played_out bytes bits ≡ refused reason =
+        refused_out bits bytes reason (sym (refusal_front bits bytes) ∙ bad) in
         let same : played_out (take 1048577 bytes) bits ≡ played_out bytes bits = front ∙ sym whole in
         record {
           meets = subst (λ (o : Outcome). Meets result o) same plays.meets;
           writes = subst (λ (o : Outcome). Writes result o a b p q) same plays.writes;
-          array = plays_refused result bits (listing_written (take 1048577 bytes)) (listing_written bytes) before now reason
+          array = plays_refused result bits (listing_written (take 1048577 bytes)) (listing_written bytes) before
+              now reason
               (subst (λ (o : Outcome). Meets result o) front plays.meets) plays.array;
         }
 
@@ -99,7 +110,8 @@ performs result bytes taken bits known rest a b p q before now input consumed pl
 
 -- a text that was read answers for the input
 pub performs_played : (result : Result (Unit {0}) Stop) (text : List ℕ) (bits : ℕ) (known rest : Option (List ℕ))
-    (a b : Option (List ℕ)) (p q : Option Bool) (before now : Device) → IsFrontOf known 1048577 text → Consumes known rest text
+    (a b : Option (List ℕ)) (p q : Option Bool) (before now : Device) → IsFrontOf known 1048577 text
+    → Consumes known rest text
     → PlaysOn result text bits a b p q before now → Performs result (Some c.Play) bits known rest a b p q before now
 performs_played result text bits None rest a b p q before now front consumed plays =
     performs result text text bits None rest a b p q before now tt consumed plays
@@ -109,10 +121,13 @@ performs_played result text bits (Some bytes) rest a b p q before now front cons
     (subst (λ (t : List ℕ). PlaysOn result t bits a b p q before now) front plays))
 
 -- a stop at a read is one for all texts
-read_plays : (bytes : List ℕ) (bits : ℕ) (stop : Stop) (a : Option (List ℕ)) (p : Option Bool) (device : Device) (m n : ℕ)
+read_plays : (bytes : List ℕ) (bits : ℕ) (stop : Stop) (a : Option (List ℕ)) (p : Option Bool) (device : Device)
+    (m n : ℕ)
     → IsReadStop stop m n → PlaysOn (Err stop) bytes bits a a p p device device
-read_plays bytes bits s.ReadFault a p device m n read = record { meets = tt; writes = (keeps_same a, refl); array = refl }
-read_plays bytes bits s.Memory a p device m n read = record { meets = tt; writes = (keeps_same a, refl); array = inl refl }
+read_plays bytes bits s.ReadFault a p device m n read =
+    record { meets = tt; writes = (keeps_same a, refl); array = refl }
+read_plays bytes bits s.Memory a p device m n read =
+    record { meets = tt; writes = (keeps_same a, refl); array = inl refl }
 read_plays bytes bits s.Usage a p device m n read = absurd read
 read_plays bytes bits (s.Refused reason) a p device m n read = absurd read
 read_plays bytes bits s.WriteFault a p device m n read = absurd read
@@ -139,7 +154,8 @@ text_plays bytes bits s.ReadFault a p device is = absurd is
 text_plays bytes bits s.WriteFault a p device is = absurd is
 
 -- the work stops at its text
-pub plays_text : (result : Result (Unit {0}) Stop) (bytes lent : List ℕ) (told bits : ℕ) (stop : Stop) (a : Option (List ℕ)) (p : Option Bool)
+pub plays_text : (result : Result (Unit {0}) Stop) (bytes lent : List ℕ) (told bits : ℕ) (stop : Stop)
+    (a : Option (List ℕ)) (p : Option Bool)
     (device : Device) → result ≡ Err stop → told ≡ bits → lent ≡ bytes → IsListStop stop told lent
     → PlaysOn result bytes bits a a p p device device
 plays_text result bytes lent told bits stop a p device at width same is =
@@ -149,12 +165,14 @@ plays_text result bytes lent told bits stop a p device at width same is =
 
 -- the listing of a text is played
 pub plays_listing : (result : Result (Unit {0}) Stop) (bytes lent : List ℕ) (told bits : ℕ) (l : ListingView)
-    (a b : Option (List ℕ)) (p q : Option Bool) (m n : ℕ) (before now : Device) → told ≡ bits → lent ≡ bytes → list_refusal told lent ≡ None
+    (a b : Option (List ℕ)) (p q : Option Bool) (m n : ℕ) (before now : Device) → told ≡ bits → lent ≡ bytes
+    → list_refusal told lent ≡ None
     → l ≡ listing_written lent → Serves result (done (played_text bits l)) a b p q m n
     → Plays (status_in result) bits l before now → PlaysOn result bytes bits a b p q before now
 plays_listing result bytes lent told bits l a b p q m n before now width same good is serves array =
     let none : list_refusal bits bytes ≡ None =
-    subst (λ (k : ℕ). list_refusal k bytes ≡ None) width (subst (λ (t : List ℕ). list_refusal told t ≡ None) same good) in
+    subst (λ (k : ℕ). list_refusal k bytes ≡ None) width (subst (λ (t : List ℕ). list_refusal told t ≡ None) same
+    good) in
     let from : l ≡ listing_written bytes = is ∙ ap (λ t. listing_written t) same in
     let here : done (played_text bits l) ≡ played_out bytes bits =
     ap (λ (k : ListingView). done (played_text bits k)) from

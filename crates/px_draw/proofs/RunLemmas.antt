@@ -2,13 +2,13 @@
 use Rattle.std.proofs.Common.{ℕ, ◌≡◌, List, [], Bool, Option, Some, None, Ok, Err, refl, ◌∙◌}
 use Rattle.std.specs.Io.KnownBytes.{Consumes, Keeps}
 use Rattle.px_array.specs.Arrays.{Device}
-use Rattle.px_draw.specs.declared.command.Command.{Command}
+use Rattle.px_command.specs.declared.command.Command.{Command}
 use Rattle.px_draw.specs.declared.refusal.Refusal.TheVariants as r
 use Rattle.px_draw.specs.declared.stop.Stop.{Stop}
 use Rattle.px_draw.specs.declared.stop.Stop.TheVariants as s
 use Rattle.px_draw.specs.declared.status.Status.{Status}
 use Rattle.px_draw.specs.declared.status.Status.TheVariants as status
-use Rattle.px_draw.specs.Commands.{command_of}
+use Rattle.px_command.specs.Commands.{command_of}
 use Rattle.px_draw.specs.Notes.{note}
 use Rattle.px_draw.specs.Outcomes.{Outcome}
 use Rattle.px_draw.specs.Runs.{IsInput, IsNoted, IsRunOf, IsTold, outcome}
@@ -16,9 +16,11 @@ use Rattle.px_draw.specs.Stops.{Performs, note_of, status_of}
 
 -- a run of these words, by an input that was so before and is so now
 abbrev pub IsRunBy : (words : List (List ℕ)) (known rest : Option (List ℕ)) (bits : ℕ) (found : Status)
-    (a b : Option (List ℕ)) (p q : Option Bool) (k l : Option (List ℕ)) (v t : Option Bool) (m n : ℕ) (before now : Device) → Type 0
+    (a b : Option (List ℕ)) (p q : Option Bool) (k l : Option (List ℕ)) (v t : Option Bool) (m n : ℕ)
+    (before now : Device) → Type 0
 IsRunBy words known rest bits found a b p q k l v t m n before now =
-    (bytes taken : List ℕ) × IsInput known bytes × Consumes known rest taken × IsRunOf words bytes taken bits found a b p q k l v t m n before now
+    (bytes taken : List ℕ) × IsInput known bytes × Consumes known rest taken × IsRunOf words bytes taken bits found a
+    b p q k l v t m n before now
 
 keeps_same : (a : Option (List ℕ)) → Keeps a a
 keeps_same None = tt
@@ -38,7 +40,8 @@ run_done words known rest bits u a b p q k v m before now performs = (
 )
 
 -- a stop tells its line
-noted_by : (stop : Stop) (o : Outcome) (line : List ℕ) (a b : Option (List ℕ)) (p q : Option Bool) (m n : ℕ) → line ≡ note (status_of stop) o
+noted_by : (stop : Stop) (o : Outcome) (line : List ℕ) (a b : Option (List ℕ)) (p q : Option Bool) (m n : ℕ)
+    → line ≡ note (status_of stop) o
     → IsTold line a b p q m n → IsNoted (status_of stop) (note (status_of stop) o) a b p q m n
 noted_by s.Usage o line a b p q m n same told = rw (← same) told
 noted_by (s.Refused (r.Malformed at cause)) o line a b p q m n same told = rw (← same) told
@@ -48,9 +51,12 @@ noted_by s.WriteFault o line a b p q m n same told = rw (← same) told
 noted_by s.Memory o line a b p q m n same told = rw (← same) told
 
 -- a run that was stopped tells its line
-pub run_stopped : (words : List (List ℕ)) (known rest : Option (List ℕ)) (bits : ℕ) (stop : Stop) (found : Status) (line : List ℕ)
-    (a b : Option (List ℕ)) (p q : Option Bool) (k l : Option (List ℕ)) (v t : Option Bool) (m n : ℕ) (before now : Device)
-    → Performs (Err stop) (command_of words) bits known rest a b p q before now → found ≡ status_of stop → line ≡ note_of stop
+pub run_stopped : (words : List (List ℕ)) (known rest : Option (List ℕ)) (bits : ℕ) (stop : Stop) (found : Status)
+    (line : List ℕ)
+    (a b : Option (List ℕ)) (p q : Option Bool) (k l : Option (List ℕ)) (v t : Option Bool) (m n : ℕ)
+    (before now : Device)
+    → Performs (Err stop) (command_of words) bits known rest a b p q before now → found ≡ status_of stop
+    → line ≡ note_of stop
     → IsTold line k l v t m n → IsRunBy words known rest bits found a b p q k l v t m n before now
 run_stopped words known rest bits stop found line a b p q k l v t m n before now performs is same told = rw is (
   performs.bytes,
@@ -65,7 +71,8 @@ run_stopped words known rest bits stop found line a b p q k l v t m n before now
 )
 
 -- words that name no command
-pub performs_usage : (command : Option Command) (bits : ℕ) (known : Option (List ℕ)) (a : Option (List ℕ)) (p : Option Bool) (device : Device)
+pub performs_usage : (command : Option Command) (bits : ℕ) (known : Option (List ℕ)) (a : Option (List ℕ))
+    (p : Option Bool) (device : Device)
     → command ≡ None → Performs (Err s.Usage) command bits known known a a p p device device
 performs_usage (Some command) bits known a p device none = cc
 performs_usage None bits None a p device none = record {

@@ -1,8 +1,6 @@
 -- What is made of the sample's text is what the command does, and the shown pixels grow pixel by pixel and row by row.
-use Rattle.std.proofs.Common.{ℕ, ◌≡◌, ◌≢◌, ◌+◌, ◌*◌, ◌≤◌, List, [], map, true, Bool, Option, Some, None, Result, Ok, Err, inl, refl, ap, sym, subst, ◌∙◌, arith}
-use Rattle.std.proofs.lemmas.List.Folds.{fold-map}
-use Rattle.std.proofs.lemmas.List.FromFn.{sum_by-map-range_with_len_more}
-use Rattle.std.specs.List.{range_with_len, sum_by}
+use Rattle.std.proofs.Common.{ℕ, ◌≡◌, ◌≢◌, ◌+◌, ◌*◌, ◌≤◌, List, [], true, Bool, Option, Some, None, Result, Ok}
+use Rattle.std.proofs.Common.{Err, inl, refl, sym, subst, arith}
 use Rattle.std.specs.Io.KnownBytes.{Appends, Consumes}
 use Rattle.px_io.specs.Told.{Tells}
 use Rattle.px_array.specs.Arrays.{Device}
@@ -10,8 +8,9 @@ use Rattle.px_scene.specs.Scenes.{SceneView}
 use Rattle.px_scene.specs.Sample.{sample_text}
 use Rattle.px_scene.specs.Text.{worded}
 use Rattle.px_scene.specs.Reading.{scene_of}
-use Rattle.px_draw.specs.declared.command.Command.{Command}
-use Rattle.px_draw.specs.declared.command.Command.TheVariants as c
+use Rattle.px_refine.proofs.SumLemmas.{sum_more}
+use Rattle.px_command.specs.declared.command.Command.{Command}
+use Rattle.px_command.specs.declared.command.Command.TheVariants as c
 use Rattle.px_draw.specs.declared.refusal.Refusal.TheVariants as r
 use Rattle.px_draw.specs.declared.sample.Shown.{Shown}
 use Rattle.px_draw.specs.declared.status.Status.{Status}
@@ -23,7 +22,8 @@ use Rattle.px_draw.specs.Countings.{IsAtMost, shown_at, shown_in, shown_in_row, 
 use Rattle.px_draw.specs.Outcomes.{Outcome, done, unless_refused}
 use Rattle.px_draw.specs.Refusals.{text_refusal}
 use Rattle.px_draw.specs.Samples.{measured, one_at, row_sum, sample_scene, sampled, shown_depth_at, text_measured}
-use Rattle.px_draw.specs.Stops.{HasCauses, IsSceneStop, IsTextStop, Meets, Performs, Serves, Writes, status_in, status_of}
+use Rattle.px_draw.specs.Stops.{HasCauses, IsSceneStop, IsTextStop, Meets, Performs, Serves, Writes, status_in}
+use Rattle.px_draw.specs.Stops.{status_of}
 use Rattle.px_draw.proofs.WorkLemmas.{bytes_of, is_input, keeps_same, line_meets, status_meets, wrote}
 
 consumes_none : (known : Option (List ℕ)) → Consumes known known []
@@ -41,8 +41,10 @@ no_read_fault (Err s.WriteFault) reads = λ e. cc
 no_read_fault (Err s.Memory) reads = λ e. cc
 
 sample_performs : (result : Result (Unit {0}) Stop) (n bits : ℕ) (known : Option (List ℕ))
-    (a b : Option (List ℕ)) (p q : Option Bool) (k l : ℕ) (before now : Device) → Serves result (sampled n bits) a b p q k l
-    → Draws (status_in result) bits (sample_scene n) before now → Performs result (Some (c.Sample n)) bits known known a b p q before now
+    (a b : Option (List ℕ)) (p q : Option Bool) (k l : ℕ) (before now : Device) → Serves result (sampled n bits) a
+    b p q k l
+    → Draws (status_in result) bits (sample_scene n) before now → Performs result (Some (c.Sample n)) bits known known
+    a b p q before now
 sample_performs result n bits known a b p q k l before now serves array = record {
   bytes = bytes_of known;
   taken = [];
@@ -58,7 +60,8 @@ sample_performs result n bits known a b p q k l before now serves array = record
 }
 
 -- what is done for the outcome of the sample is what the command does
-pub performs_sample : (result : Result (Unit {0}) Stop) (command : Option Command) (n bits : ℕ) (known : Option (List ℕ))
+pub performs_sample : (result : Result (Unit {0}) Stop) (command : Option Command) (n bits : ℕ)
+    (known : Option (List ℕ))
     (a b : Option (List ℕ)) (p q : Option Bool) (k l : ℕ) (before now : Device) → command ≡ Some (c.Sample n)
     → Serves result (sampled n bits) a b p q k l → Draws (status_in result) bits (sample_scene n) before now
     → Performs result command bits known known a b p q before now
@@ -67,8 +70,10 @@ performs_sample result command n bits known a b p q k l before now is serves arr
     (sample_performs result n bits known a b p q k l before now serves array)
 
 -- what is done for the sample's text is done for the sample
-pub sample_serves : (result : Result (Unit {0}) Stop) (n bits : ℕ) (text : List ℕ) (a b : Option (List ℕ)) (p q : Option Bool) (k l : ℕ)
-    → text ≡ sample_text n → Serves result (text_measured text bits) a b p q k l → Serves result (sampled n bits) a b p q k l
+pub sample_serves : (result : Result (Unit {0}) Stop) (n bits : ℕ) (text : List ℕ) (a b : Option (List ℕ))
+    (p q : Option Bool) (k l : ℕ)
+    → text ≡ sample_text n → Serves result (text_measured text bits) a b p q k l → Serves result (sampled n bits) a
+    b p q k l
 unfolding sampled
 sample_serves result n bits text a b p q k l is serves =
     subst (λ t. Serves result (text_measured t bits) a b p q k l) is serves
@@ -76,7 +81,8 @@ sample_serves result n bits text a b p q k l is serves =
 pub sample_draws : (found : Status) (n bits : ℕ) (text : List ℕ) (before now : Device) → text ≡ sample_text n
     → Draws found bits (scene_of (worded text)) before now → Draws found bits (sample_scene n) before now
 unfolding sample_scene
-sample_draws found n bits text before now is draws = subst (λ t. Draws found bits (scene_of (worded t)) before now) is draws
+sample_draws found n bits text before now is draws =
+    subst (λ t. Draws found bits (scene_of (worded t)) before now) is draws
 
 -- a stop that neither a write nor a read fault made
 pub stop_causes : (stop : Stop) (k m : ℕ) → IsSceneStop stop → HasCauses (Err stop) k k m m
@@ -86,28 +92,32 @@ stop_causes s.Usage k m is = absurd is
 stop_causes s.ReadFault k m is = absurd is
 stop_causes s.WriteFault k m is = absurd is
 
-pub stop_writes : (stop : Stop) (o : Outcome) (a : Option (List ℕ)) (p : Option Bool) → IsSceneStop stop → Writes (Err stop) o a a p p
+pub stop_writes : (stop : Stop) (o : Outcome) (a : Option (List ℕ)) (p : Option Bool) → IsSceneStop stop
+    → Writes (Err stop) o a a p p
 stop_writes (s.Refused reason) o a p is = (keeps_same a, refl)
 stop_writes s.Memory o a p is = (keeps_same a, refl)
 stop_writes s.Usage o a p is = absurd is
 stop_writes s.ReadFault o a p is = absurd is
 stop_writes s.WriteFault o a p is = absurd is
 
-pub not_usage : (result : Result (Unit {0}) Stop) (stop : Stop) → result ≡ Err stop → IsSceneStop stop → result ≢ Err s.Usage
+pub not_usage : (result : Result (Unit {0}) Stop) (stop : Stop) → result ≡ Err stop → IsSceneStop stop
+    → result ≢ Err s.Usage
 not_usage result s.Usage at is = absurd is
 not_usage result (s.Refused reason) at is = λ e. cc
 not_usage result s.Memory at is = λ e. cc
 not_usage result s.ReadFault at is = absurd is
 not_usage result s.WriteFault at is = absurd is
 
-pub not_read : (result : Result (Unit {0}) Stop) (stop : Stop) → result ≡ Err stop → IsSceneStop stop → result ≢ Err s.ReadFault
+pub not_read : (result : Result (Unit {0}) Stop) (stop : Stop) → result ≡ Err stop → IsSceneStop stop
+    → result ≢ Err s.ReadFault
 not_read result s.ReadFault at is = absurd is
 not_read result (s.Refused reason) at is = λ e. cc
 not_read result s.Memory at is = λ e. cc
 not_read result s.Usage at is = absurd is
 not_read result s.WriteFault at is = absurd is
 
-stop_draws : (stop : Stop) (bits : ℕ) (scene : SceneView) (device : Device) → IsSceneStop stop → Draws (status_of stop) bits scene device device
+stop_draws : (stop : Stop) (bits : ℕ) (scene : SceneView) (device : Device) → IsSceneStop stop
+    → Draws (status_of stop) bits scene device device
 stop_draws (s.Refused (r.Malformed line cause)) bits scene device is = refl
 stop_draws (s.Refused (r.Limit line kind found)) bits scene device is = refl
 stop_draws s.Memory bits scene device is = inl refl
@@ -116,7 +126,8 @@ stop_draws s.ReadFault bits scene device is = absurd is
 stop_draws s.WriteFault bits scene device is = absurd is
 
 -- a stop before the array is opened leaves it
-pub stop_array : (result : Result (Unit {0}) Stop) (stop : Stop) (bits : ℕ) (scene : SceneView) (device : Device) → result ≡ Err stop
+pub stop_array : (result : Result (Unit {0}) Stop) (stop : Stop) (bits : ℕ) (scene : SceneView) (device : Device)
+    → result ≡ Err stop
     → IsSceneStop stop → Draws (status_in result) bits scene device device
 stop_array result stop bits scene device at is = rw at (stop_draws stop bits scene device is)
 
@@ -127,11 +138,14 @@ text_scene s.Usage text is = absurd is
 text_scene s.ReadFault text is = absurd is
 text_scene s.WriteFault text is = absurd is
 
-pub text_leaves : (result : Result (Unit {0}) Stop) (stop : Stop) (text : List ℕ) (bits : ℕ) (scene : SceneView) (device : Device)
+pub text_leaves : (result : Result (Unit {0}) Stop) (stop : Stop) (text : List ℕ) (bits : ℕ) (scene : SceneView)
+    (device : Device)
     → result ≡ Err stop → IsTextStop stop text → Draws (status_in result) bits scene device device
-text_leaves result stop text bits scene device at is = stop_array result stop bits scene device at (text_scene stop text is)
+text_leaves result stop text bits scene device at is =
+    stop_array result stop bits scene device at (text_scene stop text is)
 
-text_meets : (stop : Stop) (text : List ℕ) (o : Outcome) → IsTextStop stop text → Meets (Err stop) (unless_refused (text_refusal text) o)
+text_meets : (stop : Stop) (text : List ℕ) (o : Outcome) → IsTextStop stop text
+    → Meets (Err stop) (unless_refused (text_refusal text) o)
 text_meets (s.Refused reason) text o is = rw is refl
 text_meets s.Memory text o is = tt
 text_meets s.Usage text o is = absurd is
@@ -150,7 +164,8 @@ serves_done o bytes a b p q m n is wrote end calm = rw is (record {
 })
 
 -- the text is no scene's
-pub text_serves : (result : Result (Unit {0}) Stop) (stop : Stop) (text : List ℕ) (bits : ℕ) (a : Option (List ℕ)) (p : Option Bool) (m : ℕ)
+pub text_serves : (result : Result (Unit {0}) Stop) (stop : Stop) (text : List ℕ) (bits : ℕ) (a : Option (List ℕ))
+    (p : Option Bool) (m : ℕ)
     → result ≡ Err stop → IsTextStop stop text → Serves result (text_measured text bits) a a p p m m
 text_serves result stop text bits a p m at is =
     let here = text_scene stop text is in
@@ -163,34 +178,30 @@ text_serves result stop text bits a p m at is =
     })
 
 -- the scene of a text is served
-pub scene_serves : (result : Result (Unit {0}) Stop) (text : List ℕ) (bits : ℕ) (scene : SceneView) (a b : Option (List ℕ)) (p q : Option Bool) (m n : ℕ)
+pub scene_serves : (result : Result (Unit {0}) Stop) (text : List ℕ) (bits : ℕ) (scene : SceneView)
+    (a b : Option (List ℕ)) (p q : Option Bool) (m n : ℕ)
     → text_refusal text ≡ None → scene ≡ scene_of (worded text) → Serves result (measured scene bits) a b p q m n
     → Serves result (text_measured text bits) a b p q m n
 scene_serves result text bits scene a b p q m n good is serves =
     let here : text_measured text bits ≡ measured scene bits = rw (good, is) refl in
     rw here serves
 
-plain : (f : ℕ → ℕ) (ns : List ℕ) → sum_by f (map (λ n. n) ns) ≡ sum_by f ns
-plain f ns = fold-map (λ (a n : ℕ). a + f n) (λ (n : ℕ). n) 0 ns
-
-sum_more : (f : ℕ → ℕ) (n : ℕ) → sum_by f (range_with_len 0 n) + f n ≡ sum_by f (range_with_len 0 (n + 1))
-sum_more f n =
-    let here : 0 + n ≡ n = omega arith in
-    sym (sym (plain f (range_with_len 0 (n + 1))) ∙ sum_by-map-range_with_len_more f (λ i. i) 0 n n here
-    ∙ ap (λ m. m + f n) (plain f (range_with_len 0 n)))
-
 -- one pixel more
-pub row_more : (scene : SceneView) (y n : ℕ) → together (shown_in_row scene n y) (shown_at scene n y) ≡ shown_in_row scene (n + 1) y
+pub row_more : (scene : SceneView) (y n : ℕ) → together (shown_in_row scene n y) (shown_at scene n y)
+    ≡ shown_in_row scene (n + 1) y
 row_more scene y n = rw (sum_more (λ x. one_at scene x y) n, sum_more (λ x. shown_depth_at scene x y) n) refl
 
 -- one row more
-pub rows_more : (scene : SceneView) (width n : ℕ) → together (shown_in scene width n) (shown_in_row scene width n) ≡ shown_in scene width (n + 1)
+pub rows_more : (scene : SceneView) (width n : ℕ) → together (shown_in scene width n) (shown_in_row scene width n)
+    ≡ shown_in scene width (n + 1)
 rows_more scene width n =
     rw (sum_more (λ y. row_sum (one_at scene) width y) n, sum_more (λ y. row_sum (shown_depth_at scene) width y) n) refl
 
 pub most_grows : (m n : ℕ) (shown : Shown) → m ≤ n → IsAtMost m shown → IsAtMost n shown
-most_grows m n shown less most = record { pixels = omega (arith, less, most.pixels); depths = omega (arith, less, most.depths) }
+most_grows m n shown less most =
+    record { pixels = omega (arith, less, most.pixels); depths = omega (arith, less, most.depths) }
 
-pub most_together : (first more : Shown) (size n : ℕ) → IsAtMost (size * n) first → IsAtMost size more → IsAtMost (size * (n + 1)) (together first more)
+pub most_together : (first more : Shown) (size n : ℕ) → IsAtMost (size * n) first → IsAtMost size more
+    → IsAtMost (size * (n + 1)) (together first more)
 most_together first more size n most next =
     record { pixels = omega (arith, most.pixels, next.pixels); depths = omega (arith, most.depths, next.depths) }

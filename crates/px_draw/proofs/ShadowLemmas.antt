@@ -1,26 +1,30 @@
 -- What is found of the shadows of a text that was read is found of the input, and what stops it.
-use Rattle.std.proofs.Common.{ℕ, ◌≡◌, ◌<◌, ◌≤◌, inl, inr, List, length, take, drop, unwrap_or, Bool, Option, Some, None, Result, Ok, Err, refl, ap, sym, subst, ◌∙◌, arith, length-take}
+use Rattle.std.proofs.Common.{ℕ, ◌≡◌, ◌<◌, ◌≤◌, inl, inr, List, length, take, drop, unwrap_or, Bool, Option, Some}
+use Rattle.std.proofs.Common.{None, Result, Ok, Err, refl, ap, sym, subst, ◌∙◌, arith, length-take}
 use Rattle.std.proofs.lemmas.Bool.{cases_lt}
 use Rattle.std.proofs.lemmas.List.{take_all}
 use Rattle.std.specs.Io.KnownBytes.{Consumes}
 use Rattle.px_io.specs.Told.{ConsumesAtMost, IsFrontOf}
 use Rattle.px_array.specs.Arrays.{Device, State}
 use Rattle.px_scene.specs.Scenes.{SceneView}
+use Rattle.px_scene.specs.Text.{worded}
+use Rattle.px_scene.specs.Reading.{scene_of}
 use Rattle.px_normal.specs.declared.set.SolidSet.{SolidSet}
 use Rattle.px_lines.specs.Parts.{behind_part, part_end, scene_part}
 use Rattle.px_sched.specs.Layouts.{LayoutView}
 use Rattle.px_shadow.specs.Lights.{mask_image}
 use Rattle.px_shadow.specs.ShadowLaws.{MaskLaw}
 use Rattle.px_shadow.specs.Stored.{StoresTheLights, stored_masks}
-use Rattle.px_draw.specs.declared.command.Command.TheVariants as c
+use Rattle.px_command.specs.declared.command.Command.TheVariants as c
 use Rattle.px_draw.specs.declared.refusal.Refusal.{Refusal}
 use Rattle.px_draw.specs.declared.refusal.Refusal.TheVariants as r
 use Rattle.px_draw.specs.declared.stop.Stop.{Stop}
 use Rattle.px_draw.specs.declared.stop.Stop.TheVariants as s
-use Rattle.px_draw.specs.Outcomes.{Outcome, done, refused}
-use Rattle.px_draw.specs.Refusals.{too_long}
+use Rattle.px_draw.specs.Outcomes.{Outcome, done, refused, unless_refused}
+use Rattle.px_draw.specs.Refusals.{text_refusal, too_long}
 use Rattle.px_draw.specs.Runs.{IsInput}
-use Rattle.px_draw.specs.Shadows.{Shades, lit, lit_drawable, parts_lit, shadowed}
+use Rattle.px_draw.specs.Shadows.{Shades, lights_in, lights_refusal, line_behind, lit, lit_by_lines, lit_drawable}
+use Rattle.px_draw.specs.Shadows.{parts_lit, shadowed}
 use Rattle.px_draw.specs.Stops.{IsReadStop, IsSceneStop, Meets, Performs, Serves, status_in}
 use Rattle.px_draw.proofs.DebugLemmas.{long_is, short_is}
 use Rattle.px_draw.proofs.SampleLemmas.{not_read, not_usage, stop_causes, stop_writes}
@@ -37,8 +41,10 @@ unfolding shadowed
 short_shadowed bytes bits short = rw (short_is bytes short) refl
 
 -- what is left where a refusal is due does not speak of the scene
-shades_refused : (result : Result (Unit {0}) Stop) (bits : ℕ) (one other : List ℕ) (before now : Device) (reason : Refusal)
-    → Meets result (refused reason) → Shades (status_in result) bits one before now → Shades (status_in result) bits other before now
+shades_refused : (result : Result (Unit {0}) Stop) (bits : ℕ) (one other : List ℕ) (before now : Device)
+    (reason : Refusal)
+    → Meets result (refused reason) → Shades (status_in result) bits one before now
+    → Shades (status_in result) bits other before now
 shades_refused (Ok u) bits one other before now reason meets is = cc
 shades_refused (Err s.WriteFault) bits one other before now reason meets is = cc
 shades_refused (Err s.Usage) bits one other before now reason meets is = is
@@ -48,17 +54,20 @@ shades_refused (Err s.ReadFault) bits one other before now reason meets is = is
 shades_refused (Err s.Memory) bits one other before now reason meets is = is
 
 -- the shadows of a text are found
-pub record ShadesText (result : Result (Unit {0}) Stop) (bits : ℕ) (text : List ℕ) (a b : Option (List ℕ)) (p q : Option Bool)
+pub record ShadesText (result : Result (Unit {0}) Stop) (bits : ℕ) (text : List ℕ) (a b : Option (List ℕ))
+    (p q : Option Bool)
     (m n : ℕ) (before now : Device) : Type 0 where
   pub serves : Serves result (shadowed text bits) a b p q m n
   pub array : Shades (status_in result) bits text before now
 
 -- a text's front answers for it
-shades_front : (result : Result (Unit {0}) Stop) (bits : ℕ) (bytes : List ℕ) (a b : Option (List ℕ)) (p q : Option Bool) (m n : ℕ)
+shades_front : (result : Result (Unit {0}) Stop) (bits : ℕ) (bytes : List ℕ) (a b : Option (List ℕ))
+    (p q : Option Bool) (m n : ℕ)
     (before now : Device) → ShadesText result bits (take 1048577 bytes) a b p q m n before now
     → ShadesText result bits bytes a b p q m n before now
 shades_front result bits bytes a b p q m n before now shades = elim (cases_lt (length bytes) 1048577) [
-  | inl short ↦ subst (λ text. ShadesText result bits text a b p q m n before now) (take_all 1048577 bytes (omega arith)) shades
+  | inl short ↦ subst (λ text. ShadesText result bits text a b p q m n before now)
+      (take_all 1048577 bytes (omega arith)) shades
   | inr past ↦
       let here : shadowed (take 1048577 bytes) bits ≡ refused too_long =
       long_shadowed (take 1048577 bytes) bits (omega (arith, length-take 1048577 bytes)) in
@@ -71,8 +80,10 @@ shades_front result bits bytes a b p q m n before now shades = elim (cases_lt (l
 ]
 
 performs : (result : Result (Unit {0}) Stop) (bytes taken : List ℕ) (bits : ℕ) (known rest : Option (List ℕ))
-    (a b : Option (List ℕ)) (p q : Option Bool) (m n : ℕ) (before now : Device) → IsInput known bytes → Consumes known rest taken
-    → ShadesText result bits bytes a b p q m n before now → Performs result (Some c.Shadow) bits known rest a b p q before now
+    (a b : Option (List ℕ)) (p q : Option Bool) (m n : ℕ) (before now : Device) → IsInput known bytes
+    → Consumes known rest taken
+    → ShadesText result bits bytes a b p q m n before now → Performs result (Some c.Shadow) bits known rest a b p q
+    before now
 performs result bytes taken bits known rest a b p q m n before now input consumed shades = record {
   bytes = bytes;
   taken = taken;
@@ -88,8 +99,10 @@ performs result bytes taken bits known rest a b p q m n before now input consume
 
 -- a text that was read answers for the input
 performs_text : (result : Result (Unit {0}) Stop) (text : List ℕ) (bits : ℕ) (known rest : Option (List ℕ))
-    (a b : Option (List ℕ)) (p q : Option Bool) (m n : ℕ) (before now : Device) → IsFrontOf known 1048577 text → Consumes known rest text
-    → ShadesText result bits text a b p q m n before now → Performs result (Some c.Shadow) bits known rest a b p q before now
+    (a b : Option (List ℕ)) (p q : Option Bool) (m n : ℕ) (before now : Device) → IsFrontOf known 1048577 text
+    → Consumes known rest text
+    → ShadesText result bits text a b p q m n before now → Performs result (Some c.Shadow) bits known rest a b p q
+    before now
 performs_text result text bits None rest a b p q m n before now front consumed shades =
     performs result text text bits None rest a b p q m n before now tt consumed shades
 performs_text result text bits (Some bytes) rest a b p q m n before now front consumed shades =
@@ -98,15 +111,18 @@ performs_text result text bits (Some bytes) rest a b p q m n before now front co
     (subst (λ t. ShadesText result bits t a b p q m n before now) front shades))
 
 pub performs_shades : (result : Result (Unit {0}) Stop) (text lent : List ℕ) (bits : ℕ) (known rest : Option (List ℕ))
-    (a b : Option (List ℕ)) (p q : Option Bool) (m n : ℕ) (before now : Device) → IsFrontOf known 1048577 text → Consumes known rest text
+    (a b : Option (List ℕ)) (p q : Option Bool) (m n : ℕ) (before now : Device) → IsFrontOf known 1048577 text
+    → Consumes known rest text
     → lent ≡ text → Serves result (shadowed lent bits) a b p q m n → Shades (status_in result) bits lent before now
     → Performs result (Some c.Shadow) bits known rest a b p q before now
 performs_shades result text lent bits known rest a b p q m n before now front consumed same serves array =
     performs_text result text bits known rest a b p q m n before now front consumed
     (subst (λ t. ShadesText result bits t a b p q m n before now) same (record { serves = serves; array = array }))
 
-read_performs : (stop : Stop) (bits : ℕ) (known rest : Option (List ℕ)) (a : Option (List ℕ)) (p : Option Bool) (device : Device) (m n : ℕ)
-    → IsReadStop stop m n → ConsumesAtMost known rest 1048577 → Performs (Err stop) (Some c.Shadow) bits known rest a a p p device device
+read_performs : (stop : Stop) (bits : ℕ) (known rest : Option (List ℕ)) (a : Option (List ℕ)) (p : Option Bool)
+    (device : Device) (m n : ℕ)
+    → IsReadStop stop m n → ConsumesAtMost known rest 1048577 → Performs (Err stop) (Some c.Shadow) bits known rest a
+    a p p device device
 read_performs s.ReadFault bits known rest a p device m n is (taken, consumed, few) = record {
   bytes = bytes_of known;
   taken = taken;
@@ -130,15 +146,18 @@ read_performs (s.Refused reason) bits known rest a p device m n is consumed = ab
 read_performs s.WriteFault bits known rest a p device m n is consumed = absurd is
 
 -- the work stops at a read
-pub performs_unread : (result : Result (Unit {0}) Stop) (stop : Stop) (bits : ℕ) (known rest : Option (List ℕ)) (a : Option (List ℕ))
-    (p : Option Bool) (device : Device) (m n : ℕ) → result ≡ Err stop → IsReadStop stop m n → ConsumesAtMost known rest 1048577
+pub performs_unread : (result : Result (Unit {0}) Stop) (stop : Stop) (bits : ℕ) (known rest : Option (List ℕ))
+    (a : Option (List ℕ))
+    (p : Option Bool) (device : Device) (m n : ℕ) → result ≡ Err stop → IsReadStop stop m n
+    → ConsumesAtMost known rest 1048577
     → Performs result (Some c.Shadow) bits known rest a a p p device device
 performs_unread result stop bits known rest a p device m n at is most =
     subst (λ (r : Result (Unit {0}) Stop). Performs r (Some c.Shadow) bits known rest a a p p device device) (sym at)
     (read_performs stop bits known rest a p device m n is most)
 
 -- a stop that comes for want of memory or by what the input is
-pub serves_stop : (result : Result (Unit {0}) Stop) (stop : Stop) (o : Outcome) (a : Option (List ℕ)) (p : Option Bool) (m : ℕ)
+pub serves_stop : (result : Result (Unit {0}) Stop) (stop : Stop) (o : Outcome) (a : Option (List ℕ))
+    (p : Option Bool) (m : ℕ)
     → result ≡ Err stop → IsSceneStop stop → Meets (Err stop) o → Serves result o a a p p m m
 serves_stop result stop o a p m at here meets = rw at (record {
   meets = meets;
@@ -148,13 +167,16 @@ serves_stop result stop o a p m at here meets = rw at (record {
   reads = not_read _ stop refl here;
 })
 
-pub serves_refused : (reason : Refusal) (o : Outcome) (a : Option (List ℕ)) (p : Option Bool) (m : ℕ) → o ≡ refused reason
+pub serves_refused : (reason : Refusal) (o : Outcome) (a : Option (List ℕ)) (p : Option Bool) (m : ℕ)
+    → o ≡ refused reason
     → Serves (Err (s.Refused reason)) o a a p p m m
 serves_refused reason o a p m is = serves_stop (Err (s.Refused reason)) (s.Refused reason) o a p m refl tt is
 
 -- what comes of the parts of a text within its limit comes of it
-pub parts_serve : (result : Result (Unit {0}) Stop) (text part behind : List ℕ) (n bits : ℕ) (a b : Option (List ℕ)) (p q : Option Bool)
-    (k l : ℕ) → length text < 1048577 → n ≡ unwrap_or (part_end text) (length text) → part ≡ take n text → behind ≡ drop n text
+pub parts_serve : (result : Result (Unit {0}) Stop) (text part behind : List ℕ) (n bits : ℕ) (a b : Option (List ℕ))
+    (p q : Option Bool)
+    (k l : ℕ) → length text < 1048577 → n ≡ unwrap_or (part_end text) (length text) → part ≡ take n text
+    → behind ≡ drop n text
     → Serves result (parts_lit bits part behind) a b p q k l → Serves result (shadowed text bits) a b p q k l
 parts_serve result text part behind n bits a b p q k l short count front rest serves =
     let one : part ≡ scene_part text = front ∙ ap (λ i. take i text) count in
@@ -167,9 +189,26 @@ parts_serve result text part behind n bits a b p q k l short count front rest se
 pub lit_is : (bits : ℕ) (scene : SceneView) (lights : List SolidSet) (n : ℕ) → n ≡ length lights
     → ((o : Outcome) → lit_drawable bits scene n o ≡ o) → lit bits scene lights ≡ done (mask_image scene lights)
 lit_is bits scene lights n same fits =
-    ap (λ k. lit_drawable bits scene k (done (mask_image scene lights))) (sym same) ∙ fits (done (mask_image scene lights))
+    ap (λ k. lit_drawable bits scene k (done (mask_image scene lights))) (sym same)
+    ∙ fits (done (mask_image scene lights))
 
 -- and the image of what it stores is that of the lights
-pub masks_are : MaskLaw → (scene : SceneView) (l : LayoutView) (lights : List SolidSet) (n : ℕ) (state : State) → n ≡ length lights
+pub masks_are : MaskLaw → (scene : SceneView) (l : LayoutView) (lights : List SolidSet) (n : ℕ) (state : State)
+    → n ≡ length lights
     → StoresTheLights scene l lights state → stored_masks scene l n state ≡ mask_image scene lights
-masks_are law scene l lights n state same stores = ap (λ k. stored_masks scene l k state) same ∙ law scene l lights state stores
+masks_are law scene l lights n state same stores =
+    ap (λ k. stored_masks scene l k state) same ∙ law scene l lights state stores
+
+-- what the scene of a good part and the lights of good lines serve is what the part and the lines do
+pub lights_serve : (result : Result (Unit {0}) Stop) (bits : ℕ) (part behind : List ℕ) (scene : SceneView) (first : ℕ)
+    (lights : List SolidSet) (a b : Option (List ℕ)) (p q : Option Bool) (m n : ℕ)
+    → text_refusal part ≡ None → scene ≡ scene_of (worded part) → first ≡ line_behind part
+    → lights_refusal scene first behind ≡ None → lights ≡ lights_in scene behind
+    → Serves result (lit bits scene lights) a b p q m n → Serves result (parts_lit bits part behind) a b p q m n
+lights_serve result bits part behind scene first lights a b p q m n good is begins known named served =
+    let same : parts_lit bits part behind ≡ lit bits scene lights =
+    ap (λ r. unless_refused r (lit_by_lines bits (scene_of (worded part)) (line_behind part) behind)) good
+    ∙ ap (λ s. lit_by_lines bits s (line_behind part) behind) (sym is)
+    ∙ ap (λ f. lit_by_lines bits scene f behind) (sym begins)
+    ∙ ap (λ r. unless_refused r (lit bits scene (lights_in scene behind))) known ∙ ap (lit bits scene) (sym named) in
+    subst (λ o. Serves result o a b p q m n) (sym same) served

@@ -1,5 +1,6 @@
 -- What was made of a text that was read, it was made of the input.
-use Rattle.std.proofs.Common.{ℕ, ◌≡◌, ◌≤◌, ◌^◌, ◌++◌, inl, inr, List, [], length, take, drop, true, nat_lt, Bool, Option, Some, None, Result, Ok, Err, refl, ap, sym, ◌∙◌, arith, length-take}
+use Rattle.std.proofs.Common.{ℕ, ◌≡◌, ◌≤◌, ◌^◌, ◌++◌, inl, inr, List, [], length, take, drop, true, nat_lt, Bool}
+use Rattle.std.proofs.Common.{Option, Some, None, Result, Ok, Err, refl, ap, sym, ◌∙◌, arith, length-take}
 use Rattle.std.proofs.lemmas.Bool.{cases_lt}
 use Rattle.std.proofs.lemmas.Bool.Decides.{nat_tests}
 use Rattle.std.proofs.lemmas.List.{take_all, take-append-drop, append_cancel_left}
@@ -11,11 +12,11 @@ use Rattle.px_scene.specs.Scenes.{SceneView}
 use Rattle.px_scene.specs.Text.{worded}
 use Rattle.px_scene.specs.Reading.{scene_of}
 use Rattle.px_refine.specs.Finer.{fine_scene}
-use Rattle.px_draw.specs.Refining.{doublings}
-use Rattle.px_draw.specs.declared.command.Command.TheVariants as c
-use Rattle.px_draw.specs.declared.command.Size.{Size}
-use Rattle.px_draw.specs.declared.command.Work.{Work}
-use Rattle.px_draw.specs.declared.command.Work.TheVariants as w
+use Rattle.px_command.specs.Commands.{doublings}
+use Rattle.px_command.specs.declared.command.Command.TheVariants as c
+use Rattle.px_command.specs.declared.command.Size.{Size}
+use Rattle.px_command.specs.declared.command.Work.{Work}
+use Rattle.px_command.specs.declared.command.Work.TheVariants as w
 use Rattle.px_draw.specs.declared.refusal.Refusal.{Refusal}
 use Rattle.px_draw.specs.declared.refusal.Refusal.TheVariants as r
 use Rattle.px_draw.specs.declared.stop.Stop.{Stop}
@@ -24,7 +25,8 @@ use Rattle.px_draw.specs.Arrays.{Draws, LeavesArray}
 use Rattle.px_draw.specs.Outcomes.{Outcome, done, output}
 use Rattle.px_draw.specs.Refusals.{text_refusal}
 use Rattle.px_draw.specs.Runs.{IsInput, IsRestBehind, IsStatusOf, Wrote}
-use Rattle.px_draw.specs.Stops.{IsLineOf, IsReadStop, IsTextStop, Meets, Performs, Serves, WorksOn, Writes, status_in, status_of}
+use Rattle.px_draw.specs.Stops.{IsLineOf, IsReadStop, IsTextStop, Meets, Performs, Serves, WorksOn, Writes, status_in}
+use Rattle.px_draw.specs.Stops.{status_of}
 use Rattle.px_draw.specs.Tiling.{DrawsTiles}
 use Rattle.px_draw.specs.Works.{made, worked_out}
 
@@ -46,7 +48,8 @@ whole_text bytes good = elim (cases_lt (length bytes) 1048577) [
 ]
 
 -- a text's front answers for it
-work_front : (work : Work) (bytes : List ℕ) (bits : ℕ) → worked_out work (take 1048577 bytes) bits ≡ worked_out work bytes bits
+work_front : (work : Work) (bytes : List ℕ) (bits : ℕ) → worked_out work (take 1048577 bytes) bits
+    ≡ worked_out work bytes bits
 work_front work bytes bits = by_refusal (text_refusal (take 1048577 bytes)) refl
   where
     by_refusal : (reason : Option Refusal) → text_refusal (take 1048577 bytes) ≡ reason
@@ -68,7 +71,8 @@ array_front work result bytes bits a b p q before now works = by_refusal (text_r
 -- what is made of the front of a text is made of the text
 works_front : (result : Result (Unit {0}) Stop) (work : Work) (bytes : List ℕ) (bits : ℕ)
     (a b : Option (List ℕ)) (p q : Option Bool) (before now : Device)
-    → WorksOn result work (take 1048577 bytes) bits a b p q before now → WorksOn result work bytes bits a b p q before now
+    → WorksOn result work (take 1048577 bytes) bits a b p q before now → WorksOn result work bytes bits a b p q
+    before now
 works_front result work bytes bits a b p q before now works = record {
   meets = rw (← work_front work bytes bits) works.meets;
   writes = rw (← work_front work bytes bits) works.writes;
@@ -105,9 +109,11 @@ wrote (Err s.WriteFault) o a b p q writes = writes
 wrote (Err s.Memory) o a b p q writes = writes
 
 -- what is made of the whole input is what the command does
-performs : (result : Result (Unit {0}) Stop) (work : Work) (bytes taken : List ℕ) (bits : ℕ) (known rest : Option (List ℕ))
+performs : (result : Result (Unit {0}) Stop) (work : Work) (bytes taken : List ℕ) (bits : ℕ)
+    (known rest : Option (List ℕ))
     (a b : Option (List ℕ)) (p q : Option Bool) (before now : Device) → IsInput known bytes → Consumes known rest taken
-    → WorksOn result work bytes bits a b p q before now → Performs result (Some (c.Make work)) bits known rest a b p q before now
+    → WorksOn result work bytes bits a b p q before now → Performs result (Some (c.Make work)) bits known rest a b p
+    q before now
 performs result work bytes taken bits known rest a b p q before now input consumed works = record {
   bytes = bytes;
   taken = taken;
@@ -122,9 +128,12 @@ performs result work bytes taken bits known rest a b p q before now input consum
 }
 
 -- a text that was read answers for the input
-pub performs_text : (result : Result (Unit {0}) Stop) (work : Work) (text : List ℕ) (bits : ℕ) (known rest : Option (List ℕ))
-    (a b : Option (List ℕ)) (p q : Option Bool) (before now : Device) → IsFrontOf known 1048577 text → Consumes known rest text
-    → WorksOn result work text bits a b p q before now → Performs result (Some (c.Make work)) bits known rest a b p q before now
+pub performs_text : (result : Result (Unit {0}) Stop) (work : Work) (text : List ℕ) (bits : ℕ)
+    (known rest : Option (List ℕ))
+    (a b : Option (List ℕ)) (p q : Option Bool) (before now : Device) → IsFrontOf known 1048577 text
+    → Consumes known rest text
+    → WorksOn result work text bits a b p q before now → Performs result (Some (c.Make work)) bits known rest a b p q
+    before now
 performs_text result work text bits None rest a b p q before now front consumed works =
     performs result work text text bits None rest a b p q before now tt consumed works
 performs_text result work text bits (Some bytes) rest a b p q before now front consumed works =
@@ -136,7 +145,8 @@ keeps_same None = tt
 keeps_same (Some bytes) = refl
 
 -- an array that is as before is what a stop at a read leaves
-read_array : (work : Work) (bits : ℕ) (scene : SceneView) (device : Device) (stop : Stop) (m n : ℕ) → IsReadStop stop m n
+read_array : (work : Work) (bits : ℕ) (scene : SceneView) (device : Device) (stop : Stop) (m n : ℕ)
+    → IsReadStop stop m n
     → LeavesArray work (status_of stop) bits scene device device
 read_array w.Render bits scene device s.ReadFault m n is = refl
 read_array w.Render bits scene device s.Memory m n is = inl refl
@@ -164,7 +174,8 @@ read_array (w.Tile size) bits scene device (s.Refused reason) m n is = absurd is
 read_array (w.Tile size) bits scene device s.WriteFault m n is = absurd is
 
 -- a stop at a read is one for all texts
-read_works : (work : Work) (bytes : List ℕ) (bits : ℕ) (stop : Stop) (a : Option (List ℕ)) (p : Option Bool) (device : Device) (m n : ℕ)
+read_works : (work : Work) (bytes : List ℕ) (bits : ℕ) (stop : Stop) (a : Option (List ℕ)) (p : Option Bool)
+    (device : Device) (m n : ℕ)
     → IsReadStop stop m n → WorksOn (Err stop) work bytes bits a a p p device device
 read_works work bytes bits s.ReadFault a p device m n read =
     record {
@@ -194,21 +205,24 @@ is_input None = tt
 is_input (Some bytes) = refl
 
 -- the work stops at a read
-pub performs_read : (result : Result (Unit {0}) Stop) (work : Work) (bits : ℕ) (stop : Stop) (known rest : Option (List ℕ))
+pub performs_read : (result : Result (Unit {0}) Stop) (work : Work) (bits : ℕ) (stop : Stop)
+    (known rest : Option (List ℕ))
     (a : Option (List ℕ)) (p : Option Bool) (device : Device) (m n : ℕ) → result ≡ Err stop → IsReadStop stop m n
     → ConsumesAtMost known rest 1048577 → Performs result (Some (c.Make work)) bits known rest a a p p device device
 performs_read result work bits stop known rest a p device m n is read (taken, consumed, few) =
     performs result work (bytes_of known) taken bits known rest a a p p device device (is_input known) consumed
     (rw is (read_works work (bytes_of known) bits stop a p device m n read))
 
-text_meets : (work : Work) (bytes : List ℕ) (bits : ℕ) (stop : Stop) → IsTextStop stop bytes → Meets (Err stop) (worked_out work bytes bits)
+text_meets : (work : Work) (bytes : List ℕ) (bits : ℕ) (stop : Stop) → IsTextStop stop bytes
+    → Meets (Err stop) (worked_out work bytes bits)
 text_meets work bytes bits (s.Refused reason) is = rw is refl
 text_meets work bytes bits s.Memory is = tt
 text_meets work bytes bits s.Usage is = absurd is
 text_meets work bytes bits s.ReadFault is = absurd is
 text_meets work bytes bits s.WriteFault is = absurd is
 
-text_writes : (stop : Stop) (bytes : List ℕ) (o : Outcome) (a : Option (List ℕ)) (p : Option Bool) → IsTextStop stop bytes
+text_writes : (stop : Stop) (bytes : List ℕ) (o : Outcome) (a : Option (List ℕ)) (p : Option Bool)
+    → IsTextStop stop bytes
     → Writes (Err stop) o a a p p
 text_writes (s.Refused reason) bytes o a p is = (keeps_same a, refl)
 text_writes s.Memory bytes o a p is = (keeps_same a, refl)
@@ -226,7 +240,8 @@ text_draws bytes bits scene device s.Usage is = absurd is
 text_draws bytes bits scene device s.ReadFault is = absurd is
 text_draws bytes bits scene device s.WriteFault is = absurd is
 
-text_tiles : (bytes : List ℕ) (bits : ℕ) (size : Size) (scene : SceneView) (device : Device) (stop : Stop) → IsTextStop stop bytes
+text_tiles : (bytes : List ℕ) (bits : ℕ) (size : Size) (scene : SceneView) (device : Device) (stop : Stop)
+    → IsTextStop stop bytes
     → DrawsTiles (status_of stop) bits size scene device device
 text_tiles bytes bits size scene device (s.Refused (r.Malformed line cause)) is = refl
 text_tiles bytes bits size scene device (s.Refused (r.Limit line kind found)) is = refl
@@ -235,7 +250,8 @@ text_tiles bytes bits size scene device s.Usage is = absurd is
 text_tiles bytes bits size scene device s.ReadFault is = absurd is
 text_tiles bytes bits size scene device s.WriteFault is = absurd is
 
-text_array : (work : Work) (bytes : List ℕ) (bits : ℕ) (scene : SceneView) (device : Device) (stop : Stop) → IsTextStop stop bytes
+text_array : (work : Work) (bytes : List ℕ) (bits : ℕ) (scene : SceneView) (device : Device) (stop : Stop)
+    → IsTextStop stop bytes
     → LeavesArray work (status_of stop) bits scene device device
 text_array w.Render bytes bits scene device stop is = text_draws bytes bits scene device stop is
 text_array w.Colour bytes bits scene device stop is = text_draws bytes bits scene device stop is
@@ -248,7 +264,8 @@ text_array w.Cost bytes bits scene device stop is = refl
 text_array w.List bytes bits scene device stop is = refl
 
 -- the work stops at its text
-pub works_text : (result : Result (Unit {0}) Stop) (work : Work) (bytes lent : List ℕ) (bits : ℕ) (stop : Stop) (a : Option (List ℕ)) (p : Option Bool) (device : Device)
+pub works_text : (result : Result (Unit {0}) Stop) (work : Work) (bytes lent : List ℕ) (bits : ℕ) (stop : Stop)
+    (a : Option (List ℕ)) (p : Option Bool) (device : Device)
     → result ≡ Err stop → lent ≡ bytes → IsTextStop stop lent → WorksOn result work bytes bits a a p p device device
 works_text result work bytes lent bits stop a p device at same is =
     let here : IsTextStop stop bytes = rw (← same) is in
@@ -262,7 +279,8 @@ works_text result work bytes lent bits stop a p device at same is =
 -- something is made of the scene of a text
 pub works_scene : (result : Result (Unit {0}) Stop) (work : Work) (bytes lent : List ℕ) (bits : ℕ) (scene : SceneView)
     (a b : Option (List ℕ)) (p q : Option Bool) (before now : Device) → lent ≡ bytes → text_refusal lent ≡ None
-    → scene ≡ scene_of (worded lent) → Meets result (made work scene bits) → Writes result (made work scene bits) a b p q
+    → scene ≡ scene_of (worded lent) → Meets result (made work scene bits)
+    → Writes result (made work scene bits) a b p q
     → LeavesArray work (status_in result) bits scene before now → WorksOn result work bytes bits a b p q before now
 works_scene result work bytes lent bits scene a b p q before now same good is meets writes array =
     let here : worked_out work bytes bits ≡ made work scene bits = rw (← same, good, is) refl in
@@ -274,7 +292,8 @@ works_scene result work bytes lent bits scene a b p q before now same good is me
     }
 
 -- a whole output
-pub serves_whole : (o : Outcome) (bytes : List ℕ) (a b : Option (List ℕ)) (p q : Option Bool) (m n : ℕ) (u : Unit {0}) → o ≡ done bytes
+pub serves_whole : (o : Outcome) (bytes : List ℕ) (a b : Option (List ℕ)) (p q : Option Bool) (m n : ℕ) (u : Unit {0})
+    → o ≡ done bytes
     → Appends a b bytes → Tells q true → n ≡ m → Serves (Ok u) o a b p q m n
 serves_whole o bytes a b p q m n u is whole finished calm = rw is (record {
   meets = refl;
@@ -296,12 +315,15 @@ serves_front o bytes a b p q m n is front rose = rw is (record {
 })
 
 -- the rest of an input whose front was taken
-pub rest_behind : (old new : Option (List ℕ)) (text : List ℕ) → Consumes old new text → IsFrontOf old 1048577 text → IsRestBehind old new
+pub rest_behind : (old new : Option (List ℕ)) (text : List ℕ) → Consumes old new text → IsFrontOf old 1048577 text
+    → IsRestBehind old new
 rest_behind None new text taken front = tt
 rest_behind (Some bytes) None text taken front = absurd taken
 rest_behind (Some bytes) (Some rest) text taken front = ap Some (same_rest bytes rest text taken front)
   where
-    same_rest : (bytes rest text : List ℕ) → bytes ≡ text ++ rest → text ≡ take 1048577 bytes → rest ≡ drop 1048577 bytes
+    same_rest : (bytes rest text : List ℕ) → bytes ≡ text ++ rest → text ≡ take 1048577 bytes
+        → rest ≡ drop 1048577 bytes
     same_rest bytes rest text whole front =
-        let parts : take 1048577 bytes ++ rest ≡ take 1048577 bytes ++ drop 1048577 bytes = ap (λ t. t ++ rest) (sym front) ∙ sym whole ∙ sym (take-append-drop 1048577 bytes)
+        let parts : take 1048577 bytes ++ rest ≡ take 1048577 bytes ++ drop 1048577 bytes =
+        ap (λ t. t ++ rest) (sym front) ∙ sym whole ∙ sym (take-append-drop 1048577 bytes)
         in append_cancel_left (take 1048577 bytes) rest (drop 1048577 bytes) parts

@@ -8,10 +8,10 @@ use Rattle.px_control.specs.Standing.{JobView}
 use Rattle.px_sched.specs.Layouts.{layout_of}
 use Rattle.px_sched.specs.PassesLaw.{ShowsThePicture}
 use Rattle.px_refine.specs.Finer.{fine_scene}
-use Rattle.px_draw.specs.Refining.{doublings}
 use Rattle.px_draw.specs.Tiling.{DrawsTiles}
-use Rattle.px_draw.specs.declared.command.Work.{Work}
-use Rattle.px_draw.specs.declared.command.Work.TheVariants as w
+use Rattle.px_command.specs.Commands.{doublings}
+use Rattle.px_command.specs.declared.command.Work.{Work}
+use Rattle.px_command.specs.declared.command.Work.TheVariants as w
 use Rattle.px_draw.specs.declared.status.Status.{Status}
 use Rattle.px_draw.specs.declared.status.Status.TheVariants as status
 

@@ -1,7 +1,8 @@
 -- What `debug` answers and leaves: a session over the bytes of an input. Clauses of public calls stand on it.
-use Rattle.std.specs.Prelude.{◌≡◌, ◌⊎◌, ℕ, ◌-◌, ◌^◌, ◌≤◌, List, [], Bool, true, false, ◌&&◌, not, if◌then◌else◌, length, nat_lt, take, Option}
+use Rattle.std.specs.Prelude.{◌≡◌, ◌⊎◌, ℕ, ◌-◌, ◌≤◌, List, [], Bool, true, false, ◌&&◌, not, if◌then◌else◌, length, nat_lt, take, Option}
 use Rattle.std.specs.Io.KnownBytes.{Appends, Keeps}
 use Rattle.px_io.specs.Told.{TakesAll, TakesFirst, Tells}
+use Rattle.px_text.specs.declared.text.TheConstants.{MAX_TEXT_BYTES}
 use Rattle.px_array.specs.Arrays.{Device, closed}
 use Rattle.px_scene.specs.Scenes.{SceneView}
 use Rattle.px_scene.specs.Text.{worded}
@@ -19,10 +20,10 @@ use Rattle.px_draw.specs.Untouched.{IsUntouched}
 
 -- the bytes that count: as many as a text may have
 abbrev pub within_limit : List ℕ → List ℕ
-within_limit bytes = take 1048576 bytes
+within_limit bytes = take MAX_TEXT_BYTES bytes
 
 unfoldable pub is_long : List ℕ → Bool
-is_long bytes = nat_lt (2 ^ 20) (length bytes)
+is_long bytes = nat_lt MAX_TEXT_BYTES (length bytes)
 
 -- the scene part
 unfoldable pub part_of : List ℕ → List ℕ

@@ -1,6 +1,7 @@
 -- What joins `list` and `play`: the text of a scene's passes, played, leaves the picture of the scene.
 -- Clauses of public calls stand on it.
-use Rattle.std.specs.Prelude.{◌≡◌, ℕ, ◌≤◌, ◌^◌, All, List, length}
+use Rattle.std.specs.Prelude.{◌≡◌, ℕ, ◌≤◌, All, List, length}
+use Rattle.px_text.specs.declared.text.TheConstants.{MAX_TEXT_BYTES}
 use Rattle.px_array.specs.Arrays.{Device, pixel_of}
 use Rattle.px_scene.specs.Scenes.{IsLawfulScene, SceneView}
 use Rattle.px_scene.specs.Solids.{IsLawfulSolid}
@@ -20,7 +21,7 @@ pub record IsListed (bits : ℕ) (scene : SceneView) (text : List ℕ) : Type 0 
 
 -- within the limit of a text, `play` answers what the passes of the scene mean
 abbrev pub ListedPassesArePlayed : Type 0
-ListedPassesArePlayed = (bits : ℕ) (scene : SceneView) (text : List ℕ) → IsListed bits scene text → length text ≤ 2 ^ 20 →
+ListedPassesArePlayed = (bits : ℕ) (scene : SceneView) (text : List ℕ) → IsListed bits scene text → length text ≤ MAX_TEXT_BYTES →
     played_out text bits ≡ done (played_text bits (passes_listing scene))
 
 -- and the array that it leaves stores the picture of the scene in key B of each pixel

@@ -1,6 +1,7 @@
 -- What `list` and `play` answer, and what `play` leaves of the array. Clauses of public calls stand on it.
-use Rattle.std.specs.Prelude.{◌≡◌, ℕ, ◌^◌, List, length, nat_lt, if◌then◌else◌, Option, Some, None}
+use Rattle.std.specs.Prelude.{◌≡◌, ℕ, List, length, nat_lt, if◌then◌else◌, Option, Some, None}
 use Rattle.std.specs.List.{sum_by}
+use Rattle.px_text.specs.declared.text.TheConstants.{MAX_TEXT_BYTES}
 use Rattle.px_array.specs.Arrays.{Device}
 use Rattle.px_asm.specs.Micros.{cycles}
 use Rattle.px_text.specs.Text.{worded}
@@ -38,7 +39,7 @@ list_refusal_by (Some fault) = list_refusal_in fault
 -- why a text is no listing for pixels of so many bits, where it is none: past the limit of a text, or by a line
 unfoldable pub list_refusal : (bits : ℕ) → List ℕ → Option Refusal
 list_refusal bits text =
-    if nat_lt (2 ^ 20) (length text) then Some too_long else list_refusal_by (refusal_of bits text)
+    if nat_lt MAX_TEXT_BYTES (length text) then Some too_long else list_refusal_by (refusal_of bits text)
 
 -- its listing
 unfoldable pub listing_written : List ℕ → ListingView

@@ -1,24 +1,17 @@
 -- What is made of the finer scene. Clauses of public calls stand on it.
 use Rattle.std.specs.Prelude.{ℕ, ℤ, pos, Option, Some, None}
 use Rattle.px_scene.specs.Scenes.{SceneView}
-use Rattle.px_scene.specs.declared.line.LimitKind.{LimitKind}
-use Rattle.px_scene.specs.declared.line.LimitKind.TheVariants as kind
+use Rattle.px_show.specs.declared.fault.LimitKind.{LimitKind}
+use Rattle.px_show.specs.declared.fault.LimitKind.TheVariants as kind
 use Rattle.px_refine.specs.declared.fault.FineFault.{FineFault}
 use Rattle.px_refine.specs.declared.fault.FineFault.TheVariants as fault
 use Rattle.px_refine.specs.FineFaults.{fine_fault}
 use Rattle.px_refine.specs.Finer.{fine_scene}
 use Rattle.px_refine.specs.Refined.{refined_image}
-use Rattle.px_draw.specs.declared.command.Fineness.{Fineness}
-use Rattle.px_draw.specs.declared.command.Fineness.TheVariants as f
 use Rattle.px_draw.specs.declared.refusal.Kind.TheVariants as k
 use Rattle.px_draw.specs.declared.refusal.Refusal.{Refusal}
 use Rattle.px_draw.specs.declared.refusal.Refusal.TheVariants as r
 use Rattle.px_draw.specs.Outcomes.{Outcome, done, drawable, unless_refused}
-
--- how often the pixels on each side are doubled
-abbrev pub doublings : Fineness → ℕ
-doublings f.Two = 1
-doublings f.Four = 2
 
 abbrev pub scene_limit : LimitKind → (found : ℤ) → Refusal
 scene_limit kind found = r.Limit 0 (k.Scene kind) found

@@ -1,9 +1,10 @@
 -- Why a text is refused. Clauses of public calls stand on it.
 use Rattle.std.specs.Prelude.{ℕ, pos, List, Option, Some, None}
-use Rattle.px_scene.specs.declared.line.LimitKind.TheVariants as kind
+use Rattle.px_show.specs.declared.fault.LimitKind.TheVariants as kind
 use Rattle.px_scene.specs.declared.read.SceneFault.{SceneFault}
 use Rattle.px_scene.specs.declared.read.SceneFault.TheVariants as f
 use Rattle.px_scene.specs.Refusals.{refusal_of}
+use Rattle.px_draw.specs.declared.refusal.TheConstants.{READ_LIMIT}
 use Rattle.px_draw.specs.declared.refusal.Kind.TheVariants as k
 use Rattle.px_draw.specs.declared.refusal.Refusal.{Refusal}
 use Rattle.px_draw.specs.declared.refusal.Refusal.TheVariants as r
@@ -32,4 +33,4 @@ short_of_bits need = r.Limit 0 (k.Scene kind.PixelMemory) (pos need)
 
 -- more bytes than a text may have
 abbrev pub too_long : Refusal
-too_long = r.Limit 0 (k.Scene kind.Text) (pos 1048577)
+too_long = r.Limit 0 (k.Scene kind.Text) (pos READ_LIMIT)

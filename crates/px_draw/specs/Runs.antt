@@ -6,16 +6,17 @@ use Rattle.px_io.specs.Told.{ConsumesAtMost, TakesFront, Tells}
 use Rattle.px_array.specs.Arrays.{Device}
 use Rattle.px_scene.specs.Text.{worded}
 use Rattle.px_scene.specs.Reading.{scene_of}
-use Rattle.px_scene.specs.declared.line.Cause.{Cause}
-use Rattle.px_draw.specs.declared.command.Command.{Command}
-use Rattle.px_draw.specs.declared.command.Command.TheVariants as c
-use Rattle.px_draw.specs.declared.command.Work.{Work}
+use Rattle.px_show.specs.declared.fault.Cause.{Cause}
+use Rattle.px_command.specs.declared.command.Command.{Command}
+use Rattle.px_command.specs.declared.command.Command.TheVariants as c
+use Rattle.px_command.specs.declared.command.Work.{Work}
+use Rattle.px_draw.specs.declared.refusal.TheConstants.{READ_LIMIT}
 use Rattle.px_draw.specs.declared.refusal.Kind.{Kind}
 use Rattle.px_draw.specs.declared.refusal.Refusal.TheVariants as r
 use Rattle.px_draw.specs.declared.status.Status.{Status}
 use Rattle.px_draw.specs.declared.status.Status.TheVariants as status
 use Rattle.px_draw.specs.Arrays.{Draws, LeavesArray}
-use Rattle.px_draw.specs.Commands.{command_of}
+use Rattle.px_command.specs.Commands.{command_of}
 use Rattle.px_draw.specs.Outcomes.{Outcome, usage, refused, cut, done, output, refusal}
 use Rattle.px_draw.specs.Notes.{note}
 use Rattle.px_draw.specs.Debugs.{LeavesSession, debugged}
@@ -155,22 +156,22 @@ pub record HasRisen (found : Status) (input_old input_new out_old out_new : ℕ)
   pub input : (found ≡ status.ReadFault → ⊥) → input_new ≡ input_old
   pub out : (found ≡ status.WriteFault → ⊥) → out_new ≡ out_old
 
--- what is left behind the first 1048577 bytes
+-- what is left behind as many bytes as a text may have and one more
 abbrev pub IsRestBehind : Option (List ℕ) → Option (List ℕ) → Type 0
 IsRestBehind None new = ⊤
-IsRestBehind (Some bytes) new = new ≡ Some (drop 1048577 bytes)
+IsRestBehind (Some bytes) new = new ≡ Some (drop READ_LIMIT bytes)
 
 -- a whole text was taken, or its first bytes up to one past the limit of a text; at most as many where reading failed or memory
 abbrev pub TookText : Status → Option (List ℕ) → Option (List ℕ) → Type 0
-TookText status.ReadFault old new = ConsumesAtMost old new 1048577
-TookText status.Memory old new = ConsumesAtMost old new 1048577
+TookText status.ReadFault old new = ConsumesAtMost old new READ_LIMIT
+TookText status.Memory old new = ConsumesAtMost old new READ_LIMIT
 TookText status old new = IsRestBehind old new
 
 -- the bytes that were taken, by the command
 abbrev pub Took : Option Command → Status → Option (List ℕ) → Option (List ℕ) → Type 0
 Took None found old new = new ≡ old
 Took (Some (c.Make work)) found old new = TookText found old new
-Took (Some c.Debug) found old new = ConsumesAtMost old new 1048577
+Took (Some c.Debug) found old new = ConsumesAtMost old new READ_LIMIT
 Took (Some c.Shadow) found old new = TookText found old new
 Took (Some (c.Sample n)) found old new = new ≡ old
 Took (Some c.Play) found old new = TookText found old new

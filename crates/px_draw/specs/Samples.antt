@@ -1,5 +1,5 @@
 -- What `sample` answers: four numbers of the scene of so many blocks, and of its picture. Clauses of public calls stand on it.
-use Rattle.std.specs.Prelude.{ℕ, ◌==◌, if◌then◌else◌, List, ◌++◌, codes, decimal, length, sum_by}
+use Rattle.std.specs.Prelude.{ℕ, ◌==◌, if◌then◌else◌, List, ◌++◌, length, sum_by}
 use Rattle.std.specs.List.{range_with_len}
 use Rattle.px_frame.specs.Picture.{depth_at, face_at}
 use Rattle.px_scene.specs.Sample.{sample_text}
@@ -8,6 +8,7 @@ use Rattle.px_scene.specs.Text.{worded}
 use Rattle.px_scene.specs.Reading.{scene_of}
 use Rattle.px_prune.specs.Kept.{plan_of}
 use Rattle.px_control.specs.Program.{total}
+use Rattle.px_answers.specs.SampleText.{four_lines}
 use Rattle.px_draw.specs.Outcomes.{Outcome, done, drawable, unless_refused}
 use Rattle.px_draw.specs.Refusals.{text_refusal}
 
@@ -34,11 +35,6 @@ shown scene = sum_of (one_at scene) scene.width scene.height
 
 abbrev pub depths : SceneView → ℕ
 depths scene = sum_of (shown_depth_at scene) scene.width scene.height
-
-unfoldable pub four_lines : (shown depths products clocks : ℕ) → List ℕ
-four_lines shown depths products clocks =
-    codes "shown " ++ decimal shown ++ codes "\ndepths " ++ decimal depths
-    ++ codes "\nproducts " ++ decimal products ++ codes "\nclocks " ++ decimal clocks ++ codes "\n"
 
 -- the numbers of a scene: of its picture, of the products that can show anything, and of its clocks
 abbrev pub measures : SceneView → List ℕ

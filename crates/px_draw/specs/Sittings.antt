@@ -11,6 +11,7 @@ use Rattle.px_lines.specs.declared.reading.Opening.{Opening}
 use Rattle.px_session.specs.Servings.{Serves}
 use Rattle.px_session.specs.declared.serving.Ending.{Ending}
 use Rattle.px_session.specs.declared.serving.Ending.TheVariants as e
+use Rattle.px_draw.specs.declared.refusal.TheConstants.{READ_LIMIT}
 use Rattle.px_draw.specs.declared.refusal.Refusal.{Refusal}
 use Rattle.px_draw.specs.declared.status.Status.{Status}
 use Rattle.px_draw.specs.declared.status.Status.TheVariants as status
@@ -22,13 +23,13 @@ use Rattle.px_draw.specs.Refusals.{text_refusal, too_long}
 -- an input was read until its scene part was whole, or to its end or its limit
 pub record Opens (o : Opening) (known_old known_new : Option (List ℕ)) : Type 0 where
   pub taken : Consumes known_old known_new o.text.items
-  pub few : length o.text.items ≤ 1048577
+  pub few : length o.text.items ≤ READ_LIMIT
   pub part : o.part ≡ part_end (within_limit o.text.items)
-  pub end : o.part ≡ None → length o.text.items < 1048577 → IsAtEnd known_new
+  pub end : o.part ≡ None → length o.text.items < READ_LIMIT → IsAtEnd known_new
 
 -- why it was not
 abbrev pub IsOpenStop : Stop → (known_old known_new : Option (List ℕ)) → Type 0
-IsOpenStop s.ReadFault known_old known_new = TookNoPart known_old known_new 1048577
+IsOpenStop s.ReadFault known_old known_new = TookNoPart known_old known_new READ_LIMIT
 IsOpenStop s.Memory known_old known_new = ⊤
 IsOpenStop stop known_old known_new = ⊥
 
@@ -36,13 +37,13 @@ IsOpenStop stop known_old known_new = ⊥
 pub record OpensOn (o : Opening) (found : SceneView) : Type 0 where
   pub good : text_refusal (part_of o.text.items) ≡ None
   pub scene : found ≡ part_scene o.text.items
-  pub short : o.part ≡ None → length o.text.items < 1048577
+  pub short : o.part ≡ None → length o.text.items < READ_LIMIT
 
 -- why it is none: the part is refused, or it is not whole within the limit
 abbrev pub IsPartRefusal : (o : Opening) → Refusal → Type 0
 IsPartRefusal o reason =
-    ((text_refusal (part_of o.text.items) ≡ Some reason) × (o.part ≡ None → length o.text.items < 1048577))
-    ⊎ ((o.part ≡ None) × (length o.text.items ≡ 1048577) × (reason ≡ too_long))
+    ((text_refusal (part_of o.text.items) ≡ Some reason) × (o.part ≡ None → length o.text.items < READ_LIMIT))
+    ⊎ ((o.part ≡ None) × (length o.text.items ≡ READ_LIMIT) × (reason ≡ too_long))
 
 abbrev pub IsPartStop : Stop → (o : Opening) → Type 0
 IsPartStop (s.Refused reason) o = IsPartRefusal o reason

@@ -7,8 +7,8 @@ use Rattle.px_array.specs.Arrays.{Device}
 use Rattle.px_scene.specs.Text.{worded}
 use Rattle.px_scene.specs.Reading.{scene_of}
 use Rattle.px_scene.specs.Scenes.{SceneView}
-use Rattle.px_draw.specs.declared.command.Command.{Command}
-use Rattle.px_draw.specs.declared.command.Work.{Work}
+use Rattle.px_command.specs.declared.command.Command.{Command}
+use Rattle.px_command.specs.declared.command.Work.{Work}
 use Rattle.px_draw.specs.declared.refusal.Refusal.{Refusal}
 use Rattle.px_draw.specs.declared.refusal.Refusal.TheVariants as r
 use Rattle.px_draw.specs.declared.stop.Stop.{Stop}

@@ -2,14 +2,14 @@
 use Rattle.std.specs.Prelude.{◌≡◌, ℕ, ◌++◌, pos, List, Option, Some, None}
 use Rattle.px_array.specs.Arrays.{Device}
 use Rattle.px_scene.specs.Scenes.{SceneView}
-use Rattle.px_scene.specs.declared.line.LimitKind.TheVariants as kind
+use Rattle.px_show.specs.declared.fault.LimitKind.TheVariants as kind
 use Rattle.px_frame.specs.Picture.{depth_image, face_image}
 use Rattle.px_tile.specs.declared.fault.WideFault.{WideFault}
 use Rattle.px_tile.specs.declared.fault.WideFault.TheVariants as fault
 use Rattle.px_tile.specs.Pictures.{IsLastDrawn, LeavesOnWideRefusal}
 use Rattle.px_tile.specs.Refusals.{wide_refusal}
 use Rattle.px_tile.specs.Tiles.{wide_scene}
-use Rattle.px_draw.specs.declared.command.Size.{Size}
+use Rattle.px_command.specs.declared.command.Size.{Size}
 use Rattle.px_draw.specs.declared.refusal.Kind.TheVariants as k
 use Rattle.px_draw.specs.declared.refusal.Refusal.{Refusal}
 use Rattle.px_draw.specs.declared.refusal.Refusal.TheVariants as r

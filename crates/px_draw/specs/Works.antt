@@ -14,13 +14,14 @@ use Rattle.px_control.specs.Program.{total}
 use Rattle.px_frame.specs.Picture.{picture_image}
 use Rattle.px_frame.specs.declared.plane.Plane.{Plane}
 use Rattle.px_frame.specs.declared.plane.Plane.TheVariants as p
-use Rattle.px_draw.specs.declared.command.Work.{Work}
-use Rattle.px_draw.specs.declared.command.Work.TheVariants as w
-use Rattle.px_draw.specs.CostText.{cost_text}
+use Rattle.px_command.specs.Commands.{doublings}
+use Rattle.px_command.specs.declared.command.Work.{Work}
+use Rattle.px_command.specs.declared.command.Work.TheVariants as w
+use Rattle.px_answers.specs.CostText.{cost_text}
 use Rattle.px_draw.specs.Listings.{listed}
 use Rattle.px_draw.specs.Outcomes.{Outcome, done, drawable, unless_refused, within_products}
-use Rattle.px_draw.specs.Plans.{plan_text}
-use Rattle.px_draw.specs.Refining.{doublings, refined}
+use Rattle.px_answers.specs.Plans.{plan_text}
+use Rattle.px_draw.specs.Refining.{refined}
 use Rattle.px_draw.specs.Refusals.{text_refusal}
 use Rattle.px_draw.specs.Tiling.{tiled}
 

@@ -5,7 +5,7 @@ ghost use Rattle.px_io.specs.Told.{ConsumesAtMost};
 ghost use Rattle.px_debug.specs.Moves.{Fits};
 ghost use Rattle.px_lines.specs.Parts.{part_end};
 ghost use Rattle.px_session.specs.Sessions.{opened};
-ghost use Rattle.px_draw.specs.declared.command.Command.{Command};
+ghost use Rattle.px_command.specs.declared.command.Command.{Command};
 ghost use Rattle.px_draw.specs.declared.stop.Stop.{Stop};
 ghost use Rattle.px_draw.specs.Debugs.{command_text, within_limit};
 ghost use Rattle.px_draw.specs.Outcomes.{Outcome, drawable};
@@ -13,8 +13,8 @@ ghost use Rattle.px_draw.specs.Runs.{Took};
 ghost use Rattle.px_draw.specs.Sittings.{Finishes, IsOpenStop, IsPartStop, LeavesClosed, Opens, OpensOn, Sits};
 ghost use Rattle.px_draw.specs.Stops.{HasCauses, IsReadStop, Performs, StopsAt, status_in, status_of};
 
-use crate::make::{READ_LIMIT, open_job, scene_in};
-use crate::refusal::too_long;
+use crate::make::{open_job, scene_in};
+use crate::refusal::{READ_LIMIT, too_long};
 use crate::stop::Stop;
 use px_array::Array;
 use px_debug::Session;
@@ -61,7 +61,7 @@ pub(crate) fn debug<S: Source, O: Sink, A: Array>(
 fn open_input<S: Source>(alloc: Global, input: &mut S) -> Result<Opening, Stop>
     ensures opens { IfOk result (λ o. Opens o (S.rest input.old) (S.rest input.new)) }
     ensures err { IfErr result (λ stop. IsOpenStop stop (S.rest input.old) (S.rest input.new)) }
-    ensures most { ConsumesAtMost (S.rest input.old) (S.rest input.new) 1048577 }
+    ensures most { ConsumesAtMost (S.rest input.old) (S.rest input.new) READ_LIMIT }
     ensures calm { OnOk result (S.faults input.new ≡ S.faults input.old) }
     ensures cause { IfErr result (λ stop.
         IsReadStop stop (S.faults input.old) (S.faults input.new)) }
@@ -76,7 +76,7 @@ fn open_input<S: Source>(alloc: Global, input: &mut S) -> Result<Opening, Stop>
 /// The scene of the scene part; a part that is not whole within the limit is past it.
 fn scene_of(alloc: Global, opening: &Opening) -> Result<Scene, Stop>
     requires part { opening.now.part ≡ part_end (within_limit opening.now.text.items) }
-    requires few { length opening.now.text.items ≤ 1048577 }
+    requires few { length opening.now.text.items ≤ READ_LIMIT }
     ensures ok { IfOk result (λ scene. OpensOn opening.now scene) }
     ensures err { IfErr result (λ stop. IsPartStop stop opening.now) }
 {

@@ -2,14 +2,11 @@
 //! opened job.
 #![tactic(auto)]
 
-mod command;
-mod cost;
 mod debug;
 mod law;
 mod listing;
 mod make;
 mod note;
-mod plan;
 mod refine;
 mod refusal;
 mod render;
@@ -20,8 +17,8 @@ mod status;
 mod stop;
 mod tile;
 
-pub use command::needs_wide_pixels;
 pub use law::laws_of_listed_scenes;
+pub use px_command::needs_wide_pixels;
 pub use render::deliver;
 pub use running::run;
 pub use status::Status;

@@ -10,22 +10,22 @@ ghost use Rattle.px_sched.specs.Layouts.{layout_of};
 ghost use Rattle.px_listing.specs.Listings.{canonical_text};
 ghost use Rattle.px_listing.specs.Memories.{memory_text, played_text};
 ghost use Rattle.px_listing.specs.PassesText.{passes_listing};
-ghost use Rattle.px_draw.specs.declared.command.Command.{Command};
+ghost use Rattle.px_command.specs.declared.command.Command.{Command};
 ghost use Rattle.px_draw.specs.declared.stop.Stop.{Stop};
 ghost use Rattle.px_draw.specs.Listings.{Plays, list_refusal, listed, listing_written};
 ghost use Rattle.px_draw.specs.Outcomes.{done};
 ghost use Rattle.px_draw.specs.Runs.{Took};
 ghost use Rattle.px_draw.specs.Stops.{HasCauses, IsListStop, Performs, Serves, status_in};
 
-use crate::make::{READ_LIMIT, drawing_of, read_text};
-use crate::refusal::{Kind, Refusal, too_long};
+use crate::make::{drawing_of, read_text};
+use crate::refusal::{Kind, READ_LIMIT, Refusal, too_long};
 use crate::stop::Stop;
 use px_array::Array;
 use px_io::{Failed, Sink, Source};
 use px_listing::{
     ListFault, Listing, laws_of_listings, play, read_listing, write_memory, write_passes,
 };
-use px_prune::Plan;
+use px_prune::{MAX_PRODUCTS, Plan};
 use px_scene::Scene;
 use px_sched::Layout;
 use std::alloc::Global;
@@ -56,7 +56,7 @@ fn deliver_passes<O: Sink>(
     out: &mut O,
 ) -> Result<(), Failed>
     requires products { plan.now.products.items ≡ plan_of scene.now }
-    requires few { length (plan_of scene.now) ≤ 1024 }
+    requires few { length (plan_of scene.now) ≤ MAX_PRODUCTS }
     requires layout { layout.now ≡ layout_of scene.now }
     ensures ok { OnOk result (Appends (O.written out.old) (O.written out.new)
         (canonical_text (passes_listing scene.now))) }

@@ -8,11 +8,11 @@ ghost use Rattle.px_scene.specs.Text.{worded};
 ghost use Rattle.px_prune.specs.Kept.{crowd_of, plan_of};
 ghost use Rattle.px_sched.specs.Layouts.{layout_of};
 ghost use Rattle.px_control.specs.Program.{IsAt};
-ghost use Rattle.px_draw.specs.declared.command.Command.{Command};
-ghost use Rattle.px_draw.specs.declared.command.Work.{Work};
+ghost use Rattle.px_command.specs.Commands.{HasSize};
+ghost use Rattle.px_command.specs.declared.command.Command.{Command};
+ghost use Rattle.px_command.specs.declared.command.Work.{Work};
 ghost use Rattle.px_draw.specs.declared.stop.Stop.{Stop};
 ghost use Rattle.px_draw.specs.Arrays.{Draws, LeavesArray};
-ghost use Rattle.px_draw.specs.Numbers.{HasSize};
 ghost use Rattle.px_draw.specs.Outcomes.{Outcome, done, drawable, within_products};
 ghost use Rattle.px_draw.specs.Refusals.{text_refusal};
 ghost use Rattle.px_draw.specs.Runs.{IsRestBehind, Took};
@@ -20,28 +20,24 @@ ghost use Rattle.px_draw.specs.Stops.{HasCauses, IsReadStop, IsTextStop, Perform
 ghost use Rattle.px_draw.specs.Stops.{status_in, status_of};
 ghost use Rattle.px_draw.specs.Works.{images, made, planned, tidied};
 
-use crate::command::Work;
-use crate::cost::cost_text;
 use crate::listing::make_list;
-use crate::plan::plan_text;
 use crate::refine::make_refined;
-use crate::refusal::{Kind, Refusal, short_of_bits, too_many};
+use crate::refusal::{Kind, READ_LIMIT, Refusal, short_of_bits, too_many};
 use crate::render::deliver_images;
 use crate::stop::Stop;
 use crate::tile::make_tiled;
 use arrayvec::ArrayString;
+use px_answers::{cost_text, plan_text};
 use px_array::Array;
+use px_command::Work;
 use px_control::{Job, JobFault, cost};
 use px_frame::Plane;
 use px_io::{Failed, ReadError, Sink, Source, read_whole, write_whole};
-use px_normal::{NormalFault, count_products};
+use px_normal::{MAX_PRODUCTS, NormalFault, count_products};
 use px_prune::{Plan, plan_of};
 use px_scene::{Scene, SceneFault, read_scene, write_scene};
 use px_sched::{Layout, NeedBits};
 use std::alloc::Global;
-
-/// One byte more than a text may have.
-pub(crate) const READ_LIMIT: usize = 1_048_577;
 
 /// Reads the input to its end, and makes of its scene what is wanted.
 pub(crate) fn make_of_input<S: Source, O: Sink, A: Array>(
@@ -69,10 +65,10 @@ pub(crate) fn make_of_input<S: Source, O: Sink, A: Array>(
 
 /// The input to its end, or to one byte past the limit of a text.
 pub(crate) fn read_text<S: Source>(alloc: Global, input: &mut S) -> Result<Vec<u8>, Stop>
-    ensures front { IfOk result (λ v. IsFrontOf (S.rest input.old) 1048577 v.items) }
+    ensures front { IfOk result (λ v. IsFrontOf (S.rest input.old) READ_LIMIT v.items) }
     ensures taken { IfOk result (λ v. Consumes (S.rest input.old) (S.rest input.new) v.items) }
     ensures rest { OnOk result (IsRestBehind (S.rest input.old) (S.rest input.new)) }
-    ensures most { ConsumesAtMost (S.rest input.old) (S.rest input.new) 1048577 }
+    ensures most { ConsumesAtMost (S.rest input.old) (S.rest input.new) READ_LIMIT }
     ensures calm { OnOk result (S.faults input.new ≡ S.faults input.old) }
     ensures err { IfErr result (λ stop.
         IsReadStop stop (S.faults input.old) (S.faults input.new)) }
@@ -221,7 +217,7 @@ fn cost_of(alloc: Global, scene: &Scene, bits: u32) -> Result<ArrayString<128>, 
 pub(crate) fn drawing_of(alloc: Global, scene: &Scene, bits: u32) -> Result<(Layout, Plan), Stop>
     ensures layout { IfOk result (λ found. found.0 ≡ layout_of scene.now) }
     ensures kept { IfOk result (λ found. found.1.products.items ≡ plan_of scene.now) }
-    ensures few { OnOk result (length (plan_of scene.now) ≤ 1024) }
+    ensures few { OnOk result (length (plan_of scene.now) ≤ MAX_PRODUCTS) }
     ensures fits { OnOk result ((o : Outcome) → drawable bits scene.now o ≡ o) }
     ensures err { IfErr result (λ stop. StopsAt (drawable bits scene.now) stop) }
 {
@@ -236,7 +232,7 @@ pub(crate) fn drawing_of(alloc: Global, scene: &Scene, bits: u32) -> Result<(Lay
 /// The products that can show anything, where no wanted list is past the limit.
 fn kept_of(alloc: Global, scene: &Scene) -> Result<Plan, Stop>
     ensures kept { IfOk result (λ plan. plan.products.items ≡ plan_of scene.now) }
-    ensures few { IfOk result (λ plan. length plan.products.items ≤ 1024) }
+    ensures few { IfOk result (λ plan. length plan.products.items ≤ MAX_PRODUCTS) }
     ensures fits { OnOk result (crowd_of scene.now ≡ None) }
     ensures err { IfErr result (λ stop. StopsAt (within_products scene.now) stop) }
 {

@@ -9,15 +9,16 @@ ghost use Rattle.px_refine.specs.Finer.{fine_scene};
 ghost use Rattle.px_refine.specs.Refined.{refined_image};
 ghost use Rattle.px_draw.specs.Arrays.{Draws, IsDrawn, IsFinished};
 ghost use Rattle.px_draw.specs.Outcomes.{done, drawable, unless_refused};
-ghost use Rattle.px_draw.specs.Refining.{doublings, fine_refusal, refined, scene_limit};
+ghost use Rattle.px_command.specs.Commands.{doublings};
+ghost use Rattle.px_draw.specs.Refining.{fine_refusal, refined, scene_limit};
 ghost use Rattle.px_draw.specs.Stops.{Serves, StopsAt, status_in};
 
-use crate::command::Fineness;
 use crate::make::open_job;
 use crate::refusal::{Kind, Refusal};
 use crate::render::draw;
 use crate::stop::Stop;
 use px_array::Array;
+use px_command::Fineness;
 use px_control::{Job, law_of_grids};
 use px_frame::laws_of_images;
 use px_io::{Failed, Sink};

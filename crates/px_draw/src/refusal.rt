@@ -4,6 +4,10 @@ ghost use Rattle.px_draw.specs.Refusals.{short_of_bits, too_long, too_many};
 
 use px_listing::ListKind;
 use px_scene::{Cause, LimitKind};
+use px_text::MAX_TEXT_BYTES;
+
+/// One byte more than a text may have.
+pub(crate) const READ_LIMIT: usize = MAX_TEXT_BYTES + 1;
 
 /// Why a text is refused (docs/SCENES.md, "Refusals").
 #[derive(Clone, Copy, Debug, PartialEq, Eq)]
@@ -57,6 +61,6 @@ pub(crate) fn too_long() -> Refusal
     Refusal::Limit {
         line: 0,
         kind: Kind::Scene(LimitKind::Text),
-        found: 1_048_577,
+        found: READ_LIMIT as i64,
     }
 }

@@ -3,11 +3,10 @@ ghost use Rattle.std.specs.Prelude.{◌≡◌, ◌↔◌, ◌≤◌, List, ℕ, 
 ghost use Rattle.std.specs.Io.KnownBytes.{Consumes};
 ghost use Rattle.px_draw.specs.declared.stop.Stop.{Stop};
 ghost use Rattle.px_draw.specs.declared.status.Status.{Status};
-ghost use Rattle.px_draw.specs.Commands.{command_of};
+ghost use Rattle.px_command.specs.Commands.{command_of};
 ghost use Rattle.px_draw.specs.Runs.{HasRisen, IsInput, IsRunOf, Took};
 ghost use Rattle.px_draw.specs.Stops.{HasCauses, Performs, status_in};
 
-use crate::command::{Command, command_of};
 use crate::debug::debug;
 use crate::listing::play_input;
 use crate::make::make_of_input;
@@ -17,6 +16,7 @@ use crate::shadow::shadow;
 use crate::status::Status;
 use crate::stop::Stop;
 use px_array::Array;
+use px_command::{Command, command_of};
 use px_io::{Sink, Source};
 use std::alloc::Global;
 

@@ -12,18 +12,20 @@ ghost use Rattle.px_control.specs.Program.{IsAt, total};
 ghost use Rattle.px_draw.specs.Arrays.{Draws, IsDrawn};
 ghost use Rattle.px_draw.specs.Countings.{IsAtMost, none_shown, shown_at, shown_in, shown_in_row, together};
 ghost use Rattle.px_draw.specs.Outcomes.{drawable};
-ghost use Rattle.px_draw.specs.Samples.{four_lines, measured, measures, sample_scene, sampled, text_measured, where_shown};
+ghost use Rattle.px_draw.specs.Samples.{measured, measures, sample_scene, sampled, text_measured, where_shown};
 ghost use Rattle.px_draw.specs.Stops.{Serves, StopsAt, status_in};
 
 use crate::make::{drawing_of, open_job, scene_in, write_finished};
 use crate::render::draw;
 use crate::stop::Stop;
 use arrayvec::ArrayString;
-use itoa::Buffer;
+use px_answers::four_lines;
 use px_array::Array;
+use px_command::MAX_BLOCKS;
 use px_control::{Job, law_of_grids};
 use px_frame::stored;
 use px_io::{Failed, Sink};
+use px_model::MAX_PICTURE_SIZE;
 use px_scene::{Scene, laws_of_scenes, sample_text};
 use px_sched::Layout;
 use std::alloc::Global;
@@ -45,7 +47,7 @@ pub(crate) fn sample<O: Sink, A: Array>(
     array: &mut A,
 ) -> Result<(), Stop>
     requires some { 1 ≤ n }
-    requires few { n ≤ 200 }
+    requires few { n ≤ MAX_BLOCKS }
     requires bits { A.BITS ≤ 256 }
     ensures serves { Serves result (sampled n A.BITS)
         (O.written out.old) (O.written out.new) (O.finished out.old) (O.finished out.new)
@@ -169,7 +171,7 @@ fn shown_in_row<A: Array>(array: &A, layout: &Layout, scene: &Scene, y: u32) -> 
     requires drawn { IsDrawn A.BITS scene.now (A.device array.now) }
     requires y { y < scene.now.height }
     ensures shown { result ≡ shown_in_row scene.now scene.now.width y }
-    ensures most { IsAtMost (512 * 2 ^ 24) result }
+    ensures most { IsAtMost (MAX_PICTURE_SIZE * 2 ^ 24) result }
 {
     laws_of_scenes(scene);
     let mut shown = Shown::none();
@@ -231,23 +233,4 @@ impl Shown {
             depths: self.depths + more.depths,
         }
     }
-}
-
-/// A line for each of the four numbers.
-#[tactic(auto, unfolding(crate::specs::Samples::four_lines))]
-fn four_lines(shown: u64, depths: u64, products: u64, clocks: u64) -> ArrayString<128>
-    ensures { result.bytes ≡ four_lines shown depths products clocks }
-{
-    let mut digits = Buffer::new();
-    let mut text = ArrayString::new();
-    text.push_str("shown ");
-    text.push_str(digits.format(shown));
-    text.push_str("\ndepths ");
-    text.push_str(digits.format(depths));
-    text.push_str("\nproducts ");
-    text.push_str(digits.format(products));
-    text.push_str("\nclocks ");
-    text.push_str(digits.format(clocks));
-    text.push_str("\n");
-    text
 }

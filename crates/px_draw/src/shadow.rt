@@ -12,7 +12,7 @@ ghost use Rattle.px_shadow.specs.Lights.{mask_image};
 ghost use Rattle.px_shadow.specs.Shaded.{IsShaded};
 ghost use Rattle.px_shadow.specs.ShadowPasses.{need_with};
 ghost use Rattle.px_shadow.specs.Stored.{StoresTheLights};
-ghost use Rattle.px_draw.specs.declared.command.Command.{Command};
+ghost use Rattle.px_command.specs.declared.command.Command.{Command};
 ghost use Rattle.px_draw.specs.declared.stop.Stop.{Stop};
 ghost use Rattle.px_draw.specs.Arrays.{Draws};
 ghost use Rattle.px_draw.specs.Outcomes.{Outcome, unless_refused};
@@ -33,8 +33,8 @@ ghost use Rattle.px_draw.specs.Shadows.{
 ghost use Rattle.px_draw.specs.Stops.{HasCauses, Performs, Serves, StopsAt, status_in, status_of};
 
 use crate::debug::behind;
-use crate::make::{READ_LIMIT, open_job, read_text, scene_in};
-use crate::refusal::{Kind, Refusal, short_of_bits, too_long};
+use crate::make::{open_job, read_text, scene_in};
+use crate::refusal::{Kind, READ_LIMIT, Refusal, short_of_bits, too_long};
 use crate::render::draw;
 use crate::stop::Stop;
 use arrayvec::ArrayVec;
@@ -46,6 +46,7 @@ use px_normal::SolidSet;
 use px_scene::{Scene, laws_of_scenes};
 use px_sched::{Layout, NeedBits, laws_of_passes};
 use px_shadow::{LightFault, laws_of_shadows, need, read_lights, shade, write_masks};
+use px_text::MAX_TEXT_BYTES;
 use std::alloc::Global;
 
 /// Reads the input to its end, and draws the image of the lights that the lines behind its scene
@@ -112,8 +113,8 @@ fn shade_parts<O: Sink, A: Array>(
     array: &mut A,
 ) -> Result<(), Stop>
     requires bits { A.BITS ≤ 256 }
-    requires part { length part.now ≤ 1048576 }
-    requires behind { length behind.now ≤ 1048576 }
+    requires part { length part.now ≤ MAX_TEXT_BYTES }
+    requires behind { length behind.now ≤ MAX_TEXT_BYTES }
     ensures serves { Serves result (parts_lit A.BITS part.now behind.now)
         (O.written out.old) (O.written out.new) (O.finished out.old) (O.finished out.new)
         (O.faults out.old) (O.faults out.new) }
@@ -127,17 +128,17 @@ fn shade_parts<O: Sink, A: Array>(
 
 /// The number of the line behind a part of whole lines.
 fn line_behind(part: &[u8]) -> u32
-    requires { length part.now ≤ 1048576 }
+    requires { length part.now ≤ MAX_TEXT_BYTES }
     ensures value { result ≡ line_behind part.now }
-    ensures most { result ≤ 1048577 }
+    ensures most { result ≤ READ_LIMIT }
 {
     part.iter().filter(|b| **b == b'\n').count() as u32 + 1
 }
 
 /// The lights that lines name, of which the first has this number.
 fn lights_in(scene: &Scene, text: &[u8], first: u32) -> Result<ArrayVec<SolidSet, 8>, Stop>
-    requires first { first ≤ 1048577 }
-    requires text { length text.now ≤ 1048576 }
+    requires first { first ≤ READ_LIMIT }
+    requires text { length text.now ≤ MAX_TEXT_BYTES }
     ensures ok { IfOk result (λ lights. (lights_refusal scene.now first text.now ≡ None)
         × (lights.items ≡ lights_in scene.now text.now)) }
     ensures known { IfOk result (λ lights.

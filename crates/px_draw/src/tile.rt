@@ -18,10 +18,10 @@ ghost use Rattle.px_draw.specs.Tiling.{
 ghost use Rattle.px_draw.specs.declared.stop.Stop.{Stop};
 ghost use Rattle.px_draw.specs.declared.refusal.Refusal.{Refusal};
 
-use crate::command::Size;
 use crate::refusal::{Kind, Refusal, short_of_bits, too_many};
 use crate::stop::Stop;
 use px_array::Array;
+use px_command::Size;
 use px_io::{Failed, Sink};
 use px_scene::{LimitKind, Scene};
 use px_tile::{WideFault, render_tiles, write_wide};

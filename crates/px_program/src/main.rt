@@ -7,7 +7,7 @@ ghost use Rattle.std.specs.Process.{exit_status};
 ghost use Rattle.std.specs.Vec.Iter.{into_iter_items, into_iter_len};
 ghost use Rattle.std.specs.declared.io.ErrorKind.TheVariants.{OutOfMemory};
 ghost use Rattle.px_draw.specs.Commands.{command_of};
-ghost use Rattle.px_draw.specs.Numbers.{pixel_bits};
+ghost use Rattle.px_draw.specs.PixelBits.{pixel_bits};
 ghost use Rattle.px_draw.specs.Statuses.{code};
 
 #[cfg(test)]

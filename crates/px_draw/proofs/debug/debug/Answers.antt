@@ -14,14 +14,26 @@ returns-in_err-opening-clause-performs g c =
 pub returns-in_err-scene-clause-performs : goal.returns-in_err-scene-clause-performs
 returns-in_err-scene-clause-performs g c =
     let is : c.from_residual-in_err-scene.result ≡ Err c.in_err-scene.field-0.0 = search rules in
-    let laws : Laws = record { kept = c.laws_of_parts.ensures.kept; within = c.laws_of_parts.ensures.within; quit = c.laws_of_sessions.ensures.quit; scene = c.laws_of_sessions.ensures.scene } in
-    performs_part laws _ _ _ c.in_ok-opening.opening _ _ _ _ _ is c.in_ok-opening.ensures.opens c.in_err-scene.ensures.err
+    let laws : Laws = record {
+      kept = c.laws_of_parts.ensures.kept;
+      within = c.laws_of_parts.ensures.within;
+      quit = c.laws_of_sessions.ensures.quit;
+      scene = c.laws_of_sessions.ensures.scene;
+    } in
+    performs_part laws _ _ _ c.in_ok-opening.opening _ _ _ _ _ is c.in_ok-opening.ensures.opens
+    c.in_err-scene.ensures.err
 
 pub returns-in_err-session-clause-performs : goal.returns-in_err-session-clause-performs
 returns-in_err-session-clause-performs g c =
     let is : c.from_residual-in_err-session.result ≡ Err c.in_err-session.field-0.0 = search rules in
-    let laws : Laws = record { kept = c.laws_of_parts.ensures.kept; within = c.laws_of_parts.ensures.within; quit = c.laws_of_sessions.ensures.quit; scene = c.laws_of_sessions.ensures.scene } in
-    performs_closed laws _ _ _ c.in_ok-opening.opening _ _ _ _ _ _ _ is c.in_ok-opening.ensures.opens c.in_ok-scene.ensures.ok
+    let laws : Laws = record {
+      kept = c.laws_of_parts.ensures.kept;
+      within = c.laws_of_parts.ensures.within;
+      quit = c.laws_of_sessions.ensures.quit;
+      scene = c.laws_of_sessions.ensures.scene;
+    } in
+    performs_closed laws _ _ _ c.in_ok-opening.opening _ _ _ _ _ _ _ is c.in_ok-opening.ensures.opens
+    c.in_ok-scene.ensures.ok
     c.in_err-session.ensures.err c.in_err-session.ensures.array
 
 pub returns-in-Some-clause-performs : goal.returns-in-Some-clause-performs
@@ -29,12 +41,19 @@ returns-in-Some-clause-performs g c =
     let o = c.in_ok-opening.ensures.opens in
     let on = c.in_ok-scene.ensures.ok in
     let text = c.in_ok-opening.opening.text.items in
-    let laws : Laws = record { kept = c.laws_of_parts.ensures.kept; within = c.laws_of_parts.ensures.within; quit = c.laws_of_sessions.ensures.quit; scene = c.laws_of_sessions.ensures.scene } in
+    let laws : Laws = record {
+      kept = c.laws_of_parts.ensures.kept;
+      within = c.laws_of_parts.ensures.within;
+      quit = c.laws_of_sessions.ensures.quit;
+      scene = c.laws_of_sessions.ensures.scene;
+    } in
     let part = sym o.part ∙ c.in-Some.is in
-    let seated : Seated g.A.Array.BITS c.in-Some.length text c.in_ok-scene.scene = record { part = part; good = on.good; scene = on.scene; draws = c.in_ok-session.ensures.draws } in
+    let seated : Seated g.A.Array.BITS c.in-Some.length text c.in_ok-scene.scene =
+    record { part = part; good = on.good; scene = on.scene; draws = c.in_ok-session.ensures.draws } in
     let left : 1048577 - c.len-more.result ≡ 1048577 - length text = omega (arith, c.len-more.ensures) in
     performs_sat laws _ _ _ text _ _ _ _ _ _ _ _ _ _ _ _ _ _ _ seated o.few o.taken
-    c.in_ok-session.ensures.session c.sit.ensures.fits (c.commands-read.ensures ∙ ap command_text c.as_slice.ensures.value) left c.sit.ensures.sits
+    c.in_ok-session.ensures.session c.sit.ensures.fits (c.commands-read.ensures
+    ∙ ap command_text c.as_slice.ensures.value) left c.sit.ensures.sits
 
 pub returns-in-Some-clause-took : goal.returns-in-Some-clause-took
 returns-in-Some-clause-took g c =
@@ -45,10 +64,18 @@ returns-in-Some-clause-took g c =
 
 pub returns-clause-performs : goal.returns-clause-performs
 returns-clause-performs g c =
-    let laws : Laws = record { kept = c.laws_of_parts.ensures.kept; within = c.laws_of_parts.ensures.within; quit = c.laws_of_sessions.ensures.quit; scene = c.laws_of_sessions.ensures.scene } in
-    let fits : Fits g.A.Array.BITS (opened c.in_ok-scene.scene) (g.A.Array.device c.open_session.new.array) (g.A.Array.slots c.open_session.new.array) =
-    subst (λ s. Fits g.A.Array.BITS s (g.A.Array.device c.open_session.new.array) (g.A.Array.slots c.open_session.new.array)) c.in_ok-session.ensures.session c.in_ok-session.ensures.fits in
-    performs_empty laws _ _ c.in_ok-opening.opening _ _ _ _ _ _ _ _ _ _ c.in_ok-opening.ensures.opens c.in_ok-scene.ensures.ok c.in-None.is
+    let laws : Laws = record {
+      kept = c.laws_of_parts.ensures.kept;
+      within = c.laws_of_parts.ensures.within;
+      quit = c.laws_of_sessions.ensures.quit;
+      scene = c.laws_of_sessions.ensures.scene;
+    } in
+    let fits : Fits g.A.Array.BITS (opened c.in_ok-scene.scene) (g.A.Array.device c.open_session.new.array)
+    (g.A.Array.slots c.open_session.new.array) =
+    subst (λ s. Fits g.A.Array.BITS s (g.A.Array.device c.open_session.new.array)
+    (g.A.Array.slots c.open_session.new.array)) c.in_ok-session.ensures.session c.in_ok-session.ensures.fits in
+    performs_empty laws _ _ c.in_ok-opening.opening _ _ _ _ _ _ _ _ _ _ c.in_ok-opening.ensures.opens
+    c.in_ok-scene.ensures.ok c.in-None.is
     c.in_ok-session.ensures.draws fits c.finish.ensures.bytes c.finish.ensures.end
 
 pub returns-clause-causes : goal.returns-clause-causes

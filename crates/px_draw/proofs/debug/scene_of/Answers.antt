@@ -13,14 +13,16 @@ pub returns-in-Some-clause-ok : goal.returns-in-Some-clause-ok
 returns-in-Some-clause-ok c =
     let n = c.in-Some.length in
     let text = c.args.opening.now.text.items in
-    let part = part_is c.laws_of_parts.ensures.within text n (sym c.requires.part ∙ c.in-Some.is) ∙ ap (take n) (sym c.deref.ensures.value) in
+    let part = part_is c.laws_of_parts.ensures.within text n (sym c.requires.part ∙ c.in-Some.is)
+    ∙ ap (take n) (sym c.deref.ensures.value) in
     scene_is _ c.args.opening.now _ part (λ none. absurd (some_none (sym c.in-Some.is ∙ none))) c.scene_in.ensures.ok
 
 pub returns-in-Some-clause-err : goal.returns-in-Some-clause-err
 returns-in-Some-clause-err c =
     let n = c.in-Some.length in
     let text = c.args.opening.now.text.items in
-    let part = part_is c.laws_of_parts.ensures.within text n (sym c.requires.part ∙ c.in-Some.is) ∙ ap (take n) (sym c.deref.ensures.value) in
+    let part = part_is c.laws_of_parts.ensures.within text n (sym c.requires.part ∙ c.in-Some.is)
+    ∙ ap (take n) (sym c.deref.ensures.value) in
     stop_is _ c.args.opening.now _ part (λ none. absurd (some_none (sym c.in-Some.is ∙ none))) c.scene_in.ensures.err
 
 pub returns-in-None-clause-ok : goal.returns-in-None-clause-ok

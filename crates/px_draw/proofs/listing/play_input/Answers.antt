@@ -16,5 +16,6 @@ returns-in_err-listing-clause-performs g c =
 pub returns-clause-performs : goal.returns-clause-performs
 returns-clause-performs g c =
     performs_played _ _ _ _ _ _ _ _ _ _ _ c.in_ok-text.ensures.front c.in_ok-text.ensures.taken
-    (plays_listing _ _ _ _ _ _ _ _ _ _ _ _ _ _ c.BITS.ensures c.as_slice.ensures.value c.in_ok-listing.ensures.ok.0 c.in_ok-listing.ensures.ok.1
+    (plays_listing _ _ _ _ _ _ _ _ _ _ _ _ _ _ c.BITS.ensures c.as_slice.ensures.value c.in_ok-listing.ensures.ok.0
+    c.in_ok-listing.ensures.ok.1
     c.play_listing.ensures.serves c.play_listing.ensures.array)

@@ -16,5 +16,6 @@ returns-in_err-scene-clause-performs g c =
 pub returns-clause-performs : goal.returns-clause-performs
 returns-clause-performs g c =
     performs_text _ c.args.work _ _ _ _ _ _ _ _ _ _ c.in_ok-text.ensures.front c.in_ok-text.ensures.taken
-    (works_scene _ c.args.work _ _ _ _ _ _ _ _ _ _ c.as_slice.ensures.value c.in_ok-scene.ensures.ok.0 c.in_ok-scene.ensures.ok.1
+    (works_scene _ c.args.work _ _ _ _ _ _ _ _ _ _ c.as_slice.ensures.value c.in_ok-scene.ensures.ok.0
+    c.in_ok-scene.ensures.ok.1
     c.make.ensures.serves.meets c.make.ensures.serves.writes c.make.ensures.array)

@@ -5,7 +5,8 @@ use Rattle.px_draw.proofs.render.write_images.Given as goal
 
 abbrev pub invariant-loop-plane : goal.invariant-loop-plane
 invariant-loop-plane g l = record {
-  taken : TakesAll (g.O.Sink.written l.fn.out) (g.O.Sink.written l.out) (g.O.Sink.finished l.fn.out) (g.O.Sink.finished l.out)
+  taken : TakesAll (g.O.Sink.written l.fn.out) (g.O.Sink.written l.out) (g.O.Sink.finished l.fn.out)
+      (g.O.Sink.finished l.out)
       (images l.scene (take l.plane-index l.planes));
   calm : g.O.Sink.faults l.out ≡ g.O.Sink.faults l.fn.out;
 }

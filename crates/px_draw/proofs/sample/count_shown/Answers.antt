@@ -5,10 +5,11 @@ use Rattle.px_draw.proofs.sample.count_shown.Goals as goal
 
 pub plus-shown-requires-clause-first : goal.plus-shown-requires-clause-first
 plus-shown-requires-clause-first g c =
-    most_grows _ _ _ (omega (arith, c.height-y-end.ensures.value, c.laws_of_scenes.ensures.scene.height)) c.loop-y.invariant.most
+    most_grows _ _ _ (omega (arith, c.height-y-end.ensures.value, c.laws_of_scenes.ensures.scene.height))
+    c.loop-y.invariant.most
 
 pub plus-shown-requires-clause-second : goal.plus-shown-requires-clause-second
-plus-shown-requires-clause-second g c = most_grows _ _ _ (omega arith) c.shown_in_row.ensures.most
+plus-shown-requires-clause-second g c = most_grows 8589934592 _ _ (omega arith) c.shown_in_row.ensures.most
 
 pub loop-y-preserved : goal.loop-y-preserved
 loop-y-preserved g c =

@@ -14,7 +14,8 @@ returns-in_err-scene-clause-array g c =
 
 pub returns-clause-serves : goal.returns-clause-serves
 returns-clause-serves g c =
-    scene_serves _ c.args.text.now g.A.Array.BITS c.in_ok-scene.scene _ _ _ _ _ _ c.in_ok-scene.ensures.ok.0 c.in_ok-scene.ensures.ok.1 c.measure.ensures.serves
+    scene_serves _ c.args.text.now g.A.Array.BITS c.in_ok-scene.scene _ _ _ _ _ _ c.in_ok-scene.ensures.ok.0
+    c.in_ok-scene.ensures.ok.1 c.measure.ensures.serves
 
 pub returns-clause-array : goal.returns-clause-array
 returns-clause-array g c = rw (← c.in_ok-scene.ensures.ok.1) c.measure.ensures.array

@@ -4,7 +4,8 @@ use Rattle.px_draw.proofs.sample.shown_at.Goals as goal
 
 pub stored-depth-requires-clause-pixel : goal.stored-depth-requires-clause-pixel
 stored-depth-requires-clause-pixel g c =
-    let covers = c.law_of_grids.ensures.covers g.A.Array.BITS c.args.scene.now (total c.args.scene.now) _ c.laws_of_scenes.ensures.scene c.requires.drawn.at in
+    let covers = c.law_of_grids.ensures.covers g.A.Array.BITS c.args.scene.now (total c.args.scene.now) _
+    c.laws_of_scenes.ensures.scene c.requires.drawn.at in
     record {
       is_open = covers.is_open;
       column = omega (arith, covers.columns, c.requires.x);

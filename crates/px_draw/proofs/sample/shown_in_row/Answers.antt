@@ -5,7 +5,8 @@ use Rattle.px_draw.proofs.sample.shown_in_row.Goals as goal
 
 pub plus-shown-requires-clause-first : goal.plus-shown-requires-clause-first
 plus-shown-requires-clause-first g c =
-    most_grows _ _ _ (omega (arith, c.width-x-end.ensures.value, c.laws_of_scenes.ensures.scene.width)) c.loop-x.invariant.most
+    most_grows _ _ _ (omega (arith, c.width-x-end.ensures.value, c.laws_of_scenes.ensures.scene.width))
+    c.loop-x.invariant.most
 
 pub plus-shown-requires-clause-second : goal.plus-shown-requires-clause-second
 plus-shown-requires-clause-second g c = most_grows _ _ _ (omega arith) c.shown_at.ensures.most
@@ -23,4 +24,5 @@ loop-x-preserved g c =
 
 pub returns-clause-most : goal.returns-clause-most
 returns-clause-most g c =
-    most_grows _ _ _ (omega (arith, c.width-x-end.ensures.value, c.laws_of_scenes.ensures.scene.width)) c.loop-x.invariant.most
+    most_grows _ 8589934592 _ (omega (arith, c.width-x-end.ensures.value, c.laws_of_scenes.ensures.scene.width))
+    c.loop-x.invariant.most

@@ -10,5 +10,6 @@ returns-then-text-ge-READ_LIMIT-clause-serves g c =
 
 pub returns-clause-serves : goal.returns-clause-serves
 returns-clause-serves g c =
-    parts_serve _ c.args.text.now _ _ c.part_length-length.result _ _ _ _ _ _ _ (omega (arith, c.if-text-ge-READ_LIMIT.false))
+    parts_serve _ c.args.text.now _ _ c.part_length-length.result _ _ _ _ _ _ _
+    (omega (arith, c.if-text-ge-READ_LIMIT.false))
     c.part_length-length.ensures.value refl c.behind.ensures c.shade_parts.ensures.serves

@@ -9,5 +9,6 @@ returns-in_err-text-clause-performs g c =
 
 pub returns-clause-performs : goal.returns-clause-performs
 returns-clause-performs g c =
-    performs_shades _ _ _ _ _ _ _ _ _ _ _ _ _ _ c.in_ok-text.ensures.front c.in_ok-text.ensures.taken c.as_slice.ensures.value
+    performs_shades _ _ _ _ _ _ _ _ _ _ _ _ _ _ c.in_ok-text.ensures.front c.in_ok-text.ensures.taken
+    c.as_slice.ensures.value
     c.shade_text.ensures.serves c.shade_text.ensures.array

@@ -1,0 +1,8 @@
+use Rattle.std.proofs.Common.{◌≡◌, ◌++◌, take}
+use Rattle.px_model.specs.Solids.{names_of}
+use Rattle.px_answers.specs.Plans.{signed}
+use Rattle.px_answers.proofs.plan.push_signed.Given as goal
+
+abbrev pub invariant-loop-index : goal.invariant-loop-index
+invariant-loop-index l =
+    l.text.items ≡ l.fn.text.items ++ signed l.sign (names_of l.solids) (take l.index-index l.indices)

@@ -1,0 +1,8 @@
+//! The words of a run, and the command that they name.
+#![tactic(auto)]
+
+mod command;
+mod words;
+
+pub use command::{Command, Fineness, MAX_BLOCKS, MAX_SIDE, Size, Work};
+pub use words::{command_of, needs_wide_pixels};

@@ -1,7 +1,0 @@
-use Rattle.std.proofs.Common.{◌≡◌, ◌++◌, take}
-use Rattle.px_scene.specs.Solids.{names_of}
-use Rattle.px_draw.specs.Plans.{signed}
-use Rattle.px_draw.proofs.plan.push_signed.Given as goal
-
-abbrev pub invariant-loop-index : goal.invariant-loop-index
-invariant-loop-index l = l.text.items ≡ l.fn.text.items ++ signed l.sign (names_of l.solids) (take l.index-index l.indices)
