@@ -8,4 +8,5 @@ fits n few = omega (arith, few)
 pub returns : goal.returns
 returns c =
     c.start.ensures.stands c.args.scene.now
-    (fits _ (c.laws_of_passes.ensures.few c.args.scene.now c.laws_of_scenes.ensures.solids (subst (λ (products : List Product). length products ≤ 1024) c.requires.products c.requires.few)))
+    (fits _ (c.laws_of_passes.ensures.few c.args.scene.now c.laws_of_scenes.ensures.solids
+    (subst (λ (products : List Product). length products ≤ 1024) c.requires.products c.requires.few)))
