@@ -1,2 +1,2 @@
 pub mod MacroLemmas
-pub mod NumberLemmas
+pub mod NumberLaws

@@ -5,13 +5,13 @@ use Rattle.px_num.specs.Lists.{tabulate}
 use Rattle.px_macro.specs.declared.field.Field.{Field}
 
 -- the number of so many bits, the lowest first
-abbrev pub number_of : (bit : ℕ → Bool) → (count : ℕ) → ℕ
-number_of bit zero = 0
-number_of bit (suc n) = number_of bit n + (if bit n then 2 ^ n else 0)
+abbrev pub number_from_bits : (bit : ℕ → Bool) → (count : ℕ) → ℕ
+number_from_bits bit zero = 0
+number_from_bits bit (suc n) = number_from_bits bit n + (if bit n then 2 ^ n else 0)
 
 -- the number in a field
 abbrev pub number_in : Field → List Bool → ℕ
-number_in field memory = number_of (λ t. bit_at memory (field.at + t)) field.len
+number_in field memory = number_from_bits (λ t. bit_at memory (field.at + t)) field.len
 
 -- the place is one of the field's
 abbrev pub is_in : Field → (place : ℕ) → Bool

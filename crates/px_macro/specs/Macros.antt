@@ -19,8 +19,8 @@ abbrev pub keep : Bool → PixelBits → PixelBits
 keep test p = record p { enable = p.enable && test }
 
 -- where the pixel is enabled, the field takes the number
-abbrev pub put : Field → ℕ → PixelBits → PixelBits
-put field number p = record p { memory = if p.enable then with_number field number p.memory else p.memory }
+abbrev pub with_field : Field → ℕ → PixelBits → PixelBits
+with_field field number p = record p { memory = if p.enable then with_number field number p.memory else p.memory }
 
 -- where the pixel is enabled, the bit at a place becomes v
 abbrev pub put_bit : ℕ → Bool → PixelBits → PixelBits
@@ -31,13 +31,13 @@ abbrev pub after_macro : Macro → (x y : ℕ) → PixelBits → PixelBits
 after_macro All x y p = record p { enable = true }
 after_macro (KeepSign form) x y p = keep (not (is_negative (value_at form x y))) p
 after_macro (KeepBit at v) x y p = keep (beq (bit_at p.memory at) v) p
-after_macro (LoadLinear form f) x y p = put f (modulo (value_at form x y) f.len) p
+after_macro (LoadLinear form f) x y p = with_field f (modulo (value_at form x y) f.len) p
 after_macro (KeepAtMost form f) x y p = keep (nat_le (modulo (value_at form x y) f.len) (number_in f p.memory)) p
-after_macro (AddLinear form f) x y p = put f (modulo (pos (number_in f p.memory) +ℤ value_at form x y) f.len) p
-after_macro (LoadConst f c) x y p = put f c p
+after_macro (AddLinear form f) x y p = with_field f (modulo (pos (number_in f p.memory) +ℤ value_at form x y) f.len) p
+after_macro (LoadConst f c) x y p = with_field f c p
 after_macro (SetBit at v) x y p = put_bit at v p
 after_macro (Toggle at) x y p = put_bit at (not (bit_at p.memory at)) p
-after_macro (Copy f g) x y p = put g (number_in f p.memory) p
+after_macro (Copy f g) x y p = with_field g (number_in f p.memory) p
 after_macro (KeepLess f g) x y p = keep (nat_lt (number_in f p.memory) (number_in g p.memory)) p
 
 -- what operations leave of it, one after another

@@ -1,5 +1,5 @@
 -- Laws of the values of linear forms.
-use Rattle.std.specs.Prelude.{◌≡◌, ℕ, zero, suc, ◌-◌, ◌*◌, ◌^◌, ◌≤◌, ℤ, pos, negsuc, ◌+ℤ◌, ◌-ℤ◌, ◌*ℤ◌}
+use Rattle.std.specs.Prelude.{◌≡◌, ℕ, zero, suc, ◌+◌, ◌-◌, ◌*◌, ◌^◌, ◌≤◌, ℤ, pos, negsuc, ◌+ℤ◌, ◌-ℤ◌, ◌*ℤ◌}
 use Rattle.std.proofs.Common.{arith}
 use Rattle.std.proofs.Math.IntN.{*ℤ-zero}
 use Rattle.std.proofs.Math.Nat.{mul-le-mul}
@@ -59,3 +59,7 @@ value_within form x y range at_x at_y =
       omega (arith, ints, a.0, b.0, range.c.0),
       omega (arith, ints, a.1, b.1, range.c.1),
     )
+
+pub times_sum : (v : ℤ) (m n : ℕ) → v *ℤ pos (m + n) ≡ (v *ℤ pos m) +ℤ (v *ℤ pos n)
+times_sum (pos k) m n = omega (arith, ints)
+times_sum (negsuc k) m n = omega (arith, ints)

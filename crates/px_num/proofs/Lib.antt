@@ -2,4 +2,6 @@ pub mod AdderLaws
 pub mod BitLaws
 pub mod FormLaws
 pub mod ListLaws
+pub mod MostLaws
 pub mod RangeLaws
+pub mod TruthLaws

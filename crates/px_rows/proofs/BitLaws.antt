@@ -1,9 +1,9 @@
 -- The bits of words that are joined, turned over, moved and cut.
-use Rattle.std.proofs.Common.{◌≡◌, ℕ, suc, ◌+◌, ◌-◌, ◌*◌, ◌/◌, ◌%◌, ◌^◌, ◌==◌, ◌<◌, false, not, ◌&&◌, ◌||◌, min, max}
-use Rattle.std.proofs.Common.{refl, ap, ◌∙◌, arith, inl, inr, ◌⊎◌, w64, bit_and, bit_or, bit_xor}
+use Rattle.std.proofs.Common.{◌≡◌, ℕ, suc, ◌+◌, ◌-◌, ◌*◌, ◌/◌, ◌%◌, ◌^◌, ◌==◌, ◌<◌, false, ◌&&◌, ◌||◌, min, max}
+use Rattle.std.proofs.Common.{refl, ap, ◌∙◌, arith, inl, inr, ◌⊎◌, bit_and, bit_or, bit_xor}
 use Rattle.std.proofs.lemmas.Bool.{agree_below_at}
 use Rattle.std.proofs.lemmas.Nat.{pow-add, shr_split, shr-shr, field_of}
-use Rattle.std.proofs.lemmas.Nat.Bits.{bit_at_and, bit_at_or, bit_at_xor, bit_at_not, bit_at-zero}
+use Rattle.std.proofs.lemmas.Nat.Bits.{bit_at_and, bit_at_or, bit_at_xor, bit_at-zero}
 use Rattle.px_num.specs.Bits.{nat_bit, xor}
 
 zero_or_one : (x : ℕ) → x < 2 → (x ≡ 0) ⊎ (x ≡ 1)
@@ -33,11 +33,6 @@ bit-xor a b i =
     ap (λ n. n == 1) (bit_at_xor a b i)
     ∙ two_bits (λ x y. ((x + y) % 2 == 1) ≡ xor (x == 1) (y == 1)) refl refl refl refl (a / 2 ^ i % 2) (b / 2 ^ i % 2)
     (omega arith) (omega arith)
-
-pub bit-not : (n i : ℕ) → n < 2 ^ 64 → i < 64 → nat_bit (2 ^ 64 - 1 - n) i ≡ not (nat_bit n i)
-bit-not n i fits below =
-    ap (λ n. n == 1) (bit_at_not w64 n i fits below)
-    ∙ two_bits (λ x y. (1 - x == 1) ≡ not (x == 1)) refl refl refl refl (n / 2 ^ i % 2) 0 (omega arith) (omega arith)
 
 pub bit_of_zero : (i : ℕ) → nat_bit 0 i ≡ false
 bit_of_zero i = ap (λ b. b == 1) (bit_at-zero i)

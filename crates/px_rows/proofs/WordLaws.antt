@@ -5,7 +5,7 @@ use Rattle.std.proofs.lemmas.Nat.Bits.{bit_at_ones}
 use Rattle.std.proofs.lemmas.Simd.{get_or-replicate, get_or-zip2, length-replicate, length-zip2}
 use Rattle.std.specs.Simd.Lanes.{zip2}
 use Rattle.px_num.specs.Bits.{majority, nat_bit, xor}
-use Rattle.px_rows.specs.Words.{HasAll, IsAdded, IsCarried, IsChosen, IsKept, IsMajority}
+use Rattle.px_rows.specs.Words.{HasAll, IsAdded, IsCarried, IsChosen, IsKeptWord, IsMajority}
 use Rattle.px_rows.proofs.BitLaws.{bit-and, bit-xor, bit_of_zero}
 
 pub all_ones : HasAll (2 ^ 64 - 1) true
@@ -14,7 +14,7 @@ all_ones = record { each = λ i in_word. ap (λ b. b == 1) (bit_at_ones 64 i in_
 pub all_zeros : HasAll 0 false
 all_zeros = record { each = λ i in_word. bit_of_zero i }
 
-pub kept_law : (mask other turn : ℕ) → IsKept (bit_and mask (bit_xor other turn)) mask other turn
+pub kept_law : (mask other turn : ℕ) → IsKeptWord (bit_and mask (bit_xor other turn)) mask other turn
 kept_law mask other turn = record {
   each = λ i in_word. bit-and mask (bit_xor other turn) i ∙ ap (λ b. nat_bit mask i && b) (bit-xor other turn i);
 }
@@ -122,7 +122,7 @@ module _ (n : ℕ) where
   module _ (a b c d : List ℕ) (ha : length a ≡ n) (hb : length b ≡ n) (hc : length c ≡ n) (hd : length d ≡ n) (i : ℕ)
       (h : i < n) where
     -- a & (b ^ t)
-    pub kept_lane : (t : ℕ) → IsKept (get_or (zip2 bit_and a (zip2 bit_xor b (replicate n t))) i 0) (get_or a i 0)
+    pub kept_lane : (t : ℕ) → IsKeptWord (get_or (zip2 bit_and a (zip2 bit_xor b (replicate n t))) i 0) (get_or a i 0)
         (get_or b i 0) t
     kept_lane t =
         let ht = length-replicate n t in

@@ -6,7 +6,7 @@ use Rattle.px_num.specs.Bits.{majority, nat_bit, xor}
 pub record HasAll (word : ℕ) (v : Bool) : Type 0 where
   pub each : (i : ℕ) → i < 64 → nat_bit word i ≡ v
 
-pub record IsKept (result mask other turn : ℕ) : Type 0 where
+pub record IsKeptWord (result mask other turn : ℕ) : Type 0 where
   pub each : (i : ℕ) → i < 64 → nat_bit result i ≡ (nat_bit mask i && xor (nat_bit other i) (nat_bit turn i))
 
 pub record IsChosen (result target value mask : ℕ) : Type 0 where

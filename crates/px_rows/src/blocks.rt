@@ -1,6 +1,6 @@
 //! What the calls on rows do to eight words at once, on the lanes of a vector.
 ghost use Rattle.std.specs.Prelude.{◌≡◌, ◌<◌, ◌≤◌, ◌+◌, ℕ, length, slice_index};
-ghost use Rattle.px_rows.specs.Words.{IsAdded, IsCarried, IsChosen, IsKept, IsMajority};
+ghost use Rattle.px_rows.specs.Words.{IsAdded, IsCarried, IsChosen, IsKeptWord, IsMajority};
 ghost use Rattle.px_rows.specs.Words.{IsBlock, IsWritten};
 
 use std::simd::prelude::*;
@@ -13,7 +13,7 @@ pub const LANES: usize = 8;
 pub fn keep_block(mask: &mut [u64], other: &[u64], turn: u64, at: usize)
     requires mask { at + 8 ≤ length mask.old }
     requires other { at + 8 ≤ length other.now }
-    ensures { IsWritten (λ k word. IsKept word (slice_index mask.old k)
+    ensures { IsWritten (λ k word. IsKeptWord word (slice_index mask.old k)
         (slice_index other.now k) turn) at mask.old mask.new }
 {
     let kept = kept_lanes(read(mask, at), read(other, at), turn);
@@ -69,7 +69,7 @@ pub fn add_block(target: &mut [u64], carry: &mut [u64], value: &[u64], mask: &[u
 #[inline(always)]
 fn kept_lanes(mask: u64x8, other: u64x8, turn: u64) -> u64x8
     ensures { (i : ℕ) → i < 8 →
-        IsKept (slice_index result i) (slice_index mask i) (slice_index other i) turn }
+        IsKeptWord (slice_index result i) (slice_index mask i) (slice_index other i) turn }
 {
     mask & (other ^ u64x8::splat(turn))
 }

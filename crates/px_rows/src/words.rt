@@ -1,7 +1,7 @@
 //! What the calls on rows do to one word.
 ghost use Rattle.std.specs.Prelude.{◌≡◌, ◌<◌, ℕ, cond, not};
 ghost use Rattle.px_num.specs.Bits.{nat_bit};
-ghost use Rattle.px_rows.specs.Words.{HasAll, IsAdded, IsCarried, IsChosen, IsKept, IsMajority};
+ghost use Rattle.px_rows.specs.Words.{HasAll, IsAdded, IsCarried, IsChosen, IsKeptWord, IsMajority};
 
 /// A word of which every bit is `v`.
 #[inline(always)]
@@ -14,7 +14,7 @@ pub fn all_of(v: bool) -> u64
 /// The mask where the other bit is 1, or where it is 0 and `turn` is 1.
 #[inline(always)]
 pub fn kept_word(mask: u64, other: u64, turn: u64) -> u64
-    ensures { IsKept result mask other turn }
+    ensures { IsKeptWord result mask other turn }
 {
     mask & (other ^ turn)
 }

@@ -1,5 +1,5 @@
-use Rattle.px_macro.proofs.NumberLemmas.{bit_beside_is_kept, bits_of_number, number_beside_is_kept, number_is_below}
-use Rattle.px_macro.proofs.NumberLemmas.{number_is_kept, number_is_read, number_of_two_parts, places_are_written}
+use Rattle.px_macro.proofs.NumberLaws.{bit_beside_is_kept, bits_of_number, number_beside_is_kept, number_is_below}
+use Rattle.px_macro.proofs.NumberLaws.{number_is_kept, number_is_read, number_of_two_parts, places_are_written}
 use Rattle.px_macro.proofs.field.laws_of_fields.Goals as goal
 
 pub returns : goal.returns

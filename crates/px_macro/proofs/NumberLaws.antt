@@ -6,21 +6,19 @@ use Rattle.std.proofs.lemmas.Bool.{cases_lt}
 use Rattle.std.proofs.lemmas.Bool.Decides.{nat_tests}
 use Rattle.std.proofs.lemmas.Nat.{pow-add}
 use Rattle.std.proofs.lemmas.Nat.Bits.{bit_at_cat_high, bit_at_cat_low}
-use Rattle.std.proofs.Math.Nat.{mod-one, pow-suc}
+use Rattle.std.proofs.Math.Nat.{mod-one}
 use Rattle.std.proofs.Math.Arith.{mod-mul}
 use Rattle.px_num.proofs.AdderLaws.{number}
 use Rattle.px_num.proofs.BitLaws.{pow_above}
 use Rattle.px_num.specs.Bits.{bit_at, nat_bit}
 use Rattle.px_num.proofs.ListLaws.{get_or-tabulate}
+use Rattle.px_num.proofs.TruthLaws.{double_pow}
 use Rattle.px_macro.specs.FieldLaws.{BitBesideIsKept, BitsOfNumber, NumberBesideIsKept, NumberIsBelow, NumberIsKept}
 use Rattle.px_macro.specs.FieldLaws.{NumberIsRead, NumberOfParts, PlacesAreWritten}
-use Rattle.px_macro.specs.Fields.{is_in, number_of, with_number}
+use Rattle.px_macro.specs.Fields.{is_in, number_from_bits, with_number}
 use Rattle.px_macro.specs.declared.field.Field.{Field}
 
-double_pow : (n : ℕ) → 2 ^ suc n ≡ 2 * 2 ^ n
-double_pow n = pow-suc 2 n ∙ omega arith
-
-pub number_same : (f g : ℕ → Bool) (n : ℕ) → ((t : ℕ) → t < n → f t ≡ g t) → number_of f n ≡ number_of g n
+pub number_same : (f g : ℕ → Bool) (n : ℕ) → ((t : ℕ) → t < n → f t ≡ g t) → number_from_bits f n ≡ number_from_bits g n
 number_same f g zero same = refl
 number_same f g (suc n) same = rw (number_same f g n (λ t low. same t (omega arith)), same n (omega arith)) refl
 
@@ -28,7 +26,7 @@ bit_below : (b : Bool) (p : ℕ) → (if b then p else 0) ≤ p
 bit_below true p = omega arith
 bit_below false p = omega arith
 
-pub number_below : (bit : ℕ → Bool) (n : ℕ) → number_of bit n < 2 ^ n
+pub number_below : (bit : ℕ → Bool) (n : ℕ) → number_from_bits bit n < 2 ^ n
 number_below bit zero = omega arith
 number_below bit (suc n) = omega (arith, number_below bit n, bit_below (bit n) (2 ^ n), double_pow n)
 
@@ -36,8 +34,8 @@ if_times : (b : Bool) (p q : ℕ) → (if b then p * q else 0) ≡ p * (if b the
 if_times true p q = refl
 if_times false p q = omega arith
 
-number_of_parts : (bit : ℕ → Bool) (low high : ℕ) → number_of bit (low + high) ≡ number_of bit low + 2 ^ low
-    * number_of (λ t. bit (low + t)) high
+number_of_parts : (bit : ℕ → Bool) (low high : ℕ) → number_from_bits bit (low + high) ≡ number_from_bits bit low + 2 ^ low
+    * number_from_bits (λ t. bit (low + t)) high
 number_of_parts bit low zero = let e : low + 0 ≡ low = omega arith in rw e (omega arith)
 number_of_parts bit low (suc high) =
     let e : low + suc high ≡ suc (low + high) = omega arith in
@@ -56,16 +54,16 @@ only_bit true = refl
 only_bit false = refl
 
 -- a number has the bits that it was made of
-pub number_bit : (bit : ℕ → Bool) (n t : ℕ) → t < n → nat_bit (number_of bit n) t ≡ bit t
+pub number_bit : (bit : ℕ → Bool) (n t : ℕ) → t < n → nat_bit (number_from_bits bit n) t ≡ bit t
 number_bit bit zero t low = absurd (omega arith)
 number_bit bit (suc n) t low =
-    rw (high_bit (bit n) (number_of bit n) (2 ^ n)) (elim (cases_lt t n) [
-      | inl below ↦ ap (λ b. b == 1) (bit_at_cat_low (number (bit n)) n (number_of bit n) t below)
+    rw (high_bit (bit n) (number_from_bits bit n) (2 ^ n)) (elim (cases_lt t n) [
+      | inl below ↦ ap (λ b. b == 1) (bit_at_cat_low (number (bit n)) n (number_from_bits bit n) t below)
           ∙ number_bit bit n t below
       | inr past ↦
           let top : t ≡ n = omega arith in
           let none : n - n ≡ 0 = omega arith in
-          rw top (ap (λ b. b == 1) (bit_at_cat_high (number (bit n)) n (number_of bit n) n (number_below bit n)
+          rw top (ap (λ b. b == 1) (bit_at_cat_high (number (bit n)) n (number_from_bits bit n) n (number_below bit n)
           (omega arith))
           ∙ rw none (only_bit (bit n)))
     ])
@@ -76,7 +74,7 @@ bit_times (suc zero) p h = omega arith
 bit_times (suc (suc b)) p h = absurd (omega arith)
 
 -- the number of the bits of a number
-number_of_bits : (m n : ℕ) → number_of (nat_bit m) n ≡ m % 2 ^ n
+number_of_bits : (m n : ℕ) → number_from_bits (nat_bit m) n ≡ m % 2 ^ n
 number_of_bits m zero = sym (mod-one m)
 number_of_bits m (suc n) =
     let two : 0 < 2 = omega arith in
@@ -134,6 +132,6 @@ number_beside_is_kept field memory place v beside =
 pub number_of_two_parts : NumberOfParts
 number_of_two_parts at low high memory =
     number_of_parts (λ t. bit_at memory (at + t)) low high
-    ∙ ap (λ n. number_of (λ t. bit_at memory (at + t)) low + 2 ^ low * n)
+    ∙ ap (λ n. number_from_bits (λ t. bit_at memory (at + t)) low + 2 ^ low * n)
     (number_same (λ t. bit_at memory (at + (low + t))) (λ t. bit_at memory (at + low + t)) high (λ t below.
     let e : at + (low + t) ≡ at + low + t = omega arith in ap (bit_at memory) e))
