@@ -1,4 +1,4 @@
-pub mod DecimalLemmas
-pub mod PlainLemmas
-pub mod SpacedLemmas
-pub mod TextLemmas
+pub mod DecimalLaws
+pub mod LineLaws
+pub mod PlainLaws
+pub mod SpacedLaws

@@ -1,4 +1,3 @@
 pub mod Text
-pub mod Word
 pub mod Written
 pub mod LentWords

@@ -2,8 +2,7 @@
 ghost use Rattle.std.specs.Prelude.{◌≡◌, ◌^◌, ◌≤◌, ◌-◌, true, min, map};
 ghost use Rattle.std.specs.List.{list_all};
 ghost use Rattle.std.specs.Int.Digits.{number_from_digits};
-ghost use Rattle.px_text.specs.Word.{size_of, number_of, is_digit, is_letter, is_name_byte, is_name};
-ghost use Rattle.px_text.specs.Text.{is_some_byte};
+ghost use Rattle.px_text.specs.Text.{size_of_digits, number_of, is_digit, is_letter, is_name_byte, is_name, is_some_byte};
 
 /// A larger size stands for this one, which every limit refuses.
 const LARGEST: u64 = 1_000_000_000_000_000_000;
@@ -28,7 +27,7 @@ pub fn number_of(word: &[u8]) -> Option<i64>
 }
 
 fn size_of(digits: &[u8]) -> Option<u64>
-    ensures { result ≡ size_of digits.now }
+    ensures { result ≡ size_of_digits digits.now }
 {
     if is_some_byte(digits) && are_digits(digits) {
         Some(magnitude(digits))
@@ -81,7 +80,8 @@ fn are_name_bytes(bytes: &[u8]) -> bool
     bytes.iter().all(|b| is_name_byte(*b))
 }
 
-fn is_digit(b: u8) -> bool
+/// Whether a byte is a decimal digit.
+pub fn is_digit(b: u8) -> bool
     ensures { result ≡ is_digit b }
 {
     b'0' <= b && b <= b'9'

@@ -3,8 +3,7 @@ ghost use Rattle.std.specs.Prelude.{◌≡◌, ◌<◌, ◌^◌, ◌++◌, ◌�
 ghost use Rattle.std.specs.Fmt.{signed_decimal};
 ghost use Rattle.std.specs.List.{list_all};
 ghost use lib.Signed.{mag};
-ghost use Rattle.px_text.specs.Text.{Words, words_of, lines_of};
-ghost use Rattle.px_text.specs.Word.{number_of};
+ghost use Rattle.px_text.specs.Text.{Words, words_of, lines_of, number_of};
 ghost use Rattle.px_text.specs.Written.{spaced, is_plain, are_plain, is_no_feed, fed};
 
 /// What is written of a number, of words and of lines is read as them.

@@ -1,5 +1,5 @@
-use Rattle.px_text.proofs.DecimalLemmas.{signed_read}
-use Rattle.px_text.proofs.SpacedLemmas.{words_read, lines_read}
+use Rattle.px_text.proofs.DecimalLaws.{signed_read}
+use Rattle.px_text.proofs.SpacedLaws.{words_read, lines_read}
 use Rattle.px_text.proofs.written.written_law.Goals as goal
 
 pub returns-clause-numbers : goal.returns-clause-numbers

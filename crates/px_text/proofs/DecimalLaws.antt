@@ -10,8 +10,7 @@ use Rattle.std.specs.Int.Digits.{digits_of, AllBelowBase}
 use Rattle.std.proofs.lemmas.Bool.Decides.{nat_tests}
 use Rattle.std.proofs.lemmas.Fmt.{decimal-digits_of, decimal_digit}
 use Rattle.std.proofs.lemmas.Int.Digits.{number_digits_of, all_below_base_digits_of, digits_of_step}
-use Rattle.px_text.specs.Text.{is_some_byte}
-use Rattle.px_text.specs.Word.{is_digit, size_of, negative, number_of}
+use Rattle.px_text.specs.Text.{is_some_byte, is_digit, size_of_digits, negative, number_of}
 
 digits_all : (ds : List ℕ) → AllBelowBase 10 ds → list_all is_digit (map (λ d. 48 + d) ds) ≡ true
 digits_all [] below = refl
@@ -33,7 +32,7 @@ some_digit : (n : ℕ) → 0 < n → is_some_byte (map (λ c. 48 + c) (digits_of
 some_digit n some = ap (λ ds. is_some_byte (map (λ c. 48 + c) ds)) (digits_of_step 10 n (omega arith) some)
     ∙ some_last _ _
 
-size_digits : (n : ℕ) → 0 < n → n ≤ 10 ^ 18 → size_of (map (λ d. 48 + d) (digits_of 10 n)) ≡ Some n
+size_digits : (n : ℕ) → 0 < n → n ≤ 10 ^ 18 → size_of_digits (map (λ d. 48 + d) (digits_of 10 n)) ≡ Some n
 size_digits n some most =
     let least : min n (10 ^ 18) ≡ n = omega arith
     in rw (
@@ -43,15 +42,15 @@ size_digits n some most =
       number_digits_of 10 n (omega arith),
     ) (ap Some least)
 
-pub size_read : (n : ℕ) → n ≤ 10 ^ 18 → size_of (decimal n) ≡ Some n
-size_read zero most = ap size_of (decimal_digit 0 (omega arith))
-size_read (suc n) most = ap size_of (decimal-digits_of (suc n) (omega arith) (omega arith))
+pub size_read : (n : ℕ) → n ≤ 10 ^ 18 → size_of_digits (decimal n) ≡ Some n
+size_read zero most = ap size_of_digits (decimal_digit 0 (omega arith))
+size_read (suc n) most = ap size_of_digits (decimal-digits_of (suc n) (omega arith) (omega arith))
     ∙ size_digits (suc n) (omega arith) most
 
-no_digits : (b : ℕ) (bs : List ℕ) → is_digit b ≡ false → size_of (b ∷ bs) ≡ None
+no_digits : (b : ℕ) (bs : List ℕ) → is_digit b ≡ false → size_of_digits (b ∷ bs) ≡ None
 no_digits b bs other = rw other refl
 
-number_positive : (bs : List ℕ) (n : ℕ) → size_of bs ≡ Some n → number_of bs ≡ Some (pos n)
+number_positive : (bs : List ℕ) (n : ℕ) → size_of_digits bs ≡ Some n → number_of bs ≡ Some (pos n)
 number_positive [] n is = cc
 number_positive (b ∷ bs) n is = by_test (b == 45) (is_digit b) refl refl
   where

@@ -1,6 +1,6 @@
 -- Words that are written with spaces between them, and lines with their feeds, are read back.
-use Rattle.std.proofs.Common.{◌≡◌, ℕ, ◌-◌, ◌==◌, ◌||◌, List, [], ◌∷◌, ◌++◌, length, filter, Some, Bool, true, false}
-use Rattle.std.proofs.Common.{not, refl, ap, ◌∙◌, arith, append_assoc, append-nil, length-append, slice_get}
+use Rattle.std.proofs.Common.{◌≡◌, ℕ, ◌-◌, ◌==◌, List, [], ◌∷◌, ◌++◌, length, filter, Some, true, false}
+use Rattle.std.proofs.Common.{refl, ap, ◌∙◌, arith, append_assoc, append-nil, length-append, slice_get}
 use Prim.Native.Nat.{zero, suc}
 use Rattle.std.specs.List.{All, flat_map, slice_split, list_all}
 use Rattle.std.proofs.lemmas.List.Splits.{slice_split_none, slice_split_at}
@@ -8,7 +8,8 @@ use Rattle.std.proofs.lemmas.List.Folds.{list_all-append}
 use Rattle.px_text.specs.Text.{Words, is_blank, is_some_byte, words_of, lines_of}
 use Rattle.px_text.specs.Written.{spaced, is_plain_byte, is_plain, are_plain, is_no_feed, fed}
 use Rattle.std.proofs.Math.Seq.{take-append_seam}
-use Rattle.px_text.proofs.PlainLemmas.{both, is_no_comment, before_none, plain_byte}
+use Rattle.px_num.proofs.TruthLaws.{not_true}
+use Rattle.px_text.proofs.PlainLaws.{both, is_no_comment, before_none, plain_byte}
 
 no_blanks : (w : List ℕ) → list_all is_plain_byte w ≡ true → All (λ b. is_blank b ≡ false) w
 no_blanks [] all k d lt = absurd (omega arith)
@@ -64,11 +65,7 @@ fed_between l (m ∷ ls) = ap (λ t. (l ++ 10 ∷ []) ++ t) (fed_between m ls) �
 
 no_feeds : (l : List ℕ) → list_all is_no_feed l ≡ true → All (λ b. (b == 10) ≡ false) l
 no_feeds [] all k d lt = absurd (omega arith)
-no_feeds (b ∷ l) all zero d lt = by_test (b == 10) (both (is_no_feed b) (list_all is_no_feed l) all).0
-  where
-    by_test : (feed : Bool) → not feed ≡ true → feed ≡ false
-    by_test false is = refl
-    by_test true is = cc
+no_feeds (b ∷ l) all zero d lt = not_true (b == 10) (both (is_no_feed b) (list_all is_no_feed l) all).0
 no_feeds (b ∷ l) all (suc k) d lt = no_feeds l (both (is_no_feed b) (list_all is_no_feed l) all).1 k d (omega arith)
 
 split_lines : (l : List ℕ) (ls : List (List ℕ)) → list_all is_no_feed l ≡ true

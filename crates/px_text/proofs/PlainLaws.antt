@@ -1,5 +1,5 @@
 -- Words are plain: no byte of a number or a name is a blank, begins a comment or ends a line.
-use Rattle.std.proofs.Common.{◌≡◌, ℕ, ℤ, pos, ◌+◌, ◌<◌, ◌≤◌, ◌^◌, ◌==◌, List, [], ◌∷◌, ◌++◌, length, Bool, true}
+use Rattle.std.proofs.Common.{◌≡◌, ℕ, ℤ, pos, ◌<◌, ◌≤◌, ◌^◌, ◌==◌, List, [], ◌∷◌, length, Bool, true}
 use Rattle.std.proofs.Common.{false, not, nat_le, ◌&&◌, ◌||◌, if◌then◌else◌, Some, None, decimal, refl, ap}
 use Rattle.std.proofs.Common.{◌∙◌, arith}
 use Prim.Native.Nat.{suc}
@@ -10,10 +10,10 @@ use Rattle.std.specs.List.{list_all, take_while}
 use Rattle.std.proofs.lemmas.Bool.Decides.{nat_tests}
 use Rattle.std.proofs.lemmas.List.Folds.{list_all-append}
 use Rattle.std.proofs.lemmas.List.Sums.{take_while-cons}
-use Rattle.px_text.specs.Text.{Words, is_blank, is_some_byte}
-use Rattle.px_text.specs.Word.{is_digit, is_letter, is_name, is_name_byte, size_of}
+use Rattle.px_text.specs.Text.{Words, is_blank, is_some_byte, is_digit, is_letter, is_name, is_name_byte}
+use Rattle.px_text.specs.Text.{size_of_digits}
 use Rattle.px_text.specs.Written.{spaced, is_plain_byte, is_plain, are_plain, is_no_feed}
-use Rattle.px_text.proofs.DecimalLemmas.{size_read}
+use Rattle.px_text.proofs.DecimalLaws.{size_read}
 
 pub both : (a b : Bool) → a && b ≡ true → (a ≡ true) × (b ≡ true)
 both true b e = (refl, e)
@@ -50,13 +50,13 @@ by_tests b false false true p q r is = cc
 pub plain_byte : (b : ℕ) → is_plain_byte b ≡ true → IsPlainByte b
 plain_byte b is = by_tests b (is_blank b) (b == 35) (b == 10) refl refl refl is
 
-digit_plain : (b : ℕ) → is_digit b ≡ true → is_plain_byte b ≡ true
+pub digit_plain : (b : ℕ) → is_digit b ≡ true → is_plain_byte b ≡ true
 digit_plain b e = grind (arith, nat_tests)
 
 name_plain : (b : ℕ) → is_name_byte b ≡ true → is_plain_byte b ≡ true
 name_plain b e = grind (arith, nat_tests)
 
-digits_plain : (w : List ℕ) → list_all is_digit w ≡ true → list_all is_plain_byte w ≡ true
+pub digits_plain : (w : List ℕ) → list_all is_digit w ≡ true → list_all is_plain_byte w ≡ true
 digits_plain [] all = refl
 digits_plain (b ∷ w) all =
     let each = both (is_digit b) (list_all is_digit w) all
@@ -72,7 +72,7 @@ sized : (ok : Bool) (m n : ℕ) → (if ok then Some m else None) ≡ Some n →
 sized true m n e = refl
 sized false m n e = cc
 
-size_plain : (w : List ℕ) (n : ℕ) → size_of w ≡ Some n → is_plain w ≡ true
+size_plain : (w : List ℕ) (n : ℕ) → size_of_digits w ≡ Some n → is_plain w ≡ true
 size_plain w n e =
     let each = both (is_some_byte w) (list_all is_digit w) (sized (is_some_byte w && list_all is_digit w) _ n e)
     in rw (each.0, digits_plain w each.1) refl
