@@ -1,8 +1,7 @@
 -- Surfaces and members of joined expressions.
 use Rattle.std.proofs.Common.{ℕ, ◌≡◌, ◌<◌, not, refl, ap, ◌∙◌}
 use Rattle.px_expr.specs.Tree.{Tree, leaf, join, HasLeavesBelow}
-use Rattle.px_expr.specs.Cells.{Cell, cell, combined, is_member, HasSurface}
-use Rattle.px_expr.specs.Combinations.{combination_of, complement_of}
+use Rattle.px_expr.specs.Cells.{Cell, cell, combined, is_member, HasSurface, combination_of, complement_of}
 use Rattle.px_expr.specs.declared.node.Op.{Op}
 use Rattle.px_expr.proofs.CombinationLaws.{combination_begins, truth_of_complement}
 

@@ -1,12 +1,13 @@
 -- Laws of combinations: which cells the complement of one has, and that what begins shows a face.
 use Rattle.std.proofs.Common.{ℕ, ◌≡◌, ◌<◌, ◌&&◌, ◌||◌, ◌++◌, Bool, true, false, not, List, length, refl, arith}
 use Rattle.std.proofs.Common.{length-append}
+use Rattle.px_num.proofs.TruthLaws.{not_false, not_true}
 use Rattle.px_expr.specs.Cells.{Cell, HasSurface, shown_in, shown_when, where_true}
-use Rattle.px_expr.specs.Combinations.{complement_of, opposite, truth_in, truth_when}
-use Rattle.px_expr.specs.declared.combination.Sense.{Sense}
-use Rattle.px_expr.specs.declared.combination.Sense.TheVariants.{Plain, Complement}
-use Rattle.px_expr.specs.declared.combination.Combination.{Combination}
-use Rattle.px_expr.specs.declared.combination.Combination.TheVariants.{Both, Either, EitherWay}
+use Rattle.px_expr.specs.Cells.{complement_of, opposite, truth_in, truth_when}
+use Rattle.px_expr.specs.declared.node.Sense.{Sense}
+use Rattle.px_expr.specs.declared.node.Sense.TheVariants.{Plain, Complement}
+use Rattle.px_expr.specs.declared.node.Combination.{Combination}
+use Rattle.px_expr.specs.declared.node.Combination.TheVariants.{Both, Either, EitherWay}
 
 pub truth_in_opposite : (sense : Sense) (side : Bool) → truth_in (opposite sense) side ≡ not (truth_in sense side)
 truth_in_opposite Plain side = refl
@@ -26,12 +27,7 @@ truth_of_complement (EitherWay Complement) left right = grind arith
 side_begins : (sense : Sense) (a c : Cell) → HasSurface a c → truth_in sense a.member ≡ false
     → truth_in sense c.member ≡ true → 0 < length (shown_in sense c)
 side_begins Plain a c is before now = is.first before now
-side_begins Complement a c is before now = is.behind (turned a.member before) (returned c.member now) where
-  turned : (b : Bool) → not b ≡ false → b ≡ true
-  turned b e = grind arith
-
-  returned : (b : Bool) → not b ≡ true → b ≡ false
-  returned b e = grind arith
+side_begins Complement a c is before now = is.behind (not_false a.member before) (not_true c.member now)
 
 -- tests of two sides before and now, and what each shows where its own begins
 module _ (p q now_p now_q : Bool) (xs ys : List ℕ) (first : p ≡ false → now_p ≡ true → 0 < length xs)

@@ -1,5 +1,5 @@
--- An expression over some solids is one over more.
-use Rattle.std.proofs.Common.{ℕ, ◌≤◌, arith}
+-- An expression over some solids is one over more, and over one at least.
+use Rattle.std.proofs.Common.{ℕ, ◌<◌, ◌≤◌, arith}
 use Rattle.px_expr.specs.Tree.{HasLeavesBelow, Tree, join, leaf}
 
 pub leaves_below : (count more : ℕ) → count ≤ more → (tree : Tree) → HasLeavesBelow count tree
@@ -7,3 +7,7 @@ pub leaves_below : (count more : ℕ) → count ≤ more → (tree : Tree) → H
 leaves_below count more le (leaf solid) known = omega arith
 leaves_below count more le (join op left right) known =
     (leaves_below count more le left known.0, leaves_below count more le right known.1)
+
+pub some_solid : (tree : Tree) (count : ℕ) → HasLeavesBelow count tree → 0 < count
+some_solid (leaf solid) count below = omega (arith, below)
+some_solid (join op left right) count below = some_solid left count below.0

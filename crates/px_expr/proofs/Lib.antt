@@ -1,8 +1,8 @@
-pub mod PostorderLemmas
-pub mod CombinationLaws
 pub mod CellsLemmas
+pub mod CombinationLaws
 pub mod LeafLaws
-pub mod WaitingLemmas
-pub mod SidesLemmas
 pub mod OperatorLaws
+pub mod PostorderLemmas
+pub mod SidesLemmas
 pub mod StackLaws
+pub mod WaitingLemmas

@@ -3,11 +3,10 @@ use Rattle.std.specs.Prelude.{ℕ, ◌≡◌, ◌≢◌, ⊤, false, refl}
 use Rattle.px_expr.specs.declared.node.Op.{Op}
 use Rattle.px_expr.specs.declared.node.Op.TheVariants as o
 use Rattle.px_expr.specs.declared.node.Shape.TheVariants as p
-use Rattle.px_expr.specs.declared.combination.Combination.{Combination}
-use Rattle.px_expr.specs.declared.combination.Combination.TheVariants.{Both, Either, EitherWay}
+use Rattle.px_expr.specs.declared.node.Combination.{Combination}
+use Rattle.px_expr.specs.declared.node.Combination.TheVariants.{Both, Either, EitherWay}
 use Rattle.px_expr.specs.Shapes.{shape_of, op_node}
-use Rattle.px_expr.specs.Cells.{truth_of}
-use Rattle.px_expr.specs.Combinations.{combination_of}
+use Rattle.px_expr.specs.Cells.{truth_of, combination_of}
 
 -- the node that joins two places is seen as its operator between them
 pub shape_of_op : (op : Op) (left right : ℕ) → shape_of (op_node op left right) ≡ p.Join op left right

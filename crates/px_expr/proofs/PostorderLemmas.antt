@@ -11,7 +11,7 @@ use Rattle.px_expr.proofs.OperatorLaws.{shape_of_op}
 use Rattle.px_expr.specs.Postorder.{size, nodes_behind, nodes_of, placed, trees_after}
 use Rattle.px_expr.specs.declared.node.Node.{Node}
 use Rattle.px_expr.specs.declared.node.Op.{Op}
-use Rattle.px_expr.specs.declared.builder.TheConstants.{MAX_NESTING, MAX_WAITING}
+use Rattle.px_expr.specs.declared.node.TheConstants.{MAX_NESTING, MAX_WAITING}
 
 pub size_leaves : (tree : Tree) → size tree + 1 ≡ 2 * leaf_count tree
 size_leaves (leaf solid) = refl

@@ -12,7 +12,7 @@ use Rattle.px_expr.specs.declared.node.Node.{Node}
 use Rattle.px_expr.specs.declared.node.Node.TheVariants as n
 use Rattle.px_expr.specs.declared.node.Op.{Op}
 use Rattle.px_expr.specs.declared.builder.Subtree.{Subtree}
-use Rattle.px_expr.specs.declared.builder.TheConstants.{MAX_LEAVES, MAX_NESTING}
+use Rattle.px_expr.specs.declared.node.TheConstants.{MAX_LEAVES, MAX_NESTING}
 use Rattle.px_expr.proofs.PostorderLemmas.{size_leaves, length-nodes_behind}
 
 pub length-all_nodes : (trees : List Tree) → length (all_nodes trees) ≡ all_size trees

@@ -5,7 +5,7 @@ use Rattle.px_expr.specs.Waiting.{all_leaves}
 use Rattle.px_expr.specs.Postorder.{size, nodes_behind}
 use Rattle.px_expr.specs.declared.node.Node.{Node}
 use Rattle.px_expr.specs.declared.builder.Subtree.{Subtree}
-use Rattle.px_expr.specs.declared.builder.TheConstants.{MAX_LEAVES, MAX_NESTING}
+use Rattle.px_expr.specs.declared.node.TheConstants.{MAX_LEAVES, MAX_NESTING}
 
 abbrev pub all_size : List Tree → ℕ
 all_size [] = 0

@@ -2,7 +2,6 @@ pub mod Tree
 pub mod Shapes
 pub mod Waiting
 pub mod TreeCode
-pub mod Combinations
 pub mod Cells
 pub mod Postorder
 pub mod Kept

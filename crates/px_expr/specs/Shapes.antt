@@ -6,7 +6,7 @@ use Rattle.px_expr.specs.declared.node.Op.{Op}
 use Rattle.px_expr.specs.declared.node.Op.TheVariants as o
 use Rattle.px_expr.specs.declared.node.Shape.{Shape}
 use Rattle.px_expr.specs.declared.node.Shape.TheVariants as p
-use Rattle.px_expr.specs.declared.builder.TheConstants.{MAX_WAITING}
+use Rattle.px_expr.specs.declared.node.TheConstants.{MAX_WAITING}
 
 -- a leaf, or an operator between the places of its sides
 abbrev pub shape_of : Node → Shape

@@ -1,7 +1,7 @@
 -- Expressions over solids as they are written, and the limits of every expression. Clauses of public calls stand on it.
 use Rattle.std.specs.Prelude.{ℕ, ◌+◌, ◌<◌, ◌≤◌, max}
 use Rattle.px_expr.specs.declared.node.Op.{Op}
-use Rattle.px_expr.specs.declared.builder.TheConstants.{MAX_LEAVES, MAX_NESTING}
+use Rattle.px_expr.specs.declared.node.TheConstants.{MAX_LEAVES, MAX_NESTING}
 
 pub data Tree : Type 0 where
   leaf : ℕ → Tree
@@ -21,7 +21,7 @@ abbrev pub HasLeavesBelow : ℕ → Tree → Type 0
 HasLeavesBelow count (leaf solid) = solid < count
 HasLeavesBelow count (join op left right) = HasLeavesBelow count left × HasLeavesBelow count right
 
-pub record IsLawful (tree : Tree) : Type 0 where
+pub record IsLawfulTree (tree : Tree) : Type 0 where
   pub leaves : leaf_count tree ≤ MAX_LEAVES
   pub depth : nesting tree ≤ MAX_NESTING
   pub solids : HasLeavesBelow 256 tree

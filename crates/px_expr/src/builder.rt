@@ -5,19 +5,9 @@ ghost use Rattle.px_expr.specs.Shapes.{joined};
 ghost use Rattle.px_expr.specs.Waiting.{newest, all_leaves};
 ghost use Rattle.px_expr.specs.declared.node.Op.{Op as AnyOp};
 
-use crate::{Expr, ExprFault, Node, Op};
+use crate::{Expr, ExprFault, MAX_LEAVES, MAX_NESTING, MAX_WAITING, Node, Op};
 use std::alloc::Global;
 use std::marker::Model;
-
-/// An expression has at most so many leaves (docs/SCENES.md, "Limits").
-pub const MAX_LEAVES: usize = 512;
-
-/// An expression is nested at most so deep (docs/SCENES.md, "Limits").
-pub const MAX_NESTING: u8 = 64;
-
-/// At most so many values wait in a walk over an expression's nodes: one of each level that is
-/// open, and the next leaf's.
-pub const MAX_WAITING: usize = MAX_NESTING as usize + 1;
 
 /// A waiting subtree: the place of its root, and how deep it is nested.
 #[derive(Clone, Copy, Debug, PartialEq, Eq)]
@@ -175,53 +165,4 @@ fn put(nodes: &mut Vec<Node>, waiting: &mut Vec<Subtree>, node: Node, nesting: u
     let root = nodes.len() as u16;
     nodes.push(node).unwrap();
     waiting.push(Subtree { root, nesting }).unwrap();
-}
-
-#[cfg(test)]
-mod tests {
-    use super::ExprBuilder;
-    use crate::{ExprFault, Node, Op};
-
-    /// `a - (b - c)` with `a` from 1 to 9, `b` from 0 to 7 and `c` from 4 to 5 has the cells of
-    /// `c`, and those behind `b`.
-    #[test]
-    fn difference_of_a_difference(rt: HostRuntime) {
-        let mut builder = ExprBuilder::new(rt.alloc());
-        builder.leaf(0).expect(&rt, "memory");
-        builder.leaf(1).expect(&rt, "memory");
-        builder.leaf(2).expect(&rt, "memory");
-        builder.join(Op::Minus).expect(&rt, "memory");
-        builder.join(Op::Minus).expect(&rt, "memory");
-        let expr = builder.finish();
-        for z in 0..11 {
-            let inside = [1 <= z && z <= 9, z <= 7, 4 <= z && z <= 5];
-            assert_eq!(rt; expr.holds(&inside), [4, 5, 8, 9].contains(&z));
-        }
-        let nodes = [
-            Node::Leaf(0),
-            Node::Leaf(1),
-            Node::Leaf(2),
-            Node::Minus(1, 2),
-            Node::Minus(0, 3),
-        ];
-        assert!(rt; expr.nodes() == nodes.as_slice());
-    }
-
-    #[test]
-    fn faults_as_text(rt: HostRuntime) {
-        let texts = [
-            (
-                ExprFault::Leaves { found: 513 },
-                "513 leaves, of at most 512",
-            ),
-            (
-                ExprFault::Nesting { found: 65 },
-                "nested 65 deep, of at most 64",
-            ),
-            (ExprFault::Memory, "out of memory"),
-        ];
-        for (fault, text) in texts {
-            assert!(rt; fault.to_string(rt.alloc()).expect(&rt, "memory").as_str() == text);
-        }
-    }
 }

@@ -1,7 +1,7 @@
 //! An expression, its nodes and its truth.
 ghost use Rattle.std.specs.Prelude.{◌≡◌, ◌<◌, ◌≤◌, ◌+◌, ◌-◌, ◌*◌, ◌∷◌, [], ℕ, All, IfOk, length, reverse, take, slice_index_or};
 ghost use Rattle.arrayvec.specs.ArrayVec.{array_vec_len};
-ghost use Rattle.px_expr.specs.Tree.{HasLeavesBelow, IsLawful};
+ghost use Rattle.px_expr.specs.Tree.{HasLeavesBelow, IsLawfulTree};
 ghost use Rattle.px_expr.specs.Cells.{is_member, is_true, truth_of};
 ghost use Rattle.px_expr.specs.Shapes.{shape_of, joined, put, CanPlace, IsLeafBelow, sides};
 ghost use Rattle.px_expr.specs.Postorder.{nodes_of, trees_after, parent_count};
@@ -21,7 +21,7 @@ pub struct Expr {
 
 impl Model for Expr {
     ghost use Rattle.std.specs.Prelude.{◌≡◌};
-    ghost use Rattle.px_expr.specs.Tree.{Tree, IsLawful};
+    ghost use Rattle.px_expr.specs.Tree.{Tree, IsLawfulTree};
     ghost use Rattle.px_expr.specs.TreeCode.{tree_code};
 
     ghost Value = { Tree };
@@ -35,7 +35,7 @@ impl Model for Expr {
 
     ghost invariant = { λ expr.
         (expr.nodes.items ≡ nodes_of (newest (trees_after expr.nodes.items)))
-        × IsLawful (newest (trees_after expr.nodes.items)) };
+        × IsLawfulTree (newest (trees_after expr.nodes.items)) };
 }
 
 impl Expr {
@@ -51,7 +51,7 @@ impl Expr {
             CanPlace (length (trees_after (take i result.now))) (shape_of (slice_index_or result.now i any)) }
         ensures leaves { (count : ℕ) → HasLeavesBelow count self.now →
             All (λ node. IsLeafBelow count (shape_of node)) result.now }
-        ensures lawful { IsLawful self.now }
+        ensures lawful { IsLawfulTree self.now }
     {
         self.nodes.as_slice()
     }

@@ -2,15 +2,13 @@
 #![tactic(auto)]
 
 mod builder;
-mod combination;
 mod expr;
 mod fault;
 mod node;
 mod surface;
 
-pub use builder::{ExprBuilder, MAX_LEAVES, MAX_NESTING, MAX_WAITING};
-pub use combination::{Combination, Sense};
+pub use builder::ExprBuilder;
 pub use expr::Expr;
 pub use fault::ExprFault;
-pub use node::{Node, Op, Shape};
+pub use node::{Combination, MAX_LEAVES, MAX_NESTING, MAX_WAITING, Node, Op, Sense, Shape};
 pub use surface::{member_law, surface_law};

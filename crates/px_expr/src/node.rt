@@ -1,10 +1,17 @@
-//! Operators, and the nodes of an expression.
+//! Operators and what they make of their sides; the nodes of an expression, and their limits.
 ghost use Rattle.std.specs.Prelude.{◌≡◌};
-ghost use Rattle.px_expr.specs.Cells.{truth_of};
-ghost use Rattle.px_expr.specs.Combinations.{combination_of};
+ghost use Rattle.px_expr.specs.Cells.{combination_of, complement_of, opposite, truth_in, truth_of, truth_when};
 ghost use Rattle.px_expr.specs.Shapes.{op_node, shape_of};
 
-use crate::{Combination, Sense};
+/// An expression has at most so many leaves (docs/SCENES.md, "Limits").
+pub const MAX_LEAVES: usize = 512;
+
+/// An expression is nested at most so deep (docs/SCENES.md, "Limits").
+pub const MAX_NESTING: u8 = 64;
+
+/// At most so many values wait in a walk over an expression's nodes: one of each level that is
+/// open, and the next leaf's.
+pub const MAX_WAITING: usize = MAX_NESTING as usize + 1;
 
 /// What joins two expressions.
 #[derive(Clone, Copy, Debug, PartialEq, Eq)]
@@ -17,6 +24,25 @@ pub enum Op {
     Minus,
     /// The cells of exactly one side.
     Differ,
+}
+
+/// How a side is taken: as it is, or by its complement, the cells that it lacks.
+#[derive(Clone, Copy, Debug, PartialEq, Eq)]
+pub enum Sense {
+    Plain,
+    Complement,
+}
+
+/// What an operator makes of its two sides, or what its complement is of them.
+#[derive(Clone, Copy, Debug, PartialEq, Eq)]
+pub enum Combination {
+    /// The cells of both, the left side and the right one each in its sense.
+    Both(Sense, Sense),
+    /// The cells of either, the left side and the right one each in its sense.
+    Either(Sense, Sense),
+    /// The cells of both the left side and the right one in this sense, and those of both the left
+    /// side's complement and the right one in the other sense.
+    EitherWay(Sense),
 }
 
 /// A leaf by the index of its solid, or an operator by the places of its left and its right side.
@@ -81,5 +107,57 @@ impl Op {
         ensures { result ≡ truth_of self left right }
     {
         self.combination().truth(left, right)
+    }
+}
+
+impl Sense {
+    /// The other sense.
+    pub fn opposite(self) -> Sense
+        ensures { result ≡ opposite self }
+    {
+        match self {
+            Sense::Plain => Sense::Complement,
+            Sense::Complement => Sense::Plain,
+        }
+    }
+
+    /// Whether a cell is in a side that is so taken, by whether it is in the side.
+    fn truth(self, side: bool) -> bool
+        ensures { result ≡ truth_in self side }
+    {
+        match self {
+            Sense::Plain => side,
+            Sense::Complement => !side,
+        }
+    }
+}
+
+impl Combination {
+    /// The cells that the combination lacks, as a combination of the same sides.
+    pub fn complement(self) -> Combination
+        ensures { result ≡ complement_of self }
+    {
+        match self {
+            Combination::Both(left, right) => {
+                Combination::Either(left.opposite(), right.opposite())
+            }
+            Combination::Either(left, right) => {
+                Combination::Both(left.opposite(), right.opposite())
+            }
+            Combination::EitherWay(sense) => Combination::EitherWay(sense.opposite()),
+        }
+    }
+
+    /// Whether a cell is in the whole, by whether it is in each side.
+    pub(crate) fn truth(self, left: bool, right: bool) -> bool
+        ensures { result ≡ truth_when self left right }
+    {
+        match self {
+            Combination::Both(first, second) => first.truth(left) & second.truth(right),
+            Combination::Either(first, second) => first.truth(left) | second.truth(right),
+            Combination::EitherWay(sense) => {
+                (left & sense.truth(right)) | (!left & sense.opposite().truth(right))
+            }
+        }
     }
 }

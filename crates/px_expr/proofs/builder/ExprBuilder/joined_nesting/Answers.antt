@@ -6,7 +6,7 @@ use Rattle.px_expr.specs.Kept.{IsKept}
 use Rattle.px_expr.specs.declared.node.Node.{Node}
 use Rattle.px_expr.specs.declared.node.Op.{Op}
 use Rattle.px_expr.specs.declared.builder.Subtree.{Subtree}
-use Rattle.px_expr.specs.declared.builder.TheConstants.{MAX_NESTING}
+use Rattle.px_expr.specs.declared.node.TheConstants.{MAX_NESTING}
 use Rattle.px_expr.proofs.WaitingLemmas.{counts, nesting_joined, nesting_most}
 use Rattle.px_expr.proofs.builder.ExprBuilder.joined_nesting.Goals as goal
 

@@ -1,5 +1,5 @@
 use Rattle.std.proofs.Common.{◌≡◌, ap, ◌∙◌, arith}
-use Rattle.px_expr.specs.Tree.{IsLawful}
+use Rattle.px_expr.specs.Tree.{IsLawfulTree}
 use Rattle.px_expr.specs.Postorder.{nodes_of}
 use Rattle.px_expr.proofs.PostorderLemmas.{tree_of_nodes, can_place, leaves_below, size_leaves, length-nodes_behind}
 use Rattle.px_expr.proofs.SidesLemmas.{parents, behind_tree, behind_at}
@@ -8,7 +8,7 @@ use Rattle.px_expr.proofs.expr.Expr.nodes.Goals as goal
 nodes_are : (c : goal.After-as_slice) → c.as_slice.result.now ≡ nodes_of c.args.self.now
 nodes_are c = c.as_slice.ensures.value ∙ c.self.invariant.0 ∙ ap nodes_of c.self.view_is
 
-lawful : (c : goal.After-as_slice) → IsLawful c.args.self.now
+lawful : (c : goal.After-as_slice) → IsLawfulTree c.args.self.now
 lawful c = rw c.self.view_is at c.self.invariant.1
 
 pub returns-clause-tree : goal.returns-clause-tree
