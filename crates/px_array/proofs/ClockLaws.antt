@@ -58,7 +58,7 @@ ny-after_clocks [] s = refl
 ny-after_clocks (m ∷ ms) s = ny-after_clocks ms (after_clock m s) ∙ ny-after_tree_op m.tree s.tree
 
 -- an act keeps the number of memory bits
-length-stored : (enable v : Bool) (memory : List Bool) (at : ℕ)
+pub length-stored : (enable v : Bool) (memory : List Bool) (at : ℕ)
     → length (if enable then slice_set memory at v else memory) ≡ length memory
 length-stored true v memory at = length-set memory at v
 length-stored false v memory at = refl

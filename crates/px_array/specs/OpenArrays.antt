@@ -7,8 +7,8 @@ use Rattle.px_array.specs.declared.open_array.Slot.{Slot}
 abbrev pub kept_by : {bits : ℕ} → Slot bits → Option Device
 kept_by {bits} s = if s.is_saved then Some s.grid else None
 
-abbrev pub kept : {bits : ℕ} → List (Slot bits) → List (Option Device)
-kept {bits} slots = map kept_by slots
+abbrev pub kept_by_slots : {bits : ℕ} → List (Slot bits) → List (Option Device)
+kept_by_slots {bits} slots = map kept_by slots
 
 -- the rooms have the size of a grid
 abbrev pub HaveSize : {bits : ℕ} → (nx ny : ℕ) → List (Slot bits) → Type 0

@@ -7,8 +7,6 @@ mod grid;
 mod micro;
 mod open_array;
 mod pixel_array;
-#[cfg(test)]
-mod tests;
 
 pub use array::Array;
 pub use clocking::clock_all;

@@ -33,12 +33,12 @@ pub(crate) struct OpenArray<const N: usize> {
 
 impl<const N: usize> Model for OpenArray<N> {
     ghost use Rattle.std.specs.Prelude.{◌≡◌, length};
-    ghost use Rattle.px_array.specs.OpenArrays.{HaveSize, kept};
+    ghost use Rattle.px_array.specs.OpenArrays.{HaveSize, kept_by_slots};
     ghost use Rattle.px_array.specs.Slots.{ArrayView};
 
     ghost Value = { ArrayView };
 
-    ghost view = { λ a. record { device = a.grid; slots = kept a.slots.items; work = a.work } };
+    ghost view = { λ a. record { device = a.grid; slots = kept_by_slots a.slots.items; work = a.work } };
 
     ghost invariant = { λ a. record {
       four : length a.slots.items ≡ 4;

@@ -7,6 +7,7 @@ use Rattle.std.proofs.lemmas.Bool.Decides.{nat_tests}
 use Rattle.px_num.proofs.AdderLaws.{carry_is_overflow, flipped, flipped_bit, modulo-flipped, number}
 use Rattle.px_num.proofs.BitLaws.{modulo_below}
 use Rattle.px_num.specs.Bits.{carry_from, modulo}
+use Rattle.px_num.proofs.TruthLaws.{suc_not_zero}
 use Rattle.px_pixel.specs.Acts.{kept}
 use Rattle.px_pixel.specs.Pixels.{PixelState}
 use Rattle.px_pixel.specs.declared.act.Act.TheVariants as act
@@ -17,7 +18,6 @@ use Rattle.px_macro.specs.declared.field.Field.{Field}
 use Rattle.px_asm.specs.Micros.{less_act}
 use Rattle.px_asm.specs.Microprograms.{bits_of}
 use Rattle.px_asm.proofs.Acting.{after_acts}
-use Rattle.px_asm.proofs.Steps.{not_first}
 use Rattle.px_asm.proofs.Storing.{two_more}
 
 rest_of_small : (n w : ℕ) → n < 2 ^ w → n % 2 ^ w ≡ n
@@ -48,7 +48,7 @@ kept_by_carry u number w p q v test below h says =
 fetch_place : (f g : Field) (n : ℕ) → n < f.len → less_act f g (suc (2 * n)) ≡ act.Fetch (g.at + n)
 fetch_place f g n low =
     let place : (suc (2 * n) - 1) / 2 ≡ n = omega arith in
-    rw (not_first (2 * n), not_last (2 * n) (2 * f.len) (omega arith), is_odd n, place) refl
+    rw (suc_not_zero (2 * n), not_last (2 * n) (2 * f.len) (omega arith), is_odd n, place) refl
   where
     not_last : (i last : ℕ) → i < last → (suc i == 1 + last) ≡ false
     not_last i last low = grind (arith, nat_tests)
@@ -59,7 +59,7 @@ fetch_place f g n low =
 carry_place : (f g : Field) (n : ℕ) → less_act f g (suc (suc (2 * n))) ≡ act.CarryLatch (f.at + n)
 carry_place f g n =
     let place : (suc (suc (2 * n)) - 1) / 2 ≡ n = omega arith in
-    rw (not_first (suc (2 * n)), not_last n f.len, is_even n, place) refl
+    rw (suc_not_zero (suc (2 * n)), not_last n f.len, is_even n, place) refl
   where
     not_last : (n len : ℕ) → (suc (suc (2 * n)) == 1 + 2 * len) ≡ false
     not_last n len = grind (arith, nat_tests)
@@ -68,7 +68,7 @@ carry_place f g n =
     is_even n = grind (arith, nat_tests)
 
 last_place : (f g : Field) → less_act f g (suc (2 * f.len)) ≡ act.EnableCarry false
-last_place f g = rw (not_first (2 * f.len), is_last (2 * f.len)) refl
+last_place f g = rw (suc_not_zero (2 * f.len), is_last (2 * f.len)) refl
   where
     is_last : (n : ℕ) → (suc n == 1 + n) ≡ true
     is_last n = grind (arith, nat_tests)

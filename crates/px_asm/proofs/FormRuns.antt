@@ -1,6 +1,6 @@
 -- What the acts of the operations on a form leave of one pixel, to which the tree brings the bits of its value.
 use Rattle.std.proofs.Common.{◌≡◌, ℕ, zero, suc, ◌+◌, ◌-◌, ◌<◌, ◌≤◌, ◌==◌, ℤ, pos, ◌+ℤ◌, Bool, true, false, not}
-use Rattle.std.proofs.Common.{length, if◌then◌else◌, nat_le, nat_lt, inr, refl, sym, ap, ◌∙◌, arith}
+use Rattle.std.proofs.Common.{length, if◌then◌else◌, nat_le, inr, refl, sym, ap, ◌∙◌, arith}
 use Rattle.std.specs.Bool.{beq}
 use Rattle.std.specs.Int.{is_negative}
 use Rattle.std.proofs.lemmas.Bool.Decides.{nat_tests}
@@ -8,37 +8,31 @@ use Rattle.std.proofs.lemmas.Int.{ints}
 use Rattle.px_num.proofs.AdderLaws.{flipped_bit, sum_bit}
 use Rattle.px_num.proofs.BitLaws.{modulo_bit}
 use Rattle.px_num.specs.Bits.{bit_at, bit_of, carry_from, modulo, nat_bit}
+use Rattle.px_num.proofs.TruthLaws.{beq_true, itself_true, lt_false, lt_true, suc_not_zero}
 use Rattle.px_pixel.specs.Acts.{after_act}
 use Rattle.px_pixel.specs.Pixels.{PixelState}
 use Rattle.px_pixel.specs.declared.act.Act.{Act}
 use Rattle.px_pixel.specs.declared.act.Act.TheVariants as act
 use Rattle.px_macro.specs.FieldLaws.{BitsOfNumber, NumberIsBelow}
 use Rattle.px_macro.specs.Fields.{number_in, with_number}
-use Rattle.px_macro.specs.Macros.{keep, put}
+use Rattle.px_macro.specs.Macros.{keep, with_field}
 use Rattle.px_macro.specs.declared.field.Field.{Field}
 use Rattle.px_asm.specs.Micros.{act_at}
 use Rattle.px_asm.specs.Microprograms.{bits_of}
 use Rattle.px_asm.proofs.Acting.{after_acts, after_acts-parts, after_acts-same, after_nops}
 use Rattle.px_asm.proofs.Comparing.{HasCompared, kept_by_carry}
-use Rattle.px_asm.proofs.Steps.{not_first}
 use Rattle.px_asm.proofs.Storing.{put_by_stores, same_bits}
 use Rattle.px_asm.proofs.Written.{IsWritten, none_written, one_written, whole_written}
 
 waiting_act : (levels : ℕ) (first : Act) (each : ℕ → Act) (i : ℕ) → suc i ≤ levels → act_at levels first each (suc i)
     ≡ act.Nop
-waiting_act levels first each i low = rw (not_first i, not_past levels (suc i) low) refl
-  where
-    not_past : (levels i : ℕ) → i ≤ levels → nat_lt levels i ≡ false
-    not_past levels i low = grind (arith, nat_tests)
+waiting_act levels first each i low = rw (suc_not_zero i, lt_false levels (suc i) low) refl
 
 bit_act : (levels : ℕ) (first : Act) (each : ℕ → Act) (t : ℕ) → act_at levels first each (suc levels + t) ≡ each t
 bit_act levels first each t =
     let later : suc levels + t ≡ suc (levels + t) = omega arith in
     let bit : suc (levels + t) - 1 - levels ≡ t = omega arith in
-    rw (later, not_first (levels + t), past levels (suc (levels + t)) (omega arith), bit) refl
-  where
-    past : (levels i : ℕ) → levels < i → nat_lt levels i ≡ true
-    past levels i low = grind (arith, nat_tests)
+    rw (later, suc_not_zero (levels + t), lt_true levels (suc (levels + t)) (omega arith), bit) refl
 
 -- while the lowest bit comes down the levels nothing happens
 waiting : (levels : ℕ) (first : Act) (each : ℕ → Act) (tree : ℕ → Bool) (n : ℕ) (p : PixelState) → n ≤ levels
@@ -69,7 +63,7 @@ pub put_by_load : (levels count : ℕ) (f : Field) (tree : ℕ → Bool) (v : �
     + f.len → f.at + f.len ≤ length p.memory
     → ((t : ℕ) → t < f.len → tree (suc (t + levels)) ≡ bit_of v t)
     → bits_of (after_acts (act_at levels act.Nop (λ t. act.StoreTree (f.at + t))) tree count p)
-    ≡ put f (modulo v f.len) (bits_of p)
+    ≡ with_field f (modulo v f.len) (bits_of p)
 put_by_load levels count f tree v p total room bits =
     ap bits_of (after_bits levels count f.len act.Nop (λ t. act.StoreTree (f.at + t)) tree v p total bits)
     ∙ put_by_stores f (modulo v f.len) (bit_of v) (λ t. act.StoreTree (f.at + t)) (bit_of v) p room
@@ -109,7 +103,7 @@ pub put_by_add : BitsOfNumber → (levels count : ℕ) (f : Field) (tree : ℕ �
     → count ≡ 1 + levels + f.len → f.at + f.len ≤ length p.memory
     → ((t : ℕ) → t < f.len → tree (suc (t + levels)) ≡ bit_of v t)
     → bits_of (after_acts (act_at levels (act.SetCarry false) (add_act f)) tree count p)
-    ≡ put f (modulo (pos (number_in f p.memory) +ℤ v) f.len) (bits_of p)
+    ≡ with_field f (modulo (pos (number_in f p.memory) +ℤ v) f.len) (bits_of p)
 put_by_add bits levels count f tree v p total room seen =
     let start : PixelState = record p { carry = false } in
     let number = number_in f p.memory in
@@ -141,13 +135,6 @@ abbrev pub at_most_act : (levels : ℕ) → Field → ℕ → Act
 at_most_act levels f i =
     if i == 1 + levels + f.len then act.EnableCarry true else act_at levels (act.SetCarry true) (compare_act f) i
 
-same_as_true : (b : Bool) → beq b true ≡ b
-same_as_true true = refl
-same_as_true false = refl
-
-is_last : (n : ℕ) → (n == n) ≡ true
-is_last n = grind (arith, nat_tests)
-
 pub not_last : (i n : ℕ) → i < n → (i == n) ≡ false
 not_last i n low = grind (arith, nat_tests)
 
@@ -168,9 +155,9 @@ kept_if_at_most bits below levels count f tree v p total seen =
     let h = compared_by_tree bits f v f.len start (omega arith) refl in
     let compared : HasCompared v number f.len p end =
     record { memory = h.memory; enable = h.enable; carry = h.carry } in
-    rw (total, is_last last, plain) (kept_by_carry v number f.len p end true (nat_le (modulo v f.len) number)
+    rw (total, itself_true last, plain) (kept_by_carry v number f.len p end true (nat_le (modulo v f.len) number)
     (below f p.memory) compared
-    (same_as_true (nat_le (modulo v f.len) number)))
+    (beq_true (nat_le (modulo v f.len) number)))
 
 -- the sign
 abbrev pub sign_act : (last : ℕ) → ℕ → Act
@@ -186,7 +173,7 @@ pub kept_by_sign : (last count : ℕ) (tree : ℕ → Bool) (v : ℤ) (p : Pixel
 kept_by_sign last count tree v p total sign =
     rw (
       total,
-      is_last last,
+      itself_true last,
       after_nops (sign_act last) tree last p (λ i low. rw (not_last i last low) refl),
       sign,
       not_same (is_negative v),

@@ -1,12 +1,12 @@
 -- A run of an array, seen from one of its pixels.
-use Rattle.std.proofs.Common.{◌≡◌, ℕ, zero, suc, ◌+◌, ◌-◌, ◌*◌, ◌^◌, ◌<◌, ◌≤◌, ◌==◌, false, map, refl, sym, ap, ◌∙◌}
+use Rattle.std.proofs.Common.{◌≡◌, ℕ, zero, suc, ◌+◌, ◌-◌, ◌*◌, ◌^◌, ◌<◌, ◌≤◌, map, refl, sym, ap, ◌∙◌}
 use Rattle.std.proofs.Common.{arith}
 use Rattle.std.specs.List.{range_with_len}
-use Rattle.std.proofs.lemmas.Bool.Decides.{nat_tests}
 use Rattle.px_num.specs.Bits.{bit_of}
 use Rattle.px_num.specs.Forms.{value_at}
 use Rattle.px_num.specs.Lists.{tabulate}
 use Rattle.px_num.specs.declared.linear.Linear.{Linear}
+use Rattle.px_num.proofs.TruthLaws.{suc_not_zero}
 use Rattle.px_pixel.specs.Acts.{after_act}
 use Rattle.px_tree.specs.Feeds.{fed_form}
 use Rattle.px_tree.specs.Nodes.{IsGrid, TreeState, leaf_output}
@@ -74,9 +74,6 @@ fed_rows : (form : Linear) (nx ny s : ℕ) → (fed_form form nx ny s).ny ≡ ny
 fed_rows form nx ny zero = refl
 fed_rows form nx ny (suc s) = fed_rows form nx ny s
 
-pub not_first : (n : ℕ) → (suc n == 0) ≡ false
-not_first n = grind (arith, nat_tests)
-
 pub tree_after_feeds : (bits nx ny : ℕ) (micro : ℕ → Micro) (form : Linear) (n : ℕ) (s : State) → HasGrid bits nx ny s
     → ((i : ℕ) → i ≤ n → (micro i).tree ≡ tree_at form nx ny i) → (steps micro (suc n) s).tree ≡ fed_form form nx ny n
 tree_after_feeds bits nx ny micro form zero s grid fed = rw (fed 0 (omega arith), grid.columns, grid.rows) refl
@@ -86,7 +83,7 @@ tree_after_feeds bits nx ny micro form (suc n) s grid fed =
       fed (suc n) (omega arith),
       tree_after_feeds bits nx ny micro form n s grid (λ i low. fed i (omega arith)),
       before,
-      not_first n,
+      suc_not_zero n,
     ) refl
 
 pub leaf_while_fed : LeafGivesValue → (bits nx ny : ℕ) → IsGrid nx ny → (micro : ℕ → Micro) (form : Linear) (t : ℕ)

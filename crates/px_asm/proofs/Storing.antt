@@ -8,7 +8,7 @@ use Rattle.px_pixel.specs.Pixels.{PixelState}
 use Rattle.px_pixel.specs.declared.act.Act.{Act}
 use Rattle.px_macro.specs.FieldLaws.{BitsOfNumber}
 use Rattle.px_macro.specs.Fields.{number_in, with_number}
-use Rattle.px_macro.specs.Macros.{AreApart, put}
+use Rattle.px_macro.specs.Macros.{AreApart, with_field}
 use Rattle.px_macro.specs.declared.field.Field.{Field}
 use Rattle.px_asm.specs.Micros.{copy_act}
 use Rattle.px_asm.specs.Microprograms.{bits_of}
@@ -45,7 +45,7 @@ same_bits p q memory e m = rw (e, m) refl
 pub put_by_stores : (f : Field) (n : ℕ) (v : ℕ → Bool) (act : ℕ → Act) (tree : ℕ → Bool) (p : PixelState)
     → f.at + f.len ≤ length p.memory
     → ((t : ℕ) → t < f.len → v t ≡ nat_bit n t) → StoreEach f.at f.len v act tree
-    → bits_of (after_acts act tree f.len p) ≡ put f n (bits_of p)
+    → bits_of (after_acts act tree f.len p) ≡ with_field f n (bits_of p)
 put_by_stores f n v act tree p room bits each =
     let q = after_acts act tree f.len p in
     same_bits p q (if p.enable then with_number f n p.memory else p.memory)
@@ -103,7 +103,7 @@ written_by_copy f g tree (suc n) p low below room apart =
 
 pub put_by_copy : BitsOfNumber → (f g : Field) (tree : ℕ → Bool) (p : PixelState) → f.len ≡ g.len → g.at + g.len
     ≤ length p.memory → AreApart f g
-    → bits_of (after_acts (copy_act f g) tree (2 * f.len) p) ≡ put g (number_in f p.memory) (bits_of p)
+    → bits_of (after_acts (copy_act f g) tree (2 * f.len) p) ≡ with_field g (number_in f p.memory) (bits_of p)
 put_by_copy bits f g tree p same room apart =
     let q = after_acts (copy_act f g) tree (2 * f.len) p in
     let v : ℕ → Bool = λ t. bit_at p.memory (f.at + t) in

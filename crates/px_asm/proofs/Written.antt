@@ -1,12 +1,13 @@
 -- Fields that are written bit by bit.
 use Rattle.std.proofs.Common.{◌≡◌, ◌≢◌, ℕ, suc, ◌+◌, ◌-◌, ◌<◌, ◌≤◌, Bool, true, false, List, length, slice_set}
 use Rattle.std.proofs.Common.{if◌then◌else◌, ◌⊎◌, inl, inr, refl, sym, ap, ◌∙◌, arith, get_or-set_other}
-use Rattle.std.proofs.Common.{get_or-set_same, length-set}
+use Rattle.std.proofs.Common.{get_or-set_same}
 use Rattle.std.proofs.lemmas.Bool.{cases_lt}
 use Rattle.std.proofs.lemmas.Bool.Decides.{nat_tests}
 use Rattle.std.proofs.lemmas.List.{get_or_default, same_lists}
 use Rattle.px_num.specs.Bits.{bit_at, nat_bit}
 use Rattle.px_num.proofs.ListLaws.{is_tabulate}
+use Rattle.px_array.proofs.ClockLaws.{length-stored}
 use Rattle.px_macro.specs.Fields.{is_in, with_number}
 use Rattle.px_macro.specs.declared.field.Field.{Field}
 
@@ -29,11 +30,6 @@ other_bit : (enable b : Bool) (memory : List Bool) (k i : ℕ) → i ≢ k
 other_bit true b memory k i differs = get_or-set_other memory k i b false differs
 other_bit false b memory k i differs = refl
 
-size_kept : (enable b : Bool) (memory : List Bool) (k : ℕ) → length (if enable then slice_set memory k b else memory)
-    ≡ length memory
-size_kept true b memory k = length-set memory k b
-size_kept false b memory k = refl
-
 outside : (at n i : ℕ) → (i < at) ⊎ (at + suc n ≤ i) → (i < at) ⊎ (at + n ≤ i)
 outside at n i (inl low) = inl low
 outside at n i (inr high) = inr (omega arith)
@@ -49,7 +45,7 @@ pub one_written : (at n : ℕ) (v : ℕ → Bool) (enable : Bool) (old new : Lis
 one_written at n v enable old new room h =
     let inside : at + n < length new = omega (arith, h.size) in
     record {
-      size = size_kept enable (v n) new (at + n) ∙ h.size;
+      size = length-stored enable (v n) new (at + n) ∙ h.size;
       field = λ t low. elim (cases_lt t n) [
         | inl before ↦
             let differs : at + t ≢ at + n = omega arith in

@@ -8,8 +8,6 @@ mod number;
 mod of_forms;
 mod still;
 mod table;
-#[cfg(test)]
-mod tests;
 
 pub use law::law_of_microprograms;
 pub use making::{make_micros, make_operation};

@@ -4,23 +4,18 @@ use Rattle.std.proofs.Common.{length-set, get_or, set, zero, refl, sym, ap, subs
 use Rattle.std.proofs.Common.{get_or-set_same, get_or-set_other}
 use Rattle.std.proofs.lemmas.Bool.{cases_eq, cases_lt, le-ltb, lt-ltb}
 use Rattle.std.proofs.lemmas.Nat.{pow-add}
-use Rattle.std.proofs.Math.Nat.{one-le-pow, pow-le-pow_right}
+use Rattle.std.proofs.Math.Nat.{one-le-pow}
 use Rattle.px_num.specs.Bits.{nat_bit}
+use Rattle.px_num.proofs.TruthLaws.{double_pow, power_grows}
 use Rattle.px_tree.specs.declared.lines.Lines.{Lines}
 use Rattle.px_planes.specs.Heap.{AreStill, HasLines, HasOdd, IsAtRest, IsFed, IsFedFirst, IsFedHeap, IsFedWord}
 use Rattle.px_planes.specs.Heap.{IsHeap, level_line, parent_bit}
 use Rattle.px_planes.proofs.FedWords.{WordFed, node_law, place_line, same_line, same_parent, same_word, still_heap}
 use Rattle.px_planes.proofs.Heaps.{moved}
 
-pub double : (e : ℕ) → 2 ^ suc e ≡ 2 * 2 ^ e
-double e = ap (λ n. 2 ^ n) (omega arith) ∙ pow-add 2 1 e
-
 -- powers of a place that is written as a sum
 pub power_of : (k e : ℕ) → k ≡ suc e → 2 ^ k ≡ 2 * 2 ^ e
-power_of k e h = ap (λ n. 2 ^ n) h ∙ double e
-
-pub power_up : (m n : ℕ) → m ≤ n → 2 ^ m ≤ 2 ^ n
-power_up m n h = pow-le-pow_right {n = 2} (omega arith) h
+power_of k e h = ap (λ n. 2 ^ n) h ∙ double_pow e
 
 pub power_some : (e : ℕ) → 1 ≤ 2 ^ e
 power_some e = one-le-pow e 2 (omega arith)
@@ -39,18 +34,6 @@ pub record IsFedDown (nx : ℕ) (now : Lines) (u : ℕ) (outputs carries : List 
       → w < 2 ^ (v + 2) → get_or new_carries w 0 ≡ get_or carries w 0
   pub still_rest : (v : ℕ) → v < u → get_or new_still v false ≡ get_or still v false
 
-pub fed_none : (nx : ℕ) (now : Lines) (outputs carries : List ℕ) (still : List Bool) → length outputs
-    ≡ 2 ^ (length still + 1)
-    → IsFedDown nx now (length still) outputs carries still outputs carries still
-fed_none nx now outputs carries still levels = record {
-  fed = λ w low high. absurd (omega (arith, levels));
-  outputs_rest = λ w low. refl;
-  carries_rest = λ w low. refl;
-  outputs_stay = λ v low high. absurd (omega arith);
-  carries_stay = λ v low high. absurd (omega arith);
-  still_rest = λ v low. refl;
-}
-
 -- the place from which levels were fed, as one more than that of the level that comes next
 pub at_next : (nx : ℕ) (now : Lines) (u : ℕ) (outputs carries : List ℕ) (still : List Bool) (o k : List ℕ)
     (s : List Bool)
@@ -67,10 +50,10 @@ level_place_line nx lines u w j four low high in_word =
     let next : 2 ^ (u + 8) ≡ 64 * 2 ^ (u + 2) = ap (λ n. 2 ^ n) (omega arith) ∙ pow-add 2 6 (u + 2) in
     elim (cases_lt nx (u + 7)) [
       | inl in_b ↦
-          let past : 2 ^ (nx + 1) ≤ 64 * w + j = omega (arith, six, power_up (nx + 1) (u + 7) (omega arith)) in
+          let past : 2 ^ (nx + 1) ≤ 64 * w + j = omega (arith, six, power_grows (nx + 1) (u + 7) (omega arith)) in
           rw (lt-ltb nx (u + 7) in_b, le-ltb w 4 four, le-ltb (64 * w + j) (2 ^ (nx + 1)) past) refl
       | inr in_a ↦
-          let before : 64 * w + j < 2 ^ (nx + 1) = omega (arith, next, power_up (u + 8) (nx + 1) (omega arith)) in
+          let before : 64 * w + j < 2 ^ (nx + 1) = omega (arith, next, power_grows (u + 8) (nx + 1) (omega arith)) in
           rw (le-ltb nx (u + 7) in_a, le-ltb w 4 four, lt-ltb (64 * w + j) (2 ^ (nx + 1)) before) refl
     ]
 
@@ -108,7 +91,7 @@ fed_more nx now u outputs carries still o k s new_outputs new_carries r some wit
     let here : 2 ^ (u + 1) ≡ 2 * 2 ^ u = power_of (u + 1) u (omega arith) in
     let next : 2 ^ (u + 2) ≡ 4 * 2 ^ u = ap (λ n. 2 ^ n) (omega arith) ∙ pow-add 2 2 u in
     let next_too : 2 ^ (u + 1 + 1) ≡ 4 * 2 ^ u = ap (λ n. 2 ^ n) (omega arith) ∙ next in
-    let two : 2 ≤ 2 ^ u = power_up 1 u some in
+    let two : 2 ≤ 2 ^ u = power_grows 1 u some in
     record {
       fed = λ w low high. elim (cases_lt w (4 * 2 ^ u)) [
         | inl l ↦
@@ -133,7 +116,7 @@ fed_more nx now u outputs carries still o k s new_outputs new_carries r some wit
             let below : w < 2 ^ (u + 2) = subst (λ n. w < 2 ^ (n + 2)) e to in
             ap (λ xs. get_or xs w 0) (same_outputs stayed) ∙ before.outputs_rest w (omega arith)
         | inr n ↦
-            let more : 2 ^ (u + 2) ≤ 2 ^ (v + 1) = power_up (u + 2) (v + 1) (omega arith) in
+            let more : 2 ^ (u + 2) ≤ 2 ^ (v + 1) = power_grows (u + 2) (v + 1) (omega arith) in
             level.outputs_rest.above w (omega arith)
             ∙ before.outputs_stay v (omega arith) high (sym (set_there s u v r n) ∙ stay) w from to
       ];
@@ -144,7 +127,7 @@ fed_more nx now u outputs carries still o k s new_outputs new_carries r some wit
             let below : w < 2 ^ (u + 2) = subst (λ n. w < 2 ^ (n + 2)) e to in
             ap (λ xs. get_or xs w 0) (same_carries stayed) ∙ before.carries_rest w (omega arith)
         | inr n ↦
-            let more : 2 ^ (u + 2) ≤ 2 ^ (v + 1) = power_up (u + 2) (v + 1) (omega arith) in
+            let more : 2 ^ (u + 2) ≤ 2 ^ (v + 1) = power_grows (u + 2) (v + 1) (omega arith) in
             level.carries_rest.above w (omega arith)
             ∙ before.carries_stay v (omega arith) high (sym (set_there s u v r n) ∙ stay) w from to
       ];
@@ -179,7 +162,7 @@ pub next_odd : (nx : ℕ) (now : Lines) (u : ℕ) (outputs carries : List ℕ) (
 next_odd nx now u outputs carries still o k s within levels heap before = record {
   each = λ w j low high in_word even.
       let top : 2 ^ (u + 1 + 1) ≡ 4 * 2 ^ u = ap (λ n. 2 ^ n) (omega arith) ∙ pow-add 2 2 u in
-      let all : 2 ^ (u + 1 + 1) ≤ 2 ^ (length still + 1) = power_up (u + 1 + 1) (length still + 1) (omega arith) in
+      let all : 2 ^ (u + 1 + 1) ≤ 2 ^ (length still + 1) = power_grows (u + 1 + 1) (length still + 1) (omega arith) in
       ap (λ n. nat_bit n j) (before.carries_rest w (omega arith))
       ∙ heap.odd.each w j (omega arith) (omega (arith, levels)) in_word even;
 }
@@ -187,7 +170,7 @@ next_odd nx now u outputs carries still o k s within levels heap before = record
 pub next_fits : (u n m : ℕ) → u < n → m ≡ 2 ^ (n + 1) → 4 * 2 ^ u ≤ m
 next_fits u n m within levels =
     let top : 2 ^ (u + 2) ≡ 4 * 2 ^ u = ap (λ n. 2 ^ n) (omega arith) ∙ pow-add 2 2 u in
-    omega (arith, top, power_up (u + 2) (n + 1) (omega arith))
+    omega (arith, top, power_grows (u + 2) (n + 1) (omega arith))
 
 -- ---- the first four words
 
@@ -237,7 +220,7 @@ module _ (nx : ℕ) (now : Lines) (heads outputs carries : List ℕ) (still : Li
           | inr g ↦ let e : w ≡ 3 = omega arith in rw e (third stayed ∙ before.outputs_rest 3 (omega arith))
         ]
     kept_outputs (suc v) w within stay low high =
-        let four : 4 ≤ 2 ^ (suc v + 1) = power_up 2 (suc v + 1) (omega arith) in
+        let four : 4 ≤ 2 ^ (suc v + 1) = power_grows 2 (suc v + 1) (omega arith) in
         let other : suc v ≢ 0 = omega arith in
         first.outputs_rest.above w (omega arith)
         ∙ before.outputs_stay (suc v) (omega arith) within (sym (set_there s 0 (suc v) r other) ∙ stay) w low high
@@ -245,7 +228,7 @@ module _ (nx : ℕ) (now : Lines) (heads outputs carries : List ℕ) (still : Li
     kept_carries : (v w : ℕ) → suc v < length still → get_or (set s 0 r) (suc v) false ≡ true → 2 ^ (suc v + 1) ≤ w
         → w < 2 ^ (suc v + 2) → get_or new_carries w 0 ≡ get_or carries w 0
     kept_carries v w within stay low high =
-        let four : 4 ≤ 2 ^ (suc v + 1) = power_up 2 (suc v + 1) (omega arith) in
+        let four : 4 ≤ 2 ^ (suc v + 1) = power_grows 2 (suc v + 1) (omega arith) in
         let other : suc v ≢ 0 = omega arith in
         first.carries_rest.above w (omega arith)
         ∙ before.carries_stay (suc v) (omega arith) within (sym (set_there s 0 (suc v) r other) ∙ stay) w low high
@@ -267,7 +250,7 @@ module _ (nx : ℕ) (now : Lines) (heads outputs carries : List ℕ) (still : Li
               let high_carry : 2 ^ (suc u + 2) ≡ 2 ^ (u + 3) = ap (λ n. 2 ^ n) (omega arith) in
               let low_line : 2 ^ (u + 1 + 1) ≡ 2 ^ (u + 2) = ap (λ n. 2 ^ n) (omega arith) in
               let high_line : 2 ^ (u + 1 + 2) ≡ 2 ^ (u + 3) = ap (λ n. 2 ^ n) (omega arith) in
-              let all : 2 ^ (u + 3) ≤ 2 ^ (length still + 1) = power_up (u + 3) (length still + 1) (omega arith) in
+              let all : 2 ^ (u + 3) ≤ 2 ^ (length still + 1) = power_grows (u + 3) (length still + 1) (omega arith) in
               let parent = kept_outputs u (w / 2) (omega arith) above (omega arith) (omega arith) in
               let carry = kept_carries u w in_still (ap (λ n. get_or (set s 0 r) n false) (sym up)
               ∙ here) (omega arith) (omega arith) in

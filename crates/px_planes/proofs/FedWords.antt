@@ -3,6 +3,7 @@ use Rattle.std.proofs.Common.{◌≡◌, ℕ, zero, suc, ◌+◌, ◌*◌, ◌/�
 use Rattle.std.proofs.Common.{nat_lt, List, length, get_or, refl, sym, ap, ◌∙◌, arith, inl, inr}
 use Rattle.std.proofs.lemmas.Bool.{cases_lt, le-ltb, lt-ltb, ne_eqb}
 use Rattle.px_num.specs.Bits.{nat_bit}
+use Rattle.px_num.proofs.TruthLaws.{and_false, and_true}
 use Rattle.px_tree.specs.declared.node.Node.{Node}
 use Rattle.px_tree.specs.Nodes.{next_node}
 use Rattle.px_rows.specs.Rows.{row_bit}
@@ -85,14 +86,6 @@ module _ (a b c : Bool) (first_b : ℕ) (outputs carries new_outputs new_carries
   low_bits (suc zero) h = ap (λ (x : Bool). record { output = x; carry = row_bit carries 1 }) heap.one_output
       ∙ ap (λ (x : Bool). record { output = false; carry = x }) heap.one_carry
   low_bits (suc (suc p)) h = absurd (omega arith)
-
-  and_false : (x : Bool) → (x && false) ≡ false
-  and_false true = refl
-  and_false false = refl
-
-  and_true : (x : Bool) → (x && true) ≡ x
-  and_true true = refl
-  and_true false = refl
 
   low_law : (p : ℕ) → p < 2 → node_of new_outputs new_carries p ≡ node_of outputs carries p
   low_law p h =

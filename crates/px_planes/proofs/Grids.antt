@@ -12,6 +12,7 @@ use Rattle.px_array.specs.Clocks.{acted}
 use Rattle.px_array.specs.declared.micro.Registers.{Registers}
 use Rattle.px_num.specs.Bits.{bit_at, nat_bit}
 use Rattle.px_num.proofs.ListLaws.{get_or-tabulate, is_tabulate, length-tabulate}
+use Rattle.px_num.proofs.TruthLaws.{and_false, and_true, power_grows}
 use Rattle.px_pixel.specs.Acts.{after_act}
 use Rattle.px_pixel.specs.Pixels.{PixelState, zero_pixel}
 use Rattle.px_pixel.specs.declared.act.Act.{Act}
@@ -23,17 +24,9 @@ use Rattle.px_rows.specs.Rows.{words_for}
 use Rattle.px_rows.specs.Rows.{row_bit}
 use Rattle.px_planes.specs.declared.planes.Planes.{Planes}
 use Rattle.px_tree.specs.Nodes.{TreeState, leaf_output}
-use Rattle.px_planes.proofs.FedLevels.{power_of, power_some, power_up}
+use Rattle.px_planes.proofs.FedLevels.{power_of, power_some}
 use Rattle.px_planes.proofs.Stored.{bit_of_rows}
 use Rattle.px_planes.proofs.Trees.{zero_bit}
-
-and_true : (b : Bool) → (b && true) ≡ b
-and_true true = refl
-and_true false = refl
-
-and_false : (b : Bool) → (b && false) ≡ false
-and_false true = refl
-and_false false = refl
 
 -- inside the grid an act is that of the table
 acted_inside : (act : Act) (t : Bool) (p : PixelState) → acted_at true act t p ≡ after_act act t p
@@ -194,7 +187,7 @@ registers_law n planes p enable carry latch within e k l =
 pub full_below : (n i : ℕ) → n < 64 → i < 64 → nat_bit (1 * 2 ^ n % 2 ^ 64 - 1) i ≡ nat_lt i n
 full_below n i small in_word =
     let fits : 2 ^ n < 2 ^ 64 =
-    omega (arith, power_up (n + 1) 64 (omega arith), power_of (n + 1) n (omega arith), power_some n) in
+    omega (arith, power_grows (n + 1) 64 (omega arith), power_of (n + 1) n (omega arith), power_some n) in
     let e : 1 * 2 ^ n % 2 ^ 64 ≡ 2 ^ n = omega arith in
     ap (λ m. nat_bit (m - 1) i) e ∙ elim (cases_lt i n) [
       | inl l ↦ ap (λ b. b == 1) (bit_at_ones n i l) ∙ sym (lt-ltb i n l)
@@ -207,7 +200,7 @@ full_above n i large in_word = ap (λ b. b == 1) (bit_at_ones 64 i in_word) ∙ 
 -- the pixels of a grid fill whole words, or less than one
 pub whole_words : (levels : ℕ) → 64 < 2 ^ levels → 2 ^ levels % 64 ≡ 0
 whole_words levels large = elim (cases_lt levels 6) [
-  | inl l ↦ absurd (omega (arith, power_up levels 5 (omega arith)))
+  | inl l ↦ absurd (omega (arith, power_grows levels 5 (omega arith)))
   | inr g ↦
       let place : levels ≡ 6 + (levels - 6) = omega arith in
       let power : 2 ^ levels ≡ 64 * 2 ^ (levels - 6) = ap (λ n. 2 ^ n) place ∙ pow-add 2 6 (levels - 6) in

@@ -7,7 +7,7 @@ use Rattle.std.proofs.Math.Nat.{one-le-pow, pow-le-pow_right}
 use Rattle.px_num.specs.Bits.{nat_bit}
 use Rattle.px_tree.specs.Nodes.{node_at}
 use Rattle.px_rows.specs.Rows.{row_bit}
-use Rattle.px_planes.specs.Trees.{seen_tree, IsSmall}
+use Rattle.px_planes.specs.Trees.{seen_tree, AreSmallLevels}
 use Rattle.px_planes.proofs.Trees.{bit_seen, small_power}
 
 power_at : (level : ℕ) → 6 ≤ level → 2 ^ level ≡ 64 * 2 ^ (level - 6)
@@ -41,7 +41,7 @@ pub small_words : (level : ℕ) → level < 6 → level + 1 - level ≡ (2 ^ lev
 small_words level h = omega (arith, small_power level h, one-le-pow level 2 (omega arith))
 
 pub small_bits : (level nx ny : ℕ) (outputs carries small part : List ℕ) → 1 ≤ level → level < 6 → level ≤ nx + ny
-    → IsSmall outputs small → length part ≡ level + 1 - level
+    → AreSmallLevels outputs small → length part ≡ level + 1 - level
     → ((p : ℕ) → p < 64 * (level + 1 - level) → row_bit part p ≡ row_bit small (64 * level + p))
     → (p : ℕ) → p < 64 * length part → row_bit part p ≡ cond (nat_lt p (2 ^ level))
     (node_at (seen_tree nx ny outputs carries) level p).output false

@@ -11,14 +11,14 @@ use Rattle.std.proofs.lemmas.List.{get_or_past}
 use Rattle.px_num.specs.Bits.{nat_bit}
 use Rattle.px_num.proofs.ListLaws.{length-tabulate, get_or-tabulate, is_tabulate}
 use Rattle.px_num.specs.Lists.{tabulate}
+use Rattle.px_num.proofs.TruthLaws.{power_grows}
 use Rattle.px_tree.specs.declared.lines.Lines.{Lines}
 use Rattle.px_tree.specs.declared.node.Node.{Node}
 use Rattle.px_tree.specs.Nodes.{IsGrid, after_feed, cleared, next_at, next_node, zero_node}
 use Rattle.px_planes.specs.Heap.{AreStill, IsFedHeap, level_line, node_of}
 use Rattle.px_rows.specs.Rows.{row_bit}
-use Rattle.px_planes.specs.Trees.{IsSmall, IsTree, heights, seen_tree}
+use Rattle.px_planes.specs.Trees.{AreSmallLevels, IsTree, heights, seen_tree}
 use Rattle.px_rows.proofs.BitLaws.{bit_down, bit_of_low}
-use Rattle.px_planes.proofs.FedLevels.{power_up}
 
 pub level_law : (word m j : ℕ) → nat_bit (bit_and (word / 2 ^ m) (2 ^ m - 1)) j
     ≡ cond (nat_lt j m) (nat_bit word (m + j)) false
@@ -85,7 +85,7 @@ pub is_tall : (levels n : ℕ) → n ≡ heights levels → IsTall levels n
 is_tall levels n e = elim (cases_lt levels 8) [
   | inl l ↦
       let one : n ≡ 1 = e ∙ rw (lt-ltb levels 8 l) refl in
-      let room : 2 ^ (levels + 1) ≤ 256 = power_up (levels + 1) 8 (omega arith) in
+      let room : 2 ^ (levels + 1) ≤ 256 = power_grows (levels + 1) 8 (omega arith) in
       record {
         some = omega arith;
         few = λ h. omega arith;
@@ -117,7 +117,7 @@ both_false : (b : Bool) → false ≡ cond b false false
 both_false true = refl
 both_false false = refl
 
-zero_small : (w : ℕ) → IsSmall (replicate w 0) (replicate 6 0)
+zero_small : (w : ℕ) → AreSmallLevels (replicate w 0) (replicate 6 0)
 zero_small w = record {
   long = refl;
   each = λ k j l h i. zero_word_bit 6 k j ∙ (both_false (nat_lt j (2 ^ k))
@@ -160,7 +160,7 @@ pub zero_tree : (nx ny w : ℕ) (still : List Bool) → IsGrid nx ny → length 
     → IsTree nx ny (replicate w 0) (replicate w 0) (replicate 6 0) still (record { a = false; b = false; c = false })
 zero_tree nx ny w still grid tall words =
     let size = is_tall (nx + ny) (length still) tall in
-    let four : 4 ≤ 2 ^ (length still + 1) = power_up 2 (length still + 1) (let some = size.some in omega arith) in
+    let four : 4 ≤ 2 ^ (length still + 1) = power_grows 2 (length still + 1) (let some = size.some in omega arith) in
     let fours : 2 ^ (length still + 1) ≡ 4 * 2 ^ (length still - 1) =
     ap (λ m. 2 ^ m) (let some = size.some in omega arith) ∙ pow-add 2 2 (length still - 1) in
     record {

@@ -1,10 +1,10 @@
 -- Bytes and words, lane by lane and bit by bit.
-use Rattle.std.proofs.Common.{◌≡◌, ℕ, zero, suc, ◌+◌, ◌-◌, ◌*◌, ◌/◌, ◌%◌, ◌^◌, ◌<◌, ◌≤◌, true, false, eqb, nat_lt}
+use Rattle.std.proofs.Common.{◌≡◌, ℕ, zero, suc, ◌+◌, ◌-◌, ◌*◌, ◌/◌, ◌%◌, ◌^◌, ◌<◌, ◌≤◌, true, eqb, nat_lt}
 use Rattle.std.proofs.Common.{List, [], ◌∷◌, ◌++◌, length, get_or, replicate, refl, sym, ap, ◌∙◌, arith, inl, inr}
 use Rattle.std.proofs.Common.{◌⊎◌, w8, w64, Fits, bit_and, subst}
 use Rattle.std.proofs.lemmas.Bool.{cases_lt, agree_below, agree_below_at, eqb-true, ltb-true}
 use Rattle.std.proofs.lemmas.Nat.{and_mask, mod_below, pow-add}
-use Rattle.std.proofs.lemmas.Nat.Bits.{bit_at_cat_low, bit_at_cat_high, bit_at-zero}
+use Rattle.std.proofs.lemmas.Nat.Bits.{bit_at_cat_low, bit_at_cat_high}
 use Rattle.std.proofs.lemmas.List.{get_or_append_left, get_or-append-add, get_or-map, length-map}
 use Rattle.std.proofs.lemmas.Simd.{Each1-get_or, Each1-from_get_or, below_from_Fits, length-zip2, get_or-zip2}
 use Rattle.std.proofs.lemmas.Simd.{get_or-replicate, swz_l, SwzOk, SwzOk-from_below, length-swz_l, get_or-swz_l_below}
@@ -12,7 +12,7 @@ use Rattle.std.proofs.lemmas.Simd.{get_or_wider, get_or_narrower, get_or-chunk, 
 use Rattle.std.proofs.Math.Nat.{pow-suc}
 use Rattle.std.specs.Simd.Lanes.{zip2, Each1, chunk, number_l, digits_l, pick_l}
 use Rattle.px_num.specs.Bits.{nat_bit}
-use Rattle.px_rows.proofs.BitLaws.{bit_down, bit_of_low}
+use Rattle.px_rows.proofs.BitLaws.{bit_down, bit_of_low, bit_of_zero}
 use Rattle.px_planes.specs.Lanes.{IsTwice, HasBytes, IsDoubled}
 
 -- ---- the table
@@ -137,10 +137,7 @@ bytes_law words long fits = record {
 
 pub number_bit : (xs : List ℕ) → Each1 (λ x. x < 256) xs → (j : ℕ) → nat_bit (number_l 256 xs) j
     ≡ nat_bit (get_or xs (j / 8) 0) (j % 8)
-number_bit [] h j = none j ∙ sym (none (j % 8))
-  where
-    none : (i : ℕ) → nat_bit 0 i ≡ false
-    none i = ap (λ b. eqb b 1) (bit_at-zero i)
+number_bit [] h j = bit_of_zero j ∙ sym (bit_of_zero (j % 8))
 number_bit (x ∷ xs) h j =
     let turned : x + 256 * number_l 256 xs ≡ number_l 256 xs * 2 ^ 8 + x = omega arith in
     ap (λ n. nat_bit n j) turned ∙ elim (cases_lt j 8) [
@@ -155,14 +152,6 @@ number_bit (x ∷ xs) h j =
     later : 8 ≤ j → nat_bit (get_or xs ((j - 8) / 8) 0) ((j - 8) % 8) ≡ nat_bit (get_or (x ∷ xs) (j / 8) 0) (j % 8)
     later g = let a : j / 8 ≡ suc ((j - 8) / 8) = omega arith in let b : j % 8 ≡ (j - 8) % 8 = omega arith in
         rw (a, b) refl
-
-number_small : (xs : List ℕ) → Each1 (λ x. x < 256) xs → number_l 256 xs < 2 ^ (8 * length xs)
-number_small [] h = omega arith
-number_small (x ∷ xs) h =
-    let e : 8 * suc (length xs) ≡ 8 + 8 * length xs = omega arith in
-    let p : 2 ^ (8 + 8 * length xs) ≡ 256 * 2 ^ (8 * length xs) = pow-add 2 8 (8 * length xs) in
-    let q : 2 ^ (8 * suc (length xs)) ≡ 256 * 2 ^ (8 * length xs) = ap (λ m. 2 ^ m) e ∙ p in
-    omega (arith, number_small xs h.1, h.0, q)
 
 abbrev pub woven : List ℕ → List ℕ → List ℕ → List ℕ
 woven lows highs ks = pick_l 0 (lows ++ highs) ks

@@ -3,8 +3,8 @@ use Rattle.std.specs.Prelude.{◌≡◌, ℕ, All, List, Option, None, map}
 use Rattle.px_array.specs.Arrays.{Device}
 use Rattle.px_planes.specs.Shelves.{SlotView}
 
-abbrev pub kept : List SlotView → List (Option Device)
-kept slots = map (λ s. s.kept) slots
+abbrev pub kept_by_slots : List SlotView → List (Option Device)
+kept_by_slots slots = map (λ s. s.kept) slots
 
 -- the rooms have the size of a grid
 abbrev pub HaveSize : (nx ny : ℕ) → List SlotView → Type 0

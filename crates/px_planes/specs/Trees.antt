@@ -12,7 +12,7 @@ abbrev pub seen_tree : (nx ny : ℕ) → (outputs carries : List ℕ) → TreeSt
 seen_tree nx ny outputs carries = record { nx = nx; ny = ny; nodes = tabulate (2 ^ (nx + ny + 1)) (node_of outputs carries) }
 
 -- the outputs of the levels below 6 in words of their own
-pub record IsSmall (outputs small : List ℕ) : Type 0 where
+pub record AreSmallLevels (outputs small : List ℕ) : Type 0 where
   pub long : length small ≡ 6
   pub each : (k j : ℕ) → 1 ≤ k → k < 6 → j < 64 → nat_bit (slice_index small k) j ≡ cond (nat_lt j (2 ^ k)) (nat_bit (slice_index outputs 0) (2 ^ k + j)) false
 
@@ -38,5 +38,5 @@ pub record IsTree (nx ny : ℕ) (outputs carries small : List ℕ) (still : List
   pub tall : length still ≡ heights (nx + ny)
   pub words : length outputs ≡ 2 ^ (length still + 1)
   pub enough : 2 ^ (nx + ny + 1) ≤ 64 * length outputs
-  pub low : IsSmall outputs small
+  pub low : AreSmallLevels outputs small
   pub rest : AreStill nx last still outputs carries

@@ -18,8 +18,6 @@ mod rest;
 mod shelf;
 mod slot;
 mod small;
-#[cfg(test)]
-mod tests;
 
 pub use law::law_of_arrays;
 pub use plane_array::PlaneArray;

@@ -1,19 +1,14 @@
 -- Bits that come later.
-use Rattle.std.proofs.Common.{◌≡◌, ℕ, zero, suc, ◌+◌, ◌-◌, ◌^◌, ◌<◌, ◌≤◌, ℤ, pos, negsuc, ◌+ℤ◌, ◌*ℤ◌, true, false}
-use Rattle.std.proofs.Common.{nat_lt, refl, sym, ap, ◌∙◌, arith, inl, inr}
+use Rattle.std.proofs.Common.{◌≡◌, ℕ, zero, suc, ◌+◌, ◌-◌, ◌^◌, ◌<◌, ℤ, pos, negsuc, ◌+ℤ◌, ◌*ℤ◌, false}
+use Rattle.std.proofs.Common.{refl, sym, ap, ◌∙◌, arith, inl, inr}
 use Rattle.std.proofs.lemmas.Bool.{cases_lt}
 use Rattle.std.proofs.lemmas.Int.{ints}
-use Rattle.std.proofs.lemmas.Bool.Decides.{nat_tests}
 use Rattle.px_num.specs.Bits.{bit_of}
 use Rattle.px_tree.specs.Feeds.{delayed_bit}
 use Rattle.px_num.proofs.AdderLaws.{double_bit, double_lowest}
-use Rattle.px_tree.proofs.PlaceLaws.{double_pow}
-
-pub lt_true : (m n : ℕ) → m < n → nat_lt m n ≡ true
-lt_true m n h = grind (arith, nat_tests)
-
-pub lt_false : (m n : ℕ) → n ≤ m → nat_lt m n ≡ false
-lt_false m n h = grind (arith, nat_tests)
+use Rattle.px_num.proofs.TruthLaws.{lt_false, lt_true}
+use Rattle.px_num.proofs.FormLaws.{times_sum}
+use Rattle.px_tree.proofs.PlaceLaws.{power_next}
 
 -- before its delay a bit is 0, and then it is one of the integer's
 pub delayed_before : (delay : ℕ) (v : ℤ) (s : ℕ) → s < delay → delayed_bit delay v s ≡ false
@@ -24,10 +19,6 @@ delayed_after delay v s t e =
     let rest : s - delay ≡ t = omega arith in
     rw (lt_false s delay (omega arith), rest) refl
 
-pub times_sum : (v : ℤ) (m n : ℕ) → v *ℤ pos (m + n) ≡ (v *ℤ pos m) +ℤ (v *ℤ pos n)
-times_sum (pos k) m n = omega (arith, ints)
-times_sum (negsuc k) m n = omega (arith, ints)
-
 times_one : (v : ℤ) → v *ℤ pos (2 ^ 0) ≡ v
 times_one (pos k) = omega (arith, ints)
 times_one (negsuc k) = omega (arith, ints)
@@ -35,7 +26,7 @@ times_one (negsuc k) = omega (arith, ints)
 pub times_double : (v : ℤ) (e : ℕ) → v *ℤ pos (2 ^ suc e) ≡ (v *ℤ pos (2 ^ e)) +ℤ (v *ℤ pos (2 ^ e))
 times_double v e =
     let next : suc e ≡ e + 1 = omega arith in
-    let double : 2 ^ suc e ≡ 2 ^ e + 2 ^ e = ap (λ n. 2 ^ n) next ∙ omega (arith, double_pow e) in
+    let double : 2 ^ suc e ≡ 2 ^ e + 2 ^ e = ap (λ n. 2 ^ n) next ∙ omega (arith, power_next e) in
     ap (λ n. v *ℤ pos n) double ∙ times_sum v (2 ^ e) (2 ^ e)
 
 -- a delay may be counted from any feed on

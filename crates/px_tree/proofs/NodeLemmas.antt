@@ -2,10 +2,8 @@
 use Rattle.std.proofs.Common.{◌≡◌, ℕ, zero, suc, ◌+◌, ◌-◌, ◌/◌, ◌%◌, ◌^◌, ◌<◌, ◌≤◌, ◌==◌, ◌&&◌, ℤ, pos, ◌+ℤ◌, Bool}
 use Rattle.std.proofs.Common.{true, false, cond, nat_lt, refl, sym, ap, ◌∙◌, arith, inl, inr}
 use Rattle.std.proofs.lemmas.Bool.{cases_lt}
-use Rattle.std.proofs.lemmas.Bool.Decides.{nat_tests}
 use Rattle.std.proofs.lemmas.Int.{ints}
 use Rattle.std.proofs.lemmas.List.{get_or-replicate}
-use Rattle.std.proofs.Math.Nat.{pow-le-pow_right}
 use Rattle.px_num.proofs.BitLaws.{pow_above}
 use Rattle.px_num.specs.Bits.{carry_from}
 use Rattle.px_num.proofs.ListLaws.{get_or-tabulate}
@@ -16,44 +14,38 @@ use Rattle.px_tree.specs.Nodes.{next_at, next_node, node_at, zero_node}
 use Rattle.px_tree.specs.Sums.{HoldsSums, partial_sum, weight}
 use Rattle.px_tree.specs.TreeBit.{IsFedByTable, NodesHoldSums}
 use Rattle.px_num.proofs.AdderLaws.{sum_bit}
-use Rattle.px_tree.proofs.DelayLemmas.{delayed_after, delayed_before, delayed_more, lt_false, lt_true}
+use Rattle.px_num.proofs.TruthLaws.{and_false, double_pow, lt_false, lt_true, power_grows, suc_not_zero}
+use Rattle.px_tree.proofs.DelayLemmas.{delayed_after, delayed_before, delayed_more}
 use Rattle.px_tree.proofs.PlaceLaws.{place_below}
-use Rattle.px_tree.proofs.SumLemmas.{double}
-
-power_up : (m n : ℕ) → m ≤ n → 2 ^ m ≤ 2 ^ n
-power_up m n h = pow-le-pow_right {n = 2} (omega arith) h
 
 in_nodes : (nx ny k index : ℕ) → suc k ≤ nx + ny → index < 2 ^ suc k → 2 ^ suc k + index < 2 ^ (nx + ny + 1)
 in_nodes nx ny k index in_tree in_level = place_below (nx + ny) (suc k) index in_tree in_level
-
-not_zero : (k : ℕ) → (suc k == 0) ≡ false
-not_zero k = grind (arith, nat_tests)
 
 -- only the nodes of level 1 stand below place 4
 root_test : (k index : ℕ) → index < 2 ^ suc k → nat_lt (2 ^ suc k + index) 4 ≡ (k == 0)
 root_test zero index below = lt_true _ _ (omega arith)
 root_test (suc k) index below =
-    lt_false _ _ (omega (arith, double (suc k), double k, pow_above k)) ∙ sym (not_zero k)
+    lt_false _ _ (omega (arith, double_pow (suc k), double_pow k, pow_above k)) ∙ sym (suc_not_zero k)
 
 -- line a comes to the levels up to nx
 line_test : (a b : Bool) (nx k index : ℕ) → index < 2 ^ suc k
     → cond (nat_lt (2 ^ suc k + index) (2 ^ (nx + 1))) a b ≡ cond (nat_lt nx (suc k)) b a
 line_test a b nx k index below = elim (cases_lt nx (suc k)) [
   | inl in_b ↦
-      let past : 2 ^ (nx + 1) ≤ 2 ^ suc k + index = omega (arith, power_up (nx + 1) (suc k) (omega arith)) in
+      let past : 2 ^ (nx + 1) ≤ 2 ^ suc k + index = omega (arith, power_grows (nx + 1) (suc k) (omega arith)) in
       rw (lt_true nx (suc k) in_b, lt_false (2 ^ suc k + index) (2 ^ (nx + 1)) past) refl
   | inr in_a ↦
       let before : 2 ^ suc k + index < 2 ^ (nx + 1) =
-      omega (arith, double (suc k), power_up (suc (suc k)) (nx + 1) (omega arith)) in
+      omega (arith, double_pow (suc k), power_grows (suc (suc k)) (nx + 1) (omega arith)) in
       rw (lt_false nx (suc k) in_a, lt_true (2 ^ suc k + index) (2 ^ (nx + 1)) before) refl
 ]
 
 pub is_fed_by_table : IsFedByTable
 is_fed_by_table tree a b c k index in_tree in_level =
     let place = 2 ^ suc k + index in
-    let low = lt_false place 2 (omega (arith, double k, pow_above k)) in
-    let odd : place % 2 ≡ index % 2 = omega (arith, double k) in
-    let parent : place / 2 ≡ 2 ^ k + index / 2 = omega (arith, double k) in
+    let low = lt_false place 2 (omega (arith, double_pow k, pow_above k)) in
+    let odd : place % 2 ≡ index % 2 = omega (arith, double_pow k) in
+    let parent : place / 2 ≡ 2 ^ k + index / 2 = omega (arith, double_pow k) in
     get_or-tabulate (2 ^ (tree.nx + tree.ny + 1)) (next_at a b c (2 ^ (tree.nx + 1)) tree.nodes) place zero_node
     (in_nodes tree.nx tree.ny k index in_tree in_level)
     ∙ rw (low, odd, parent, root_test k index in_level, line_test a b tree.nx k index in_level) refl
@@ -109,10 +101,6 @@ module _ (u w : ℤ) (k s : ℕ) where
   step : (odd : Bool) → fed odd ≡ held odd (suc s)
   step odd = elim (cases_lt s k) [ inl before ↦ waits odd before | inr after ↦ adds odd after ]
 
-none_carried : (odd : Bool) → (odd && false) ≡ false
-none_carried true = refl
-none_carried false = refl
-
 same_next : (odd p q d e k l : Bool) → p ≡ q → d ≡ e → k ≡ l → next_node odd p d k ≡ next_node odd q e l
 same_next odd p q d e k l parent line carry = cc
 
@@ -144,8 +132,8 @@ module _ (form : Linear) (nx ny : ℕ) where
   parent_is s hold zero index in_tree in_level = sym (delayed_after 0 form.c s s (omega arith))
   parent_is s hold (suc k) index in_tree in_level =
       let above : suc k ≤ nx + ny = omega arith in
-      let half : index / 2 < 2 ^ suc k = omega (arith, double (suc k)) in
-      rw (not_zero k) (ap (λ (n : Node). n.output) (hold k (index / 2) above half))
+      let half : index / 2 < 2 ^ suc k = omega (arith, double_pow (suc k)) in
+      rw (suc_not_zero k) (ap (λ (n : Node). n.output) (hold k (index / 2) above half))
 
   all_hold : (s : ℕ) → HoldsSums form nx ny s (fed_form form nx ny s)
   all_hold zero k index in_tree in_level =
@@ -156,7 +144,7 @@ module _ (form : Linear) (nx ny : ℕ) where
       ∙ rw (
         delayed_before (suc k) (partial_sum form nx ny (suc k) index) 0 before,
         none,
-        none_carried (index % 2 == 1),
+        and_false (index % 2 == 1),
       ) refl
   all_hold (suc s) k index in_tree in_level =
       let tree = fed_form form nx ny s in

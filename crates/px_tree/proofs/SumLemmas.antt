@@ -5,13 +5,10 @@ use Rattle.std.proofs.Math.IntN.{*ℤ-zero}
 use Rattle.std.proofs.lemmas.Int.{ints}
 use Rattle.std.proofs.lemmas.Nat.{shr-shr, mod-pow-add, div-mul-add, mod-mul-add}
 use Rattle.px_num.specs.declared.linear.Linear.{Linear}
+use Rattle.px_num.proofs.TruthLaws.{double_pow, lt_false, lt_true}
+use Rattle.px_num.proofs.FormLaws.{times_sum}
 use Rattle.px_tree.specs.Sums.{partial_sum}
 use Rattle.px_tree.specs.TreeBit.{LeafSumIsValue}
-use Rattle.px_tree.proofs.DelayLemmas.{lt_false, lt_true, times_sum}
-use Rattle.px_tree.proofs.PlaceLaws.{double_pow}
-
-pub double : (e : ℕ) → 2 ^ suc e ≡ 2 * 2 ^ e
-double e = let next : suc e ≡ e + 1 = omega arith in ap (λ n. 2 ^ n) next ∙ double_pow e
 
 -- one level down: twice as many steps of half the size, and one more where the index is odd
 one_more : (v : ℤ) (i m : ℕ) → (v *ℤ pos (i / 2 * (2 * m))) +ℤ cond (i % 2 == 1) (v *ℤ pos m) (pos 0) ≡ v *ℤ pos (i * m)
@@ -37,10 +34,10 @@ module _ (form : Linear) (nx ny : ℕ) where
       let none : i * 2 ^ (nx - 0) ≡ 0 = ap (λ j. j * 2 ^ (nx - 0)) first ∙ omega arith in
       rw none (omega (arith, ints, *ℤ-zero form.a))
   sum_a (suc k) i in_a below =
-      let parent : i / 2 < 2 ^ k = omega (arith, double k) in
+      let parent : i / 2 < 2 ^ k = omega (arith, double_pow k) in
       let above : k ≤ nx = omega arith in
       let next : nx - k ≡ suc (nx - suc k) = omega arith in
-      let wider : 2 ^ (nx - k) ≡ 2 * 2 ^ (nx - suc k) = ap (λ e. 2 ^ e) next ∙ double (nx - suc k) in
+      let wider : 2 ^ (nx - k) ≡ 2 * 2 ^ (nx - suc k) = ap (λ e. 2 ^ e) next ∙ double_pow (nx - suc k) in
       let before = rw wider at (sum_a k (i / 2) above parent) in
       rw (lt_false nx (suc k) in_a, before) (omega (arith, ints, one_more form.a i (2 ^ (nx - suc k))))
 
@@ -61,7 +58,7 @@ module _ (form : Linear) (nx ny : ℕ) where
       let past : nx < suc k = omega arith in
       let rows : nx + ny - suc k ≡ ny - suc j = omega arith in
       let next : ny - j ≡ suc (ny - suc j) = omega arith in
-      let wider : 2 ^ (ny - j) ≡ 2 * 2 ^ (ny - suc j) = ap (λ e. 2 ^ e) next ∙ double (ny - suc j) in
+      let wider : 2 ^ (ny - j) ≡ 2 * 2 ^ (ny - suc j) = ap (λ e. 2 ^ e) next ∙ double_pow (ny - suc j) in
       let after : suc j ≡ 1 + j = omega arith in
       let before : suc j ≡ j + 1 = omega arith in
       let high : i / 2 ^ suc j ≡ i / 2 / 2 ^ j = ap (λ e. i / 2 ^ e) after ∙ sym (shr-shr i 1 j) in

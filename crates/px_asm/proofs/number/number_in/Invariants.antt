@@ -1,13 +1,13 @@
 use Rattle.std.proofs.Common.{◌≡◌, ◌+◌, ◌^◌, ◌<◌}
 use Rattle.px_num.specs.Bits.{bit_at}
 use Rattle.px_array.specs.Arrays.{pixel_of}
-use Rattle.px_macro.specs.Fields.{number_of}
+use Rattle.px_macro.specs.Fields.{number_from_bits}
 use Rattle.px_asm.proofs.number.number_in.Given as goal
 
 abbrev pub invariant-loop-t : goal.invariant-loop-t
 invariant-loop-t g l =
     let memory = (pixel_of (g.A.Array.device l.array).state l.x l.y).memory
     in record {
-      number : l.number ≡ number_of (λ s. bit_at memory (l.field.at + s)) l.t;
+      number : l.number ≡ number_from_bits (λ s. bit_at memory (l.field.at + s)) l.t;
       small : l.number < 2 ^ l.t;
     }

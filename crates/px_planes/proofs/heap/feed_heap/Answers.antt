@@ -1,11 +1,12 @@
 use Rattle.std.proofs.Common.{◌≡◌, ◌-◌, length, subst, ◌∙◌, arith}
+use Rattle.px_num.proofs.TruthLaws.{power_grows}
 use Rattle.px_planes.proofs.FedLevels.{IsFedDown, are_still, at_next, fed_heap, fed_more, next_fits, next_odd}
-use Rattle.px_planes.proofs.FedLevels.{next_rest, power_up}
+use Rattle.px_planes.proofs.FedLevels.{next_rest}
 use Rattle.px_planes.proofs.heap.feed_heap.Goals as goal
 
 pub feed_level-requires-clause-from : goal.feed_level-requires-clause-from
 feed_level-requires-clause-from c =
-    omega (arith, c.power.ensures, power_up 1 (c.loop-u.u - 1) (omega arith))
+    omega (arith, c.power.ensures, power_grows 1 (c.loop-u.u - 1) (omega arith))
 
 pub feed_level-requires-clause-outputs : goal.feed_level-requires-clause-outputs
 feed_level-requires-clause-outputs c =
