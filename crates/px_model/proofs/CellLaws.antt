@@ -7,6 +7,7 @@ use Rattle.std.proofs.lemmas.Nat.{pow-add, pow_pos}
 use Rattle.std.proofs.lemmas.Bool.{cases_lt}
 use Rattle.std.proofs.lemmas.Bool.Decides.{nat_tests}
 use Rattle.std.proofs.lemmas.Int.{ints}
+use Rattle.px_num.proofs.TruthLaws.{le_holds, le_true}
 use lib.Signed.{le_z, lt_z}
 use Rattle.px_model.specs.Cells.{Depths, depths, cell_of, end_of, value_of}
 use Rattle.px_model.specs.declared.limits.TheConstants.{MAX_DEPTH_BITS}
@@ -47,12 +48,6 @@ end_is_small w f =
 pub end_is_within : (w f : ℕ) → w + f ≤ MAX_DEPTH_BITS →
     (2 ^ w - 1) * 2 ^ f < 2 ^ MAX_DEPTH_BITS
 end_is_within w f few = omega (arith, end_is_small w f, pow_mono {i = w + f} {j = MAX_DEPTH_BITS} few)
-
-le_true : (m n : ℕ) → m ≤ n → nat_le m n ≡ true
-le_true m n h = grind (arith, nat_tests)
-
-le_holds : (m n : ℕ) → nat_le m n ≡ true → m ≤ n
-le_holds m n h = grind (arith, nat_tests)
 
 at_most : (u v : ℤ) → u ≤ℤ v → le_z u v ≡ true
 at_most u v h = grind (arith, ints)

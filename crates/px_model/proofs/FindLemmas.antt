@@ -6,6 +6,7 @@ use Rattle.std.proofs.Math.Seq.{drop-cons}
 use Rattle.std.proofs.lemmas.List.Folds.{find-append}
 use Rattle.std.specs.List.{flat_map, range_with_len}
 use Rattle.std.specs.Option.{option_or}
+use Rattle.px_num.proofs.TruthLaws.{none_first, none_second}
 
 -- what is made of an element goes first, then what is made of the later ones
 module _ {X Y A : Type 0} (test : A → Bool) (f : Y → List A) (g : X → Y) where
@@ -48,20 +49,11 @@ module _ {A : Type 0} (test : A → Bool) (f : ℕ → List A) where
   number_later n end (Some a) within is none = absurd cc
   number_later n end None within is none = each n end within ∙ rw (sym is) refl
 
--- where none is found in a whole, none is in its parts
-none_left : {A : Type 0} (o p : Option A) → option_or o p ≡ None → o ≡ None
-none_left None p e = refl
-none_left (Some a) p e = cc
-
-none_right : {A : Type 0} (o p : Option A) → option_or o p ≡ None → p ≡ None
-none_right None p e = e
-none_right (Some a) p e = cc
-
 pub none_before : {A : Type 0} (test : A → Bool) (xs ys : List A) → find test (xs ++ ys) ≡ None → find test xs ≡ None
-none_before test xs ys none = none_left (find test xs) (find test ys) (sym (find-append test xs ys) ∙ none)
+none_before test xs ys none = none_first (find test xs) (find test ys) (sym (find-append test xs ys) ∙ none)
 
 pub none_behind : {A : Type 0} (test : A → Bool) (xs ys : List A) → find test (xs ++ ys) ≡ None → find test ys ≡ None
-none_behind test xs ys none = none_right (find test xs) (find test ys) (sym (find-append test xs ys) ∙ none)
+none_behind test xs ys none = none_second (find test xs) (find test ys) (sym (find-append test xs ys) ∙ none)
 
 pub none_in_each : {X A : Type 0} (test : A → Bool) (f : X → List A) (xs : List X) → find test (flat_map f xs) ≡ None
     → All (λ x. find test (f x) ≡ None) xs

@@ -1,4 +1,5 @@
 pub mod CellLaws
+pub mod FaceLaws
 pub mod FindLemmas
 pub mod PixelsLaws
 pub mod PlaneLaws

@@ -1,5 +1,5 @@
 -- A scene over other pixels keeps the limits of scenes, where no constant there is past its limit.
-use Rattle.std.proofs.Common.{◌≡◌, ℕ, zero, suc, ℤ, pos, negsuc, ◌+◌, ◌-◌, ◌^◌, ◌<◌, ◌≤◌, ◌==◌, List, [], ◌∷◌, ◌++◌}
+use Rattle.std.proofs.Common.{◌≡◌, ℕ, zero, suc, ℤ, pos, negsuc, ◌+◌, ◌-◌, ◌^◌, ◌<◌, ◌≤◌, ◌==◌, List, [], ◌∷◌}
 use Rattle.std.proofs.Common.{length, map, filter, find, fold, get_or, All, Bool, true, false, cond, not, nat_lt}
 use Rattle.std.proofs.Common.{Option}
 use Rattle.std.proofs.Common.{Some, None, refl, ap, sym, subst, ◌∙◌, arith}
@@ -20,7 +20,7 @@ use Rattle.px_model.specs.declared.solid.Face.{Face}
 use Rattle.px_model.specs.OverSolids.{AreLawfulOver}
 use Rattle.px_model.specs.Pixels.{HasSceneOver, face_over, plane_over, scene_over, solid_over}
 use Rattle.px_model.specs.Planes.{face_planes, first_past, is_past, planes_among, planes_in, planes_numbered, planes_of}
-use Rattle.px_model.specs.Solids.{AreFaces, IsColour, IsLawfulSolid, IsPlane, SolidView, faces_in, names_of}
+use Rattle.px_model.specs.Scenes.{AreFaces, IsColour, IsLawfulSolid, IsPlane, SolidView, faces_in, names_of}
 use Rattle.px_model.specs.Scenes.{AreNumberedFrom, IsLawfulScene, IsNumberedFrom, SceneView, faces_of, has_number}
 use Rattle.px_model.proofs.FindLemmas.{none_before, none_behind, none_in_each, none_passes}
 

@@ -3,7 +3,7 @@ use Rattle.std.proofs.Common.{◌^◌, lit≤}
 use Rattle.px_num.specs.declared.linear.Linear.{Linear}
 use Rattle.px_num.specs.Forms.{IsInHalfRange, IsInTreeRange}
 use Rattle.px_num.proofs.FormLaws.{wider}
-use Rattle.px_model.specs.Solids.{IsPlane}
+use Rattle.px_model.specs.Scenes.{IsPlane}
 
 pub plane_range : (p : Linear) → IsPlane p → IsInTreeRange p
 plane_range p h = record {

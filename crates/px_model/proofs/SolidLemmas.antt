@@ -6,7 +6,7 @@ use Rattle.std.proofs.lemmas.List.Quantifiers.{all_pairs_push}
 use Rattle.std.specs.List.{All}
 use Rattle.px_model.specs.declared.solid.Face.{Face}
 use Rattle.px_model.specs.declared.limits.TheConstants.{MAX_PLANES_OF_A_KIND}
-use Rattle.px_model.specs.Solids.{AreFaces, IsColour, IsPlane}
+use Rattle.px_model.specs.Scenes.{AreFaces, IsColour, IsPlane}
 
 all_of_one : {X : Type 0} (P : X → Type 0) (x : X) → P x → All P (x ∷ [])
 all_of_one P x holds zero d lt = holds

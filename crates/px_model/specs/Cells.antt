@@ -10,8 +10,7 @@ use Prim.Native.Nat.{zero, suc}
 use Rattle.px_num.specs.Forms.{value_at}
 use Rattle.px_expr.specs.Cells.{Cell, cell}
 use Rattle.px_model.specs.declared.solid.Face.{Face}
-use Rattle.px_model.specs.Solids.{SolidView}
-use Rattle.px_model.specs.Scenes.{SceneView}
+use Rattle.px_model.specs.Scenes.{SolidView, SceneView}
 
 -- the depths of a scene: how many cells a ray has, and how many bits a plane's value has below a whole cell
 pub record Depths : Type 0 where

@@ -1,7 +1,6 @@
-pub use Rattle.px_text.specs.Word
+pub use Rattle.px_text.specs.Text
 pub mod Cells
 pub mod OverSolids
 pub mod Pixels
 pub mod Planes
 pub mod Scenes
-pub mod Solids

@@ -2,7 +2,7 @@
 use Rattle.std.specs.Prelude.{List, All}
 use Rattle.px_model.specs.declared.pixels.Pixels.{Pixels}
 use Rattle.px_model.specs.Pixels.{solid_over}
-use Rattle.px_model.specs.Solids.{IsLawfulSolid, SolidView}
+use Rattle.px_model.specs.Scenes.{IsLawfulSolid, SolidView}
 
 -- each keeps the limits of solids there
 abbrev pub AreLawfulOver : Pixels → List SolidView → Type 0

@@ -7,8 +7,7 @@ use Rattle.px_model.specs.declared.limits.TheConstants.{MAX_DEPTH_BITS, MAX_FRAC
 use Rattle.px_model.specs.declared.pixels.Pixels.{Pixels}
 use Rattle.px_model.specs.declared.pixels.Pixels.TheVariants as pixels
 use Rattle.px_model.specs.Planes.{first_past}
-use Rattle.px_model.specs.Scenes.{SceneView}
-use Rattle.px_model.specs.Solids.{SolidView}
+use Rattle.px_model.specs.Scenes.{SceneView, SolidView}
 
 -- pixels that calls take
 abbrev pub ArePixels : Pixels → Type 0

@@ -6,7 +6,7 @@ use Rattle.std.specs.Option.{option_map}
 use Rattle.px_num.specs.declared.linear.Linear.{Linear}
 use Rattle.px_model.specs.declared.limits.TheConstants.{MAX_CONSTANT}
 use Rattle.px_model.specs.declared.solid.Face.{Face}
-use Rattle.px_model.specs.Solids.{SolidView}
+use Rattle.px_model.specs.Scenes.{SolidView}
 
 -- those of the faces of a number
 abbrev pub planes_among : List Face → (number : ℕ) → List Linear

@@ -20,7 +20,7 @@ ghost use Rattle.px_model.specs.Planes.{
   planes_numbered,
   planes_of,
 };
-ghost use Rattle.px_model.specs.Solids.{IsLawfulSolid, IsPlane};
+ghost use Rattle.px_model.specs.Scenes.{IsLawfulSolid, IsPlane};
 
 use crate::limits::MAX_CONSTANT;
 use crate::scene::{Scene, laws_of_scenes};

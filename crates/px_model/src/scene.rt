@@ -1,6 +1,6 @@
 //! A scene: its picture's size and depth, its solids, and the expression that is shown.
 ghost use Rattle.std.specs.Prelude.{◌≡◌, ◌-◌, ◌^◌, ◌<◌, ◌≤◌, All, length};
-ghost use Rattle.px_model.specs.Solids.{IsLawfulSolid};
+ghost use Rattle.px_model.specs.Scenes.{IsLawfulSolid};
 ghost use Rattle.px_model.specs.Cells.{depths_of, end_of};
 ghost use Rattle.px_model.specs.Scenes.{SceneView, IsLawfulScene, IsGridExponent, faces_of, colour_in_scene};
 
@@ -29,7 +29,7 @@ pub struct Scene {
 impl Model for Scene {
     ghost use Rattle.std.specs.Prelude.{◌≡◌, All};
     ghost use Rattle.px_model.specs.Scenes.{SceneView, IsLawfulScene, faces_of};
-    ghost use Rattle.px_model.specs.Solids.{IsLawfulSolid};
+    ghost use Rattle.px_model.specs.Scenes.{IsLawfulSolid};
     ghost use Rattle.px_expr.specs.TreeCode.{tree_code};
     ghost use Rattle.std.specs.Coded.{codes};
 

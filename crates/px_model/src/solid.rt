@@ -1,6 +1,6 @@
 //! One convex solid: the planes that bound it, with its limits kept in its type.
 ghost use Rattle.std.specs.Prelude.{◌≡◌, ◌<◌, ◌≤◌, ◌++◌, ◌∷◌, [], length, OnOk, OnErr, All};
-ghost use Rattle.px_model.specs.Solids.{SolidView, IsLawfulSolid, IsPlane, AreFaces, colour_in, colour_among, faces_in};
+ghost use Rattle.px_model.specs.Scenes.{SolidView, IsLawfulSolid, IsPlane, AreFaces, colour_in, colour_among, faces_in};
 
 use crate::MAX_PLANES_OF_A_KIND;
 use arrayvec::ArrayVec;
@@ -40,7 +40,7 @@ pub struct Solid {
 }
 
 impl Model for Solid {
-    ghost use Rattle.px_model.specs.Solids.{SolidView, IsLawfulSolid};
+    ghost use Rattle.px_model.specs.Scenes.{SolidView, IsLawfulSolid};
 
     ghost Value = { SolidView };
 

@@ -1,7 +1,7 @@
 use Rattle.std.proofs.Common.{arith, ap, sym}
 use Rattle.std.proofs.lemmas.List.Elements.{All-more}
 use Rattle.std.proofs.lemmas.List.Sums.{sum_by_more}
-use Rattle.px_model.specs.Solids.{IsLawfulSolid, faces_in}
+use Rattle.px_model.specs.Scenes.{IsLawfulSolid, faces_in}
 use Rattle.px_model.proofs.scene.faces_among.Goals as goal
 
 pub loop-solid-preserved : goal.loop-solid-preserved

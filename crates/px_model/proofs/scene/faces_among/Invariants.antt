@@ -1,6 +1,5 @@
 use Rattle.std.proofs.Common.{◌≡◌, All, take}
-use Rattle.px_model.specs.Scenes.{faces_of}
-use Rattle.px_model.specs.Solids.{IsLawfulSolid}
+use Rattle.px_model.specs.Scenes.{faces_of, IsLawfulSolid}
 use Rattle.px_model.proofs.scene.faces_among.Given as goal
 
 abbrev pub invariant-loop-solid : goal.invariant-loop-solid
