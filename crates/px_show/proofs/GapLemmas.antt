@@ -1,6 +1,6 @@
 -- Printing an expression from its last node to its first.
 use Rattle.std.proofs.Common.{◌≡◌, ℕ, ◌+◌, ◌<◌, ◌≤◌, List, [], ◌∷◌, ◌++◌, length, get_or, take, reverse, replicate}
-use Rattle.std.proofs.Common.{None, refl, ap, sym, ◌∙◌, arith, append_assoc, append-nil, length-append, subst}
+use Rattle.std.proofs.Common.{ap, sym, ◌∙◌, arith, append_assoc, length-append, subst}
 use Prim.Native.Nat.{zero, suc}
 use Rattle.std.specs.List.{All}
 use Rattle.std.proofs.lemmas.List.{replicate-append-replicate, length-reverse}
@@ -97,21 +97,6 @@ pub record IsPrintedTo (names : Words) (tree : Tree) (nodes rest : List Node) (g
   pub count : length gaps ≡ length (trees_after rest)
   pub few : All (λ g. g.opens + length rest ≤ 1023) gaps
   pub text : spread names (trees_after rest) gaps ++ back ≡ printed (named_by names tree)
-
-pub starts : (names : Words) (tree : Tree) (nodes : List Node) (gap : Gap) → trees_after nodes ≡ tree ∷ []
-    → length nodes ≤ 1023 → gap.sign ≡ None → gap.opens ≡ 0
-    → IsPrintedTo names tree nodes nodes (gap ∷ []) []
-starts names tree nodes gap is most none opens = record {
-  after = [];
-  front = sym (append-nil nodes);
-  count = rw is refl;
-  few = first;
-  text = rw (is, none, opens) (append-nil (printed (named_by names tree)));
-}
-  where
-    first : All (λ g. g.opens + length nodes ≤ 1023) (gap ∷ [])
-    first zero d lt = omega arith
-    first (suc k) d lt = absurd (omega arith)
 
 parted : (before after rest nodes : List Node) (node : Node) → nodes ≡ rest ++ after → rest ≡ before ++ node ∷ []
     → nodes ≡ before ++ node ∷ after

@@ -1,9 +1,9 @@
 pub mod ExpressionLemmas
-pub mod FaultLemmas
+pub mod FaultLaws
 pub mod GapLemmas
-pub mod PrintedLemmas
-pub mod ShowLemmas
-pub mod SignLemmas
+pub mod PrintedLaws
+pub mod ShowLaws
+pub mod SignLaws
 pub mod StackLemmas
 pub mod StepLemmas
 pub mod TokenLemmas

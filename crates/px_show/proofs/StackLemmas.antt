@@ -11,13 +11,13 @@ use Rattle.std.proofs.lemmas.List.Folds.{list_any-append}
 use Rattle.std.proofs.lemmas.List.Sums.{sum_by-append, count_by-le-length}
 use Rattle.std.proofs.lemmas.Bool.Decides.{nat_tests}
 use Rattle.std.proofs.Math.Seq.{drop-append_seam}
+use Rattle.px_num.proofs.TruthLaws.{or_false}
 use Rattle.px_expr.specs.declared.node.Op.{Op}
 use Rattle.px_text.specs.Text.{Words}
-use Rattle.px_show.specs.Faults.{is_among, judged}
-use Rattle.px_show.specs.Tokens.{opens, sign, other}
-use Rattle.px_show.specs.Expressions.{Named, leaf, join, leaves, nesting, Part, side, token, closed, whole}
-use Rattle.px_show.specs.Show.{place_of, placed, are_known, cause_in, limit_in, counts_past}
-use Rattle.px_show.specs.Stacks.{part_of, bracketed, closing, nesting_of, steps_of, all_steps, is_leaf, is_unknown}
+use Rattle.px_show.specs.Expressions.{is_among, judged, opens, sign, other}
+use Rattle.px_show.specs.Expressions.{Named, leaf, join, leaves, nesting, Part, side, token, bracket_closed, whole}
+use Rattle.px_show.specs.Expressions.{place_of, over_places, are_known, cause_in, limit_in, counts_past}
+use Rattle.px_show.specs.Stacks.{stack_part, bracketed, closing, nesting_of, tree_steps, all_steps, is_leaf, is_unknown}
 use Rattle.px_show.specs.Stacks.{AreKept}
 use Rattle.px_show.specs.declared.fault.Cause.TheVariants as cause
 use Rattle.px_show.specs.declared.fault.LineFault.{LineFault}
@@ -28,12 +28,12 @@ use Rattle.px_show.specs.declared.stack.Step.{Step}
 use Rattle.px_show.specs.declared.stack.Step.TheVariants as s
 
 -- a tree has more steps than it is nested deep
-nesting_below : (names : Words) (tree : Named) → nesting tree < length (steps_of (placed names tree))
+nesting_below : (names : Words) (tree : Named) → nesting tree < length (tree_steps (over_places names tree))
 nesting_below names (leaf n) = omega arith
 nesting_below names (join op left right) =
     grind (arith, length-append {A = Step}, nesting_below names left, nesting_below names right)
 
-leaves_counted : (names : Words) (tree : Named) → count_by is_leaf (steps_of (placed names tree)) ≡ leaves tree
+leaves_counted : (names : Words) (tree : Named) → count_by is_leaf (tree_steps (over_places names tree)) ≡ leaves tree
 leaves_counted names (leaf n) = refl
 leaves_counted names (join op left right) =
     grind (arith, sum_by-append {X = Step}, leaves_counted names left, leaves_counted names right)
@@ -47,22 +47,18 @@ place_unknown (m ∷ ms) n = by_test (bytes_eq m n) (place_unknown ms n)
     by_test true later = grind (arith, nat_tests)
     by_test false later = grind (arith, nat_tests)
 
-or-false : (b : Bool) → b || false ≡ b
-or-false true = refl
-or-false false = refl
-
 either : (a b : Bool) → not a || not b ≡ not (a && b)
 either true b = refl
 either false b = refl
 
-some_unknown : (names : Words) (tree : Named) → list_any (is_unknown (length names)) (steps_of (placed names tree))
+some_unknown : (names : Words) (tree : Named) → list_any (is_unknown (length names)) (tree_steps (over_places names tree))
     ≡ not (are_known names tree)
-some_unknown names (leaf n) = or-false _ ∙ place_unknown names n
+some_unknown names (leaf n) = or_false _ ∙ place_unknown names n
 some_unknown names (join op left right) =
-    list_any-append (is_unknown (length names)) (steps_of (placed names left) ++ steps_of (placed names right))
+    list_any-append (is_unknown (length names)) (tree_steps (over_places names left) ++ tree_steps (over_places names right))
     (s.Join op ∷ [])
-    ∙ or-false _
-    ∙ list_any-append (is_unknown (length names)) (steps_of (placed names left)) (steps_of (placed names right))
+    ∙ or_false _
+    ∙ list_any-append (is_unknown (length names)) (tree_steps (over_places names left)) (tree_steps (over_places names right))
     ∙ rw (some_unknown names left, some_unknown names right) (either (are_known names left) (are_known names right))
 
 reverse_take : {X : Type 0} (xs : List X) (k : ℕ) → k ≤ length xs → reverse (take (length xs - k) xs)
@@ -82,8 +78,8 @@ record IsClosing (read : List Part) (op : Op) (n : ℕ) : Type 0 where
   shape : read ≡ side right ∷ token (sign op) ∷ side left ∷ token opens ∷ before
   is : n ≡ min (max (nesting left) (nesting right) + 1) (2 ^ 64 - 1)
 
-bracket_shape : (a b c d : Part) (before : List Part) (op : Op) (n : ℕ) → Some (op, n) ≡ bracketed (part_of a)
-    (part_of b) (part_of c) (part_of d) → IsClosing (d ∷ c ∷ b ∷ a ∷ before) op n
+bracket_shape : (a b c d : Part) (before : List Part) (op : Op) (n : ℕ) → Some (op, n) ≡ bracketed (stack_part a)
+    (stack_part b) (stack_part c) (stack_part d) → IsClosing (d ∷ c ∷ b ∷ a ∷ before) op n
 bracket_shape (token opens) (side left) (token (sign o)) (side right) before op n e =
     let same = ap (λ (x : Option (Op × ℕ)). unwrap_or x (op, n)) e
     in record {
@@ -97,7 +93,7 @@ bracket_shape (token opens) (side left) (token (sign o)) (token other) before op
 bracket_shape (token opens) (token other) c d before op n e = absurd (cc)
 bracket_shape a b c d before op n e = absurd (cc)
 
-closing_shape : (read : List Part) (op : Op) (n : ℕ) → Some (op, n) ≡ closing (map part_of read) → IsClosing read op n
+closing_shape : (read : List Part) (op : Op) (n : ℕ) → Some (op, n) ≡ closing (map stack_part read) → IsClosing read op n
 closing_shape (d ∷ c ∷ b ∷ a ∷ before) op n e = bracket_shape a b c d before op n e
 closing_shape [] op n e = absurd (cc)
 closing_shape (d ∷ []) op n e = absurd (cc)
@@ -112,8 +108,8 @@ closed_stack : (names : Words) (parts new_parts : List Kind) (steps new_steps : 
     → new_steps ≡ steps ++ s.Join op ∷ []
     → AreKept names new_parts new_steps (side (join op left right) ∷ before)
 closed_stack names parts new_parts steps new_steps op n left right before is same four few put more =
-    let left_steps = steps_of (placed names left)
-    in let right_steps = steps_of (placed names right)
+    let left_steps = tree_steps (over_places names left)
+    in let right_steps = tree_steps (over_places names right)
     in let size : length steps ≡ length (all_steps names before) + length left_steps + length right_steps =
     ap length is.order ∙ grind (arith, length-append {A = Step})
     in let exact : n ≡ max (nesting left) (nesting right) + 1 =
@@ -121,7 +117,7 @@ closed_stack names parts new_parts steps new_steps op n left right before is sam
     in record {
       kinds = ap reverse put ∙ reverse-append (take (length parts - 4) parts) (p.Side n ∷ [])
           ∙ ap (λ ks. p.Side n ∷ ks) (reverse_take parts 4 four ∙ ap (drop 4) is.kinds)
-          ∙ ap (λ m. p.Side m ∷ map part_of before) exact;
+          ∙ ap (λ m. p.Side m ∷ map stack_part before) exact;
       order = more ∙ ap (λ ss. ss ++ s.Join op ∷ []) is.order ∙ simp append_assoc;
     }
 
@@ -130,7 +126,7 @@ pub closes_sides : (names : Words) (parts new_parts : List Kind) (steps new_step
     (op : Op) (n : ℕ)
     → AreKept names parts steps read → Some (op, n) ≡ closing (reverse parts) → 4 ≤ length parts → length steps < 2 ^ 63
     → new_parts ≡ take (length parts - 4) parts ++ p.Side n ∷ [] → new_steps ≡ steps ++ s.Join op ∷ []
-    → AreKept names new_parts new_steps (closed read)
+    → AreKept names new_parts new_steps (bracket_closed read)
 closes_sides names parts new_parts steps new_steps read op n is e four few put more =
     let found = closing_shape read op n (rw is.kinds at e)
     in rw found.shape
@@ -142,13 +138,13 @@ record IsWhole (names : Words) (parts : List Kind) (steps : List Step) (read : L
   tree : Named
   shape : read ≡ side tree ∷ []
   nested : nesting tree ≡ n
-  order : steps ≡ steps_of (placed names tree)
+  order : steps ≡ tree_steps (over_places names tree)
 
 whole_stack : (names : Words) (parts : List Kind) (steps : List Step) (read : List Part) (n : ℕ)
     → Some n ≡ nesting_of (reverse parts) → AreKept names parts steps read → IsWhole names parts steps read n
 whole_stack names parts steps read n e is = by_parts read is.order (e ∙ ap nesting_of is.kinds)
   where
-    by_parts : (read : List Part) → steps ≡ all_steps names read → Some n ≡ nesting_of (map part_of read)
+    by_parts : (read : List Part) → steps ≡ all_steps names read → Some n ≡ nesting_of (map stack_part read)
         → IsWhole names parts steps read n
     by_parts (side tree ∷ []) order e = record { tree = tree; shape = refl; nested = cc; order = order }
     by_parts [] order e = absurd (cc)

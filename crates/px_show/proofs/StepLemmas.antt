@@ -8,16 +8,16 @@ use Rattle.px_expr.specs.declared.node.Op.{Op}
 use Rattle.px_expr.specs.Tree.{Tree, leaf, join, leaf_count, nesting}
 use Rattle.px_expr.specs.Shapes.{joined}
 use Rattle.px_expr.specs.Waiting.{newest, all_leaves}
-use Rattle.px_show.specs.Stacks.{steps_of, built}
+use Rattle.px_show.specs.Stacks.{tree_steps, trees_built}
 use Rattle.px_show.specs.declared.stack.Step.{Step}
 use Rattle.px_show.specs.declared.stack.Step.TheVariants as s
 
-pub build_tree : (trees : List Tree) (tree : Tree) → fold built trees (steps_of tree) ≡ tree ∷ trees
+pub build_tree : (trees : List Tree) (tree : Tree) → fold trees_built trees (tree_steps tree) ≡ tree ∷ trees
 build_tree trees (leaf place) = refl
 build_tree trees (join op left right) =
-    fold-append built trees (steps_of left ++ steps_of right) (s.Join op ∷ [])
+    fold-append trees_built trees (tree_steps left ++ tree_steps right) (s.Join op ∷ [])
     ∙ rw (
-      fold-append built trees (steps_of left) (steps_of right),
+      fold-append trees_built trees (tree_steps left) (tree_steps right),
       build_tree trees left,
       build_tree (left ∷ trees) right,
     ) refl
@@ -29,68 +29,68 @@ CanTake waiting (s.Join op) = 2 ≤ waiting
 -- each step in its turn can be taken
 abbrev AllTaken : List Tree → List Step → Type 0
 AllTaken trees [] = Unit {0}
-AllTaken trees (step ∷ steps) = CanTake (length trees) step × AllTaken (built trees step) steps
+AllTaken trees (step ∷ steps) = CanTake (length trees) step × AllTaken (trees_built trees step) steps
 
-taken_both : (trees : List Tree) (xs ys : List Step) → AllTaken trees xs → AllTaken (fold built trees xs) ys
+taken_both : (trees : List Tree) (xs ys : List Step) → AllTaken trees xs → AllTaken (fold trees_built trees xs) ys
     → AllTaken trees (xs ++ ys)
 taken_both trees [] ys first second = second
-taken_both trees (x ∷ xs) ys first second = (first.0, taken_both (built trees x) xs ys first.1 second)
+taken_both trees (x ∷ xs) ys first second = (first.0, taken_both (trees_built trees x) xs ys first.1 second)
 
-taken_tree : (trees : List Tree) (tree : Tree) → AllTaken trees (steps_of tree)
+taken_tree : (trees : List Tree) (tree : Tree) → AllTaken trees (tree_steps tree)
 taken_tree trees (leaf place) = (tt, tt)
 taken_tree trees (join op left right) =
-    taken_both trees (steps_of left ++ steps_of right) (s.Join op ∷ [])
-    (taken_both trees (steps_of left) (steps_of right) (taken_tree trees left)
+    taken_both trees (tree_steps left ++ tree_steps right) (s.Join op ∷ [])
+    (taken_both trees (tree_steps left) (tree_steps right) (taken_tree trees left)
     (rw (build_tree trees left) (taken_tree (left ∷ trees) right)))
     (rw (
-      fold-append built trees (steps_of left) (steps_of right),
+      fold-append trees_built trees (tree_steps left) (tree_steps right),
       build_tree trees left,
       build_tree (left ∷ trees) right,
     ) (omega arith, tt))
 
 taken_at : (trees : List Tree) (steps : List Step) (i : ℕ) (any : Step) → AllTaken trees steps → i < length steps
-    → CanTake (length (fold built trees (take i steps))) (get_or steps i any)
+    → CanTake (length (fold trees_built trees (take i steps))) (get_or steps i any)
 taken_at trees [] i any all lt = absurd (omega arith)
 taken_at trees (x ∷ xs) zero any all lt = all.0
-taken_at trees (x ∷ xs) (suc i) any all lt = taken_at (built trees x) xs i any all.1 (omega arith)
+taken_at trees (x ∷ xs) (suc i) any all lt = taken_at (trees_built trees x) xs i any all.1 (omega arith)
 
-can_take : (tree : Tree) (steps : List Step) (i : ℕ) (any : Step) → steps ≡ steps_of tree → i < length steps
-    → CanTake (length (fold built [] (take i steps))) (get_or steps i any)
+can_take : (tree : Tree) (steps : List Step) (i : ℕ) (any : Step) → steps ≡ tree_steps tree → i < length steps
+    → CanTake (length (fold trees_built [] (take i steps))) (get_or steps i any)
 can_take tree steps i any is lt = taken_at [] steps i any (rw is (taken_tree [] tree)) lt
 
 -- a join finds its two sides
 pub can_join : (tree : Tree) (steps : List Step) (waiting : List Tree) (i : ℕ) (step : Step) (op : Op)
-    → steps ≡ steps_of tree → i < length steps
-    → waiting ≡ fold built [] (take i steps) → get_or steps i step ≡ s.Join op → 2 ≤ length waiting
+    → steps ≡ tree_steps tree → i < length steps
+    → waiting ≡ fold trees_built [] (take i steps) → get_or steps i step ≡ s.Join op → 2 ≤ length waiting
 can_join tree steps waiting i step op is lt now here = rw now (rw here at (can_take tree steps i step is lt))
 
 -- behind the last step the tree waits alone
-pub all_built : (tree : Tree) (steps : List Step) (waiting : List Tree) (i : ℕ) → steps ≡ steps_of tree
-    → length steps ≤ i → waiting ≡ fold built [] (take i steps) → waiting ≡ tree ∷ []
-all_built tree steps waiting i is past now = now ∙ ap (fold built []) (take_all i steps past ∙ is) ∙ build_tree [] tree
+pub all_built : (tree : Tree) (steps : List Step) (waiting : List Tree) (i : ℕ) → steps ≡ tree_steps tree
+    → length steps ≤ i → waiting ≡ fold trees_built [] (take i steps) → waiting ≡ tree ∷ []
+all_built tree steps waiting i is past now = now ∙ ap (fold trees_built []) (take_all i steps past ∙ is) ∙ build_tree [] tree
 
 -- what no step makes less is at most what it is of the whole tree
 never_falls : (measure : List Tree → ℕ)
-    → ((trees : List Tree) (step : Step) → measure trees ≤ measure (built trees step))
-    → (trees : List Tree) (steps : List Step) → measure trees ≤ measure (fold built trees steps)
+    → ((trees : List Tree) (step : Step) → measure trees ≤ measure (trees_built trees step))
+    → (trees : List Tree) (steps : List Step) → measure trees ≤ measure (fold trees_built trees steps)
 never_falls measure each trees [] = omega arith
 never_falls measure each trees (step ∷ steps) =
-    omega (arith, each trees step, never_falls measure each (built trees step) steps)
+    omega (arith, each trees step, never_falls measure each (trees_built trees step) steps)
 
-at_most : (measure : List Tree → ℕ) → ((trees : List Tree) (step : Step) → measure trees ≤ measure (built trees step))
-    → (tree : Tree) (steps : List Step) (waiting : List Tree) (i : ℕ) (step : Step) → steps ≡ steps_of tree
+at_most : (measure : List Tree → ℕ) → ((trees : List Tree) (step : Step) → measure trees ≤ measure (trees_built trees step))
+    → (tree : Tree) (steps : List Step) (waiting : List Tree) (i : ℕ) (step : Step) → steps ≡ tree_steps tree
     → i < length steps
-    → waiting ≡ fold built [] (take i steps) → measure (built waiting (get_or steps i step)) ≤ measure (tree ∷ [])
+    → waiting ≡ fold trees_built [] (take i steps) → measure (trees_built waiting (get_or steps i step)) ≤ measure (tree ∷ [])
 at_most measure each tree steps waiting i step is lt now =
-    let after = fold built [] (take (i + 1) steps)
-    in let here : built waiting (get_or steps i step) ≡ after = ap (λ trees. built trees (get_or steps i step)) now
-    ∙ sym (fold_more built [] steps i step lt)
-    in let last : fold built after (drop (i + 1) steps) ≡ tree ∷ [] =
-    sym (fold-append built [] (take (i + 1) steps) (drop (i + 1) steps))
-    ∙ ap (fold built []) (take-append-drop (i + 1) steps ∙ is) ∙ build_tree [] tree
+    let after = fold trees_built [] (take (i + 1) steps)
+    in let here : trees_built waiting (get_or steps i step) ≡ after = ap (λ trees. trees_built trees (get_or steps i step)) now
+    ∙ sym (fold_more trees_built [] steps i step lt)
+    in let last : fold trees_built after (drop (i + 1) steps) ≡ tree ∷ [] =
+    sym (fold-append trees_built [] (take (i + 1) steps) (drop (i + 1) steps))
+    ∙ ap (fold trees_built []) (take-append-drop (i + 1) steps ∙ is) ∙ build_tree [] tree
     in omega (arith, never_falls measure each after (drop (i + 1) steps), ap measure here, ap measure last)
 
-leaves_grow : (trees : List Tree) (step : Step) → all_leaves trees ≤ all_leaves (built trees step)
+leaves_grow : (trees : List Tree) (step : Step) → all_leaves trees ≤ all_leaves (trees_built trees step)
 leaves_grow trees (s.Leaf place) = omega arith
 leaves_grow [] (s.Join op) = omega arith
 leaves_grow (tree ∷ []) (s.Join op) = omega arith
@@ -101,7 +101,7 @@ abbrev deepest : List Tree → ℕ
 deepest [] = 0
 deepest (tree ∷ others) = max (nesting tree) (deepest others)
 
-deepens : (trees : List Tree) (step : Step) → deepest trees ≤ deepest (built trees step)
+deepens : (trees : List Tree) (step : Step) → deepest trees ≤ deepest (trees_built trees step)
 deepens trees (s.Leaf place) = omega arith
 deepens [] (s.Join op) = omega arith
 deepens (tree ∷ []) (s.Join op) = omega arith
@@ -113,15 +113,15 @@ newest_most (tree ∷ others) = omega arith
 
 -- a tree within the limits leaves room for each of its leaves, and for each join
 pub room_for_leaf : (tree : Tree) (steps : List Step) (waiting : List Tree) (i : ℕ) (step : Step) (place : ℕ)
-    → steps ≡ steps_of tree → leaf_count tree ≤ 512 → i < length steps
-    → waiting ≡ fold built [] (take i steps) → get_or steps i step ≡ s.Leaf place → all_leaves waiting < 512
+    → steps ≡ tree_steps tree → leaf_count tree ≤ 512 → i < length steps
+    → waiting ≡ fold trees_built [] (take i steps) → get_or steps i step ≡ s.Leaf place → all_leaves waiting < 512
 room_for_leaf tree steps waiting i step place is few lt now here =
     let most = rw here at (at_most all_leaves leaves_grow tree steps waiting i step is lt now)
     in omega arith
 
 pub room_for_join : (tree : Tree) (steps : List Step) (waiting : List Tree) (i : ℕ) (step : Step) (op : Op)
-    → steps ≡ steps_of tree → nesting tree ≤ 64 → i < length steps
-    → waiting ≡ fold built [] (take i steps) → get_or steps i step ≡ s.Join op
+    → steps ≡ tree_steps tree → nesting tree ≤ 64 → i < length steps
+    → waiting ≡ fold trees_built [] (take i steps) → get_or steps i step ≡ s.Join op
     → nesting (newest (joined join op waiting)) ≤ 64
 room_for_join tree steps waiting i step op is flat lt now here =
     let most = rw here at (at_most deepest deepens tree steps waiting i step is lt now)

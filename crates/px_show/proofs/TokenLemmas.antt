@@ -4,26 +4,26 @@ use Rattle.std.proofs.Common.{cond, if◌then◌else◌, Option, Some, None, ref
 use Rattle.std.proofs.Math.Numerals.{one-add}
 use Rattle.std.specs.List.{prefix_len}
 use Rattle.px_expr.specs.declared.node.Op.{Op}
-use Rattle.px_text.specs.Word.{is_name_byte}
-use Rattle.px_show.specs.Signs.{is_sign, op_of}
+use Rattle.px_text.specs.Text.{is_name_byte}
+use Rattle.px_show.specs.Versions.{is_sign, op_of}
 use Rattle.px_show.specs.declared.version.Version.{Version}
-use Rattle.px_show.specs.Tokens.{Token, name, opens, closes, sign, other, sign_in, mark, named, tokens_in}
+use Rattle.px_show.specs.Expressions.{Token, name, opens, closes, sign, other, sign_in, mark, with_name_byte, tokens_in}
 
 -- a mark is no part of a name
-pub apart : (version : Version) (b x : ℕ) (ts : List Token) → named b (mark version x ∷ ts) ≡ name (b ∷ [])
+pub apart : (version : Version) (b x : ℕ) (ts : List Token) → with_name_byte b (mark version x ∷ ts) ≡ name (b ∷ [])
     ∷ mark version x ∷ ts
 apart version b x ts = by_test (x == 40) (x == 41)
   where
-    by_sign : (op : Option Op) → named b (sign_in version op ∷ ts) ≡ name (b ∷ []) ∷ sign_in version op ∷ ts
+    by_sign : (op : Option Op) → with_name_byte b (sign_in version op ∷ ts) ≡ name (b ∷ []) ∷ sign_in version op ∷ ts
     by_sign None = refl
     by_sign (Some op) = by_version (is_sign version op)
       where
-        by_version : (test : Bool) → named b ((if test then sign op else other) ∷ ts) ≡ name (b ∷ [])
+        by_version : (test : Bool) → with_name_byte b ((if test then sign op else other) ∷ ts) ≡ name (b ∷ [])
             ∷ (if test then sign op else other) ∷ ts
         by_version true = refl
         by_version false = refl
 
-    by_test : (p q : Bool) → named b ((if p then opens else if q then closes else sign_in version (op_of x)) ∷ ts)
+    by_test : (p q : Bool) → with_name_byte b ((if p then opens else if q then closes else sign_in version (op_of x)) ∷ ts)
         ≡ name (b ∷ []) ∷ (if p then opens else if q then closes else sign_in version (op_of x)) ∷ ts
     by_test true q = refl
     by_test false true = refl
@@ -31,7 +31,7 @@ apart version b x ts = by_test (x == 40) (x == 41)
 
 -- a name that a byte begins goes on as long as there are bytes of names
 begun : (version : Version) (b : ℕ) (bs : List ℕ) (n : ℕ) → n ≡ prefix_len is_name_byte bs
-    → named b (tokens_in version bs) ≡ name (b ∷ take n bs) ∷ tokens_in version (drop n bs)
+    → with_name_byte b (tokens_in version bs) ≡ name (b ∷ take n bs) ∷ tokens_in version (drop n bs)
 begun version b [] n e = rw e refl
 begun version b (x ∷ xs) n e =
     by_test (is_name_byte x) n (tokens_in version (x ∷ xs)) (begun version x xs _ refl) e refl refl
@@ -39,11 +39,11 @@ begun version b (x ∷ xs) n e =
     run : ℕ
     run = prefix_len is_name_byte xs
 
-    by_test : (test : Bool) (n : ℕ) (all : List Token) → named x (tokens_in version xs) ≡ name (x ∷ take run xs)
+    by_test : (test : Bool) (n : ℕ) (all : List Token) → with_name_byte x (tokens_in version xs) ≡ name (x ∷ take run xs)
         ∷ tokens_in version (drop run xs)
-        → n ≡ cond test (1 + run) 0 → all ≡ cond test (named x (tokens_in version xs))
+        → n ≡ cond test (1 + run) 0 → all ≡ cond test (with_name_byte x (tokens_in version xs))
         (mark version x ∷ tokens_in version xs) → all ≡ tokens_in version (x ∷ xs)
-        → named b all ≡ name (b ∷ take n (x ∷ xs)) ∷ tokens_in version (drop n (x ∷ xs))
+        → with_name_byte b all ≡ name (b ∷ take n (x ∷ xs)) ∷ tokens_in version (drop n (x ∷ xs))
     by_test true n all later e is whole = rw (e ∙ one-add run, is, later) refl
     by_test false n all later e is whole = rw (e, ← whole, is) (apart version b x (tokens_in version xs))
 
@@ -54,7 +54,7 @@ first_name version [] n some is e = absurd (omega arith)
 first_name version (b ∷ bs) n some is e = by_test (is_name_byte b) n is e
   where
     by_test : (test : Bool) (n : ℕ) → test ≡ true → n ≡ cond test (1 + prefix_len is_name_byte bs) 0
-        → cond test (named b (tokens_in version bs)) (mark version b ∷ tokens_in version bs) ≡ name (take n (b ∷ bs))
+        → cond test (with_name_byte b (tokens_in version bs)) (mark version b ∷ tokens_in version bs) ≡ name (take n (b ∷ bs))
         ∷ tokens_in version (drop n (b ∷ bs))
     by_test true n is e = rw (e ∙ one-add (prefix_len is_name_byte bs)) (begun version b bs _ refl)
     by_test false n is e = cc

@@ -4,7 +4,7 @@ use Rattle.px_expr.specs.declared.node.Node.{Node}
 use Rattle.px_expr.specs.declared.node.Shape.{Shape}
 use Rattle.px_expr.specs.declared.node.Shape.TheVariants as h
 use Rattle.px_expr.specs.Shapes.{shape_of}
-use Rattle.px_show.specs.Signs.{is_differ}
+use Rattle.px_show.specs.Versions.{is_differ}
 
 abbrev pub has_differ_sign : Shape → Bool
 has_differ_sign (h.Leaf place) = false

@@ -1,13 +1,56 @@
--- Expressions over names: how they are written, and how they are read. Clauses of public calls stand on it.
--- The two agree: what is written is read, and what is read was written (`expression_law` in src/show.rt).
+-- Expressions over names: their tokens, how they are written, how they are read, and why those of a `show` line are bad.
+-- Clauses of public calls stand on it.
+-- Writing and reading agree: what is written is read, and what is read was written (`expression_law` in src/show.rt).
 -- Clauses speak of what tokens are read to (`expression_of`), which keeps a stack of parts. It need not be believed: by that
 -- law it is the one way to have an expression of which `written` is the tokens, and `written` is what is to be believed.
-use Rattle.std.specs.Prelude.{◌≡◌, ℕ, ◌+◌, max, List, [], ◌∷◌, ◌++◌, true, Bool, ◌&&◌, if◌then◌else◌, Option, Some, None, fold}
+use Rattle.std.specs.Prelude.{ℕ, ◌==◌, List, [], ◌∷◌, if◌then◌else◌, Option, Some, None, ◌≡◌, ◌+◌, max, ◌++◌, true, Bool, ◌&&◌, fold, pos, nat_le}
+use Rattle.std.specs.List.{flat_map, list_any}
 use Rattle.px_expr.specs.declared.node.Op.{Op}
-use Rattle.px_show.specs.Tokens.{Token, name, opens, closes, sign, other}
-use Rattle.px_text.specs.Word.{is_name}
-use Rattle.px_show.specs.Signs.{is_sign}
+use Rattle.px_text.specs.Text.{Words, is_name_byte, is_name}
+use Rattle.px_show.specs.Versions.{is_sign, op_of}
 use Rattle.px_show.specs.declared.version.Version.{Version}
+use Rattle.std.specs.Str.{bytes_eq}
+use Rattle.px_show.specs.declared.fault.Cause.{Cause}
+use Rattle.px_show.specs.declared.fault.LineFault.{LineFault}
+use Rattle.std.specs.Option.{option_map, option_or}
+use Rattle.px_expr.specs.declared.node.TheConstants.{MAX_LEAVES, MAX_NESTING}
+use Rattle.px_expr.specs.Tree.{Tree}
+use Rattle.px_show.specs.declared.fault.LimitKind.{LimitKind}
+use Rattle.px_show.specs.declared.fault.LineFault.TheVariants as f
+use Rattle.px_expr.specs.Tree as tree
+use Rattle.px_show.specs.declared.fault.Cause.TheVariants as c
+use Rattle.px_show.specs.declared.fault.LimitKind.TheVariants as kind
+
+pub data Token : Type 0 where
+  name : List ℕ → Token
+  opens : Token
+  closes : Token
+  sign : Op → Token
+  other : Token
+
+-- the sign of an operator, where the version has it
+abbrev pub sign_in : Version → Option Op → Token
+sign_in version None = other
+sign_in version (Some op) = if is_sign version op then sign op else other
+
+-- the token of a byte that stands in no name: `(`, `)`, a sign of the version, or another one
+abbrev pub mark : Version → ℕ → Token
+mark version b = if b == 40 then opens else if b == 41 then closes else sign_in version (op_of b)
+
+-- a byte of a name goes to the name that follows it, or else begins one
+abbrev pub with_name_byte : ℕ → List Token → List Token
+with_name_byte b [] = name (b ∷ []) ∷ []
+with_name_byte b (name bs ∷ ts) = name (b ∷ bs) ∷ ts
+with_name_byte b (t ∷ ts) = name (b ∷ []) ∷ t ∷ ts
+
+-- the tokens of a word: each longest run of bytes of names is one, and each other byte
+abbrev pub tokens_in : Version → List ℕ → List Token
+tokens_in version [] = []
+tokens_in version (b ∷ bs) =
+    if is_name_byte b then with_name_byte b (tokens_in version bs) else mark version b ∷ tokens_in version bs
+
+abbrev pub tokens_of : Version → Words → List Token
+tokens_of version ws = flat_map (tokens_in version) ws
 
 pub data Named : Type 0 where
   leaf : List ℕ → Named
@@ -44,21 +87,21 @@ pub data Part : Type 0 where
   token : Token → Part
 
 -- where a bracket, a side, a sign and a side stand last, a closing bracket makes one side of them
-abbrev pub closed : List Part → List Part
-closed (side right ∷ token (sign op) ∷ side left ∷ token opens ∷ before) = side (join op left right) ∷ before
-closed before = token closes ∷ before
+abbrev pub bracket_closed : List Part → List Part
+bracket_closed (side right ∷ token (sign op) ∷ side left ∷ token opens ∷ before) = side (join op left right) ∷ before
+bracket_closed before = token closes ∷ before
 
 -- one more token: a name is a side by itself
-abbrev pub put : List Part → Token → List Part
-put before (name n) = (if is_name n then side (leaf n) else token (name n)) ∷ before
-put before closes = closed before
-put before opens = token opens ∷ before
-put before (sign op) = token (sign op) ∷ before
-put before other = token other ∷ before
+abbrev pub with_token : List Part → Token → List Part
+with_token before (name n) = (if is_name n then side (leaf n) else token (name n)) ∷ before
+with_token before closes = bracket_closed before
+with_token before opens = token opens ∷ before
+with_token before (sign op) = token (sign op) ∷ before
+with_token before other = token other ∷ before
 
 -- the parts of tokens, the last one first
 abbrev pub parts_of : List Token → List Part
-parts_of ts = fold put [] ts
+parts_of ts = fold with_token [] ts
 
 abbrev pub whole : List Part → Option Named
 whole (side tree ∷ []) = Some tree
@@ -72,3 +115,54 @@ expression_of ts = whole (parts_of ts)
 pub record IsExpressionOf (ts : List Token) (tree : Named) : Type 0 where
   pub text : written tree ≡ ts
   pub names : has_names tree ≡ true
+
+abbrev pub judged : Option Cause → Option LineFault → Option LineFault
+judged (Some cause) limit = Some (f.Malformed cause)
+judged None limit = limit
+
+abbrev pub is_among : Words → List ℕ → Bool
+is_among names word = list_any (λ n. bytes_eq n word) names
+
+-- the place of a name among the solids'
+abbrev pub place_of : Words → List ℕ → ℕ
+place_of [] word = 0
+place_of (n ∷ ns) word = if bytes_eq n word then 0 else place_of ns word + 1
+
+-- each name is a solid's
+abbrev pub are_known : Words → Named → Bool
+are_known names (leaf word) = is_among names word
+are_known names (join op left right) = are_known names left && are_known names right
+
+-- the expression over the places of its names
+abbrev pub over_places : Words → Named → Tree
+over_places names (leaf word) = tree.leaf (place_of names word)
+over_places names (join op left right) = tree.join op (over_places names left) (over_places names right)
+
+abbrev pub cause_in : Words → Option Named → Option Cause
+cause_in names None = Some c.BadExpression
+cause_in names (Some tree) = if are_known names tree then None else Some c.UnknownName
+
+-- a count past its limit
+abbrev pub count_past : LimitKind → ℕ → ℕ → Option LineFault
+count_past kind limit found = if nat_le found limit then None else Some (f.Limit kind (pos found))
+
+-- the leaves and then the nesting, both of the whole expression
+abbrev pub counts_past : ℕ → ℕ → Option LineFault
+counts_past leaves nesting = option_or (count_past kind.Leaves MAX_LEAVES leaves) (count_past kind.Nesting MAX_NESTING nesting)
+
+abbrev pub limit_in : Option Named → Option LineFault
+limit_in None = None
+limit_in (Some tree) = counts_past (leaves tree) (nesting tree)
+
+abbrev pub show_cause : Version → Words → Words → Option Cause
+show_cause version names ws = cause_in names (expression_of (tokens_of version ws))
+
+abbrev pub show_limit : Version → Words → Option LineFault
+show_limit version ws = limit_in (expression_of (tokens_of version ws))
+
+-- why the expression is bad: its form and its names first, and then its limits
+abbrev pub show_fault : Version → Words → Words → Option LineFault
+show_fault version names ws = judged (show_cause version names ws) (show_limit version ws)
+
+abbrev pub show_tree : Version → Words → Words → Option Tree
+show_tree version names ws = option_map (over_places names) (expression_of (tokens_of version ws))

@@ -6,7 +6,7 @@ use Rattle.px_expr.specs.declared.node.Shape.TheVariants as h
 use Rattle.px_expr.specs.Tree.{Tree}
 use Rattle.px_text.specs.Text.{Words}
 use Rattle.px_show.specs.Printed.{printed, named_by}
-use Rattle.px_show.specs.Signs.{sign_byte}
+use Rattle.px_show.specs.Versions.{sign_byte}
 use Rattle.px_show.specs.declared.print.Gap.{Gap}
 
 abbrev pub sign_text : Option Op → List ℕ

@@ -1,10 +1,6 @@
 pub mod Differences
 pub mod Expressions
-pub mod Faults
 pub mod Gaps
 pub mod Printed
-pub mod Show
-pub mod Signs
 pub mod Stacks
-pub mod Tokens
 pub mod Versions

@@ -3,10 +3,9 @@ use Rattle.std.specs.Prelude.{◌≢◌, ℕ, List, [], ◌∷◌, ◌++◌, sli
 use Rattle.std.specs.List.{AllPass}
 use Rattle.px_expr.specs.Tree.{Tree}
 use Rattle.px_expr.specs.Tree as tree
-use Rattle.px_text.specs.Text.{Words}
-use Rattle.px_text.specs.Word.{is_name}
+use Rattle.px_text.specs.Text.{Words, is_name}
 use Rattle.px_show.specs.Expressions.{Named, leaf, join}
-use Rattle.px_show.specs.Signs.{sign_byte}
+use Rattle.px_show.specs.Versions.{sign_byte}
 
 abbrev pub printed : Named → List ℕ
 printed (leaf name) = name

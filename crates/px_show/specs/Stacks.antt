@@ -4,10 +4,8 @@ use Rattle.px_expr.specs.declared.node.Op.{Op}
 use Rattle.px_expr.specs.Tree.{Tree, leaf, join}
 use Rattle.px_expr.specs.Shapes.{joined}
 use Rattle.px_text.specs.Text.{Words}
-use Rattle.px_show.specs.Tokens as t
-use Rattle.px_show.specs.Expressions.{nesting, side, token}
-use Rattle.px_show.specs.Expressions as e
-use Rattle.px_show.specs.Show.{placed}
+use Rattle.px_show.specs.Expressions as t
+use Rattle.px_show.specs.Expressions.{nesting, side, token, over_places}
 use Rattle.px_show.specs.declared.token.Token.{Token}
 use Rattle.px_show.specs.declared.token.Token.TheVariants as d
 use Rattle.px_show.specs.declared.stack.Part.{Part}
@@ -25,13 +23,13 @@ token_of (d.Sign op) = t.sign op
 token_of d.Other = t.other
 
 -- what the stack keeps of a part
-abbrev pub part_of : e.Part → Part
-part_of (side tree) = p.Side (nesting tree)
-part_of (token (t.name n)) = p.Other
-part_of (token t.opens) = p.Opens
-part_of (token t.closes) = p.Other
-part_of (token (t.sign op)) = p.Sign op
-part_of (token t.other) = p.Other
+abbrev pub stack_part : t.Part → Part
+stack_part (side tree) = p.Side (nesting tree)
+stack_part (token (t.name n)) = p.Other
+stack_part (token t.opens) = p.Opens
+stack_part (token t.closes) = p.Other
+stack_part (token (t.sign op)) = p.Sign op
+stack_part (token t.other) = p.Other
 
 -- the sign and the nesting of what a bracket closes; a nesting stops at the greatest number
 abbrev pub bracketed : Part → Part → Part → Part → Option (Op × ℕ)
@@ -56,19 +54,19 @@ nesting_of (part ∷ []) = nesting_in part
 nesting_of parts = None
 
 -- how a tree is built: each side before what joins them
-abbrev pub steps_of : Tree → List Step
-steps_of (leaf place) = s.Leaf place ∷ []
-steps_of (join op left right) = (steps_of left ++ steps_of right) ++ s.Join op ∷ []
+abbrev pub tree_steps : Tree → List Step
+tree_steps (leaf place) = s.Leaf place ∷ []
+tree_steps (join op left right) = (tree_steps left ++ tree_steps right) ++ s.Join op ∷ []
 
 -- the trees that wait after a step, the last one first
-abbrev pub built : List Tree → Step → List Tree
-built trees (s.Leaf place) = leaf place ∷ trees
-built trees (s.Join op) = joined join op trees
+abbrev pub trees_built : List Tree → Step → List Tree
+trees_built trees (s.Leaf place) = leaf place ∷ trees
+trees_built trees (s.Join op) = joined join op trees
 
 -- the steps of the sides among the parts, the last of which stands first
-abbrev pub all_steps : Words → List e.Part → List Step
+abbrev pub all_steps : Words → List t.Part → List Step
 all_steps names [] = []
-all_steps names (side tree ∷ before) = all_steps names before ++ steps_of (placed names tree)
+all_steps names (side tree ∷ before) = all_steps names before ++ tree_steps (over_places names tree)
 all_steps names (token t ∷ before) = all_steps names before
 
 abbrev pub is_leaf : Step → Bool
@@ -81,10 +79,10 @@ is_unknown count (s.Leaf place) = nat_le count place
 is_unknown count (s.Join op) = false
 
 -- the kinds of the parts that were read, the last one on top, and the steps of their sides
-pub record AreKept (names : Words) (parts : List Part) (steps : List Step) (read : List e.Part) : Type 0 where
-  pub kinds : reverse parts ≡ map part_of read
+pub record AreKept (names : Words) (parts : List Part) (steps : List Step) (read : List t.Part) : Type 0 where
+  pub kinds : reverse parts ≡ map stack_part read
   pub order : steps ≡ all_steps names read
 
 -- what a stack holds of the parts that were read
-abbrev pub IsStackOf : Words → Stack → List e.Part → Type 0
+abbrev pub IsStackOf : Words → Stack → List t.Part → Type 0
 IsStackOf names stack read = AreKept names stack.parts.items stack.steps.items read

@@ -1,7 +1,8 @@
-//! Why a line of a scene text is bad (docs/SCENES.md, "Causes" and "Limits").
+//! Why a line of a scene text is bad, and why a text is no scene (docs/SCENES.md, "Causes", "Limits" and "Refusals").
 
 use px_num::Memory;
 use std::alloc::AllocError;
+use thiserror::Error;
 
 /// Why the words of a line are bad (docs/SCENES.md, "Causes").
 #[derive(Clone, Copy, Debug, PartialEq, Eq)]
@@ -52,6 +53,26 @@ pub enum LineError {
     Memory,
 }
 
+/// Why a text is no scene (docs/SCENES.md, "Refusals"). The first bad line decides.
+#[derive(Clone, Copy, Debug, PartialEq, Eq, Error)]
+pub enum SceneFault {
+    /// The words of a line are bad, or the text has no `end`.
+    #[error("line {line}: {cause:?}")]
+    Malformed {
+        line: u32,
+        cause: Cause,
+    },
+    /// A number or a count passes its limit; the line is 0 for the length of the text.
+    #[error("line {line}: {kind:?} {found}")]
+    Limit {
+        line: u32,
+        kind: LimitKind,
+        found: i64,
+    },
+    #[error("out of memory")]
+    Memory,
+}
+
 impl From<Cause> for LineError {
     ghost use Rattle.std.specs.Prelude.{◌≡◌};
     ghost use Rattle.px_show.specs.declared.fault.LineFault.TheVariants.{Malformed};
@@ -83,5 +104,16 @@ impl From<AllocError> for LineError {
 
     fn from(_: AllocError) -> Self {
         LineError::Memory
+    }
+}
+
+impl From<Memory> for SceneFault {
+    ghost use Rattle.std.specs.Prelude.{◌≡◌};
+    ghost use Rattle.px_show.specs.declared.fault.SceneFault.TheVariants.{Memory};
+
+    ghost from_gives = { λ _ e. e ≡ Memory };
+
+    fn from(_: Memory) -> Self {
+        SceneFault::Memory
     }
 }

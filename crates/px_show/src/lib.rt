@@ -9,7 +9,7 @@ mod stack;
 mod token;
 mod version;
 
-pub use fault::{Cause, LimitKind, LineError, LineFault};
+pub use fault::{Cause, LimitKind, LineError, LineFault, SceneFault};
 pub use print::put_expression;
 pub use show::{expression_law, printed_law, read_show};
 pub use sign::has_difference;

@@ -1,8 +1,8 @@
 //! Printing an expression, from its last byte to its first.
 ghost use Rattle.std.specs.Prelude.{◌≡◌, ◌<◌, ◌≤◌, ◌++◌, ◌∷◌, [], List, OnOk, IfOk, All, length, reverse};
-ghost use Rattle.px_expr.specs.Tree.{HasLeavesBelow, IsLawful};
+ghost use Rattle.px_expr.specs.Tree.{HasLeavesBelow, IsLawfulTree};
 ghost use Rattle.px_expr.specs.Shapes.{IsLeafBelow};
-ghost use Rattle.px_model.specs.Solids.{names_of};
+ghost use Rattle.px_model.specs.Scenes.{names_of};
 ghost use Rattle.px_show.specs.Printed.{printed, named_by};
 ghost use Rattle.px_show.specs.Gaps.{
   sign_text,
@@ -37,7 +37,7 @@ pub fn put_expression(
     requires { HasLeavesBelow (length solids.now) expr.now }
     ensures text { OnOk result (text.new.items ≡ text.old.items
         ++ printed (named_by (names_of solids.now) expr.now)) }
-    ensures lawful { OnOk result (IsLawful expr.now) }
+    ensures lawful { OnOk result (IsLawfulTree expr.now) }
 {
     let mut back = printed_back(alloc, solids, expr)?;
     back.as_mut_slice().reverse();
@@ -50,7 +50,7 @@ fn printed_back(alloc: Global, solids: &[Solid], expr: &Expr) -> Result<Vec<u8>,
     requires { HasLeavesBelow (length solids.now) expr.now }
     ensures text { IfOk result (λ back. reverse back.items
         ≡ printed (named_by (names_of solids.now) expr.now)) }
-    ensures lawful { OnOk result (IsLawful expr.now) }
+    ensures lawful { OnOk result (IsLawfulTree expr.now) }
 {
     let mut back = Vec::new(alloc);
     let mut gaps = Vec::new(alloc);

@@ -2,7 +2,7 @@
 ghost use Rattle.std.specs.Prelude.{◌≡◌};
 ghost use Rattle.std.specs.List.{list_any};
 ghost use Rattle.px_expr.specs.Shapes.{shape_of};
-ghost use Rattle.px_show.specs.Signs.{sign_byte, op_of, is_differ, is_sign, has_difference};
+ghost use Rattle.px_show.specs.Versions.{sign_byte, op_of, is_differ, is_sign, has_difference};
 ghost use Rattle.px_show.specs.Differences.{has_differ_sign, is_difference};
 
 use crate::version::Version;
@@ -54,7 +54,7 @@ fn is_differ(op: Op) -> bool
 }
 
 /// Whether a `^` stands in an expression, which texts have from version 2 on.
-#[tactic(auto, using(crate::proofs::SignLemmas::difference_among))]
+#[tactic(auto, using(crate::proofs::SignLaws::difference_among))]
 pub fn has_difference(expr: &Expr) -> bool
     ensures { result ≡ has_difference expr.now }
 {

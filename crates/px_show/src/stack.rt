@@ -2,12 +2,10 @@
 ghost use Rattle.std.specs.Prelude.{◌≡◌, ◌≤◌, ◌<◌, ◌^◌, ◌++◌, List, [], ◌∷◌, length, map, reverse, count_by, IfOk, OnOk, OnSome};
 ghost use Rattle.std.specs.List.{list_any};
 ghost use Rattle.px_model.specs.declared.limits.TheConstants.{MAX_SOLIDS};
-ghost use Rattle.px_model.specs.Solids.{names_of};
-ghost use Rattle.px_show.specs.Tokens.{name};
-ghost use Rattle.px_show.specs.Expressions.{Part as AnyPart, put, parts_of, closed, whole};
-ghost use Rattle.px_show.specs.Show.{place_of, cause_in, limit_in, count_past, counts_past};
+ghost use Rattle.px_model.specs.Scenes.{names_of};
+ghost use Rattle.px_show.specs.Expressions.{name, Part as AnyPart, with_token, parts_of, bracket_closed, whole, judged};
+ghost use Rattle.px_show.specs.Expressions.{place_of, cause_in, limit_in, count_past, counts_past};
 ghost use Rattle.px_text.specs.Text.{Words};
-ghost use Rattle.px_show.specs.Faults.{judged};
 ghost use Rattle.px_show.specs.Stacks.{token_of, closing, bracketed, nesting_of, nesting_in, is_leaf, is_unknown, IsStackOf};
 
 use crate::fault::{Cause, LimitKind, LineFault};
@@ -73,7 +71,7 @@ impl Stack {
     fn take(&mut self, solids: &[Solid], token: Token) -> Result<(), AllocError>
         requires { length solids.now ≤ MAX_SOLIDS }
         ensures { (read : List AnyPart) → IsStackOf (names_of solids.now) self.old read →
-            OnOk result (IsStackOf (names_of solids.now) self.new (put read (token_of token.entry))) }
+            OnOk result (IsStackOf (names_of solids.now) self.new (with_token read (token_of token.entry))) }
     {
         match token {
             Token::Name(name) => self.take_name(solids, name),
@@ -87,7 +85,7 @@ impl Stack {
     fn take_name(&mut self, solids: &[Solid], bytes: &[u8]) -> Result<(), AllocError>
         requires { length solids.now ≤ MAX_SOLIDS }
         ensures { (read : List AnyPart) → IsStackOf (names_of solids.now) self.old read →
-            OnOk result (IsStackOf (names_of solids.now) self.new (put read (name bytes.now))) }
+            OnOk result (IsStackOf (names_of solids.now) self.new (with_token read (name bytes.now))) }
     {
         if is_name(bytes) {
             self.push_side(Step::Leaf(place_of(solids, bytes)), 0)
@@ -99,7 +97,7 @@ impl Stack {
     /// A bracket closes the last two sides, where such a bracket stands open.
     fn close(&mut self) -> Result<(), AllocError>
         ensures { (names : Words) (read : List AnyPart) → IsStackOf names self.old read →
-            OnOk result (IsStackOf names self.new (closed read)) }
+            OnOk result (IsStackOf names self.new (bracket_closed read)) }
     {
         match closing(self.parts.as_slice()) {
             Some((op, nesting)) => {

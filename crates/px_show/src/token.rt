@@ -1,9 +1,9 @@
 //! The tokens of an expression's words (docs/SCENES.md, "Expressions").
 ghost use Rattle.std.specs.Prelude.{◌≡◌, ◌<◌, ◌++◌, ◌∷◌, [], length, map, IfOk, OnOk, IfSome, IfNone};
 ghost use Rattle.std.specs.List.{take_while};
-ghost use Rattle.px_text.specs.Word.{is_name_byte};
+ghost use Rattle.px_text.specs.Text.{is_name_byte};
 ghost use Rattle.px_text.specs.LentWords.{now_of};
-ghost use Rattle.px_show.specs.Tokens.{mark, sign_in, tokens_in, tokens_of};
+ghost use Rattle.px_show.specs.Expressions.{mark, sign_in, tokens_in, tokens_of};
 ghost use Rattle.px_show.specs.Stacks.{token_of};
 
 use crate::sign::{is_sign, op_of};

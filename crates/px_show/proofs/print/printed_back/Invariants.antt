@@ -1,6 +1,6 @@
 use Rattle.std.proofs.Common.{length, reverse}
 use Rattle.px_expr.specs.Postorder.{nodes_of}
-use Rattle.px_model.specs.Solids.{names_of}
+use Rattle.px_model.specs.Scenes.{names_of}
 use Rattle.px_show.proofs.GapLemmas.{IsPrintedTo}
 use Rattle.px_show.proofs.print.printed_back.Given as goal
 

@@ -1,6 +1,6 @@
 use Rattle.std.proofs.Common.{◌≡◌, [], fold, take}
-use Rattle.px_show.specs.Stacks.{built}
+use Rattle.px_show.specs.Stacks.{trees_built}
 use Rattle.px_show.proofs.show.build.Given as goal
 
 abbrev pub invariant-loop-step : goal.invariant-loop-step
-invariant-loop-step l = l.builder ≡ fold built [] (take l.step-index l.steps)
+invariant-loop-step l = l.builder ≡ fold trees_built [] (take l.step-index l.steps)

@@ -1,4 +1,4 @@
-use Rattle.px_show.proofs.PrintedLemmas.{printed_tokens, printed_tree, printed_good}
+use Rattle.px_show.proofs.PrintedLaws.{printed_tokens, printed_tree, printed_good}
 use Rattle.px_show.proofs.show.printed_law.Goals as goal
 
 pub returns-clause-tokens : goal.returns-clause-tokens

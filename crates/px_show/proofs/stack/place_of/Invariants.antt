@@ -1,6 +1,6 @@
 use Rattle.std.proofs.Common.{◌≡◌, ◌+◌, drop}
-use Rattle.px_model.specs.Solids.{names_of}
-use Rattle.px_show.specs.Show.{place_of}
+use Rattle.px_model.specs.Scenes.{names_of}
+use Rattle.px_show.specs.Expressions.{place_of}
 use Rattle.px_show.proofs.stack.place_of.Given as goal
 
 abbrev pub invariant-loop-i : goal.invariant-loop-i

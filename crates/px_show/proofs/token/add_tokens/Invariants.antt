@@ -1,5 +1,5 @@
 use Rattle.std.proofs.Common.{◌≡◌, ◌++◌, length, map}
-use Rattle.px_show.specs.Tokens.{tokens_in}
+use Rattle.px_show.specs.Expressions.{tokens_in}
 use Rattle.px_show.specs.Stacks.{token_of}
 use Rattle.px_show.proofs.token.add_tokens.Given as goal
 

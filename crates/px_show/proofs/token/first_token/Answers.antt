@@ -1,6 +1,6 @@
 use Rattle.std.proofs.Common.{sym, ◌∙◌}
 use Rattle.std.proofs.lemmas.List.Folds.{length-prefix_len}
-use Rattle.px_text.specs.Word.{is_name_byte}
+use Rattle.px_text.specs.Text.{is_name_byte}
 use Rattle.px_show.proofs.TokenLemmas.{first_name}
 use Rattle.px_show.proofs.token.first_token.Goals as goal
 

@@ -1,6 +1,6 @@
 use Rattle.std.proofs.Common.{◌≡◌, map, take}
 use Rattle.px_text.specs.LentWords.{now_of}
-use Rattle.px_show.specs.Tokens.{tokens_of}
+use Rattle.px_show.specs.Expressions.{tokens_of}
 use Rattle.px_show.specs.Stacks.{token_of}
 use Rattle.px_show.proofs.token.tokens_of.Given as goal
 

@@ -1,6 +1,6 @@
 use Rattle.std.proofs.Common.{◌<◌, ◌^◌, true, false, length, ap, sym, ◌∙◌, arith}
 use Rattle.std.specs.List.{count_by}
-use Rattle.px_show.specs.Show.{counts_past}
+use Rattle.px_show.specs.Expressions.{counts_past}
 use Rattle.px_show.specs.Stacks.{is_leaf}
 use Rattle.px_show.proofs.StackLemmas.{whole_fault, few_counted, few_leaves}
 use Rattle.px_show.proofs.stack.Stack.fault.Goals as goal

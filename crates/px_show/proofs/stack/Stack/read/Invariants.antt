@@ -1,5 +1,5 @@
 use Rattle.std.proofs.Common.{map, take}
-use Rattle.px_model.specs.Solids.{names_of}
+use Rattle.px_model.specs.Scenes.{names_of}
 use Rattle.px_show.specs.Expressions.{parts_of}
 use Rattle.px_show.specs.Stacks.{token_of, IsStackOf}
 use Rattle.px_show.proofs.stack.Stack.read.Given as goal

@@ -10,27 +10,25 @@ use Rattle.std.proofs.lemmas.Slice.Eq.{bytes_eq-Decides}
 use Rattle.std.proofs.lemmas.Bool.Decides.{nat_tests}
 use Rattle.std.proofs.lemmas.List.Folds.{list_all-append}
 use Rattle.px_expr.specs.declared.node.Op.{Op}
-use Rattle.px_expr.specs.Tree.{Tree, leaf_count, HasLeavesBelow, IsLawful}
+use Rattle.px_expr.specs.Tree.{Tree, leaf_count, HasLeavesBelow, IsLawfulTree}
 use Rattle.px_expr.specs.Tree as shown
-use Rattle.px_text.specs.Text.{Words, is_blank, is_some_byte, words_of}
-use Rattle.px_text.specs.Word.{is_name, is_name_byte}
-use Rattle.px_show.specs.Tokens.{Token, name, opens, closes, sign, mark, tokens_in, tokens_of}
+use Rattle.px_text.specs.Text.{Words, is_blank, is_some_byte, words_of, is_name, is_name_byte}
+use Rattle.px_show.specs.Expressions.{Token, name, opens, closes, sign, mark, tokens_in, tokens_of, nesting}
 use Rattle.px_show.specs.Expressions.{Named, leaf, join, written, has_names, has_signs, whole, expression_of, leaves}
-use Rattle.px_show.specs.Expressions.{nesting}
-use Rattle.px_show.specs.Faults.{is_among, judged}
-use Rattle.px_show.specs.Show.{place_of, placed, are_known, cause_in, limit_in, count_past, show_tree, show_fault}
-use Rattle.px_show.specs.Versions.{has_differ}
-use Rattle.px_show.specs.Signs.{sign_byte, is_sign, is_differ, has_difference}
+use Rattle.px_show.specs.Expressions.{is_among, judged}
+use Rattle.px_show.specs.Expressions.{place_of, over_places, are_known, cause_in, limit_in, count_past, show_tree}
+use Rattle.px_show.specs.Expressions.{show_fault}
+use Rattle.px_show.specs.Versions.{has_differ, sign_byte, is_sign, is_differ, has_difference}
 use Rattle.px_show.specs.declared.version.Version.{Version}
 use Rattle.px_show.specs.declared.fault.LimitKind.{LimitKind}
 use Rattle.px_show.specs.declared.fault.LimitKind.TheVariants as kind
 use Rattle.px_show.specs.Printed.{AreDistinctNames, printed, named_by}
-use Rattle.px_text.proofs.PlainLemmas.{both, name_bytes, is_no_comment, before_none, plain_byte}
-use Rattle.px_show.proofs.SignLemmas.{sign_marked, sign_no_name, sign_plain}
+use Rattle.px_text.proofs.PlainLaws.{both, name_bytes, is_no_comment, before_none, plain_byte}
+use Rattle.px_show.proofs.SignLaws.{sign_marked, sign_no_name, sign_plain}
 use Rattle.px_show.proofs.TokenLemmas.{apart}
 use Rattle.px_show.proofs.ExpressionLemmas.{reads}
 use Rattle.px_show.proofs.StackLemmas.{place_unknown}
-use Rattle.px_show.proofs.ShowLemmas.{same_leaves, same_nesting}
+use Rattle.px_show.proofs.ShowLaws.{same_leaves, same_nesting}
 
 -- no byte of a name begins a comment or is a blank
 record IsPlain (b : ℕ) : Type 0 where
@@ -186,7 +184,7 @@ place_back (n ∷ ns) (suc place) different below =
     by_test false other later = omega arith
 
 placed_back : (names : Words) (tree : Tree) → AllPairs (λ m n. m ≢ n) names → HasLeavesBelow (length names) tree
-    → placed names (named_by names tree) ≡ tree
+    → over_places names (named_by names tree) ≡ tree
 placed_back names (shown.leaf place) different below = ap shown.leaf (place_back names place different below)
 placed_back names (shown.join op left right) different below =
     cc (placed_back names left different below.0, placed_back names right different below.1)
@@ -197,7 +195,7 @@ names_lawful names (shown.leaf place) lawful below = lawful place [] below
 names_lawful names (shown.join op left right) lawful below =
     rw (names_lawful names left lawful below.0, names_lawful names right lawful below.1) refl
 
-all_known : (names : Words) (tree : Named) → HasLeavesBelow (length names) (placed names tree)
+all_known : (names : Words) (tree : Named) → HasLeavesBelow (length names) (over_places names tree)
     → are_known names tree ≡ true
 all_known names (leaf n) below = by_test (is_among names n) (place_unknown names n)
   where
@@ -216,7 +214,7 @@ pub printed_tree : (version : Version) (names : Words) (tree : Tree) → AreDist
     → HasLeavesBelow (length names) tree → has_signs version (named_by names tree) ≡ true
     → show_tree version names (words_of (printed (named_by names tree))) ≡ Some tree
 printed_tree version names tree are below signs =
-    ap (option_map (placed names)) (printed_read version (named_by names tree)
+    ap (option_map (over_places names)) (printed_read version (named_by names tree)
     (names_lawful names tree are.lawful below) signs)
     ∙ ap Some (placed_back names tree are.different below)
 
@@ -224,7 +222,7 @@ not_past : (limit : LimitKind) (most found : ℕ) → found ≤ most → count_p
 not_past limit most found le = grind (arith, nat_tests)
 
 pub printed_good : (version : Version) (names : Words) (tree : Tree) → AreDistinctNames names
-    → HasLeavesBelow (length names) tree → has_signs version (named_by names tree) ≡ true → IsLawful tree
+    → HasLeavesBelow (length names) tree → has_signs version (named_by names tree) ≡ true → IsLawfulTree tree
     → show_fault version names (words_of (printed (named_by names tree))) ≡ None
 printed_good version names tree are below signs within =
     let named = named_by names tree

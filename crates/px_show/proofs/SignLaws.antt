@@ -8,11 +8,11 @@ use Rattle.px_expr.specs.Tree.{Tree, leaf, join}
 use Rattle.px_expr.specs.Shapes.{op_node}
 use Rattle.px_expr.specs.Postorder.{size, nodes_behind}
 use Rattle.px_expr.proofs.OperatorLaws.{shape_of_op}
-use Rattle.px_text.specs.Word.{is_name_byte}
+use Rattle.px_text.specs.Text.{is_name_byte}
 use Rattle.px_text.specs.Written.{is_plain_byte}
-use Rattle.px_show.specs.Signs.{sign_byte, is_sign, is_differ, has_difference}
+use Rattle.px_show.specs.Versions.{sign_byte, is_sign, is_differ, has_difference}
 use Rattle.px_show.specs.Differences.{has_differ_sign, is_difference}
-use Rattle.px_show.specs.Tokens.{sign, mark}
+use Rattle.px_show.specs.Expressions.{sign, mark}
 use Rattle.px_show.specs.declared.version.Version.{Version}
 
 -- a sign is read as its operator's, where the version has it

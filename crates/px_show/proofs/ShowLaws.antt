@@ -4,22 +4,20 @@ use Rattle.std.proofs.Common.{Option, Some, None, IsSomeAnd, refl, ap, sym, ◌�
 use Rattle.std.specs.Option.{option_map}
 use Rattle.std.specs.Str.{bytes_eq}
 use Rattle.std.proofs.lemmas.Bool.Decides.{nat_tests}
-use Rattle.px_expr.specs.Tree.{Tree, leaf_count, HasLeavesBelow, IsLawful}
+use Rattle.px_num.proofs.TruthLaws.{none_first, none_second}
+use Rattle.px_expr.specs.Tree.{Tree, leaf_count, HasLeavesBelow, IsLawfulTree}
 use Rattle.px_expr.specs.Tree as shown
 use Rattle.px_text.specs.Text.{Words}
-use Rattle.px_show.specs.Faults.{is_among, judged}
-use Rattle.px_show.specs.Tokens.{tokens_of}
-use Rattle.px_show.specs.Expressions.{Named, leaf, join, leaves, nesting, expression_of}
-use Rattle.px_show.specs.Show.{place_of, placed, are_known, cause_in, limit_in, count_past, counts_past, show_cause}
-use Rattle.px_show.specs.Show.{show_fault, show_tree}
+use Rattle.px_show.specs.Expressions.{is_among, tokens_of, Named, leaf, join, leaves, nesting, expression_of}
+use Rattle.px_show.specs.Expressions.{place_of, over_places, are_known, cause_in, limit_in, count_past, counts_past}
+use Rattle.px_show.specs.Expressions.{show_cause}
+use Rattle.px_show.specs.Expressions.{show_fault, show_tree}
 use Rattle.px_show.specs.declared.version.Version.{Version}
-use Rattle.px_show.specs.declared.fault.Cause.{Cause}
 use Rattle.px_show.specs.declared.fault.Cause.TheVariants as cause
-use Rattle.px_show.specs.declared.fault.LineFault.{LineFault}
 use Rattle.px_show.specs.declared.fault.LimitKind.{LimitKind}
 use Rattle.px_show.specs.declared.fault.LimitKind.TheVariants as kind
-use Rattle.px_text.proofs.PlainLemmas.{both}
-use Rattle.px_show.proofs.FaultLemmas.{none_first, none_second}
+use Rattle.px_text.proofs.PlainLaws.{both}
+use Rattle.px_show.proofs.FaultLaws.{good_form, within_limits}
 
 place_below : (names : Words) (name : List ℕ) → is_among names name ≡ true → place_of names name < length names
 place_below [] name e = cc
@@ -31,7 +29,7 @@ place_below (n ∷ ns) name e = by_test (bytes_eq n name) (place_below ns name) 
     by_test false later among = let below = later among in omega arith
 
 known_below : (names : Words) (tree : Named) → are_known names tree ≡ true
-    → HasLeavesBelow (length names) (placed names tree)
+    → HasLeavesBelow (length names) (over_places names tree)
 known_below names (leaf name) e = place_below names name e
 known_below names (join op left right) e =
     let each = both (are_known names left) (are_known names right) e
@@ -55,7 +53,7 @@ pub shown_lawful : (version : Version) (names ws : Words) → show_cause version
     → IsSomeAnd (show_tree version names ws) (HasLeavesBelow (length names))
 shown_lawful version names ws e =
     let good = good_cause names (expression_of (tokens_of version ws)) e
-    in rw (ap (option_map (placed names)) good.is) (known_below names good.tree good.known)
+    in rw (ap (option_map (over_places names)) good.is) (known_below names good.tree good.known)
 
 -- an expression names some solid
 some_leaf : (count : ℕ) (tree : Tree) → HasLeavesBelow count tree → 0 < count
@@ -65,13 +63,13 @@ some_leaf count (shown.join op left right) below = some_leaf count left below.0
 pub named_show : (version : Version) (names ws : Words) → show_cause version names ws ≡ None → 0 < length names
 named_show version names ws e =
     let good = good_cause names (expression_of (tokens_of version ws)) e
-    in some_leaf (length names) (placed names good.tree) (known_below names good.tree good.known)
+    in some_leaf (length names) (over_places names good.tree) (known_below names good.tree good.known)
 
-pub same_leaves : (names : Words) (tree : Named) → leaf_count (placed names tree) ≡ leaves tree
+pub same_leaves : (names : Words) (tree : Named) → leaf_count (over_places names tree) ≡ leaves tree
 same_leaves names (leaf name) = refl
 same_leaves names (join op left right) = omega (arith, same_leaves names left, same_leaves names right)
 
-pub same_nesting : (names : Words) (tree : Named) → shown.nesting (placed names tree) ≡ nesting tree
+pub same_nesting : (names : Words) (tree : Named) → shown.nesting (over_places names tree) ≡ nesting tree
 same_nesting names (leaf name) = refl
 same_nesting names (join op left right) = ap (λ n. n + 1) (cc (same_nesting names left, same_nesting names right))
 
@@ -83,26 +81,18 @@ fewer count most (shown.join op left right) le below =
 not_past : (limit : LimitKind) (most found : ℕ) → count_past limit most found ≡ None → found ≤ most
 not_past limit most found e = grind (arith, nat_tests)
 
-form_first : (cause : Option Cause) (limit : Option LineFault) → judged cause limit ≡ None → cause ≡ None
-form_first None limit e = refl
-form_first (Some cause) limit e = cc
-
-limit_next : (cause : Option Cause) (limit : Option LineFault) → judged cause limit ≡ None → limit ≡ None
-limit_next None limit e = e
-limit_next (Some cause) limit e = cc
-
 -- what is shown is within all limits
 pub shown_within : (version : Version) (names ws : Words) → length names ≤ 256 → show_fault version names ws ≡ None
-    → IsSomeAnd (show_tree version names ws) IsLawful
+    → IsSomeAnd (show_tree version names ws) IsLawfulTree
 shown_within version names ws few e =
     let good = good_cause names (expression_of (tokens_of version ws))
-    (form_first _ (limit_in (expression_of (tokens_of version ws))) e)
+    (good_form _ (limit_in (expression_of (tokens_of version ws))) e)
     in let past : counts_past (leaves good.tree) (nesting good.tree) ≡ None =
-    sym (ap limit_in good.is) ∙ limit_next (cause_in names (expression_of (tokens_of version ws))) _ e
-    in rw (ap (option_map (placed names)) good.is) (record {
+    sym (ap limit_in good.is) ∙ within_limits (cause_in names (expression_of (tokens_of version ws))) _ e
+    in rw (ap (option_map (over_places names)) good.is) (record {
       leaves = rw (same_leaves names good.tree) (not_past kind.Leaves 512 (leaves good.tree)
           (none_first _ (count_past kind.Nesting 64 (nesting good.tree)) past));
       depth = rw (same_nesting names good.tree) (not_past kind.Nesting 64 (nesting good.tree)
           (none_second (count_past kind.Leaves 512 (leaves good.tree)) _ past));
-      solids = fewer (length names) 256 (placed names good.tree) few (known_below names good.tree good.known);
+      solids = fewer (length names) 256 (over_places names good.tree) few (known_below names good.tree good.known);
     })
