@@ -5,14 +5,13 @@ use Rattle.std.specs.List.{flat_map, range_with_len, list_all}
 use Rattle.px_num.specs.declared.linear.Linear.{Linear}
 use Rattle.px_model.specs.declared.solid.Face.{Face}
 use Rattle.px_text.specs.Text.{Words, words_of}
-use Rattle.px_model.specs.Solids.{SolidView}
-use Rattle.px_model.specs.Scenes.{SceneView}
+use Rattle.px_model.specs.Scenes.{SolidView, SceneView}
 use Rattle.px_show.specs.Versions.{version_word}
 use Rattle.px_scene.specs.Canonical.{version_for, depth_words, written_line, plane_words, colour_words, face_line}
-use Rattle.px_scene.specs.Canonical.{side_line, lines_at, lines_of_number, face_lines, solid_lines, canonical_text}
+use Rattle.px_scene.specs.Canonical.{side_line, face_lines_at, lines_of_number, face_lines, solid_lines, canonical_text}
 use Rattle.px_text.specs.Written.{spaced, fed, is_plain, are_plain}
-use Rattle.px_text.proofs.PlainLemmas.{both}
-use Rattle.px_text.proofs.SpacedLemmas.{words_read}
+use Rattle.px_text.proofs.PlainLaws.{both}
+use Rattle.px_text.proofs.SpacedLaws.{words_read}
 use Rattle.px_scene.proofs.RoundLemmas.{face_words}
 use Rattle.px_scene.proofs.FaceWalkLemmas.{words_at, words_of_number}
 use Rattle.px_scene.proofs.SceneWalkLemmas.{head_words, numbers_words, sides_words, solid_words, first_words}
@@ -54,7 +53,7 @@ side_lines_are (p ∷ ps) =
 
 number_lines_are : (s : SolidView) (m : ℕ) → lines_of_number s m ≡ text_of_lines (words_of_number s m)
 number_lines_are s m =
-    ap (λ t. t ++ lines_at (codes "back") s.backs m)
+    ap (λ t. t ++ face_lines_at (codes "back") s.backs m)
     (face_lines_are (codes "front") (filter (λ f. f.number == m) s.fronts))
     ∙ ap (λ t. text_of_lines (words_at (codes "front") s.fronts m) ++ t)
     (face_lines_are (codes "back") (filter (λ f. f.number == m) s.backs))

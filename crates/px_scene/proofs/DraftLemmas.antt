@@ -1,7 +1,7 @@
 -- The last solid of a draft, changed in place.
 use Prim.Native.Nat.{zero, suc}
 use Rattle.std.proofs.Common.{◌≡◌, ℕ, ◌+◌, List, [], ◌∷◌, ◌++◌, length, get_or, slice_set, refl, ap, arith}
-use Rattle.px_model.specs.Solids.{SolidView}
+use Rattle.px_model.specs.Scenes.{SolidView}
 use Rattle.px_scene.specs.Drafts.{with_last}
 
 pub last_set : (change : SolidView → SolidView) (ss : List SolidView) (n : ℕ) (d s : SolidView) → n + 1 ≡ length ss

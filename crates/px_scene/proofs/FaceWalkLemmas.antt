@@ -6,8 +6,7 @@ use Rattle.std.specs.List.{All, flat_map, range_with_len}
 use Rattle.px_num.specs.declared.linear.Linear.{Linear}
 use Rattle.px_model.specs.declared.solid.Face.{Face}
 use Rattle.px_text.specs.Text.{Words}
-use Rattle.px_model.specs.Solids.{SolidView, IsColour, IsLawfulSolid, IsPlane, AreFaces}
-use Rattle.px_model.specs.Scenes.{has_number}
+use Rattle.px_model.specs.Scenes.{SolidView, IsColour, IsLawfulSolid, IsPlane, AreFaces, has_number}
 use Rattle.px_scene.specs.Drafts.{DraftView}
 use Rattle.px_scene.specs.Canonical.{plane_words}
 use Rattle.px_scene.proofs.CutLemmas.{below, at_number, HasOne, cut, few_below}

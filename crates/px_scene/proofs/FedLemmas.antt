@@ -5,12 +5,12 @@ use Rattle.std.proofs.lemmas.List.Folds.{list_all-append}
 use Rattle.px_text.specs.Text.{Words, is_some_byte, is_blank, words_of}
 use Rattle.px_show.specs.Expressions.{Named, leaf, join, has_names}
 use Rattle.px_show.specs.Printed.{printed}
-use Rattle.px_show.specs.Signs.{sign_byte}
+use Rattle.px_show.specs.Versions.{sign_byte}
 use Rattle.px_text.specs.Written.{spaced, is_plain_byte, is_plain, are_plain, is_no_feed}
-use Rattle.px_show.proofs.PrintedLemmas.{printed_uncommented}
-use Rattle.px_show.proofs.SignLemmas.{sign_plain}
-use Rattle.px_text.proofs.PlainLemmas.{both, name_bytes, is_no_comment, before_none, names_plain, plain_byte, plain_fed}
-use Rattle.px_text.proofs.PlainLemmas.{spaced_fed}
+use Rattle.px_show.proofs.PrintedLaws.{printed_uncommented}
+use Rattle.px_show.proofs.SignLaws.{sign_plain}
+use Rattle.px_text.proofs.PlainLaws.{both, name_bytes, is_no_comment, before_none, names_plain, plain_byte, plain_fed}
+use Rattle.px_text.proofs.PlainLaws.{spaced_fed}
 use Rattle.px_scene.proofs.CanonicalLemmas.{bare, is_written}
 
 bare_fed : (l : Words) → is_written l ≡ true → list_all is_no_feed (bare l) ≡ true

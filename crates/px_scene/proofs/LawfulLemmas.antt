@@ -13,29 +13,25 @@ use Rattle.px_scene.specs.declared.line.Keyword.{Keyword}
 use Rattle.px_scene.specs.declared.line.Keyword.TheVariants as k
 use Rattle.px_show.specs.Versions.{version_or_first}
 use Rattle.px_show.specs.declared.version.Version.{Version}
-use Rattle.px_show.specs.declared.fault.Cause.{Cause}
 use Rattle.px_expr.specs.Tree.{HasLeavesBelow}
-use Rattle.px_show.specs.Show.{show_cause, show_tree}
-use Rattle.px_show.proofs.ShowLemmas.{shown_lawful, named_show}
-use Rattle.px_show.specs.declared.fault.LineFault.{LineFault}
-use Rattle.px_show.specs.Faults.{judged}
+use Rattle.px_show.specs.Expressions.{show_cause, show_tree}
+use Rattle.px_show.proofs.ShowLaws.{shown_lawful, named_show}
 use Rattle.px_num.specs.declared.linear.Linear.{Linear}
 use Rattle.std.proofs.lemmas.Bool.{cases_eq}
+use Rattle.px_num.proofs.TruthLaws.{none_first, none_second}
 use Rattle.px_model.specs.declared.solid.Colour.{Colour}
 use Rattle.px_model.specs.declared.solid.Face.{Face}
 use Rattle.px_text.specs.Text.{Words}
 use Rattle.px_scene.specs.Lines.{numeric, numbers_of, limit_of, figures, two_past, depth_past, fraction_past, past}
 use Rattle.px_scene.specs.Lines.{most, due_after}
-use Rattle.px_scene.specs.Figures.{size_of, face_of, side_of}
-use Rattle.px_model.specs.Solids.{SolidView, faces_in, names_of}
-use Rattle.px_model.specs.Scenes.{IsNumberedFrom, faces_of}
+use Rattle.px_scene.specs.Lines.{size_of, face_of, side_of}
+use Rattle.px_model.specs.Scenes.{SolidView, faces_in, names_of, IsNumberedFrom, faces_of}
 use Rattle.px_scene.specs.Drafts.{DraftView, IsLawfulDraft, with_last, with_front, with_back, with_side, and_side}
 use Rattle.px_scene.specs.Drafts.{with_line, with_picture, with_depth, fresh_solid, is_begun, is_ended, tally_of}
 use Rattle.px_scene.specs.Drafts.{IsGoodForm, CanBeTaken}
 use Rattle.px_scene.specs.Reading.{first_word}
 use Rattle.px_scene.proofs.NumberLemmas.{numbered_front, numbered_back, numbered_push}
 use Rattle.px_scene.proofs.TakenLemmas.{numbered_last, faces_of-with_last, names_with_last, names_push, IsNewName}
-use Rattle.px_show.proofs.FaultLemmas.{none_first, none_second}
 use Rattle.px_scene.proofs.TakenLemmas.{SolidRoom, size_within, fraction_within}
 use Rattle.px_scene.proofs.TakenLemmas.{numbered_fresh, face_room, solid_room, begun_front, begun_back, begun_side}
 use Rattle.px_scene.proofs.TakenLemmas.{begun_end, new_name, ended_end, last_can_take}
@@ -292,10 +288,6 @@ lawful_show draft ws is good = record {
   begun = λ b. let some = named_show draft.version (names_of draft.solids) ws good in
       omega (arith, length-map draft.solids (λ s. s.name));
 }
-
-pub of_form : (cause : Option Cause) (limit : Option LineFault) → judged cause limit ≡ None → cause ≡ None
-of_form None limit e = refl
-of_form (Some cause) limit e = cc
 
 -- the limits do not look at the version
 of_version : (draft : DraftView) (version : Version) → IsLawfulDraft draft

@@ -14,23 +14,21 @@ use Rattle.px_num.specs.Forms.{IsWithin}
 use Rattle.px_expr.specs.Tree.{Tree, leaf, join, leaf_count, HasLeavesBelow}
 use Rattle.px_model.specs.declared.solid.Colour.{Colour}
 use Rattle.px_model.specs.declared.solid.Face.{Face}
-use Rattle.px_text.specs.Text.{Words}
-use Rattle.px_text.specs.Word.{is_letter, is_name, is_name_byte}
-use Rattle.px_model.specs.Solids.{SolidView, IsColour, IsLawfulSolid, IsPlane, faces_in, names_of}
+use Rattle.px_text.specs.Text.{Words, is_letter, is_name, is_name_byte}
+use Rattle.px_model.specs.Scenes.{SolidView, IsColour, IsLawfulSolid, IsPlane, faces_in, names_of}
 use Rattle.px_model.specs.Scenes.{SceneView, IsLawfulScene, IsNumberedFrom, AreNumberedFrom, faces_of, has_number}
 use Rattle.px_show.specs.Printed.{printed, named_by}
-use Rattle.px_show.specs.Signs.{sign_byte}
+use Rattle.px_show.specs.Versions.{sign_byte, version_word}
 use Rattle.px_scene.specs.Writable.{IsWritable}
-use Rattle.px_show.specs.Versions.{version_word}
 use Rattle.px_show.specs.declared.version.Version.{Version}
 use Rattle.px_show.specs.declared.version.Version.TheVariants as v
 use Rattle.px_scene.specs.Canonical.{version_for, depth_words, written_line, plane_words, colour_words, face_line}
-use Rattle.px_scene.specs.Canonical.{side_line, lines_at, lines_of_number, face_lines, solid_lines, first_lines}
+use Rattle.px_scene.specs.Canonical.{side_line, face_lines_at, lines_of_number, face_lines, solid_lines, first_lines}
 use Rattle.px_scene.specs.Canonical.{show_line, canonical_text}
 use Rattle.px_text.specs.Written.{spaced}
-use Rattle.px_text.proofs.PlainLemmas.{both}
+use Rattle.px_text.proofs.PlainLaws.{both}
+use Rattle.px_model.proofs.FaceLaws.{faces_of-cons}
 use Rattle.px_scene.proofs.CutLemmas.{HasOne, cut}
-use Rattle.px_scene.proofs.NumberLemmas.{faces_of-cons}
 
 joined : (xs ys : List ℕ) (m n : ℕ) → length xs ≤ m → length ys ≤ n → length (xs ++ ys) ≤ m + n
 joined xs ys m n some more = omega (arith, length-append xs ys)
@@ -90,7 +88,7 @@ sides_short (p ∷ ps) all =
 
 -- the lines of the one face that has a number
 one_short : (kind : List ℕ) (m : ℕ) (faces : List Face) → length kind ≤ 5 → All (λ f. IsPlane f.plane) faces
-    → All (λ f. IsColour f.colour) faces → HasOne m faces → length (lines_at kind faces m) ≤ 54
+    → All (λ f. IsColour f.colour) faces → HasOne m faces → length (face_lines_at kind faces m) ≤ 54
 one_short kind m faces few planes colours one =
     let there = face_short kind (get_or faces one.place one.face) few (planes one.place one.face one.within)
     (colours one.place one.face one.within)
@@ -103,12 +101,12 @@ number_short : (s : SolidView) (m : ℕ) (is : Bool) → IsLawfulSolid s → has
 number_short s m true ok front back =
     let one = (cut m s.fronts ok.fronts.order).present front
     in let none = (cut m s.backs ok.backs.order).absent back
-    in joined (lines_at (codes "front") s.fronts m) (lines_at (codes "back") s.backs m) 54 0
+    in joined (face_lines_at (codes "front") s.fronts m) (face_lines_at (codes "back") s.backs m) 54 0
     (one_short (codes "front") m s.fronts (omega arith) ok.fronts.planes ok.fronts.colours one) (rw none (omega arith))
 number_short s m false ok front back =
     let one = (cut m s.backs ok.backs.order).present back
     in let none = (cut m s.fronts ok.fronts.order).absent front
-    in joined (lines_at (codes "front") s.fronts m) (lines_at (codes "back") s.backs m) 0 54 (rw none (omega arith))
+    in joined (face_lines_at (codes "front") s.fronts m) (face_lines_at (codes "back") s.backs m) 0 54 (rw none (omega arith))
     (one_short (codes "back") m s.backs (omega arith) ok.backs.planes ok.backs.colours one)
 
 numbers_short : (s : SolidView) (count n : ℕ) → IsLawfulSolid s

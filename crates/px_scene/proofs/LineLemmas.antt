@@ -2,8 +2,8 @@
 use Rattle.std.proofs.Common.{◌≡◌, ℕ, List, [], ◌∷◌, Bool, ◌||◌, map, refl, ap}
 use Rattle.std.specs.List.{list_any}
 use Rattle.std.specs.Str.{bytes_eq}
-use Rattle.px_show.specs.Faults.{is_among}
-use Rattle.px_model.specs.Solids.{SolidView, names_of}
+use Rattle.px_show.specs.Expressions.{is_among}
+use Rattle.px_model.specs.Scenes.{SolidView, names_of}
 
 list_any-map : {X Y : Type 0} (p : Y → Bool) (f : X → Y) (xs : List X) → list_any p (map f xs)
     ≡ list_any (λ x. p (f x)) xs

@@ -1,15 +1,14 @@
 -- Face numbers run on when a solid or a face comes behind the others.
 use Prim.Native.Nat.{suc}
 use Rattle.std.proofs.lemmas.Bool.Decides.{nat_tests}
-use Rattle.std.proofs.Common.{◌≡◌, ℕ, ◌+◌, ◌<◌, ◌≤◌, ◌==◌, List, [], ◌∷◌, ◌++◌, false, ◌||◌, refl, ap, ◌∙◌, arith}
-use Rattle.std.proofs.Common.{zero-add, length-append, inl, inr, ◌⊎◌, subst}
+use Rattle.std.proofs.Common.{◌≡◌, ℕ, ◌+◌, ◌<◌, ◌≤◌, ◌==◌, List, [], ◌∷◌, ◌++◌, false, ◌||◌, refl, arith}
+use Rattle.std.proofs.Common.{length-append, inl, inr, ◌⊎◌, subst}
 use Rattle.std.proofs.lemmas.Bool.{cases_eq}
-use Rattle.std.proofs.lemmas.List.Sums.{sum_by-append}
 use Rattle.std.specs.List.{All}
 use Rattle.px_model.specs.declared.solid.Face.{Face}
-use Rattle.px_model.specs.Solids.{SolidView, faces_in}
-use Rattle.px_model.specs.Scenes.{has_number, IsNumberedFrom, AreNumberedFrom, faces_of}
+use Rattle.px_model.specs.Scenes.{SolidView, faces_in, has_number, IsNumberedFrom, AreNumberedFrom, faces_of}
 use Rattle.std.proofs.lemmas.List.Elements.{All-push}
+use Rattle.px_model.proofs.FaceLaws.{faces_of-cons}
 
 has_number-push : (faces : List Face) (f : Face) (n : ℕ) → has_number (faces ++ f ∷ []) n
     ≡ (has_number faces n || f.number == n)
@@ -74,18 +73,6 @@ numbered_back first s f is e =
         | inr under ↦ grind (arith, nat_tests, has_number-push s.backs f n, is.once n above under)
       ];
     }
-
-pub faces_of-cons : (q : SolidView) (qs : List SolidView) → faces_of (q ∷ qs) ≡ faces_in q + faces_of qs
-faces_of-cons q qs = sum_by-append faces_in (q ∷ []) qs ∙ ap (λ n. n + faces_of qs) (zero-add (faces_in q))
-
--- the last solid is numbered from behind the others
-pub numbered_ends : (first : ℕ) (ss : List SolidView) (s : SolidView) → AreNumberedFrom first (ss ++ s ∷ [])
-    → AreNumberedFrom first ss × IsNumberedFrom (first + faces_of ss) s
-numbered_ends first [] s are = (tt, subst (λ (n : ℕ). IsNumberedFrom n s) (omega arith) are.0)
-numbered_ends first (q ∷ qs) s are =
-    let later = numbered_ends (first + faces_in q) qs s are.1
-    in let counted : faces_of (q ∷ qs) ≡ faces_in q + faces_of qs = faces_of-cons q qs
-    in ((are.0, later.0), subst (λ (n : ℕ). IsNumberedFrom n s) (omega arith) later.1)
 
 pub numbered_push : (first : ℕ) (ss : List SolidView) (s : SolidView) → AreNumberedFrom first ss
     → IsNumberedFrom (first + faces_of ss) s → AreNumberedFrom first (ss ++ s ∷ [])

@@ -2,7 +2,7 @@
 use Rattle.std.proofs.Common.{◌≡◌, ℕ, ℤ, List, true, refl, ap, sym, ◌∙◌, Result, Ok, Err, [], ◌∷◌, ◌+◌, ◌++◌, Option}
 use Rattle.std.proofs.Common.{Some, None, subst}
 use Rattle.std.specs.Option.{option_or}
-use Rattle.px_model.specs.Solids.{names_of}
+use Rattle.px_model.specs.Scenes.{names_of}
 use Rattle.px_text.specs.Text.{Words}
 use Rattle.px_text.specs.LentWords.{now_of}
 use Rattle.px_show.specs.declared.version.Version.{Version}
@@ -15,15 +15,14 @@ use Rattle.px_scene.specs.Lines.{limit_on, due_after}
 use Rattle.px_scene.specs.declared.parse.Line.TheVariants as l
 use Rattle.px_scene.specs.declared.line.Keyword.TheVariants as k
 use Rattle.px_show.specs.declared.version.Version.TheVariants as v
-use Rattle.px_show.specs.declared.fault.LineFault.{LineFault}
-use Rattle.px_show.specs.Faults.{judged}
-use Rattle.px_show.specs.Show.{show_cause, show_limit, show_tree}
+use Rattle.px_show.specs.Expressions.{judged, show_cause, show_limit, show_tree}
 use Rattle.px_show.specs.Versions.{version_word, version_or_first}
+use Rattle.px_show.proofs.FaultLaws.{good_form, within_limits}
 use Rattle.px_scene.specs.Drafts.{DraftView, IsLawfulDraft, with_line, tally_of, taken, fault_in, new_solid}
-use Rattle.px_scene.specs.Parsed.{IsLine, ParsesTo, Forms, Keeps, keyword_in, words_in, numbers_in, second_name}
+use Rattle.px_scene.specs.Parsed.{IsLine, ParsesTo, IsParsed, Keeps, keyword_in, kept_words, numbers_in, second_name}
 use Rattle.px_scene.specs.Parsed.{cause_left, fault_left, fault_shown}
-use Rattle.px_scene.proofs.TakenLemmas.{good_form}
-use Rattle.px_scene.proofs.LawfulLemmas.{of_form, lawful_line}
+use Rattle.px_scene.proofs.TakenLemmas.{line_form_good}
+use Rattle.px_scene.proofs.LawfulLemmas.{lawful_line}
 
 -- a line that is due is judged by its form
 comes : (version : Version) (due : Due) (key begun : Keyword) (names ws : Words) → begun ≡ key → is_due due key ≡ true
@@ -33,7 +32,7 @@ comes version due key begun names ws same is = rw (same, is) refl
 pub parsed : (version : Version) (due : Due) (key : Keyword) (w : List ℕ) (ws : Words) (result : Result Line Cause)
     → is_due due key ≡ true → keyword_of w ≡ key
     → ((names : Words) → cause_of version due names w ws ≡ due_form version due (keyword_of w) names ws)
-    → Forms version key ws result → ParsesTo version due w ws result
+    → IsParsed version key ws result → ParsesTo version due w ws result
 parsed version due key w ws (Ok line) is same middle form = record {
   comes = ap (is_due due) form.keyword ∙ is;
   keyword = form.keyword ∙ sym same;
@@ -90,7 +89,7 @@ named_again v.Three = refl
 
 -- what a parsed line says is what its words say
 said_here : (draft : DraftView) (ws : Words) (line : Line) (zs : List ℤ) → Keeps line ws
-    → with_line (keyword_in line) draft (words_in line) zs ≡ with_line (keyword_in line) draft ws zs
+    → with_line (keyword_in line) draft (kept_words line) zs ≡ with_line (keyword_in line) draft ws zs
 said_here draft ws (l.Header version) zs kept = rw (named_again version, kept) refl
 said_here draft ws (l.Picture width height) zs kept = refl
 said_here draft ws (l.Depth bits fraction) zs kept = refl
@@ -109,7 +108,7 @@ said_here draft ws l.End zs kept = refl
 
 pub taken_is : (draft after : DraftView) (w : List ℕ) (ws : Words) (line : Line)
     → IsLine draft.version draft.due w ws line
-    → after ≡ with_line (keyword_in line) draft (words_in line) (numbers_in line)
+    → after ≡ with_line (keyword_in line) draft (kept_words line) (numbers_in line)
     → record after { due = due_after (keyword_in line) } ≡ taken draft (w ∷ ws)
 taken_is draft after w ws line is line_taken =
     ap {A = DraftView} (λ d. record d { due = due_after (keyword_in line) })
@@ -118,14 +117,10 @@ taken_is draft after w ws line is line_taken =
     ∙ ap {A = Keyword} (λ key. record (with_line key draft ws (numbers_of (figures (keyword_of w) ws)))
     { due = due_after key }) is.keyword
 
-none_left : (cause : Option Cause) (limit : Option LineFault) → judged cause limit ≡ None → limit ≡ None
-none_left None limit e = e
-none_left (Some cause) limit e = cc
-
 -- a line that passes no limit
 pub within : (draft : DraftView) (line : Line) → fault_left draft line ≡ None
     → limit_of (keyword_in line) (tally_of draft) (numbers_in line) ≡ None
-within draft line none = none_left (second_name (names_of draft.solids) line) _ none
+within draft line none = within_limits (second_name (names_of draft.solids) line) _ none
 
 -- a draft stays lawful over a line without a fault
 pub lawful_taken : (draft : DraftView) (w : List ℕ) (ws : Words) (line : Line) → IsLawfulDraft draft
@@ -133,7 +128,7 @@ pub lawful_taken : (draft : DraftView) (w : List ℕ) (ws : Words) (line : Line)
     → IsLawfulDraft (taken draft (w ∷ ws))
 lawful_taken draft w ws line is parsed left shown =
     let good : fault_in draft (w ∷ ws) ≡ None = fault_is draft w ws line parsed ∙ rw (left, shown) refl
-    in let form = good_form draft.version draft.due (names_of draft.solids) w ws (of_form _ _ good)
+    in let form = line_form_good draft.version draft.due (names_of draft.solids) w ws (good_form _ _ good)
     in let limit : limit_of (keyword_of w) (tally_of draft) (numbers_of (figures (keyword_of w) ws)) ≡ None =
     rw (← parsed.keyword) (ap (limit_of (keyword_in line) (tally_of draft)) (rw parsed.keyword (sym parsed.numbers))
     ∙ within draft line left)
@@ -141,7 +136,7 @@ lawful_taken draft w ws line is parsed left shown =
 
 pub lawful_with : (draft after : DraftView) (due : Due) (w : List ℕ) (ws : Words) (line : Line) → IsLawfulDraft draft
     → IsLine draft.version draft.due w ws line → fault_left draft line ≡ None → fault_shown draft line ≡ None
-    → after ≡ with_line (keyword_in line) draft (words_in line) (numbers_in line) → due ≡ due_after (keyword_in line)
+    → after ≡ with_line (keyword_in line) draft (kept_words line) (numbers_in line) → due ≡ due_after (keyword_in line)
     → IsLawfulDraft (record after { due = due })
 lawful_with draft after due w ws line is parsed left shown line_taken next =
     rw next

@@ -1,26 +1,23 @@
 -- Lines read one after another, until one is bad.
-use Rattle.std.proofs.Common.{◌≡◌, ℕ, ◌+◌, ◌<◌, ◌≤◌, List, [], ◌∷◌, ◌++◌, length, take, drop, get_or, map, Some, None}
-use Rattle.std.proofs.Common.{refl, ap, sym, ◌∙◌, arith, length-take, nat_lt, false, true, unwrap_or, ◌^◌, Bor}
-use Rattle.std.proofs.lemmas.List.{take_more, drop_more, drop_all, take_all, get_or-map, length-map}
-use Rattle.std.proofs.lemmas.Simd.{map-map}
+use Rattle.std.proofs.Common.{◌≡◌, ℕ, ◌+◌, ◌<◌, ◌≤◌, List, [], ◌∷◌, ◌++◌, length, take, drop, get_or, Some, None}
+use Rattle.std.proofs.Common.{refl, ap, sym, ◌∙◌, arith, length-take, nat_lt, false, true, unwrap_or, ◌^◌}
+use Rattle.std.proofs.lemmas.List.{take_more, drop_more, drop_all, take_all}
 use Rattle.px_show.specs.declared.fault.LineFault.{LineFault}
-use Rattle.px_text.specs.Text.{Words, words_of, lines_of, worded}
-use Rattle.px_model.specs.Solids.{SolidView}
+use Rattle.px_text.specs.Text.{Words, lines_of, worded}
+use Rattle.px_model.specs.Scenes.{SolidView, SceneView}
 use Rattle.px_scene.specs.Drafts.{DraftView, IsLawfulDraft, fault_in, taken, drawn}
-use Rattle.px_scene.specs.Reading.{first_bad, fault_behind, at_line, scene_of}
+use Rattle.px_scene.specs.Reading.{first_bad, fault_behind, at_line, scene_of, refusal_of, is_nothing}
 use Rattle.px_expr.specs.Tree.{Tree, leaf}
-use Rattle.px_model.specs.Scenes.{SceneView}
-use Rattle.px_scene.specs.Refusals.{refusal_of, is_nothing}
-use Rattle.px_scene.specs.declared.read.SceneFault.{SceneFault}
-use Rattle.px_scene.specs.declared.read.SceneFault.TheVariants as fault
+use Rattle.px_show.specs.declared.fault.SceneFault.{SceneFault}
+use Rattle.px_show.specs.declared.fault.SceneFault.TheVariants as fault
 use Rattle.px_show.specs.declared.fault.Cause.TheVariants as cause
 use Rattle.std.proofs.lemmas.Bool.Decides.{nat_tests}
-use Rattle.px_scene.specs.Tells.{Tells, IsDraftOf, IsFirstBad}
+use Rattle.px_scene.specs.Tells.{DraftTells, IsDraftOf, IsFirstBad}
 use Rattle.px_scene.proofs.TellsLemmas.{blank, tells_start, tells_taken, fault_told}
 
 -- no line is bad before this one
 pub record IsReadTo (draft : DraftView) (lines : List Words) (i : ℕ) : Type 0 where
-  pub tells : Tells draft (take i lines)
+  pub tells : DraftTells draft (take i lines)
   pub lawful : IsLawfulDraft draft
   pub judged : first_bad [] lines ≡ first_bad (take i lines) (drop i lines)
 
@@ -87,18 +84,6 @@ read_all draft lines i so past =
       lawful = so.lawful;
     }
 
--- the words of a line that is read
-pub words_here : (lines : List (Bor (List ℕ))) (i : ℕ) (any : Bor (List ℕ)) → i < length lines
-    → get_or (map (λ m. words_of m.now) lines) i [] ≡ words_of (get_or lines i any).now
-words_here lines i any lt = get_or-map (λ (m : Bor (List ℕ)). words_of m.now) lines i any [] lt
-
-pub within : (lines : List (Bor (List ℕ))) (i : ℕ) → i < length lines → i < length (map (λ m. words_of m.now) lines)
-within lines i lt = omega (arith, length-map lines (λ (m : Bor (List ℕ)). words_of m.now))
-
-pub worded_is : (lines : List (Bor (List ℕ))) (text : List ℕ) → map (λ l. l.now) lines ≡ lines_of text
-    → map (λ l. words_of l.now) lines ≡ worded text
-worded_is lines text e = sym (map-map words_of (λ (l : Bor (List ℕ)). l.now) lines) ∙ ap (map words_of) e
-
 short : (text : List ℕ) → length text ≤ 2 ^ 20 → nat_lt (2 ^ 20) (length text) ≡ false
 short text le = grind (arith, nat_tests)
 
@@ -136,6 +121,6 @@ same_scene : (a a' b b' c c' f f' : ℕ) (s s' : List SolidView) (t t' : Tree) �
     }
 same_scene a a' b b' c c' f f' s s' t t' p q r n u v = rw (p, q, r, n, u, v) refl
 
-pub drawn_is : (draft : DraftView) (lines : List Words) → Tells draft lines → drawn draft ≡ scene_of lines
+pub drawn_is : (draft : DraftView) (lines : List Words) → DraftTells draft lines → drawn draft ≡ scene_of lines
 drawn_is draft lines tells = same_scene _ _ _ _ _ _ _ _ _ _ _ _ tells.width tells.height tells.depth tells.fraction
     tells.solids (ap (λ o. unwrap_or o (leaf 0)) tells.show)

@@ -1,13 +1,13 @@
 -- What one more line adds to what is counted and said over lines.
-use Rattle.std.proofs.Common.{◌≡◌, ◌≢◌, ℕ, ◌+◌, ◌-◌, ◌<◌, ◌≤◌, ◌==◌, List, [], ◌∷◌, ◌++◌, length, map, filter, Bool}
+use Rattle.std.proofs.Common.{◌≡◌, ◌≢◌, ℕ, ◌+◌, ◌-◌, ◌<◌, ◌≤◌, List, [], ◌∷◌, ◌++◌, length, map, filter, Bool}
 use Rattle.std.proofs.Common.{true, false, not, ◌&&◌, if◌then◌else◌, cond, Option, Some, None, option_to_list, refl}
 use Rattle.std.proofs.Common.{ap, sym, ◌∙◌, arith, append_assoc, append-nil, length-append, drop, zero-add}
-use Rattle.std.proofs.lemmas.Bool.Decides.{nat_tests}
 use Rattle.std.proofs.lemmas.List.{drop-append-le, drop_all, reverse-append, map-append}
 use Rattle.std.proofs.lemmas.List.Elements.{filter_map-append, filter-append}
 use Rattle.std.proofs.lemmas.List.Sums.{suffix_len-le-length, sum_by-append}
 use Rattle.std.specs.List.{cons_option, after_last, suffix_len, prefix_len, filter_map}
 use Rattle.px_num.specs.declared.linear.Linear.{Linear}
+use Rattle.px_num.proofs.TruthLaws.{other_false}
 use Rattle.px_scene.specs.declared.line.Due.{Due}
 use Rattle.px_scene.specs.declared.line.Due.TheVariants as d
 use Rattle.px_scene.specs.declared.line.Keyword.{Keyword}
@@ -15,10 +15,10 @@ use Rattle.px_scene.specs.Lines.{keyword_of, due_after}
 use Rattle.px_model.specs.declared.solid.Colour.{Colour}
 use Rattle.px_model.specs.declared.solid.Face.{Face}
 use Rattle.px_text.specs.Text.{Words}
-use Rattle.px_model.specs.Solids.{SolidView}
+use Rattle.px_model.specs.Scenes.{SolidView}
 use Rattle.px_scene.specs.Reading.{begins, is_solid, is_front, is_back, is_side, due_from, due_behind, count_of}
-use Rattle.px_scene.specs.Reading.{count_since, names_in, words_behind, Position, positions, said, face_at, side_at}
-use Rattle.px_scene.specs.Reading.{Head, solid_of, line_from, line_of, first_word}
+use Rattle.px_scene.specs.Reading.{count_since, names_in, words_behind, Position, positions, said, face_said, side_at}
+use Rattle.px_scene.specs.Reading.{Head, solid_with_head, line_from, line_of, first_word}
 
 due_from-append : (xs ys : List Words) (due : Due) → due_from due (xs ++ ys) ≡ due_from (due_from due xs) ys
 due_from-append [] ys due = refl
@@ -117,24 +117,21 @@ none_said what solid none (l ∷ ls) before below =
     in rw (none (record { before = before; line = l }) less) (none_said what solid none ls (before ++ l ∷ [])
     (rw whole below))
 
-not_equal : (a b : ℕ) → a ≢ b → (a == b) ≡ false
-not_equal a b ne = grind (arith, nat_tests)
-
 and_false : (a b : Bool) → b ≡ false → a && b ≡ false
 and_false true b e = e
 and_false false b e = refl
 
 -- a plane of another solid
 pub face_other : (kind : Keyword → Bool) (solid : ℕ) (colour : Colour) (p : Position)
-    → count_of is_solid p.before ≢ solid → face_at kind solid colour p ≡ None
-face_other kind solid colour p other = rw (and_false (begins kind p.line) _ (not_equal _ _ other)) refl
+    → count_of is_solid p.before ≢ solid → face_said kind solid colour p ≡ None
+face_other kind solid colour p other = rw (and_false (begins kind p.line) _ (other_false _ _ other)) refl
 
 pub side_other : (solid : ℕ) (p : Position) → count_of is_solid p.before ≢ solid → side_at solid p ≡ None
-side_other solid p other = rw (and_false (begins is_side p.line) _ (not_equal _ _ other)) refl
+side_other solid p other = rw (and_false (begins is_side p.line) _ (other_false _ _ other)) refl
 
 -- a line that is no plane of the kind
 pub face_silent : (kind : Keyword → Bool) (solid : ℕ) (colour : Colour) (p : Position) → begins kind p.line ≡ false
-    → face_at kind solid colour p ≡ None
+    → face_said kind solid colour p ≡ None
 face_silent kind solid colour p silent = rw silent refl
 
 pub side_silent : (solid : ℕ) (p : Position) → begins is_side p.line ≡ false → side_at solid p ≡ None
@@ -154,14 +151,14 @@ three : (s : SolidView) (f f' g g' : List Face) (p p' : List Linear) → f ≡ f
     q) ≡ record s { fronts = f'; backs = g'; sides = p' }
 three s f f' g g' p p' e1 e2 e3 = rw (e1, e2, e3) refl
 
-pub solid-push : (ls : List Words) (l : Words) (solid : ℕ) (head : Head) → solid_of (ls ++ l ∷ []) solid head
-    ≡ grown (solid_of ls solid head) (face_at is_front solid head.colour (record { before = ls; line = l }))
-    (face_at is_back solid head.colour (record { before = ls; line = l }))
+pub solid-push : (ls : List Words) (l : Words) (solid : ℕ) (head : Head) → solid_with_head (ls ++ l ∷ []) solid head
+    ≡ grown (solid_with_head ls solid head) (face_said is_front solid head.colour (record { before = ls; line = l }))
+    (face_said is_back solid head.colour (record { before = ls; line = l }))
     (side_at solid (record { before = ls; line = l }))
 unfolding grown
 solid-push ls l solid head =
-    three (solid_of ls solid head) _ _ _ _ _ _ (said-push (face_at is_front solid head.colour) ls l)
-    (said-push (face_at is_back solid head.colour) ls l) (said-push (side_at solid) ls l)
+    three (solid_with_head ls solid head) _ _ _ _ _ _ (said-push (face_said is_front solid head.colour) ls l)
+    (said-push (face_said is_back solid head.colour) ls l) (said-push (side_at solid) ls l)
 
 pub grown-none : (s : SolidView) → grown s None None None ≡ s
 unfolding grown

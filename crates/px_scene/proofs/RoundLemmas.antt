@@ -2,8 +2,6 @@
 use Rattle.std.proofs.Common.{◌≡◌, ℕ, ℤ, pos, ◌+◌, ◌-◌, min, ◌<◌, ◌≤◌, ◌^◌, ◌==◌, List, [], ◌∷◌, ◌++◌, length, Option}
 use Rattle.std.proofs.Common.{Some, None, Bool, true, false, ◌||◌, codes, decimal, refl, ap, sym, ◌∙◌, arith}
 use Rattle.std.proofs.Common.{slice_get, length-append}
-use lib.IntN.{negsuc}
-use lib.Signed.{mag}
 use Rattle.std.specs.Option.{option_or}
 use Rattle.std.proofs.lemmas.Int.{ints}
 use Rattle.std.proofs.lemmas.Bool.Decides.{nat_tests}
@@ -14,26 +12,25 @@ use Rattle.px_model.specs.declared.solid.Face.{Face}
 use Rattle.px_scene.specs.declared.line.Due.TheVariants as d
 use Rattle.px_show.specs.declared.fault.LimitKind.{LimitKind}
 use Rattle.px_show.specs.declared.fault.LimitKind.TheVariants as kind
-use Rattle.px_text.specs.Text.{Words, words_of}
-use Rattle.px_text.specs.Word.{number_of, is_name}
+use Rattle.px_text.specs.Text.{Words, words_of, number_of, is_name}
 use Rattle.px_scene.specs.declared.line.Due.{Due}
 use Rattle.px_scene.specs.declared.line.Tally.{Tally}
 use Rattle.px_show.specs.declared.fault.LineFault.{LineFault}
-use Rattle.px_expr.specs.Tree.{Tree, HasLeavesBelow, IsLawful}
-use Rattle.px_show.specs.Expressions.{has_signs}
+use Rattle.px_expr.specs.Tree.{Tree, HasLeavesBelow, IsLawfulTree}
+use Rattle.px_show.specs.Expressions.{has_signs, judged, is_among}
 use Rattle.px_show.specs.Versions.{version_word}
 use Rattle.px_show.specs.declared.version.Version.{Version}
 use Rattle.px_show.specs.declared.version.Version.TheVariants as v
 use Rattle.px_show.specs.Printed.{AreDistinctNames, printed, named_by}
-use Rattle.px_show.proofs.PrintedLemmas.{printed_tree, printed_good}
-use Rattle.px_show.specs.Faults.{judged, is_among}
+use Rattle.px_show.proofs.PrintedLaws.{printed_tree, printed_good}
 use Rattle.px_scene.specs.Lines.{numeric, solid_form, three_past, fault_of, are_numbers, numbers_of, past, most}
 use Rattle.px_scene.specs.Lines.{size_past, plane_past, colour_past, face_past, face_limit}
-use Rattle.px_model.specs.Solids.{SolidView, IsColour, IsPlane, names_of}
+use Rattle.px_model.specs.Scenes.{SolidView, IsColour, IsPlane, names_of}
 use Rattle.px_scene.specs.Drafts.{DraftView, with_front, with_back, with_side, with_last, in_last, tally_of}
 use Rattle.px_scene.specs.Drafts.{fresh_solid, new_solid}
 use Rattle.px_scene.specs.Canonical.{depth_words, plane_words, colour_words}
-use Rattle.px_text.proofs.DecimalLemmas.{number_read, signed_read}
+use Rattle.px_text.proofs.DecimalLaws.{number_read, signed_read}
+use Rattle.px_text.proofs.LineLaws.{small_size}
 use Rattle.px_scene.proofs.TellsLemmas.{blank}
 use Rattle.px_scene.proofs.DraftLemmas.{with_last-append}
 use Rattle.px_scene.proofs.WalkLemmas.{Walk, walk_both}
@@ -56,10 +53,6 @@ past_in limit low high n above below = grind (arith, ints, nat_tests)
 
 size_in : (n : ℕ) (z : ℤ) → IsWithin n z → size_past n z ≡ None
 size_in n z within = let low = within.0 in let high = within.1 in grind (arith, ints, nat_tests)
-
-pub small : (n : ℕ) (z : ℤ) → n < 10 ^ 18 → IsWithin n z → mag z < 10 ^ 18
-small n (pos m) most within = let high = within.1 in omega (arith, ints)
-small n (negsuc m) most within = let low = within.0 in omega (arith, ints)
 
 abbrev pub opened : Version → ℕ → ℕ → ℕ → ℕ → DraftView
 opened version width height bits fraction = record {
@@ -150,9 +143,9 @@ colour_figures c is =
 plane_figures : (p : Linear) (ws : Words) (zs : List ℤ) → IsPlane p → AreFigures ws zs
     → AreFigures (plane_words p ++ ws) (plane_numbers p zs)
 plane_figures p ws zs is are =
-    one_figure _ _ _ _ (signed_read p.a (small (2 ^ 23) p.a (omega arith) is.a))
-    (one_figure _ _ _ _ (signed_read p.b (small (2 ^ 23) p.b (omega arith) is.b))
-    (one_figure _ _ _ _ (signed_read p.c (small (2 ^ 33) p.c (omega arith) is.c)) are))
+    one_figure _ _ _ _ (signed_read p.a (small_size (2 ^ 23) p.a (omega arith) is.a))
+    (one_figure _ _ _ _ (signed_read p.b (small_size (2 ^ 23) p.b (omega arith) is.b))
+    (one_figure _ _ _ _ (signed_read p.c (small_size (2 ^ 33) p.c (omega arith) is.c)) are))
 
 plane_in : (p : Linear) → IsPlane p → plane_past p.a p.b p.c ≡ None
 plane_in p is = rw (size_in (2 ^ 23) p.a is.a, size_in (2 ^ 23) p.b is.b) (size_in (2 ^ 33) p.c is.c)
@@ -334,7 +327,7 @@ shown_draft start done n due show = record start { due = due; numbered = n; soli
 -- the last two lines
 pub last_walk : (start : DraftView) (done : List SolidView) (n : ℕ) (tree : Tree) → AreDistinctNames (names_of done)
     → HasLeavesBelow (length (names_of done)) tree → has_signs start.version (named_by (names_of done) tree) ≡ true
-    → IsLawful tree → 0 < length done
+    → IsLawfulTree tree → 0 < length done
     → Walk (standing start done n)
     ((codes "show" ∷ words_of (printed (named_by (names_of done) tree))) ∷ (codes "end" ∷ []) ∷ [])
     (shown_draft start done n d.Nothing (Some tree))

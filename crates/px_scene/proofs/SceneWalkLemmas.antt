@@ -9,24 +9,23 @@ use Rattle.std.proofs.Math.Seq.{get_or-append_seam}
 use Rattle.std.proofs.lemmas.Bool.Decides.{nat_tests}
 use Rattle.std.proofs.lemmas.List.{length-map}
 use Rattle.std.proofs.lemmas.Slice.Eq.{bytes_eq-Decides}
-use Rattle.px_expr.specs.Tree.{Tree, leaf, join, HasLeavesBelow}
+use Rattle.px_expr.specs.Tree.{HasLeavesBelow}
+use Rattle.px_expr.proofs.LeafLaws.{some_solid}
 use Rattle.px_scene.specs.declared.line.Due.TheVariants as d
-use Rattle.px_text.specs.Text.{Words, words_of}
-use Rattle.px_text.specs.Word.{is_name}
-use Rattle.px_show.specs.Faults.{is_among}
+use Rattle.px_text.specs.Text.{Words, words_of, is_name}
+use Rattle.px_show.specs.Expressions.{is_among}
 use Rattle.px_show.specs.Printed.{printed, named_by}
-use Rattle.px_model.specs.Solids.{SolidView, IsLawfulSolid, faces_in, names_of}
+use Rattle.px_model.specs.Scenes.{SolidView, IsLawfulSolid, faces_in, names_of}
 use Rattle.px_model.specs.Scenes.{SceneView, IsNumberedFrom, AreNumberedFrom, faces_of}
+use Rattle.px_model.proofs.FaceLaws.{faces_of-cons}
 use Rattle.px_scene.specs.Writable.{IsWritable}
 use Rattle.px_scene.specs.Drafts.{DraftView, fresh_solid}
-use Rattle.px_show.specs.Signs.{has_difference}
-use Rattle.px_show.specs.Versions.{version_word, has_differ}
+use Rattle.px_show.specs.Versions.{has_difference, version_word, has_differ}
 use Rattle.px_show.specs.declared.version.Version.TheVariants as v
 use Rattle.px_scene.specs.Canonical.{version_for, depth_words, plane_words, colour_words}
-use Rattle.px_scene.proofs.NumberLemmas.{faces_of-cons}
 use Rattle.px_scene.proofs.CutLemmas.{below, none_below, all_below}
 use Rattle.px_scene.proofs.TellsLemmas.{blank}
-use Rattle.px_show.proofs.PrintedLemmas.{signs_of}
+use Rattle.px_show.proofs.PrintedLaws.{signs_of}
 use Rattle.px_scene.proofs.WalkLemmas.{Walk, walk_both}
 use Rattle.px_scene.proofs.RoundLemmas.{CanWrite, opened, open_solid, written_so_far, standing, shown_draft}
 use Rattle.px_scene.proofs.RoundLemmas.{first_walk, solid_walk, last_walk}
@@ -167,10 +166,6 @@ scene_words scene = first_words scene ++ (flat_map solid_words scene.solids ++ l
 
 abbrev pub final_draft : SceneView → DraftView
 final_draft scene = shown_draft (start_of scene) scene.solids (faces_of scene.solids) d.Nothing (Some scene.show)
-
-some_solid : (tree : Tree) (count : ℕ) → HasLeavesBelow count tree → 0 < count
-some_solid (leaf place) count below = omega arith
-some_solid (join op left right) count below = some_solid left count below.0
 
 -- the version of a scene writes its fraction bits and its signs
 can_write : (fraction : ℕ) (differs : Bool)

@@ -1,7 +1,7 @@
 -- A draft stays lawful over a good line.
 use Prim.Native.Nat.{zero, suc}
 use Rattle.std.proofs.Common.{◌≡◌, ◌≢◌, ℕ, ℤ, pos, ◌≤ℤ◌, ◌+◌, ◌-◌, min, ◌<◌, ◌≤◌, List, [], ◌∷◌, ◌++◌, length, Bool}
-use Rattle.std.proofs.Common.{true, false, not, ◌||◌, ◌&&◌, codes, refl, ap, sym, arith, slice_get, IfSome, Option}
+use Rattle.std.proofs.Common.{true, false, not, ◌||◌, codes, refl, ap, sym, arith, slice_get, IfSome, Option}
 use Rattle.std.proofs.Common.{Some, None, get_or, unwrap_or, add-zero, if◌then◌else◌}
 use Rattle.std.proofs.lemmas.Int.{ints}
 use Rattle.std.specs.Option.{option_or}
@@ -15,25 +15,23 @@ use Rattle.px_scene.specs.declared.line.Keyword.TheVariants as k
 use Rattle.px_show.specs.declared.version.Version.{Version}
 use Rattle.px_show.specs.declared.fault.Cause.{Cause}
 use Rattle.px_show.specs.declared.fault.Cause.TheVariants as cause
-use Rattle.px_text.specs.Text.{Words}
+use Rattle.px_text.specs.Text.{Words, is_name, number_of}
 use Rattle.px_show.specs.declared.fault.LineFault.{LineFault}
 use Rattle.px_scene.specs.Lines.{past, most, fraction_past, face_past, face_limit, is_due, form_of, is_header}
 use Rattle.px_scene.specs.Lines.{keyword_of, cause_of, solid_form, are_numbers, numbers_of, figures}
-use Rattle.px_show.specs.Faults.{is_among}
-use Rattle.px_scene.specs.Figures.{colour_of, size_of}
+use Rattle.px_show.specs.Expressions.{is_among}
+use Rattle.px_scene.specs.Lines.{colour_of, size_of}
 use Rattle.px_scene.specs.Reading.{head_colour, first_word}
 use lib.IntN.{negsuc}
-use Rattle.px_text.specs.Word.{is_name, number_of}
 use Rattle.px_model.specs.declared.solid.Colour.{Colour}
 use Rattle.std.specs.Str.{bytes_eq}
 use Rattle.std.specs.Cmp.Lexicographic.{other_text}
-use Rattle.px_model.specs.Solids.{SolidView, faces_in, names_of}
-use Rattle.px_model.specs.Scenes.{IsNumberedFrom, AreNumberedFrom, faces_of}
-use Rattle.px_show.proofs.FaultLemmas.{none_first, none_second}
-use Rattle.px_scene.proofs.NumberLemmas.{faces_of-cons}
+use Rattle.px_model.specs.Scenes.{SolidView, faces_in, names_of, IsNumberedFrom, AreNumberedFrom, faces_of}
 use Rattle.px_scene.specs.Drafts.{CanTakeFace, is_begun, is_ended, new_solid, fresh_solid, with_last, IsGoodForm}
 use Rattle.std.proofs.lemmas.List.Elements.{All-push}
 use Rattle.std.proofs.lemmas.List.Quantifiers.{all_pairs_push}
+use Rattle.px_num.proofs.TruthLaws.{and_left, none_first, none_second}
+use Rattle.px_model.proofs.FaceLaws.{faces_of-cons}
 
 pub at_most : (limit : LimitKind) (high found : ℕ) → most limit high found ≡ None → found ≤ high
 at_most limit high found e = grind (arith, ints)
@@ -86,10 +84,6 @@ last_can_take first (s ∷ t ∷ ss) are some =
     omega (arith, faces_of-cons s (t ∷ ss))
     in rw (place, counted) (last_can_take (first + faces_in s) (t ∷ ss) are.1 (omega arith))
 
-both_true : (a b : Bool) → a && b ≡ true → a ≡ true
-both_true true b e = refl
-both_true false b e = e
-
 abbrev no_cause : Option Cause
 no_cause = None
 
@@ -97,7 +91,7 @@ header_form : (version : Version) (names : Words) (w : List ℕ) (ws : Words) (b
     → (if b then no_cause else Some cause.NotHeader) ≡ None → IsGoodForm version d.Header names (keyword_of w) ws
 header_form version names w ws false e none = cc
 header_form version names w ws true e none =
-    let word : bytes_eq w (codes "pxscene") ≡ true = both_true _ _ e
+    let word : bytes_eq w (codes "pxscene") ≡ true = and_left _ _ e
     in let begins : keyword_of w ≡ k.Pxscene = rw word refl
     in rw begins (record { comes = refl; formed = refl })
 
@@ -106,15 +100,15 @@ due_form_none : (version : Version) (due : Due) (names ws : Words) (k : Keyword)
 due_form_none version due names ws k true e none = record { comes = e; formed = none }
 due_form_none version due names ws k false e none = cc
 
-pub good_form : (version : Version) (due : Due) (names : Words) (w : List ℕ) (ws : Words)
+pub line_form_good : (version : Version) (due : Due) (names : Words) (w : List ℕ) (ws : Words)
     → cause_of version due names w ws ≡ None → IsGoodForm version due names (keyword_of w) ws
-good_form version d.Header names w ws none = header_form version names w ws _ refl none
-good_form version d.Picture names w ws none = due_form_none version _ names ws (keyword_of w) _ refl none
-good_form version d.Depth names w ws none = due_form_none version _ names ws (keyword_of w) _ refl none
-good_form version d.Solid names w ws none = due_form_none version _ names ws (keyword_of w) _ refl none
-good_form version d.Plane names w ws none = due_form_none version _ names ws (keyword_of w) _ refl none
-good_form version d.End names w ws none = due_form_none version _ names ws (keyword_of w) _ refl none
-good_form version d.Nothing names w ws none = cc
+line_form_good version d.Header names w ws none = header_form version names w ws _ refl none
+line_form_good version d.Picture names w ws none = due_form_none version _ names ws (keyword_of w) _ refl none
+line_form_good version d.Depth names w ws none = due_form_none version _ names ws (keyword_of w) _ refl none
+line_form_good version d.Solid names w ws none = due_form_none version _ names ws (keyword_of w) _ refl none
+line_form_good version d.Plane names w ws none = due_form_none version _ names ws (keyword_of w) _ refl none
+line_form_good version d.End names w ws none = due_form_none version _ names ws (keyword_of w) _ refl none
+line_form_good version d.Nothing names w ws none = cc
 
 -- lines that come only after a solid's
 pub begun_front : (due : Due) → is_due due k.Front ≡ true → is_begun due ≡ true

@@ -11,27 +11,28 @@ use Rattle.px_scene.specs.declared.line.Tally.{Tally}
 use Rattle.px_text.specs.Text.{Words}
 use Rattle.px_scene.specs.Lines.{keyword_of, due_after, numbers_of, figures, is_due, numeric, fault_of, cause_of}
 use Rattle.px_scene.specs.Lines.{limit_on}
-use Rattle.px_scene.specs.Figures.{size_of, depth_of, fraction_of, face_of, side_of}
+use Rattle.px_scene.specs.Lines.{size_of, depth_of, fraction_of, face_of, side_of}
 use Rattle.px_num.specs.declared.linear.Linear.{Linear}
 use Rattle.px_model.specs.declared.solid.Face.{Face}
-use Rattle.px_scene.proofs.LawfulLemmas.{counted, face_shape, HasFace, length-with_last, of_form}
-use Rattle.px_scene.proofs.TakenLemmas.{new_name, names_with_last, begun_front, begun_back, begun_side, good_form}
+use Rattle.px_scene.proofs.LawfulLemmas.{counted, face_shape, HasFace, length-with_last}
+use Rattle.px_scene.proofs.TakenLemmas.{new_name, names_with_last, begun_front, begun_back, begun_side, line_form_good}
 use Rattle.std.proofs.lemmas.Bool.Decides.{nat_tests}
 use Rattle.px_model.specs.declared.solid.Colour.{Colour}
 use Rattle.px_expr.specs.Tree.{Tree}
-use Rattle.px_show.specs.Show.{show_tree}
+use Rattle.px_show.specs.Expressions.{show_tree}
 use Rattle.px_show.specs.Versions.{version_or_first}
 use Rattle.px_show.specs.declared.version.Version.{Version}
 use Rattle.px_show.specs.declared.version.Version.TheVariants as v
-use Rattle.px_model.specs.Solids.{SolidView, names_of}
+use Rattle.px_model.specs.Scenes.{SolidView, names_of}
+use Rattle.px_show.proofs.FaultLaws.{good_form}
 use Rattle.px_scene.specs.Drafts.{DraftView, IsLawfulDraft, IsGoodForm, with_front, with_back, with_side, and_front}
 use Rattle.px_scene.specs.Drafts.{and_back, and_side, with_picture, with_depth, with_last, with_line, in_last}
 use Rattle.px_scene.specs.Drafts.{tally_of, fault_in, taken, is_ended, fresh_solid}
 use Rattle.px_scene.specs.Reading.{begins, is_pxscene, is_picture, is_depth, is_solid, is_front, is_back, is_side}
 use Rattle.px_scene.specs.Reading.{is_shown, is_numbered, count_of, count_since, tally_behind, names_in, due_behind}
-use Rattle.px_scene.specs.Reading.{version_in, figures_in, line_of, words_behind, width_of, height_of, shown_in}
+use Rattle.px_scene.specs.Reading.{version_in, figures_in, line_of, words_behind, width_of, height_of, expression_in}
 use Rattle.px_scene.specs.Reading.{solids_of, head_colour, fault_behind, first_word}
-use Rattle.px_scene.specs.Tells.{Tells}
+use Rattle.px_scene.specs.Tells.{DraftTells}
 use Rattle.px_scene.proofs.ReadingLemmas.{due-push, count-push, since-push, names-push, line-push}
 use Rattle.px_scene.proofs.SolidsLemmas.{IsSilent, solids-silent, solids-front, solids-back, solids-side, solids-solid}
 
@@ -85,7 +86,7 @@ record IsQuiet (l : Words) : Type 0 where
   numbered : begins is_numbered l ≡ false
 
 shown_same : (before : List Words) (l : Words) → begins is_pxscene l ≡ false → begins is_solid l ≡ false
-    → begins is_shown l ≡ false → shown_in (before ++ l ∷ []) ≡ shown_in before
+    → begins is_shown l ≡ false → expression_in (before ++ l ∷ []) ≡ expression_in before
 shown_same before l header solid shown =
     rw (line_silent is_pxscene before l header, names_silent before l solid, line_silent is_shown before l shown) refl
 
@@ -95,7 +96,7 @@ nothing_shown : (version later : Version) (old new a b : Words) → a ≡ [] →
 nothing_shown version later old new a b p q = rw (p, q) refl
 
 -- the parts of a draft that a quiet line leaves
-pub tells_blank : (draft : DraftView) (before : List Words) → Tells draft before → Tells draft (before ++ [] ∷ [])
+pub tells_blank : (draft : DraftView) (before : List Words) → DraftTells draft before → DraftTells draft (before ++ [] ∷ [])
 tells_blank draft before tells =
     let silent : IsSilent [] = record { solid = refl; front = refl; back = refl; side = refl }
     in record {
@@ -117,16 +118,16 @@ tells_blank draft before tells =
     }
 
 tells_quiet : (draft : DraftView) (before : List Words) (l : Words) (version : Version) (due : Due)
-    (width height depth fraction : ℕ) (show : Option Tree) → Tells draft before → IsQuiet l
+    (width height depth fraction : ℕ) (show : Option Tree) → DraftTells draft before → IsQuiet l
     → version ≡ version_in (before ++ l ∷ [])
     → due ≡ due_behind (before ++ l ∷ [])
     → width ≡ width_of (figures_in (line_of is_picture (before ++ l ∷ [])))
     → height ≡ height_of (figures_in (line_of is_picture (before ++ l ∷ [])))
     → depth ≡ depth_of (figures_in (line_of is_depth (before ++ l ∷ [])))
     → fraction ≡ fraction_of (figures_in (line_of is_depth (before ++ l ∷ [])))
-    → show ≡ shown_in (before ++ l ∷ [])
+    → show ≡ expression_in (before ++ l ∷ [])
     → (is_ended due ≡ false → line_of is_shown (before ++ l ∷ []) ≡ [])
-    → Tells (record draft {
+    → DraftTells (record draft {
       version = version;
       due = due;
       width = width;
@@ -174,10 +175,10 @@ quiet_line w ws key e solid front back side numbered = record {
 
 -- a line that says nothing of the scene
 tells_plain : (draft : DraftView) (before : List Words) (w : List ℕ) (ws : Words) (key : Keyword) → keyword_of w ≡ key
-    → Tells draft before → IsQuiet (w ∷ ws)
+    → DraftTells draft before → IsQuiet (w ∷ ws)
     → is_pxscene key ≡ false → is_picture key ≡ false → is_depth key ≡ false → is_shown key ≡ false
     → (is_ended (due_after key) ≡ false → is_ended draft.due ≡ false)
-    → Tells (record draft { due = due_after key }) (before ++ (w ∷ ws) ∷ [])
+    → DraftTells (record draft { due = due_after key }) (before ++ (w ∷ ws) ∷ [])
 tells_plain draft before w ws key e tells quiet header picture depth shown ended =
     tells_quiet draft before (w ∷ ws) draft.version (due_after key) draft.width draft.height draft.depth_bits
     draft.fraction_bits draft.show tells quiet
@@ -203,8 +204,8 @@ open_before d.Nothing key e other = cc
 open_before due key e other = refl
 
 tells_header : (draft : DraftView) (before : List Words) (w : List ℕ) (ws : Words) → keyword_of w ≡ k.Pxscene
-    → Tells draft before → is_ended draft.due ≡ false
-    → Tells (record draft { version = version_or_first ws; due = d.Picture }) (before ++ (w ∷ ws) ∷ [])
+    → DraftTells draft before → is_ended draft.due ≡ false
+    → DraftTells (record draft { version = version_or_first ws; due = d.Picture }) (before ++ (w ∷ ws) ∷ [])
 tells_header draft before w ws e tells still =
     let l = w ∷ ws
     in let unshown = tells.unshown still
@@ -234,8 +235,8 @@ figures_here : (w : List ℕ) (ws : Words) (key : Keyword) → keyword_of w ≡ 
 figures_here w ws key e = ap (λ k'. numbers_of (figures k' ws)) e
 
 tells_picture : (draft : DraftView) (before : List Words) (w : List ℕ) (ws : Words) → keyword_of w ≡ k.Picture
-    → Tells draft before → IsGoodForm draft.version draft.due (names_of draft.solids) k.Picture ws
-    → Tells (record (with_picture draft (numbers_of ws)) { due = d.Depth }) (before ++ (w ∷ ws) ∷ [])
+    → DraftTells draft before → IsGoodForm draft.version draft.due (names_of draft.solids) k.Picture ws
+    → DraftTells (record (with_picture draft (numbers_of ws)) { due = d.Depth }) (before ++ (w ∷ ws) ∷ [])
 tells_picture draft before w ws e tells good =
     let two = two_figures ws good.formed
     in let quiet = quiet_line w ws k.Picture e refl refl refl refl refl
@@ -254,8 +255,8 @@ tells_picture draft before w ws e tells good =
     ∙ tells.unshown (open_before draft.due k.Picture good.comes refl)))
 
 tells_depth : (draft : DraftView) (before : List Words) (w : List ℕ) (ws : Words) → keyword_of w ≡ k.Depth
-    → Tells draft before → IsGoodForm draft.version draft.due (names_of draft.solids) k.Depth ws
-    → Tells (record (with_depth draft (numbers_of ws)) { due = d.Solid }) (before ++ (w ∷ ws) ∷ [])
+    → DraftTells draft before → IsGoodForm draft.version draft.due (names_of draft.solids) k.Depth ws
+    → DraftTells (record (with_depth draft (numbers_of ws)) { due = d.Solid }) (before ++ (w ∷ ws) ∷ [])
 tells_depth draft before w ws e tells good =
     let quiet = quiet_line w ws k.Depth e refl refl refl refl refl
     in let written : figures_in (line_of is_depth (before ++ (w ∷ ws) ∷ [])) ≡ numbers_of ws =
@@ -273,8 +274,8 @@ tells_depth draft before w ws e tells good =
     ∙ tells.unshown (open_before draft.due k.Depth good.comes refl))
 
 tells_show : (draft : DraftView) (before : List Words) (w : List ℕ) (ws : Words) → keyword_of w ≡ k.Show
-    → Tells draft before
-    → Tells (record draft { due = d.End; show = show_tree draft.version (names_of draft.solids) ws })
+    → DraftTells draft before
+    → DraftTells (record draft { due = d.End; show = show_tree draft.version (names_of draft.solids) ws })
     (before ++ (w ∷ ws) ∷ [])
 tells_show draft before w ws e tells =
     let quiet = quiet_line w ws k.Show e refl refl refl refl refl
@@ -333,8 +334,8 @@ with_fresh before l solids numbered colour same count written solid front back s
     rw (same, count, ← written) (sym (solids-solid before l solid front back side))
 
 tells_solid : (draft : DraftView) (before : List Words) (w : List ℕ) (ws : Words) → keyword_of w ≡ k.Solid
-    → Tells draft before → IsGoodForm draft.version draft.due (names_of draft.solids) k.Solid ws
-    → Tells (record (with_line k.Solid draft ws (numbers_of (figures k.Solid ws))) { due = d.Plane })
+    → DraftTells draft before → IsGoodForm draft.version draft.due (names_of draft.solids) k.Solid ws
+    → DraftTells (record (with_line k.Solid draft ws (numbers_of (figures k.Solid ws))) { due = d.Plane })
     (before ++ (w ∷ ws) ∷ [])
 tells_solid draft before w ws e tells good =
     let new = new_name (names_of draft.solids) ws good.formed
@@ -370,7 +371,7 @@ tells_solid draft before w ws e tells good =
 
 -- a line of a plane behind the last solid
 tells_plane : (draft : DraftView) (before : List Words) (w : List ℕ) (ws : Words) (key : Keyword) (change : SolidView
-    → SolidView) (numbers fronts backs sides : ℕ) → keyword_of w ≡ key → Tells draft before
+    → SolidView) (numbers fronts backs sides : ℕ) → keyword_of w ≡ key → DraftTells draft before
     → is_due draft.due key ≡ true → due_after key ≡ d.Plane → is_pxscene key ≡ false → is_solid key ≡ false
     → is_picture key ≡ false → is_depth key ≡ false → is_shown key ≡ false → is_last key ≡ false
     → 0 < length draft.solids
@@ -383,7 +384,7 @@ tells_plane : (draft : DraftView) (before : List Words) (w : List ℕ) (ws : Wor
     → count_since is_front (before ++ (w ∷ ws) ∷ []) ≡ count_since is_front before + fronts
     → count_since is_back (before ++ (w ∷ ws) ∷ []) ≡ count_since is_back before + backs
     → count_since is_side (before ++ (w ∷ ws) ∷ []) ≡ count_since is_side before + sides
-    → Tells (record draft {
+    → DraftTells (record draft {
       due = d.Plane;
       numbered = draft.numbered + numbers;
       solids = with_last change draft.solids;
@@ -451,8 +452,8 @@ side_shape (p ∷ q ∷ r ∷ s ∷ ws) e = let b = counted (length (p ∷ q ∷
     absurd (grind (arith, nat_tests))
 
 tells_front : (draft : DraftView) (before : List Words) (w : List ℕ) (ws : Words) → keyword_of w ≡ k.Front
-    → Tells draft before → IsLawfulDraft draft → IsGoodForm draft.version draft.due (names_of draft.solids) k.Front ws
-    → Tells (record (with_line k.Front draft ws (numbers_of ws)) { due = d.Plane }) (before ++ (w ∷ ws) ∷ [])
+    → DraftTells draft before → IsLawfulDraft draft → IsGoodForm draft.version draft.due (names_of draft.solids) k.Front ws
+    → DraftTells (record (with_line k.Front draft ws (numbers_of ws)) { due = d.Plane }) (before ++ (w ∷ ws) ∷ [])
 tells_front draft before w ws e tells is good =
     let l = w ∷ ws
     in let zs = numbers_of ws
@@ -473,8 +474,8 @@ tells_front draft before w ws e tells is good =
     (since_silent is_side before l (ap is_solid e) (ap is_side e) ∙ and_nothing _)
 
 tells_back : (draft : DraftView) (before : List Words) (w : List ℕ) (ws : Words) → keyword_of w ≡ k.Back
-    → Tells draft before → IsLawfulDraft draft → IsGoodForm draft.version draft.due (names_of draft.solids) k.Back ws
-    → Tells (record (with_line k.Back draft ws (numbers_of ws)) { due = d.Plane }) (before ++ (w ∷ ws) ∷ [])
+    → DraftTells draft before → IsLawfulDraft draft → IsGoodForm draft.version draft.due (names_of draft.solids) k.Back ws
+    → DraftTells (record (with_line k.Back draft ws (numbers_of ws)) { due = d.Plane }) (before ++ (w ∷ ws) ∷ [])
 tells_back draft before w ws e tells is good =
     let l = w ∷ ws
     in let zs = numbers_of ws
@@ -495,8 +496,8 @@ tells_back draft before w ws e tells is good =
     (since_silent is_side before l (ap is_solid e) (ap is_side e) ∙ and_nothing _)
 
 tells_side : (draft : DraftView) (before : List Words) (w : List ℕ) (ws : Words) → keyword_of w ≡ k.Side
-    → Tells draft before → IsLawfulDraft draft → IsGoodForm draft.version draft.due (names_of draft.solids) k.Side ws
-    → Tells (record (with_line k.Side draft ws (numbers_of ws)) { due = d.Plane }) (before ++ (w ∷ ws) ∷ [])
+    → DraftTells draft before → IsLawfulDraft draft → IsGoodForm draft.version draft.due (names_of draft.solids) k.Side ws
+    → DraftTells (record (with_line k.Side draft ws (numbers_of ws)) { due = d.Plane }) (before ++ (w ∷ ws) ∷ [])
 tells_side draft before w ws e tells is good =
     let l = w ∷ ws
     in let zs = numbers_of ws
@@ -517,8 +518,8 @@ tells_side draft before w ws e tells is good =
     (since_here is_side before l (ap is_solid e) (ap is_side e)))
 
 tells_by : (draft : DraftView) (before : List Words) (w : List ℕ) (ws : Words) (key : Keyword) → keyword_of w ≡ key
-    → Tells draft before → IsLawfulDraft draft → IsGoodForm draft.version draft.due (names_of draft.solids) key ws
-    → Tells (record (with_line key draft ws (numbers_of (figures key ws))) { due = due_after key })
+    → DraftTells draft before → IsLawfulDraft draft → IsGoodForm draft.version draft.due (names_of draft.solids) key ws
+    → DraftTells (record (with_line key draft ws (numbers_of (figures key ws))) { due = due_after key })
     (before ++ (w ∷ ws) ∷ [])
 tells_by draft before w ws k.Pxscene e tells is good =
     tells_header draft before w ws e tells (open_before draft.due k.Pxscene good.comes refl)
@@ -541,12 +542,12 @@ same_parts : (a a' b b' c c' e e' g g' : ℕ) → a ≡ a' → b ≡ b' → c �
     t) ≡ record { solids = a'; numbered = b'; fronts = c'; backs = e'; sides = g' }
 same_parts a a' b b' c c' e e' g g' p q r s t = rw (p, q, r, s, t) refl
 
-same_tally : (draft : DraftView) (before : List Words) → Tells draft before → tally_of draft ≡ tally_behind before
+same_tally : (draft : DraftView) (before : List Words) → DraftTells draft before → tally_of draft ≡ tally_behind before
 same_tally draft before tells =
     same_parts _ _ _ _ _ _ _ _ _ _ tells.count tells.numbered tells.fronts tells.backs tells.sides
 
 -- the draft judges a line as the lines before it do
-pub fault_told : (draft : DraftView) (before : List Words) (l : Words) → Tells draft before → fault_in draft l
+pub fault_told : (draft : DraftView) (before : List Words) (l : Words) → DraftTells draft before → fault_in draft l
     ≡ fault_behind before l
 fault_told draft before l tells =
     ap (λ version. fault_of version draft.due (names_of draft.solids) (tally_of draft) l) tells.version
@@ -568,7 +569,7 @@ blank = record {
   show = None;
 }
 
-pub tells_start : (draft : DraftView) → draft ≡ blank → Tells draft []
+pub tells_start : (draft : DraftView) → draft ≡ blank → DraftTells draft []
 tells_start draft e = rw e (record {
   version = refl;
   due = refl;
@@ -587,10 +588,10 @@ tells_start draft e = rw e (record {
   unshown = λ still. refl;
 })
 
-pub tells_taken : (draft : DraftView) (before : List Words) (l : Words) → Tells draft before → IsLawfulDraft draft
-    → fault_in draft l ≡ None → Tells (taken draft l) (before ++ l ∷ [])
+pub tells_taken : (draft : DraftView) (before : List Words) (l : Words) → DraftTells draft before → IsLawfulDraft draft
+    → fault_in draft l ≡ None → DraftTells (taken draft l) (before ++ l ∷ [])
 tells_taken draft before [] tells is good = tells_blank draft before tells
 tells_taken draft before (w ∷ ws) tells is good =
-    tells_by draft before w ws (keyword_of w) refl tells is (good_form draft.version draft.due (names_of draft.solids)
-    w ws (of_form (cause_of draft.version draft.due (names_of draft.solids) w ws)
+    tells_by draft before w ws (keyword_of w) refl tells is (line_form_good draft.version draft.due (names_of draft.solids)
+    w ws (good_form (cause_of draft.version draft.due (names_of draft.solids) w ws)
     (limit_on draft.version (keyword_of w) (tally_of draft) ws) good))

@@ -7,10 +7,8 @@ use Rattle.std.proofs.lemmas.List.Folds.{list_all-append}
 use Rattle.px_num.specs.declared.linear.Linear.{Linear}
 use Rattle.px_model.specs.declared.solid.Colour.{Colour}
 use Rattle.px_model.specs.declared.solid.Face.{Face}
-use Rattle.px_text.specs.Text.{Words, words_of, lines_of, worded}
-use Rattle.px_text.specs.Word.{is_name}
-use Rattle.px_model.specs.Solids.{SolidView, IsColour, IsLawfulSolid, IsPlane, names_of}
-use Rattle.px_model.specs.Scenes.{SceneView, IsLawfulScene}
+use Rattle.px_text.specs.Text.{Words, words_of, lines_of, worded, is_name}
+use Rattle.px_model.specs.Scenes.{SolidView, IsColour, IsLawfulSolid, IsPlane, names_of, SceneView, IsLawfulScene}
 use Rattle.px_scene.specs.Writable.{IsWritable, IsReadAs}
 use Rattle.px_show.specs.Versions.{version_word}
 use Rattle.px_show.specs.declared.version.Version.{Version}
@@ -18,22 +16,23 @@ use Rattle.px_show.specs.declared.version.Version.TheVariants as v
 use Rattle.px_scene.specs.Canonical.{version_for, depth_words, plane_words, colour_words, written_line, first_lines}
 use Rattle.px_scene.specs.Canonical.{solid_lines, show_line, canonical_text}
 use Rattle.px_text.specs.Written.{is_plain, are_plain, is_no_feed, fed}
-use Rattle.px_scene.proofs.RoundLemmas.{face_words, small}
+use Rattle.px_scene.proofs.RoundLemmas.{face_words}
 use Rattle.px_scene.proofs.FaceWalkLemmas.{words_at, words_of_number}
 use Rattle.px_scene.proofs.SceneWalkLemmas.{numbers_words, sides_words, solid_words, first_words, last_words}
 use Rattle.px_scene.proofs.SceneWalkLemmas.{scene_words, final_draft, shown_text, scene_walk}
 use Rattle.px_scene.proofs.CanonicalLemmas.{is_written, bare, end_words, text_is, read_plain}
-use Rattle.px_text.proofs.PlainLemmas.{decimal_plain, signed_plain, name_is_plain}
+use Rattle.px_text.proofs.PlainLaws.{decimal_plain, signed_plain, name_is_plain}
 use Rattle.px_scene.proofs.FedLemmas.{bares_fed, printed_fed, show_words}
-use Rattle.px_text.proofs.SpacedLemmas.{lines_read}
-use Rattle.px_show.proofs.PrintedLemmas.{names_lawful}
+use Rattle.px_text.proofs.SpacedLaws.{lines_read}
+use Rattle.px_show.proofs.PrintedLaws.{names_lawful}
 use Rattle.px_scene.proofs.LengthLemmas.{canonical_short}
 use Rattle.px_scene.proofs.WalkLemmas.{Walk, read_by_walk}
 use Rattle.px_scene.proofs.TellsLemmas.{blank}
 use Rattle.px_show.specs.Printed.{named_by}
 use Rattle.px_show.specs.Expressions.{has_names}
-use Rattle.px_expr.specs.Tree.{HasLeavesBelow, IsLawful}
+use Rattle.px_expr.specs.Tree.{HasLeavesBelow, IsLawfulTree}
 use Rattle.std.proofs.lemmas.List.{length-map, take_all}
+use Rattle.px_text.proofs.LineLaws.{small_size}
 
 colour_plain : (c : Colour) → IsColour c → are_plain (colour_words c) ≡ true
 colour_plain c is =
@@ -44,9 +43,9 @@ colour_plain c is =
 plane_plain : (p : Linear) → IsPlane p → are_plain (plane_words p) ≡ true
 plane_plain p is =
     rw (
-      signed_plain p.a (small (2 ^ 23) p.a (omega arith) is.a),
-      signed_plain p.b (small (2 ^ 23) p.b (omega arith) is.b),
-      signed_plain p.c (small (2 ^ 33) p.c (omega arith) is.c),
+      signed_plain p.a (small_size (2 ^ 23) p.a (omega arith) is.a),
+      signed_plain p.b (small_size (2 ^ 23) p.b (omega arith) is.b),
+      signed_plain p.c (small_size (2 ^ 33) p.c (omega arith) is.c),
     ) refl
 
 face_plain : (kind : List ℕ) (f : Face) → is_plain kind ≡ true → IsPlane f.plane → IsColour f.colour
@@ -193,7 +192,7 @@ canonical_read scene is =
 pub parts_read : (scene : SceneView) (count : ℕ) (begun shown text : List ℕ) → length scene.solids ≤ count
     → begun ≡ first_lines scene ++ flat_map solid_lines (take count scene.solids) → shown ≡ begun ++ show_line scene
     → text ≡ shown ++ written_line (codes "end") []
-    → IsLawfulScene scene → All IsLawfulSolid (take count scene.solids) → IsLawful scene.show → IsReadAs text scene
+    → IsLawfulScene scene → All IsLawfulSolid (take count scene.solids) → IsLawfulTree scene.show → IsReadAs text scene
 parts_read scene count begun shown text every first next last law solids show =
     let all = take_all count scene.solids every
     in let start = first_lines scene

@@ -1,30 +1,23 @@
 -- Lines none of which is bad, one after another, and what they come to.
-use Rattle.std.proofs.Common.{◌≡◌, ℕ, ◌+◌, ◌≤◌, ◌^◌, List, [], ◌∷◌, ◌++◌, length, Option, Some, None, true, refl, ap}
+use Rattle.std.proofs.Common.{◌≡◌, ℕ, ◌+◌, ◌≤◌, ◌^◌, List, [], ◌∷◌, ◌++◌, length, None, true, refl, ap}
 use Rattle.std.proofs.Common.{sym, ◌∙◌, append_assoc, append-nil}
-use Rattle.px_show.specs.declared.fault.Cause.{Cause}
 use Rattle.px_scene.specs.declared.line.Keyword.{Keyword}
 use Rattle.px_scene.specs.declared.line.Keyword.TheVariants as k
-use Rattle.px_show.specs.declared.fault.LineFault.{LineFault}
 use Rattle.px_text.specs.Text.{Words, worded}
-use Rattle.px_show.specs.Faults.{judged}
 use Rattle.px_scene.specs.Lines.{keyword_of, numbers_of, figures, cause_of, limit_on, limit_of}
-use Rattle.px_model.specs.Solids.{names_of}
+use Rattle.px_model.specs.Scenes.{names_of}
+use Rattle.px_show.proofs.FaultLaws.{good_form, within_limits}
 use Rattle.px_scene.specs.Drafts.{DraftView, IsLawfulDraft, tally_of, fault_in, taken, drawn}
-use Rattle.px_scene.specs.Reading.{first_bad, at_line}
-use Rattle.px_scene.specs.Refusals.{is_nothing}
-use Rattle.px_scene.specs.Tells.{Tells}
+use Rattle.px_scene.specs.Reading.{first_bad, at_line, is_nothing}
+use Rattle.px_scene.specs.Tells.{DraftTells}
 use Rattle.px_scene.specs.Writable.{IsReadAs}
-use Rattle.px_scene.proofs.TakenLemmas.{good_form}
-use Rattle.px_scene.proofs.LawfulLemmas.{of_form, lawful_line}
+use Rattle.px_scene.proofs.TakenLemmas.{line_form_good}
+use Rattle.px_scene.proofs.LawfulLemmas.{lawful_line}
 use Rattle.px_scene.proofs.TellsLemmas.{blank, tells_taken, fault_told}
 use Rattle.px_scene.proofs.ReadLemmas.{read_start, accepted, drawn_is}
 
 abbrev pub IsGood : DraftView → Words → Type 0
 IsGood draft l = fault_in draft l ≡ None
-
-of_limit : (cause : Option Cause) (limit : Option LineFault) → judged cause limit ≡ None → limit ≡ None
-of_limit None limit e = e
-of_limit (Some cause) limit e = cc
 
 limit_only : (draft : DraftView) (ws : Words) (key : Keyword) → limit_on draft.version key (tally_of draft) ws ≡ None
     → limit_of key (tally_of draft) (numbers_of (figures key ws)) ≡ None
@@ -46,8 +39,8 @@ lawful_taken draft (w ∷ ws) is good =
     let cause = cause_of draft.version draft.due (names_of draft.solids) w ws
     in let limit = limit_on draft.version (keyword_of w) (tally_of draft) ws
     in lawful_line draft (keyword_of w) ws is
-    (good_form draft.version draft.due (names_of draft.solids) w ws (of_form cause limit good))
-    (limit_only draft ws (keyword_of w) (of_limit cause limit good))
+    (line_form_good draft.version draft.due (names_of draft.solids) w ws (good_form cause limit good))
+    (limit_only draft ws (keyword_of w) (within_limits cause limit good))
 
 -- from one draft to another by good lines
 abbrev pub Walk : DraftView → List Words → DraftView → Type 0
@@ -61,10 +54,10 @@ walk_both first middle last (l ∷ ls) ms one two = (one.0, walk_both (taken fir
 
 record IsWalked (before ls : List Words) (last : DraftView) : Type 0 where
   good : first_bad before ls ≡ None
-  tells : Tells last (before ++ ls)
+  tells : DraftTells last (before ++ ls)
   lawful : IsLawfulDraft last
 
-walked : (draft last : DraftView) (before ls : List Words) → Tells draft before → IsLawfulDraft draft
+walked : (draft last : DraftView) (before ls : List Words) → DraftTells draft before → IsLawfulDraft draft
     → Walk draft ls last → IsWalked before ls last
 walked draft last before [] tells is walk = record {
   good = refl;

@@ -8,10 +8,8 @@ use Rattle.px_model.specs.declared.solid.Face.{Face}
 use Rattle.px_text.specs.Text.{Words}
 use Rattle.px_text.specs.Written.{spaced}
 use Rattle.px_show.specs.Printed.{printed, named_by}
-use Rattle.px_model.specs.Solids.{SolidView, names_of}
-use Rattle.px_model.specs.Scenes.{SceneView}
-use Rattle.px_show.specs.Signs.{has_difference}
-use Rattle.px_show.specs.Versions.{version_word}
+use Rattle.px_model.specs.Scenes.{SolidView, names_of, SceneView}
+use Rattle.px_show.specs.Versions.{has_difference, version_word}
 use Rattle.px_show.specs.declared.version.Version.{Version}
 use Rattle.px_show.specs.declared.version.Version.TheVariants as v
 
@@ -34,11 +32,11 @@ abbrev pub side_line : Linear → List ℕ
 side_line p = written_line (codes "side") (plane_words p)
 
 -- the lines of the faces that have a number
-abbrev pub lines_at : List ℕ → List Face → ℕ → List ℕ
-lines_at kind faces number = flat_map (face_line kind) (filter (λ f. f.number == number) faces)
+abbrev pub face_lines_at : List ℕ → List Face → ℕ → List ℕ
+face_lines_at kind faces number = flat_map (face_line kind) (filter (λ f. f.number == number) faces)
 
 abbrev pub lines_of_number : SolidView → ℕ → List ℕ
-lines_of_number s number = lines_at (codes "front") s.fronts number ++ lines_at (codes "back") s.backs number
+lines_of_number s number = face_lines_at (codes "front") s.fronts number ++ face_lines_at (codes "back") s.backs number
 
 -- fronts and backs together, in the order of their numbers
 abbrev pub face_lines : SolidView → List ℕ

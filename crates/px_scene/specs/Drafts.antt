@@ -11,16 +11,14 @@ use Rattle.px_scene.specs.declared.line.Due.{Due}
 use Rattle.px_scene.specs.declared.line.Due.TheVariants as d
 use Rattle.px_scene.specs.declared.line.Tally.{Tally}
 use Rattle.px_show.specs.declared.fault.LineFault.{LineFault}
-use Rattle.px_text.specs.Text.{Words}
+use Rattle.px_text.specs.Text.{Words, is_name}
 use Rattle.px_expr.specs.Tree.{Tree, leaf, HasLeavesBelow}
-use Rattle.px_show.specs.Show.{show_tree}
+use Rattle.px_show.specs.Expressions.{show_tree}
 use Rattle.px_show.specs.Versions.{version_or_first}
 use Rattle.px_scene.specs.Reading.{first_word}
 use Rattle.px_show.specs.declared.version.Version.{Version}
-use Rattle.px_text.specs.Word.{is_name}
-use Rattle.px_model.specs.Solids.{SolidView, names_of}
-use Rattle.px_model.specs.Scenes.{SceneView, AreNumberedFrom, faces_of}
-use Rattle.px_scene.specs.Figures.{size_of, depth_of, fraction_of, colour_of, face_of, side_of}
+use Rattle.px_model.specs.Scenes.{SolidView, names_of, SceneView, AreNumberedFrom, faces_of}
+use Rattle.px_scene.specs.Lines.{size_of, depth_of, fraction_of, colour_of, face_of, side_of}
 use Rattle.px_scene.specs.Lines.{keyword_of, due_after, numbers_of, figures, is_due, form_of, fault_of}
 use Rattle.px_scene.specs.declared.line.Keyword.{Keyword}
 use Rattle.px_scene.specs.declared.line.Keyword.TheVariants as k

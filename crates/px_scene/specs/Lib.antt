@@ -1,17 +1,13 @@
 pub use Rattle.px_model.specs.Cells
 pub use Rattle.px_model.specs.Scenes
-pub use Rattle.px_model.specs.Solids
 pub use Rattle.px_text.specs.Text
-pub use Rattle.px_text.specs.Word
 pub use Rattle.px_text.specs.Written
 pub mod Canonical
 pub mod DraftViews
 pub mod Drafts
-pub mod Figures
 pub mod Lines
 pub mod Parsed
 pub mod Reading
-pub mod Refusals
 pub mod Sample
 pub mod Tells
 pub mod Writable

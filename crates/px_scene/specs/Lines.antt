@@ -1,30 +1,61 @@
--- One line of a scene text: which lines are due, and why a line is bad. Clauses of public calls stand on it.
-use Rattle.std.specs.Prelude.{ℕ, ℤ, pos, ◌+◌, ◌-◌, min, ◌-ℤ◌, ◌==◌, List, [], ◌∷◌, ◌&&◌, ◌||◌, not, Bool, true, false, if◌then◌else◌, Option, Some, None, map, length, codes, unwrap_or, is_some}
+-- One line of a scene text: what its numbers say, which lines are due, and why a line is bad. Clauses of public calls stand on it.
+use Rattle.std.specs.Prelude.{ℕ, ℤ, pos, List, [], ◌∷◌, Option, Some, None, ◌+◌, ◌-◌, min, ◌-ℤ◌, ◌==◌, ◌&&◌, ◌||◌, not, Bool, true, false, if◌then◌else◌, map, length, codes, unwrap_or, is_some}
+use lib.IntN.{negsuc}
+use Rattle.px_num.specs.declared.linear.Linear.{Linear}
+use Rattle.px_model.specs.declared.solid.Colour.{Colour}
+use Rattle.px_model.specs.declared.solid.Face.{Face}
 use Rattle.std.specs.Option.{option_or}
 use Rattle.std.specs.Str.{bytes_eq}
 use Rattle.std.specs.List.{list_all}
 use lib.Signed.{le_z}
-use Rattle.px_model.specs.declared.limits.TheConstants.{MAX_CONSTANT, MAX_DEPTH_BITS, MAX_FACES}
-use Rattle.px_model.specs.declared.limits.TheConstants.{MAX_FRACTION_BITS, MAX_PICTURE_SIZE}
-use Rattle.px_model.specs.declared.limits.TheConstants.{MAX_PLANES_OF_A_KIND, MAX_SLOPE, MAX_SOLIDS}
-use Rattle.px_text.specs.Text.{Words}
-use Rattle.px_text.specs.Word.{number_of, is_name}
-use Rattle.px_show.specs.Faults.{judged, is_among}
-use Rattle.px_show.specs.Show.{show_cause, show_limit}
-use Rattle.px_scene.specs.Figures.{size_of}
+use Rattle.px_model.specs.declared.limits.TheConstants.{MAX_CONSTANT, MAX_DEPTH_BITS, MAX_FACES, MAX_FRACTION_BITS, MAX_PICTURE_SIZE, MAX_PLANES_OF_A_KIND, MAX_SLOPE, MAX_SOLIDS}
+use Rattle.px_text.specs.Text.{Words, number_of, is_name}
+use Rattle.px_show.specs.Expressions.{judged, is_among, show_cause, show_limit}
 use Rattle.px_show.specs.Versions.{depth_count, version_of}
 use Rattle.px_show.specs.declared.version.Version.{Version}
 use Rattle.px_scene.specs.declared.line.Keyword.{Keyword}
-use Rattle.px_scene.specs.declared.line.Keyword.TheVariants as k
 use Rattle.px_scene.specs.declared.line.Due.{Due}
-use Rattle.px_scene.specs.declared.line.Due.TheVariants as d
 use Rattle.px_show.specs.declared.fault.Cause.{Cause}
-use Rattle.px_show.specs.declared.fault.Cause.TheVariants as c
 use Rattle.px_show.specs.declared.fault.LimitKind.{LimitKind}
-use Rattle.px_show.specs.declared.fault.LimitKind.TheVariants as kind
 use Rattle.px_scene.specs.declared.line.Tally.{Tally}
 use Rattle.px_show.specs.declared.fault.LineFault.{LineFault}
+use Rattle.px_scene.specs.declared.line.Keyword.TheVariants as k
+use Rattle.px_scene.specs.declared.line.Due.TheVariants as d
+use Rattle.px_show.specs.declared.fault.Cause.TheVariants as c
+use Rattle.px_show.specs.declared.fault.LimitKind.TheVariants as kind
 use Rattle.px_show.specs.declared.fault.LineFault.TheVariants as f
+
+-- a number that is not negative
+abbrev pub size_of : ℤ → ℕ
+size_of (pos n) = n
+size_of (negsuc n) = 0
+
+-- the bits of a depth, and those of its fraction
+abbrev pub depth_of : List ℤ → ℕ
+depth_of (bits ∷ []) = size_of bits
+depth_of (bits ∷ fraction ∷ []) = size_of bits
+depth_of zs = 1
+
+abbrev pub fraction_of : List ℤ → ℕ
+fraction_of (bits ∷ fraction ∷ []) = size_of fraction
+fraction_of zs = 0
+
+abbrev pub colour_of : ℤ → ℤ → ℤ → Colour
+colour_of red green blue = record { red = size_of red; green = size_of green; blue = size_of blue }
+
+abbrev pub plane_of : ℤ → ℤ → ℤ → Linear
+plane_of a b c = record { a = a; b = b; c = c }
+
+-- the face of a line, which has its solid's colour where it has none of its own
+abbrev pub face_of : Colour → ℕ → List ℤ → Option Face
+face_of colour number (a ∷ b ∷ c ∷ []) = Some (record { number = number; plane = plane_of a b c; colour = colour })
+face_of colour number (a ∷ b ∷ c ∷ red ∷ green ∷ blue ∷ []) = Some (record { number = number; plane = plane_of a b c; colour = colour_of red green blue })
+face_of colour number zs = None
+
+-- the side of a line
+abbrev pub side_of : List ℤ → Option Linear
+side_of (a ∷ b ∷ c ∷ []) = Some (plane_of a b c)
+side_of zs = None
 
 abbrev pub keyword_of : List ℕ → Keyword
 keyword_of w =

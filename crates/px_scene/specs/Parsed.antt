@@ -1,16 +1,14 @@
 -- A parsed line, in the words of the rules: what begins it, the words that it keeps, and its numbers.
 -- Only proofs and private functions stand on it.
 use Rattle.std.specs.Prelude.{◌≡◌, ℕ, ℤ, List, [], ◌∷◌, ◌==◌, ◌||◌, length, ⊤, true, if◌then◌else◌, Option, Some, None, Result, Ok, Err}
-use Rattle.px_text.specs.Text.{Words}
+use Rattle.px_text.specs.Text.{Words, is_name, number_of}
 use Rattle.px_text.specs.LentWords.{now_of}
-use Rattle.px_text.specs.Word.{is_name, number_of}
 use Rattle.px_show.specs.Versions.{version_word, version_of}
-use Rattle.px_show.specs.Faults.{judged, is_among}
-use Rattle.px_show.specs.Show.{show_cause, show_fault}
+use Rattle.px_show.specs.Expressions.{judged, is_among, show_cause, show_fault}
 use Rattle.px_scene.specs.Lines.{keyword_of, is_due, numeric, numbers_of, figures, form_of, cause_of, limit_of}
 use Rattle.px_scene.specs.Drafts.{DraftView, tally_of}
 use Rattle.px_scene.specs.Reading.{first_word}
-use Rattle.px_model.specs.Solids.{names_of}
+use Rattle.px_model.specs.Scenes.{names_of}
 use Rattle.px_show.specs.declared.version.Version.{Version}
 use Rattle.px_show.specs.declared.fault.Cause.{Cause}
 use Rattle.px_show.specs.declared.fault.Cause.TheVariants as c
@@ -56,11 +54,11 @@ numbers_in (l.Side form) = form.a ∷ form.b ∷ form.c ∷ []
 numbers_in line = []
 
 -- the words that are more than numbers
-abbrev pub words_in : Line → Words
-words_in (l.Header version) = version_word version ∷ []
-words_in (l.Solid name paint) = name.now ∷ []
-words_in (l.Show words) = now_of words.now
-words_in line = []
+abbrev pub kept_words : Line → Words
+kept_words (l.Header version) = version_word version ∷ []
+kept_words (l.Solid name paint) = name.now ∷ []
+kept_words (l.Show words) = now_of words.now
+kept_words line = []
 
 -- the name of a solid
 abbrev pub name_in : Line → List ℕ
@@ -85,7 +83,7 @@ cause_left version names (l.Show words) = show_cause version names (now_of words
 cause_left version names line = second_name names line
 
 -- three words write three numbers
-pub record Writes (u v w : List ℕ) (x y z : ℤ) : Type 0 where
+pub record WriteThree (u v w : List ℕ) (x y z : ℤ) : Type 0 where
   pub first : number_of u ≡ Some x
   pub second : number_of v ≡ Some y
   pub third : number_of w ≡ Some z
@@ -106,9 +104,9 @@ pub record IsLine (version : Version) (due : Due) (w : List ℕ) (ws : Words) (l
   pub cause : (names : Words) → cause_of version due names w ws ≡ cause_left version names line
 
 -- the words after a first word of some kind are parsed, or their form is bad
-abbrev pub Forms : Version → Keyword → Words → Result Line Cause → Type 0
-Forms version key ws (Ok line) = IsForm version key ws line
-Forms version key ws (Err cause) = (names : Words) → form_of version key names ws ≡ Some cause
+abbrev pub IsParsed : Version → Keyword → Words → Result Line Cause → Type 0
+IsParsed version key ws (Ok line) = IsForm version key ws line
+IsParsed version key ws (Err cause) = (names : Words) → form_of version key names ws ≡ Some cause
 
 abbrev pub ParsesTo : Version → Due → List ℕ → Words → Result Line Cause → Type 0
 ParsesTo version due w ws (Ok line) = IsLine version due w ws line

@@ -1,25 +1,30 @@
--- A scene text line by line: the first bad line, and the scene of a text that has none. Clauses of public calls stand on it.
--- Each line is judged by what is counted over the lines before it.
-use Rattle.std.specs.Prelude.{ℕ, ℤ, ◌+◌, ◌==◌, List, [], ◌∷◌, ◌++◌, length, map, filter, count_by, Bool, true, false, ◌&&◌, if◌then◌else◌, Option, Some, None, unwrap_or}
+-- A scene text line by line: the first bad line, why a text is no scene, and the scene of a text that is one.
+-- Each line is judged by what is counted over the lines before it. Clauses of public calls stand on it.
+use Rattle.std.specs.Prelude.{ℕ, ℤ, ◌+◌, ◌==◌, List, [], ◌∷◌, ◌++◌, length, map, filter, count_by, Bool, true, false, ◌&&◌, if◌then◌else◌, Option, Some, None, unwrap_or, pos, nat_lt}
 use Rattle.std.specs.List.{after_last, filter_map}
 use Rattle.px_expr.specs.Tree.{Tree, leaf}
 use Rattle.px_num.specs.declared.linear.Linear.{Linear}
 use Rattle.px_model.specs.declared.solid.Colour.{Colour}
 use Rattle.px_model.specs.declared.solid.Face.{Face}
 use Rattle.px_scene.specs.declared.line.Keyword.{Keyword}
-use Rattle.px_scene.specs.declared.line.Keyword.TheVariants as k
 use Rattle.px_scene.specs.declared.line.Due.{Due}
-use Rattle.px_scene.specs.declared.line.Due.TheVariants as d
 use Rattle.px_scene.specs.declared.line.Tally.{Tally}
 use Rattle.px_show.specs.declared.fault.LineFault.{LineFault}
-use Rattle.px_text.specs.Text.{Words}
+use Rattle.px_text.specs.Text.{Words, lines_of, worded}
 use Rattle.px_scene.specs.Lines.{keyword_of, due_after, figures, numbers_of, fault_of}
-use Rattle.px_scene.specs.Figures.{size_of, depth_of, fraction_of, colour_of, face_of, side_of}
-use Rattle.px_model.specs.Solids.{SolidView}
-use Rattle.px_model.specs.Scenes.{SceneView, black}
-use Rattle.px_show.specs.Show.{show_tree}
+use Rattle.px_scene.specs.Lines.{size_of, depth_of, fraction_of, colour_of, face_of, side_of}
+use Rattle.px_model.specs.Scenes.{SolidView, SceneView, black}
+use Rattle.px_show.specs.Expressions.{show_tree}
 use Rattle.px_show.specs.Versions.{version_or_first}
 use Rattle.px_show.specs.declared.version.Version.{Version}
+use Rattle.px_show.specs.declared.fault.SceneFault.{SceneFault}
+use Rattle.px_text.specs.declared.text.TheConstants.{MAX_TEXT_BYTES}
+use Rattle.px_scene.specs.declared.line.Keyword.TheVariants as k
+use Rattle.px_scene.specs.declared.line.Due.TheVariants as d
+use Rattle.px_show.specs.declared.fault.LineFault.TheVariants as f
+use Rattle.px_show.specs.declared.fault.Cause.TheVariants as c
+use Rattle.px_show.specs.declared.fault.LimitKind.TheVariants as kind
+use Rattle.px_show.specs.declared.fault.SceneFault.TheVariants as fault
 
 abbrev pub is_pxscene : Keyword → Bool
 is_pxscene k.Pxscene = true
@@ -146,8 +151,8 @@ abbrev pub said : {X : Type 0} → (Position → Option X) → List Words → Li
 said what lines = filter_map what (positions [] lines)
 
 -- a front or a back of the solid of this number, counted from 1: of the last one before its line
-abbrev pub face_at : (Keyword → Bool) → ℕ → Colour → Position → Option Face
-face_at kind solid colour position =
+abbrev pub face_said : (Keyword → Bool) → ℕ → Colour → Position → Option Face
+face_said kind solid colour position =
     if begins kind position.line && count_of is_solid position.before == solid
     then face_of colour (count_of is_numbered position.before + 1) (figures_in position.line)
     else None
@@ -175,19 +180,19 @@ head_at position =
     else None
 
 -- the solid of this number, by its line
-abbrev pub solid_of : List Words → ℕ → Head → SolidView
-solid_of lines solid head = record {
+abbrev pub solid_with_head : List Words → ℕ → Head → SolidView
+solid_with_head lines solid head = record {
   name = head.name;
   colour = head.colour;
   near_number = head.number;
-  fronts = said (face_at is_front solid head.colour) lines;
-  backs = said (face_at is_back solid head.colour) lines;
+  fronts = said (face_said is_front solid head.colour) lines;
+  backs = said (face_said is_back solid head.colour) lines;
   sides = said (side_at solid) lines;
 }
 
 abbrev pub solids_from : List Words → ℕ → List Head → List SolidView
 solids_from lines solid [] = []
-solids_from lines solid (head ∷ heads) = solid_of lines solid head ∷ solids_from lines (solid + 1) heads
+solids_from lines solid (head ∷ heads) = solid_with_head lines solid head ∷ solids_from lines (solid + 1) heads
 
 abbrev pub solids_of : List Words → List SolidView
 solids_of lines = solids_from lines 1 (said head_at lines)
@@ -201,8 +206,8 @@ height_of (width ∷ height ∷ []) = size_of height
 height_of zs = 1
 
 -- the expression of the show line, where it stands
-abbrev pub shown_in : List Words → Option Tree
-shown_in lines = show_tree (version_in lines) (names_in lines) (words_behind (line_of is_shown lines))
+abbrev pub expression_in : List Words → Option Tree
+expression_in lines = show_tree (version_in lines) (names_in lines) (words_behind (line_of is_shown lines))
 
 -- the scene of a text without a bad line
 abbrev pub scene_of : List Words → SceneView
@@ -212,5 +217,25 @@ scene_of lines = record {
   depth_bits = depth_of (figures_in (line_of is_depth lines));
   fraction_bits = fraction_of (figures_in (line_of is_depth lines));
   solids = solids_of lines;
-  show = unwrap_or (shown_in lines) (leaf 0);
+  show = unwrap_or (expression_in lines) (leaf 0);
 }
+
+abbrev pub fault_at : ℕ → LineFault → SceneFault
+fault_at line (f.Malformed cause) = fault.Malformed line cause
+fault_at line (f.Limit kind found) = fault.Limit line kind found
+
+abbrev pub is_nothing : Due → Bool
+is_nothing d.Nothing = true
+is_nothing due = false
+
+-- the first bad line, or else the missing end
+abbrev pub refused : Option (ℕ × LineFault) → Bool → ℕ → Option SceneFault
+refused (Some bad) ended count = Some (fault_at bad.0 bad.1)
+refused None true count = None
+refused None false count = Some (fault.Malformed count c.MissingEnd)
+
+-- the limit of the text, the first bad line, the missing end
+abbrev pub refusal_of : List ℕ → Option SceneFault
+refusal_of text =
+    if nat_lt MAX_TEXT_BYTES (length text) then Some (fault.Limit 0 kind.Text (pos (MAX_TEXT_BYTES + 1)))
+    else refused (first_bad [] (worded text)) (is_nothing (due_behind (worded text))) (length (lines_of text))

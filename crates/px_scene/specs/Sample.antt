@@ -40,13 +40,13 @@ abbrev pub block_lines : ℕ → List ℕ
 block_lines i = block_line i ++ block_sides i ++ block_faces i
 
 -- the rows that n blocks fill, four pixels each
-abbrev pub rows_of : ℕ → ℕ
-rows_of n = (n + 15) / 16
+abbrev pub block_rows : ℕ → ℕ
+block_rows n = (n + 15) / 16
 
 abbrev pub sample_start : ℕ → List ℕ
 sample_start n =
     written_line (codes "pxscene") (codes "1" ∷ [])
-    ++ written_line (codes "picture") (decimal 64 ∷ decimal (4 * rows_of n) ∷ [])
+    ++ written_line (codes "picture") (decimal 64 ∷ decimal (4 * block_rows n) ∷ [])
     ++ written_line (codes "depth") (decimal 16 ∷ [])
 
 abbrev pub cut_lines : List ℕ

@@ -4,17 +4,14 @@ ghost use Rattle.std.specs.Str.{bytes_eq};
 ghost use Rattle.std.specs.List.{list_any};
 ghost use Rattle.px_text.specs.Text.{words_of};
 ghost use Rattle.px_text.specs.LentWords.{now_of};
-ghost use Rattle.px_scene.specs.Refusals.{is_nothing};
-ghost use Rattle.px_show.specs.Faults.{is_among};
-ghost use Rattle.px_scene.specs.Figures.{colour_of, size_of};
+ghost use Rattle.px_scene.specs.Reading.{is_nothing, first_word};
+ghost use Rattle.px_show.specs.Expressions.{is_among, show_fault, show_tree};
+ghost use Rattle.px_scene.specs.Lines.{colour_of, size_of};
 ghost use Rattle.px_scene.specs.Lines.{is_due, limit_of, face_past, plane_past, colour_past, picture_past, depth_past};
-ghost use Rattle.px_scene.specs.Parsed.{keyword_in, name_in, words_in, numbers_in, face_numbers, depth_numbers, second_name, fault_left, fault_shown};
-ghost use Rattle.px_show.specs.Show.{show_fault, show_tree};
+ghost use Rattle.px_scene.specs.Parsed.{keyword_in, name_in, kept_words, numbers_in, face_numbers, depth_numbers, second_name, fault_left, fault_shown};
 ghost use Rattle.px_model.specs.declared.limits.TheConstants.{MAX_FACES, MAX_PLANES_OF_A_KIND};
-ghost use Rattle.px_model.specs.Solids.{IsPlane, SolidView, faces_in, names_of};
-ghost use Rattle.px_model.specs.Scenes.{AreNumberedFrom, faces_of};
+ghost use Rattle.px_model.specs.Scenes.{IsPlane, SolidView, faces_in, names_of, AreNumberedFrom, faces_of};
 ghost use Rattle.px_scene.specs.Drafts.{fresh_solid, with_line, with_depth, taken, with_last, in_last, with_front, with_back, with_side, CanTakeFace, CanBeTaken, IsLawfulDraft, tally_of, fault_in, drawn};
-ghost use Rattle.px_scene.specs.Reading.{first_word};
 ghost use Rattle.px_scene.specs.declared.line.Due.TheVariants as Due;
 ghost use Rattle.px_show.specs.declared.version.Version.TheVariants as Version;
 ghost use Rattle.px_show.specs.declared.fault.LineFault.{LineFault};
@@ -189,7 +186,7 @@ impl Draft {
             fault_shown (view_of self.old) line.entry ≡ Some f }
         ensures good { OnOk result (fault_shown (view_of self.old) line.entry ≡ None) }
         ensures taken { OnOk result (view_of self.new ≡ with_line (keyword_in line.entry)
-            (view_of self.old) (words_in line.entry) (numbers_in line.entry)) }
+            (view_of self.old) (kept_words line.entry) (numbers_in line.entry)) }
     {
         match line {
             Line::Header(version) => self.version = version,

@@ -3,7 +3,7 @@
 ghost use Rattle.std.specs.Prelude.{◌≡◌, Some, true, false, ◌∷◌, [], IfSome, IfNone};
 ghost use Rattle.px_text.specs.LentWords.{now_of};
 ghost use Rattle.px_scene.specs.Lines.{are_numbers, due_after};
-ghost use Rattle.px_scene.specs.Parsed.{keyword_in, Writes, ParsesTo, Forms, FaceForms, HeaderForms, DepthForms};
+ghost use Rattle.px_scene.specs.Parsed.{keyword_in, WriteThree, ParsesTo, IsParsed, FaceForms, HeaderForms, DepthForms};
 ghost use Rattle.px_show.specs.declared.version.Version.{Version as AnyVersion};
 ghost use Rattle.px_scene.specs.declared.line.Keyword.TheVariants as Kind;
 
@@ -94,7 +94,7 @@ fn header<'t>(words: &'t [&'t [u8]]) -> Result<Line<'t>, Cause>
 }
 
 fn picture<'t>(words: &'t [&'t [u8]]) -> Result<Line<'t>, Cause>
-    ensures { (version : AnyVersion) → Forms version Kind.Picture (now_of words.now) result }
+    ensures { (version : AnyVersion) → IsParsed version Kind.Picture (now_of words.now) result }
 {
     match words {
         [width, height] => match (number_of(width), number_of(height)) {
@@ -106,7 +106,7 @@ fn picture<'t>(words: &'t [&'t [u8]]) -> Result<Line<'t>, Cause>
 }
 
 fn depth<'t>(version: Version, words: &'t [&'t [u8]]) -> Result<Line<'t>, Cause>
-    ensures { Forms version Kind.Depth (now_of words.now) result }
+    ensures { IsParsed version Kind.Depth (now_of words.now) result }
 {
     match version {
         Version::One | Version::Two => depth_alone(words),
@@ -145,7 +145,7 @@ fn depth_and_fraction<'t>(words: &'t [&'t [u8]]) -> Result<Line<'t>, Cause>
 }
 
 fn solid<'t>(words: &'t [&'t [u8]]) -> Result<Line<'t>, Cause>
-    ensures { (version : AnyVersion) → Forms version Kind.Solid (now_of words.now) result }
+    ensures { (version : AnyVersion) → IsParsed version Kind.Solid (now_of words.now) result }
 {
     match words {
         [name, red, green, blue] => {
@@ -162,7 +162,7 @@ fn solid<'t>(words: &'t [&'t [u8]]) -> Result<Line<'t>, Cause>
 }
 
 fn front<'t>(words: &'t [&'t [u8]]) -> Result<Line<'t>, Cause>
-    ensures { (version : AnyVersion) → Forms version Kind.Front (now_of words.now) result }
+    ensures { (version : AnyVersion) → IsParsed version Kind.Front (now_of words.now) result }
 {
     match face(words) {
         Ok(face) => Ok(Line::Front(face)),
@@ -171,7 +171,7 @@ fn front<'t>(words: &'t [&'t [u8]]) -> Result<Line<'t>, Cause>
 }
 
 fn back<'t>(words: &'t [&'t [u8]]) -> Result<Line<'t>, Cause>
-    ensures { (version : AnyVersion) → Forms version Kind.Back (now_of words.now) result }
+    ensures { (version : AnyVersion) → IsParsed version Kind.Back (now_of words.now) result }
 {
     match face(words) {
         Ok(face) => Ok(Line::Back(face)),
@@ -180,7 +180,7 @@ fn back<'t>(words: &'t [&'t [u8]]) -> Result<Line<'t>, Cause>
 }
 
 fn side<'t>(words: &'t [&'t [u8]]) -> Result<Line<'t>, Cause>
-    ensures { (version : AnyVersion) → Forms version Kind.Side (now_of words.now) result }
+    ensures { (version : AnyVersion) → IsParsed version Kind.Side (now_of words.now) result }
 {
     match words {
         [a, b, c] => match linear_of(a, b, c) {
@@ -192,7 +192,7 @@ fn side<'t>(words: &'t [&'t [u8]]) -> Result<Line<'t>, Cause>
 }
 
 fn end<'t>(words: &'t [&'t [u8]]) -> Result<Line<'t>, Cause>
-    ensures { (version : AnyVersion) → Forms version Kind.End (now_of words.now) result }
+    ensures { (version : AnyVersion) → IsParsed version Kind.End (now_of words.now) result }
 {
     match words {
         [] => Ok(Line::End),
@@ -221,7 +221,7 @@ fn face(words: &[&[u8]]) -> Result<Plane, Cause>
 }
 
 fn linear_of(a: &[u8], b: &[u8], c: &[u8]) -> Option<Linear>
-    ensures some { IfSome result (λ f. Writes a.now b.now c.now f.a f.b f.c) }
+    ensures some { IfSome result (λ f. WriteThree a.now b.now c.now f.a f.b f.c) }
     ensures none { IfNone result (are_numbers (a.now ∷ b.now ∷ c.now ∷ []) ≡ false) }
 {
     match (number_of(a), number_of(b), number_of(c)) {
@@ -231,7 +231,7 @@ fn linear_of(a: &[u8], b: &[u8], c: &[u8]) -> Option<Linear>
 }
 
 fn paint_of(red: &[u8], green: &[u8], blue: &[u8]) -> Option<Paint>
-    ensures some { IfSome result (λ p. Writes red.now green.now blue.now p.red p.green p.blue) }
+    ensures some { IfSome result (λ p. WriteThree red.now green.now blue.now p.red p.green p.blue) }
     ensures none { IfNone result
         (are_numbers (red.now ∷ green.now ∷ blue.now ∷ []) ≡ false) }
 {

@@ -1,6 +1,7 @@
 //! The sample: a scene of so many blocks with one cut through all of them, the program's own measure of work.
 ghost use Rattle.std.specs.Prelude.{◌≡◌, ◌+◌, ◌/◌, ◌<◌, ◌≤◌, ◌++◌, ◌∷◌, [], ℕ, codes, IfOk, OnOk};
 ghost use Rattle.px_scene.specs.Canonical.{written_line};
+ghost use Rattle.px_scene.specs.declared.sample.TheConstants.{MAX_BLOCKS};
 ghost use Rattle.px_scene.specs.Sample.{
   block_faces,
   block_line,
@@ -26,14 +27,17 @@ use px_num::{Linear, Memory};
 use px_show::Version;
 use std::alloc::Global;
 
+/// A sample has at most so many blocks (docs/SCENES.md, "The sample").
+pub const MAX_BLOCKS: u32 = 200;
+
 /// How many blocks stand in a row.
 const COLUMNS: u32 = 16;
 
-/// The text of a scene of `n` blocks, 1 to 200, with one cut through all of them
+/// The text of a scene of `n` blocks, 1 to `MAX_BLOCKS`, with one cut through all of them
 /// (docs/SCENES.md, "The sample").
 pub fn sample_text(alloc: Global, n: u32) -> Result<Vec<u8>, Memory>
     requires some { 1 ≤ n }
-    requires few { n ≤ 200 }
+    requires few { n ≤ MAX_BLOCKS }
     ensures { IfOk result (λ text. text.items ≡ sample_text n) }
 {
     let mut text = Vec::new(alloc);
@@ -57,7 +61,7 @@ pub fn laws_of_samples()
 {}
 
 fn put_start(text: &mut Vec<u8>, n: u32) -> Result<(), Memory>
-    requires { n ≤ 200 }
+    requires { n ≤ MAX_BLOCKS }
     ensures { OnOk result (text.new.items ≡ text.old.items ++ sample_start n) }
 {
     put_header(text, Version::One)?;
@@ -66,7 +70,7 @@ fn put_start(text: &mut Vec<u8>, n: u32) -> Result<(), Memory>
 }
 
 fn put_block(text: &mut Vec<u8>, i: u32) -> Result<(), Memory>
-    requires { i < 200 }
+    requires { i < MAX_BLOCKS }
     ensures { OnOk result (text.new.items ≡ text.old.items ++ block_lines i) }
 {
     put_block_line(text, i)?;
@@ -76,7 +80,7 @@ fn put_block(text: &mut Vec<u8>, i: u32) -> Result<(), Memory>
 
 /// The sides of a block of three columns and three rows.
 fn put_block_sides(text: &mut Vec<u8>, i: u32) -> Result<(), Memory>
-    requires { i < 200 }
+    requires { i < MAX_BLOCKS }
     ensures { OnOk result (text.new.items ≡ text.old.items ++ block_sides i) }
 {
     put_left_and_right(text, i)?;
@@ -84,7 +88,7 @@ fn put_block_sides(text: &mut Vec<u8>, i: u32) -> Result<(), Memory>
 }
 
 fn put_left_and_right(text: &mut Vec<u8>, i: u32) -> Result<(), Memory>
-    requires { i < 200 }
+    requires { i < MAX_BLOCKS }
     ensures { OnOk result (text.new.items ≡ text.old.items ++ left_and_right i) }
 {
     let left = 4 * i64::from(i % COLUMNS);
@@ -93,7 +97,7 @@ fn put_left_and_right(text: &mut Vec<u8>, i: u32) -> Result<(), Memory>
 }
 
 fn put_top_and_bottom(text: &mut Vec<u8>, i: u32) -> Result<(), Memory>
-    requires { i < 200 }
+    requires { i < MAX_BLOCKS }
     ensures { OnOk result (text.new.items ≡ text.old.items ++ top_and_bottom i) }
 {
     let top = 4 * i64::from(i / COLUMNS);
@@ -102,7 +106,7 @@ fn put_top_and_bottom(text: &mut Vec<u8>, i: u32) -> Result<(), Memory>
 }
 
 fn put_block_faces(text: &mut Vec<u8>, i: u32) -> Result<(), Memory>
-    requires { i < 200 }
+    requires { i < MAX_BLOCKS }
     ensures { OnOk result (text.new.items ≡ text.old.items ++ block_faces i) }
 {
     put_form(text, b"front", &form(1, 2, 100 + i64::from(i)))?;
@@ -126,7 +130,7 @@ fn put_cut(text: &mut Vec<u8>) -> Result<(), Memory>
 #[tactic(auto, unfolding(crate::specs::Canonical::written_line))]
 fn put_shown(text: &mut Vec<u8>, n: u32) -> Result<(), Memory>
     requires some { 1 ≤ n }
-    requires few { n ≤ 200 }
+    requires few { n ≤ MAX_BLOCKS }
     ensures { OnOk result (text.new.items ≡ text.old.items
         ++ written_line (codes "show") ((codes "(" ++ union_of 0 n ++ codes " - cut)") ∷ [])) }
 {
@@ -138,7 +142,7 @@ fn put_shown(text: &mut Vec<u8>, n: u32) -> Result<(), Memory>
 /// The union of the blocks from `first` to before `end`, in as few levels as can be.
 fn put_union(text: &mut Vec<u8>, first: u32, end: u32) -> Result<(), Memory>
     requires some { first < end }
-    requires few { end ≤ 200 }
+    requires few { end ≤ MAX_BLOCKS }
     ensures { OnOk result (text.new.items ≡ text.old.items ++ union_of first end) }
 {
     if end == first + 1 {
@@ -155,7 +159,7 @@ fn put_union(text: &mut Vec<u8>, first: u32, end: u32) -> Result<(), Memory>
 
 #[tactic(auto, unfolding(crate::specs::Canonical::written_line))]
 fn put_block_line(text: &mut Vec<u8>, i: u32) -> Result<(), Memory>
-    requires { i < 200 }
+    requires { i < MAX_BLOCKS }
     ensures { OnOk result (text.new.items ≡ text.old.items ++ block_line i) }
 {
     let colour = Colour {
@@ -191,40 +195,4 @@ fn put_name(text: &mut Vec<u8>, i: u32) -> Result<(), Memory>
     let mut digits = Buffer::new();
     put(text, b"b")?;
     put(text, digits.format(i).as_bytes())
-}
-
-#[cfg(test)]
-mod tests {
-    use super::sample_text;
-    use crate::read::read_scene;
-    use std::test::Fail;
-
-    /// The sample of one block, and the expression of that of seven.
-    const ONE: &[u8] = b"pxscene 1\npicture 64 4\ndepth 16\n\
-        solid b0 0 100 200\nside 1 0 0\nside -1 0 2\nside 0 1 0\nside 0 -1 2\n\
-        front 1 2 100\nback 0 0 1000\n\
-        solid cut 255 255 0\nside 1 -1 0\nback 0 0 300\n\
-        show (b0 - cut)\nend\n";
-
-    const SEVEN: &[u8] = b"show (((b0 + (b1 + b2)) + ((b3 + b4) + (b5 + b6))) - cut)\nend\n";
-
-    #[test]
-    fn samples_of_one_and_of_seven(rt: HostRuntime) -> Result<(), Fail> {
-        let one = sample_text(rt.alloc(), 1)?;
-        assert_eq!(rt; one.as_slice(), ONE);
-        let seven = sample_text(rt.alloc(), 7)?;
-        assert!(rt; seven.as_slice().ends_with(SEVEN));
-        Ok(())
-    }
-
-    #[test]
-    fn samples_are_scenes(rt: HostRuntime) -> Result<(), Fail> {
-        for n in [1, 16, 17, 200] {
-            let text = sample_text(rt.alloc(), n)?;
-            let scene = read_scene(rt.alloc(), text.as_slice())?;
-            assert_eq!(rt; scene.solids().len(), n as usize + 1);
-            assert_eq!(rt; scene.width(), 64);
-        }
-        Ok(())
-    }
 }

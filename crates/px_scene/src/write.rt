@@ -1,13 +1,12 @@
 //! Writing a scene's canonical text (docs/SCENES.md, "Canonical text").
 ghost use Rattle.std.specs.Prelude.{◌≡◌, None, ◌++◌, ◌∷◌, [], codes, decimal, OnOk, IfOk};
-ghost use Rattle.px_expr.specs.Tree.{IsLawful};
-ghost use Rattle.px_model.specs.Solids.{IsLawfulSolid};
-ghost use Rattle.px_model.specs.Scenes.{SceneView};
+ghost use Rattle.px_expr.specs.Tree.{IsLawfulTree};
+ghost use Rattle.px_model.specs.Scenes.{IsLawfulSolid, SceneView};
 ghost use Rattle.px_show.specs.Versions.{version_word};
 ghost use Rattle.px_scene.specs.Writable.{IsWritable, IsReadAs};
 ghost use Rattle.std.specs.Fmt.{signed_decimal};
 ghost use Rattle.std.specs.List.{flat_map};
-ghost use Rattle.px_scene.specs.Canonical.{written_line, colour_words, plane_words, face_line, side_line, lines_at, lines_of_number, face_lines, solid_lines, first_lines, version_for, depth_words, show_line, canonical_text};
+ghost use Rattle.px_scene.specs.Canonical.{written_line, colour_words, plane_words, face_line, side_line, face_lines_at, lines_of_number, face_lines, solid_lines, first_lines, version_for, depth_words, show_line, canonical_text};
 ghost use Rattle.px_text.specs.Written.{spaced};
 
 use itoa::Buffer;
@@ -156,7 +155,7 @@ fn put_faces_at(
     number: u64,
 ) -> Result<(), Memory>
     ensures { OnOk result (text.new.items ≡ text.old.items
-        ++ lines_at keyword.now faces.now number) }
+        ++ face_lines_at keyword.now faces.now number) }
 {
     for face in faces {
         if u64::from(face.number) == number {
@@ -197,7 +196,7 @@ pub(crate) fn put_side(text: &mut Vec<u8>, side: &Linear) -> Result<(), Memory>
 #[tactic(auto, unfolding(crate::specs::Canonical::written_line))]
 fn put_show(alloc: Global, text: &mut Vec<u8>, scene: &Scene) -> Result<(), Memory>
     ensures text { OnOk result (text.new.items ≡ text.old.items ++ show_line scene.now) }
-    ensures lawful { OnOk result (IsLawful scene.now.show) }
+    ensures lawful { OnOk result (IsLawfulTree scene.now.show) }
 {
     put(text, b"show ")?;
     put_expression(alloc, text, scene.solids(), scene.show())?;
@@ -256,59 +255,3 @@ pub(crate) fn put(text: &mut Vec<u8>, bytes: &[u8]) -> Result<(), Memory>
 pub fn canonical_law()
     ensures { (scene : SceneView) → IsWritable scene → IsReadAs (canonical_text scene) scene }
 {}
-
-#[cfg(test)]
-mod tests {
-    use super::write_scene;
-    use crate::read::read_scene;
-    use std::test::Fail;
-
-    /// Texts, each with its canonical text.
-    const CASES: [(&[u8], &[u8]); 6] = [
-        (
-            b"  pxscene\t1 # all of it\r\n\npicture 007 9\ndepth 24\n\
-              solid b 1 2 3\nback -0 8388608 -8589934592\nside 1 2 -3\nfront 0 0 5 4 5 6\n\
-              side 0 0 0\nsolid _a9 255 0 9\nshow ( b-(_a9 *b ) )\nend",
-            b"pxscene 1\npicture 7 9\ndepth 24\nsolid b 1 2 3\n\
-              back 0 8388608 -8589934592 1 2 3\nfront 0 0 5 4 5 6\nside 1 2 -3\nside 0 0 0\n\
-              solid _a9 255 0 9\nshow (b - (_a9 * b))\nend\n",
-        ),
-        (
-            b"pxscene 1\npicture 1 512\ndepth 1\nsolid a 0 0 0\nsolid c 0 0 0\n\
-              show (((a+c)*(c-a))+a)\nend\n",
-            b"pxscene 1\npicture 1 512\ndepth 1\nsolid a 0 0 0\nsolid c 0 0 0\n\
-              show (((a + c) * (c - a)) + a)\nend\n",
-        ),
-        (
-            b"pxscene 2\npicture 1 1\ndepth 4\nsolid a 0 0 0\nsolid b 0 0 0\n\
-              show ((a^b)-(b^a))\nend\n",
-            b"pxscene 2\npicture 1 1\ndepth 4\nsolid a 0 0 0\nsolid b 0 0 0\n\
-              show ((a ^ b) - (b ^ a))\nend\n",
-        ),
-        (
-            b"pxscene 2\npicture 1 1\ndepth 4\nsolid a 0 0 0\nshow (a+a)\nend\n",
-            b"pxscene 1\npicture 1 1\ndepth 4\nsolid a 0 0 0\nshow (a + a)\nend\n",
-        ),
-        (
-            b"pxscene 3\npicture 1 1\ndepth 024 -0\nsolid a 0 0 0\nshow (a^a)\nend\n",
-            b"pxscene 2\npicture 1 1\ndepth 24\nsolid a 0 0 0\nshow (a ^ a)\nend\n",
-        ),
-        (
-            b"pxscene 3\npicture 1 1\ndepth 16 08\nsolid a 0 0 0\nshow a\nend\n",
-            b"pxscene 3\npicture 1 1\ndepth 16 8\nsolid a 0 0 0\nshow a\nend\n",
-        ),
-    ];
-
-    #[test]
-    fn texts_in_canonical_form(rt: HostRuntime) -> Result<(), Fail> {
-        for (text, canonical) in CASES {
-            let scene = read_scene(rt.alloc(), text)?;
-            let written = write_scene(rt.alloc(), &scene)?;
-            assert_eq!(rt; written.as_slice(), canonical);
-            let again = read_scene(rt.alloc(), canonical)?;
-            let twice = write_scene(rt.alloc(), &again)?;
-            assert_eq!(rt; twice.as_slice(), canonical);
-        }
-        Ok(())
-    }
-}

@@ -1,8 +1,9 @@
 use Rattle.std.proofs.Common.{◌≡◌, ◌∙◌, sym, ap, arith, inl, inr, length, map}
-use Rattle.px_scene.proofs.ReadLemmas.{worded_is, refused_bad, refused_end, accepted, drawn_is}
+use Rattle.px_scene.proofs.ReadLemmas.{refused_bad, refused_end, accepted, drawn_is}
 use Rattle.std.proofs.lemmas.List.{length-map}
 use Rattle.px_scene.specs.Reading.{scene_of}
 use Rattle.px_text.specs.Text.{words_of, worded}
+use Rattle.px_text.proofs.LineLaws.{worded_is}
 use Rattle.px_scene.specs.DraftViews.{view_of}
 use Rattle.px_scene.proofs.read.read_scene.Goals as goal
 

@@ -1,4 +1,4 @@
-use Rattle.px_model.specs.Solids.{IsLawfulSolid}
+use Rattle.px_model.specs.Scenes.{IsLawfulSolid}
 use Rattle.px_scene.specs.Canonical.{solid_lines}
 use Rattle.px_scene.proofs.WriteLemmas.{All-next, next_item}
 use Rattle.px_scene.proofs.TextWalkLemmas.{parts_read}

@@ -1,6 +1,6 @@
 use Rattle.std.proofs.Common.{◌≡◌, ◌++◌, take}
 use Rattle.std.specs.List.{All, flat_map}
-use Rattle.px_model.specs.Solids.{IsLawfulSolid}
+use Rattle.px_model.specs.Scenes.{IsLawfulSolid}
 use Rattle.px_scene.specs.Canonical.{first_lines, solid_lines}
 use Rattle.px_scene.proofs.write.write_scene.Given as goal
 
