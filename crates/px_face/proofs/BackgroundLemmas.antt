@@ -1,6 +1,6 @@
 -- A pixel shows a face of the scene where it has a first cell, and face 0 elsewhere.
 use Rattle.std.proofs.Common.{◌≡◌, ◌<◌, ◌≤◌, ◌+◌, ◌&&◌, ◌==◌, ℕ, zero, suc, ℤ, pos, Bool, true, false, List, []}
-use Rattle.std.proofs.Common.{◌∷◌, ◌++◌, length, min, Option, Some, None, refl, sym, subst, arith, inl, inr, ◌⊎◌, ◌↔◌}
+use Rattle.std.proofs.Common.{◌∷◌, ◌++◌, length, min, Option, Some, None, refl, sym, subst, arith, inl, inr, ◌↔◌}
 use Rattle.std.proofs.Common.{if◌then◌else◌}
 use Rattle.std.specs.List.{All}
 use Rattle.std.specs.Ordering.{int_eq}
@@ -8,16 +8,17 @@ use Rattle.std.proofs.lemmas.Bool.{cases_eq}
 use Rattle.std.proofs.lemmas.List.Elements.{All-nil, All-cons, All-append, All-filter, All-map}
 use Rattle.std.proofs.lemmas.List.Sums.{sum_by-cons}
 use Rattle.px_num.specs.Forms.{value_at}
+use Rattle.px_num.proofs.TruthLaws.{min_cases}
 use Rattle.px_expr.specs.Cells.{Cell, cell, combined, shown_in, shown_when, own_faces}
-use Rattle.px_expr.specs.Combinations.{combination_of, complement_of, truth_in}
+use Rattle.px_expr.specs.Cells.{combination_of, complement_of, truth_in}
 use Rattle.px_expr.specs.Tree.{Tree, join, leaf}
 use Rattle.px_expr.specs.declared.node.Op.{Op}
-use Rattle.px_expr.specs.declared.combination.Sense.{Sense}
-use Rattle.px_expr.specs.declared.combination.Sense.TheVariants.{Plain, Complement}
-use Rattle.px_expr.specs.declared.combination.Combination.{Combination}
-use Rattle.px_expr.specs.declared.combination.Combination.TheVariants.{Both, Either, EitherWay}
+use Rattle.px_expr.specs.declared.node.Sense.{Sense}
+use Rattle.px_expr.specs.declared.node.Sense.TheVariants.{Plain, Complement}
+use Rattle.px_expr.specs.declared.node.Combination.{Combination}
+use Rattle.px_expr.specs.declared.node.Combination.TheVariants.{Both, Either, EitherWay}
 use Rattle.px_model.specs.declared.solid.Face.{Face}
-use Rattle.px_model.specs.Solids.{IsLawfulSolid, SolidView, faces_in}
+use Rattle.px_model.specs.Scenes.{IsLawfulSolid, SolidView, faces_in}
 use Rattle.px_model.specs.Scenes.{AreNumberedFrom, IsLawfulScene, SceneView, faces_of}
 use Rattle.px_model.specs.Cells.{Depths, cell_of, depths_of, end_of, enters_at, faces_at, far_of, first, first_cell}
 use Rattle.px_model.specs.Cells.{first_or, is_inside_before, is_member_at, leaf_cell, least, leaves_at, scene_cell}
@@ -103,9 +104,7 @@ module _ (Is : ℕ → Type 0) where
   none_at = record { shown = All-nil Is; hidden = All-nil Is }
 
   lesser : (a b : ℕ) → Is a → Is b → Is (min a b)
-  lesser a b first second = elim (either a b) [ inl e ↦ subst Is (sym e) first | inr e ↦ subst Is (sym e) second ] where
-    either : (a b : ℕ) → (min a b ≡ a) ⊎ (min a b ≡ b)
-    either a b = grind arith
+  lesser a b first second = elim (min_cases a b) [ inl e ↦ subst Is (sym e) first | inr e ↦ subst Is (sym e) second ]
 
   least_is : (ns : List ℕ) → 0 < length ns → AreAll ns → Is (least ns)
   least_is [] some all = absurd (omega arith)

@@ -1,22 +1,13 @@
 -- The cells of a solid at a pixel, by the cells of the greatest front and of the least back.
-use Rattle.std.proofs.Common.{◌≡◌, ◌<◌, ◌≤◌, ℕ, Bool, true, false, ◌&&◌, nat_le, nat_lt, refl, ◌∙◌, arith, inl, inr}
+use Rattle.std.proofs.Common.{◌≡◌, ◌≤◌, ℕ, true, ◌&&◌, nat_le, nat_lt, refl, ◌∙◌, arith, inl, inr}
 use Rattle.std.proofs.lemmas.Int.{ints}
 use Rattle.std.proofs.lemmas.Bool.{cases_lt}
-use Rattle.std.proofs.lemmas.Bool.Decides.{nat_tests}
-use Rattle.px_model.specs.Solids.{SolidView}
+use Rattle.px_num.proofs.TruthLaws.{le_true, lt_true, never}
+use Rattle.px_model.specs.Scenes.{SolidView}
 use Rattle.px_model.specs.Cells.{Depths, cell_of, end_of, enters_at, is_inside, leaves_at, value_of}
 use Rattle.px_model.proofs.CellLaws.{cell_is_first, cell_is_least, cells_end, cells_grow}
 use Rattle.px_face.specs.Covering.{HasCells, is_met}
-use Rattle.px_face.proofs.DepthLemmas.{cells_are, depths_are}
-
-le_true : (m n : ℕ) → m ≤ n → nat_le m n ≡ true
-le_true m n h = grind (arith, nat_tests)
-
-lt_true : (m n : ℕ) → m < n → nat_lt m n ≡ true
-lt_true m n h = grind (arith, nat_tests)
-
-never : (b : Bool) → b ≡ false → b ≡ true → ⊥
-never b p q = cc
+use Rattle.px_face.proofs.DepthLaws.{cells_are, depths_are}
 
 module _ (s : SolidView) (d : Depths) (x y : ℕ) where
   abbrev end : ℕ

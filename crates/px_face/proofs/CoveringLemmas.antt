@@ -1,6 +1,6 @@
 -- The covering law: one front and one back cover a pixel where the solid has a cell there.
 use Rattle.std.proofs.Common.{◌≡◌, ◌<◌, ◌≤◌, ◌+◌, ◌-◌, ℕ, zero, suc, ℤ, pos, neg_ℤ, ◌-ℤ◌, Bool, true, false, ◌&&◌}
-use Rattle.std.proofs.Common.{List, [], ◌∷◌, ◌++◌, length, map, take, drop, get_or, eqb, nat_lt, refl, ap, sym, ◌∙◌}
+use Rattle.std.proofs.Common.{List, [], ◌∷◌, ◌++◌, length, map, take, drop, get_or, eqb, refl, ap, sym, ◌∙◌}
 use Rattle.std.proofs.Common.{arith, inl, inr, add-one}
 use Rattle.std.specs.List.{list_all}
 use Rattle.std.proofs.lemmas.Int.{ints}
@@ -12,17 +12,20 @@ use lib.Signed.{le_z, lt_z}
 use Rattle.px_num.specs.declared.linear.Linear.{Linear}
 use Rattle.px_num.proofs.FormLaws.{value_at-less_one, value_at-minus}
 use Rattle.px_num.specs.Forms.{minus, value_at}
+use Rattle.px_num.proofs.TruthLaws.{and_false, and_true, eqb_holds, lt_fails, lt_false, lt_holds, lt_true}
+use Rattle.px_num.proofs.MostLaws.{all_same}
 use Rattle.px_model.specs.declared.solid.Face.{Face}
-use Rattle.px_model.specs.Solids.{AreFaces, IsLawfulSolid, SolidView}
+use Rattle.px_model.specs.Scenes.{AreFaces, IsLawfulSolid, SolidView}
 use Rattle.px_model.specs.Cells.{enters_at, leaves_at}
 use Rattle.px_face.specs.Covering.{IsCoveredOnce, covering_back, covering_front, greatest_place, is_met}
 use Rattle.px_face.specs.Edges.{above, hold_at, at_least, back_edges, covers, front_edges}
-use Rattle.px_face.specs.Faces.{back_planes, face_count, front_planes, is_front, level, number_of, numbers_of, plane_of}
-use Rattle.px_face.proofs.DepthLemmas.{backs_over, cells_are, depths_are, fronts_below, fronts_under, list_all_same}
-use Rattle.px_face.proofs.DepthLemmas.{turned_backs}
-use Rattle.px_face.proofs.PlaceLemmas.{and_false, and_true, greatest_bounds, greatest_first, greatest_only}
+use Rattle.px_face.specs.Faces.{back_planes, face_count, front_planes, is_front_face, level, face_number}
+use Rattle.px_face.specs.Faces.{numbers_in_faces, face_plane}
+use Rattle.px_face.proofs.DepthLaws.{backs_over, cells_are, depths_are, fronts_below, fronts_under}
+use Rattle.px_face.proofs.DepthLaws.{turned_backs}
+use Rattle.px_face.proofs.PlaceLemmas.{greatest_bounds, greatest_first, greatest_only}
 use Rattle.px_face.proofs.PlaceLemmas.{greatest_there, is_first_greatest}
-use Rattle.px_face.proofs.RangeLemmas.{backs_size, fronts_size, lt_false, lt_true}
+use Rattle.px_face.proofs.RangeLemmas.{backs_size, fronts_size}
 
 above_test : (u v : ℤ) → le_z (pos 0) ((u -ℤ v) -ℤ pos 1) ≡ lt_z v u
 above_test u v = grind (arith, ints)
@@ -51,17 +54,8 @@ lt_ext a b p q = grind (arith, ints)
 before_turned : (z w : ℤ) → le_z (neg_ℤ w) (neg_ℤ z -ℤ pos 1) ≡ lt_z z w
 before_turned z w = grind (arith, ints)
 
-pub same_place : (i k : ℕ) → eqb i k ≡ true → i ≡ k
-same_place i k h = grind (arith, nat_tests)
-
 pub moved_place : (n i k : ℕ) → n ≤ i → eqb (i - n) k ≡ eqb i (n + k)
 moved_place n i k h = grind (arith, nat_tests)
-
-pub below_lt : (i n : ℕ) → nat_lt i n ≡ true → i < n
-below_lt i n h = grind (arith, nat_tests)
-
-pub from_lt : (i n : ℕ) → nat_lt i n ≡ false → n ≤ i
-from_lt i n h = grind (arith, nat_tests)
 
 -- forms as a test of the values that they compare
 part : (f : Linear → Linear) (v : Linear → ℤ) (t : ℤ → Bool) (x y : ℕ)
@@ -69,7 +63,7 @@ part : (f : Linear → Linear) (v : Linear → ℤ) (t : ℤ → Bool) (x y : �
     ≡ list_all t (map v qs)
 part f v t x y same qs =
     list_all-map (λ e. le_z (pos 0) (value_at e x y)) f qs
-    ∙ list_all_same (λ q. le_z (pos 0) (value_at (f q) x y)) (λ q. t (v q)) same qs
+    ∙ all_same (λ q. le_z (pos 0) (value_at (f q) x y)) (λ q. t (v q)) same qs
     ∙ sym (list_all-map t v qs)
 
 kept_parts : (a b c d : List Linear) (x y : ℕ) → hold_at (a ++ (b ++ c) ++ d) x y
@@ -96,12 +90,12 @@ lead_is v ps i low =
 some_values : (v : Linear → ℤ) (ps : List Linear) (n : ℕ) → length ps ≡ n + 1 → length (map v ps) ≡ n + 1
 some_values v ps n e = length-map ps v ∙ e
 
-number_at : (fs : List Face) (i : ℕ) (f : Face) → i < length fs → get_or (numbers_of fs) i 0 ≡ (get_or fs i f).number
+number_at : (fs : List Face) (i : ℕ) (f : Face) → i < length fs → get_or (numbers_in_faces fs) i 0 ≡ (get_or fs i f).number
 number_at fs i f low = get_or-map (λ g. g.number) fs i f 0 low
 
 -- the numbers of the near face and the fronts grow with their places
 numbers_grow : (near : ℕ) (fs : List Face) (i j : ℕ) → AreFaces near fs → i ≤ j → j ≤ length fs
-    → get_or (near ∷ numbers_of fs) i 0 ≤ get_or (near ∷ numbers_of fs) j 0
+    → get_or (near ∷ numbers_in_faces fs) i 0 ≤ get_or (near ∷ numbers_in_faces fs) j 0
 numbers_grow near fs zero zero are le there = omega arith
 numbers_grow near [] i (suc j) are le there = absurd (omega arith)
 numbers_grow near (f ∷ fs) zero (suc j) are le there =
@@ -187,7 +181,7 @@ module _ (s : SolidView) (end x y : ℕ) where
       (lt_z (enters_at s x y) (leaves_at s end x y)) (eqb i front_place)
       (lead_is at ps i room)
       (λ e. backs_over s end x y (at p) ∙ ap (λ v. lt_z v (leaves_at s end x y))
-      (ap (λ j. at (get_or ps j (level 0))) (same_place i front_place e) ∙ front_value)))
+      (ap (λ j. at (get_or ps j (level 0))) (eqb_holds i front_place e) ∙ front_value)))
 
   back_is : (i : ℕ) → i ≤ length s.backs → hold_at (back_edges s end i) x y ≡ (is_met s end x y && eqb i back_place)
   back_is i low =
@@ -209,36 +203,36 @@ module _ (s : SolidView) (end x y : ℕ) where
       (eqb i back_place)
       (lead_is turned ps i room)
       (λ e. fronts_under s end x y (at p) ∙ ap (λ v. lt_z (enters_at s x y) v)
-      (ap (λ j. at (get_or ps j (level 0))) (same_place i back_place e) ∙ back_value)))
+      (ap (λ j. at (get_or ps j (level 0))) (eqb_holds i back_place e) ∙ back_value)))
 
-  plane_front : (face : ℕ) → face ≤ length s.fronts → plane_of s end face ≡ get_or (front_planes s.fronts) face
+  plane_front : (face : ℕ) → face ≤ length s.fronts → face_plane s end face ≡ get_or (front_planes s.fronts) face
       (level 0)
   plane_front face low =
       get_or_append_left (front_planes s.fronts) (back_planes s.backs end) (level 0) face (omega (arith, fronts_size s))
 
-  plane_back : (face : ℕ) → length s.fronts + 1 ≤ face → plane_of s end face ≡ get_or (back_planes s.backs end)
+  plane_back : (face : ℕ) → length s.fronts + 1 ≤ face → face_plane s end face ≡ get_or (back_planes s.backs end)
       (face - (length s.fronts + 1)) (level 0)
   plane_back face high = get_or-append_right (front_planes s.fronts) (back_planes s.backs end) (length s.fronts + 1)
       face (level 0) (fronts_size s) high
 
-  fronts_cover : (face : ℕ) → is_front s face ≡ true → covers s end face x y
+  fronts_cover : (face : ℕ) → is_front_face s face ≡ true → covers s end face x y
       ≡ (is_met s end x y && eqb face (covering_front s x y))
   fronts_cover face front =
-      let low = below_lt face (length s.fronts + 1) front in
+      let low = lt_holds face (length s.fronts + 1) front in
       rw front (front_is face (omega arith))
 
-  backs_cover : (face : ℕ) → face < face_count s → is_front s face ≡ false → covers s end face x y
+  backs_cover : (face : ℕ) → face < face_count s → is_front_face s face ≡ false → covers s end face x y
       ≡ (is_met s end x y && eqb face (covering_back s end x y))
   backs_cover face there back =
       let n = length s.fronts + 1 in
-      let high : n ≤ face = from_lt face (length s.fronts + 1) back in
+      let high : n ≤ face = lt_fails face (length s.fronts + 1) back in
       rw (back, back_is (face - n) (omega arith), moved_place n face back_place high) refl
 
-  least_index : (face : ℕ) → face < face_count s → is_front s face ≡ false → value_at (plane_of s end face) x y
+  least_index : (face : ℕ) → face < face_count s → is_front_face s face ≡ false → value_at (face_plane s end face) x y
       ≡ leaves_at s end x y → covering_back s end x y ≤ face
   least_index face there back same =
       let n = length s.fronts + 1 in
-      let high : n ≤ face = from_lt face (length s.fronts + 1) back in
+      let high : n ≤ face = lt_fails face (length s.fronts + 1) back in
       let i = face - n in
       let v : ℤ = leaves_at s end x y in
       let room : i < length (back_planes s.backs end) = omega (arith, backs_size s end) in
@@ -257,7 +251,7 @@ module _ (s : SolidView) (end x y : ℕ) where
             (ap (λ w. list_all (λ u. le_z u w) (map turned (back_planes s.backs end))) here ∙ all),
       )
 
-  first_index : (face : ℕ) → face ≤ length s.fronts → value_at (plane_of s end face) x y ≡ enters_at s x y
+  first_index : (face : ℕ) → face ≤ length s.fronts → value_at (face_plane s end face) x y ≡ enters_at s x y
       → front_place ≤ face
   first_index face low same =
       let v : ℤ = enters_at s x y in
@@ -270,15 +264,15 @@ module _ (s : SolidView) (end x y : ℕ) where
       (ap (λ w. list_all (λ u. le_z u w) (map at (front_planes s.fronts))) here ∙ fronts_below s end x y v
       ∙ le_same v)
 
-  number_front : (face : ℕ) → face ≤ length s.fronts → number_of s face
-      ≡ get_or (s.near_number ∷ numbers_of s.fronts) face 0
-  number_front face low = get_or_append_left (s.near_number ∷ numbers_of s.fronts) (numbers_of s.backs ++ 0 ∷ []) 0
+  number_front : (face : ℕ) → face ≤ length s.fronts → face_number s face
+      ≡ get_or (s.near_number ∷ numbers_in_faces s.fronts) face 0
+  number_front face low = get_or_append_left (s.near_number ∷ numbers_in_faces s.fronts) (numbers_in_faces s.backs ++ 0 ∷ []) 0
       face (omega (arith, length-map s.fronts (λ f. f.number)))
 
-  least_number : IsLawfulSolid s → (face : ℕ) → is_front s face ≡ true → value_at (plane_of s end face) x y
-      ≡ enters_at s x y → number_of s (covering_front s x y) ≤ number_of s face
+  least_number : IsLawfulSolid s → (face : ℕ) → is_front_face s face ≡ true → value_at (face_plane s end face) x y
+      ≡ enters_at s x y → face_number s (covering_front s x y) ≤ face_number s face
   least_number lawful face front same =
-      let there = below_lt face (length s.fronts + 1) front in
+      let there = lt_holds face (length s.fronts + 1) front in
       let low : face ≤ length s.fronts = omega arith in
       rw (number_front face low, number_front front_place front_low)
       (numbers_grow s.near_number s.fronts front_place face lawful.fronts (first_index face low same) low)

@@ -7,11 +7,12 @@ use Rattle.std.proofs.lemmas.List.{get_or-drop, get_or-map, get_or-take, take_al
 use Rattle.std.proofs.lemmas.List.Elements.{All-get_or}
 use Rattle.px_num.specs.declared.linear.Linear.{Linear}
 use Rattle.px_num.specs.Forms.{IsInTreeRange}
-use Rattle.px_model.specs.Solids.{IsLawfulSolid, SolidView}
+use Rattle.px_num.proofs.TruthLaws.{lt_false, lt_true}
+use Rattle.px_model.specs.Scenes.{IsLawfulSolid, SolidView}
 use Rattle.px_face.specs.Edges.{above, at_least, back_edges, edge_count, edges, front_edges, leads, trails}
 use Rattle.px_face.specs.Orders.{back_orders, front_orders}
 use Rattle.px_face.specs.Faces.{back_planes, face_count, front_planes, level}
-use Rattle.px_face.proofs.RangeLemmas.{back_range, backs_size, front_range, fronts_size, lt_false, lt_true}
+use Rattle.px_face.proofs.RangeLemmas.{back_range, backs_size, front_range, fronts_size}
 
 -- a form among those before place i, those after it, and those of the other kind
 module _ (f g h : Linear → Linear) (ps qs : List Linear) (n i : ℕ) (size : length ps ≡ n + 1) (there : i ≤ n) where

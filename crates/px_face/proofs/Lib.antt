@@ -1,7 +1,7 @@
 pub mod BackgroundLemmas
 pub mod CellLemmas
 pub mod CoveringLemmas
-pub mod DepthLemmas
+pub mod DepthLaws
 pub mod EdgeLemmas
 pub mod ParityLaws
 pub mod ParityLemmas

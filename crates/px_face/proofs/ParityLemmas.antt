@@ -1,30 +1,23 @@
 -- The parity law: an odd number of covering faces stands at or before a cell exactly where it is inside.
 use Rattle.std.proofs.Common.{◌≡◌, ◌<◌, ◌≤◌, ◌+◌, ℕ, zero, suc, ℤ, pos, Bool, true, false, ◌&&◌, not, List, [], cond}
-use Rattle.std.proofs.Common.{◌∷◌, ◌++◌, length, eqb, count_by, refl, ap, sym, ◌∙◌, arith, inl, inr}
+use Rattle.std.proofs.Common.{◌∷◌, length, eqb, count_by, refl, ap, sym, ◌∙◌, arith, inl, inr}
 use Rattle.std.specs.List.{range_with_len}
 use Rattle.std.proofs.lemmas.Int.{ints}
 use Rattle.std.proofs.lemmas.Bool.{cases_eq}
-use Rattle.std.proofs.lemmas.Bool.Decides.{nat_tests}
 use Rattle.std.proofs.lemmas.List.Sums.{sum_by-append}
 use lib.Signed.{le_z, lt_z}
 use Rattle.px_num.specs.Forms.{value_at}
-use Rattle.px_model.specs.Solids.{SolidView}
+use Rattle.px_num.proofs.TruthLaws.{and_false, and_right, and_true, eqb_holds, eqb_itself, eqb_other, lt_false}
+use Rattle.px_num.proofs.TruthLaws.{lt_holds, lt_is_not_le, lt_true}
+use Rattle.px_num.proofs.RangeLaws.{range_cut}
+use Rattle.px_model.specs.Scenes.{SolidView}
 use Rattle.px_model.specs.Cells.{Depths, end_of, enters_at, is_inside_at, leaves_at, value_of}
 use Rattle.px_model.proofs.CellLaws.{cell_is_first}
 use Rattle.px_face.specs.Covering.{IsCoveredOnce, IsInsideByParity, covering_back, covering_front, is_met, is_odd}
 use Rattle.px_face.specs.Covering.{is_passed, is_passed_at}
 use Rattle.px_face.specs.Edges.{covers, hold_at}
-use Rattle.px_face.specs.Faces.{face_count, plane_of}
+use Rattle.px_face.specs.Faces.{face_count, face_plane}
 use Rattle.px_face.proofs.ParityLaws.{count_by-cons}
-use Rattle.px_face.proofs.CoveringLemmas.{below_lt, same_place}
-use Rattle.px_face.proofs.PlaceLemmas.{and_false, and_right, and_true}
-use Rattle.px_face.proofs.RangeLemmas.{lt_false, lt_true}
-
-eqb_same : (k : ℕ) → eqb k k ≡ true
-eqb_same k = grind (arith, nat_tests)
-
-eqb_other : (i k : ℕ) → (i ≡ k → ⊥) → eqb i k ≡ false
-eqb_other i k h = grind (arith, nat_tests)
 
 count_none : (test : ℕ → Bool) (a n : ℕ) → ((i : ℕ) → a ≤ i → i < a + n → test i ≡ false)
     → count_by test (range_with_len a n) ≡ 0
@@ -40,7 +33,7 @@ count_one : (test : ℕ → Bool) (a n k : ℕ) (b : Bool) → ((i : ℕ) → a 
 count_one test a zero k b one low high = absurd (omega arith)
 count_one test a (suc n) k b one low high = elim (cases_eq a k) [
   | inl same ↦
-      let here : test a ≡ b = one a (omega arith) (omega arith) ∙ rw (same, eqb_same k) (and_true b) in
+      let here : test a ≡ b = one a (omega arith) (omega arith) ∙ rw (same, eqb_itself k) (and_true b) in
       let rest : count_by test (range_with_len (a + 1) n) ≡ 0 =
       count_none test (a + 1) n (λ i p q. one i (omega arith) (omega arith)
       ∙ rw (eqb_other i k (λ e. omega arith)) (and_false b)) in
@@ -54,13 +47,6 @@ count_one test a (suc n) k b one low high = elim (cases_eq a k) [
       ∙ ap (λ c. cond c 1 0 + count_by test (range_with_len (a + 1) n)) here ∙ omega (arith, rest)
 ]
 
-range-append : (a m n : ℕ) → range_with_len a (m + n) ≡ range_with_len a m ++ range_with_len (a + m) n
-range-append a zero n = let e : 0 + n ≡ n = omega arith in let f : a + 0 ≡ a = omega arith in rw (e, f) refl
-range-append a (suc m) n =
-    let e : suc m + n ≡ suc (m + n) = omega arith in
-    let f : a + suc m ≡ a + 1 + m = omega arith in
-    rw (e, f) (ap (λ l. a ∷ l) (range-append (a + 1) m n))
-
 -- a test that adds something where the place is the one
 where_here : (met here passed known : Bool) → (here ≡ true → passed ≡ known) → ((met && here) && passed)
     ≡ ((met && known) && here)
@@ -72,9 +58,6 @@ where_here true true passed false h = h refl
 
 left_is_entered : (e l z : ℤ) → lt_z e l ≡ true → le_z l z ≡ true → le_z e z ≡ true
 left_is_entered e l z some left = grind (arith, ints)
-
-not_left : (l z : ℤ) → lt_z z l ≡ not (le_z l z)
-not_left l z = grind (arith, ints)
 
 odd_between : (met entered left : Bool) → (met ≡ true → left ≡ true → entered ≡ true) → (met && entered && not left)
     ≡ is_odd (cond (met && entered) 1 0 + cond (met && left) 1 0)
@@ -89,19 +72,19 @@ module _ (s : SolidView) (end x y : ℕ) (law : IsCoveredOnce s end x y) where
       ≡ ((is_met s end x y && le_z (enters_at s x y) (pos z)) && eqb i (covering_front s x y))
   fronts_passed z i low =
       rw (law.fronts i (lt_true i (length s.fronts + 1) low))
-      (where_here (is_met s end x y) (eqb i (covering_front s x y)) (le_z (value_at (plane_of s end i) x y) (pos z))
+      (where_here (is_met s end x y) (eqb i (covering_front s x y)) (le_z (value_at (face_plane s end i) x y) (pos z))
       (le_z (enters_at s x y) (pos z))
-      (λ e. ap (λ v. le_z v (pos z)) (ap (λ j. value_at (plane_of s end j) x y)
-      (same_place i (covering_front s x y) e) ∙ law.front_value)))
+      (λ e. ap (λ v. le_z v (pos z)) (ap (λ j. value_at (face_plane s end j) x y)
+      (eqb_holds i (covering_front s x y) e) ∙ law.front_value)))
 
   backs_passed : (z i : ℕ) → length s.fronts + 1 ≤ i → i < face_count s → is_passed_at s end x y z i
       ≡ ((is_met s end x y && le_z (leaves_at s end x y) (pos z)) && eqb i (covering_back s end x y))
   backs_passed z i low high =
       rw (law.backs i high (lt_false i (length s.fronts + 1) low))
       (where_here (is_met s end x y) (eqb i (covering_back s end x y))
-      (le_z (value_at (plane_of s end i) x y) (pos z)) (le_z (leaves_at s end x y) (pos z))
-      (λ e. ap (λ v. le_z v (pos z)) (ap (λ j. value_at (plane_of s end j) x y)
-      (same_place i (covering_back s end x y) e) ∙ law.back_value)))
+      (le_z (value_at (face_plane s end i) x y) (pos z)) (le_z (leaves_at s end x y) (pos z))
+      (λ e. ap (λ v. le_z v (pos z)) (ap (λ j. value_at (face_plane s end j) x y)
+      (eqb_holds i (covering_back s end x y) e) ∙ law.back_value)))
 
   pub odd_inside_at : ((v : ℕ) → is_inside_at s end x y v
       ≡ is_odd (count_by (is_passed_at s end x y v) (range_with_len 0 (face_count s))))
@@ -114,7 +97,7 @@ module _ (s : SolidView) (end x y : ℕ) (law : IsCoveredOnce s end x y) where
       let nb = length s.backs + 1 in
       let count : face_count s ≡ nf + nb = omega arith in
       let none : 0 + nf ≡ nf = omega arith in
-      let front_low = below_lt (covering_front s x y) nf law.front_there in
+      let front_low = lt_holds (covering_front s x y) nf law.front_there in
       let fronts : count_by test (range_with_len 0 nf) ≡ cond (met && entered) 1 0 =
       count_one test 0 nf (covering_front s x y) (met && entered) (λ i p q. fronts_passed z i (omega arith))
       (omega arith) (omega arith) in
@@ -122,12 +105,12 @@ module _ (s : SolidView) (end x y : ℕ) (law : IsCoveredOnce s end x y) where
       count_one test nf nb (covering_back s end x y) (met && left) (λ i p q. backs_passed z i p (omega arith))
       (omega arith) (omega (arith, law.back_there)) in
       law.values z
-      ∙ ap (λ b. met && entered && b) (not_left (leaves_at s end x y) (pos z))
+      ∙ ap (λ b. met && entered && b) (lt_is_not_le (leaves_at s end x y) (pos z))
       ∙ odd_between met entered left (λ m. left_is_entered (enters_at s x y) (leaves_at s end x y) (pos z)
       (and_right (hold_at s.sides x y) (lt_z (enters_at s x y) (leaves_at s end x y)) m))
       ∙ sym (rw (
         count,
-        range-append 0 nf nb,
+        range_cut 0 nf nb,
         none,
         sum_by-append (λ i. cond (test i) 1 0) (range_with_len 0 nf)
             (range_with_len nf nb),
@@ -148,5 +131,5 @@ odd_inside s d x y law z =
     let faces = range_with_len 0 (face_count s) in
     odd_inside_at s (end_of d) x y law (value_of d z)
     ∙ ap is_odd (count_same (is_passed_at s (end_of d) x y (value_of d z)) (is_passed s d x y z)
-    (λ i. ap (λ b. covers s (end_of d) i x y && b) (sym (cell_is_first d (value_at (plane_of s (end_of d) i) x y) z)))
+    (λ i. ap (λ b. covers s (end_of d) i x y && b) (sym (cell_is_first d (value_at (face_plane s (end_of d) i) x y) z)))
     faces)

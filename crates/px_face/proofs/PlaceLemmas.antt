@@ -5,32 +5,13 @@ use Rattle.std.specs.List.{list_all}
 use Rattle.std.proofs.lemmas.Int.{ints}
 use Rattle.std.proofs.lemmas.Bool.{cases_Bool}
 use Rattle.std.proofs.lemmas.Bool.Decides.{nat_tests}
+use Rattle.px_num.proofs.TruthLaws.{and_both, and_false, and_left, and_right, and_true}
 use lib.Signed.{le_z, lt_z}
 use Rattle.px_face.specs.Covering.{greatest_place}
 
 -- v is above those before it, and at least those after it
 abbrev pub is_first_greatest : List ℤ → ℤ → List ℤ → Bool
 is_first_greatest before v after = list_all (λ u. lt_z u v) before && list_all (λ u. le_z u v) after
-
-pub and_true : (a : Bool) → a && true ≡ a
-and_true true = refl
-and_true false = refl
-
-pub and_false : (a : Bool) → a && false ≡ false
-and_false true = refl
-and_false false = refl
-
-pub and_both : (a b c : Bool) → (a && b) && c ≡ a && (b && c)
-and_both true b c = refl
-and_both false b c = refl
-
-pub and_left : (a b : Bool) → a && b ≡ true → a ≡ true
-and_left true b e = refl
-and_left false b e = e
-
-pub and_right : (a b : Bool) → a && b ≡ true → b ≡ true
-and_right true b e = e
-and_right false b e = cc
 
 le_along : (u v z : ℤ) → le_z u v ≡ true → le_z v z ≡ true → le_z u z ≡ true
 le_along u v z p q = grind (arith, ints)

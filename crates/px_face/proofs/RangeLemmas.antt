@@ -1,30 +1,23 @@
 -- The edges of a face are in the range of the multiplier tree.
 use Rattle.std.proofs.Common.{◌≡◌, ◌<◌, ◌≤◌, ◌+◌, ◌^◌, ℕ, ℤ, pos, ◌-ℤ◌, List, [], ◌∷◌, ◌++◌, length, map, take, drop}
-use Rattle.std.proofs.Common.{get_or, All, arith, lit≤, nat_lt, length-append, true, false}
+use Rattle.std.proofs.Common.{get_or, All, arith, lit≤, length-append}
 use Rattle.std.proofs.lemmas.Int.{ints}
-use Rattle.std.proofs.lemmas.Bool.Decides.{nat_tests}
 use Rattle.std.proofs.lemmas.List.{length-map}
 use Rattle.std.proofs.lemmas.List.Elements.{All-cons, All-append, All-map, All-take, All-drop, All-weaker, All-get_or}
 use Rattle.std.proofs.lemmas.List.Elements.{All-push}
 use Rattle.px_num.specs.declared.linear.Linear.{Linear}
 use Rattle.px_num.specs.Forms.{IsInTreeRange, IsWithin}
-use Rattle.px_model.specs.Solids.{IsLawfulSolid, IsPlane, SolidView}
+use Rattle.px_model.specs.Scenes.{IsLawfulSolid, IsPlane, SolidView}
 pub use Rattle.px_model.proofs.PlaneLaws.{half_range, plane_range}
 use Rattle.px_face.specs.Edges.{above, at_least, back_edges, front_edges, leads, trails}
-use Rattle.px_face.specs.Faces.{back_planes, face_count, front_planes, level, plane_of, planes_of}
+use Rattle.px_face.specs.Faces.{back_planes, face_count, front_planes, level, face_plane, planes_in_faces}
 
 pub fronts_size : (s : SolidView) → length (front_planes s.fronts) ≡ length s.fronts + 1
 fronts_size s = rw (length-map s.fronts (λ f. f.plane)) (omega arith)
 
 pub backs_size : (s : SolidView) (end : ℕ) → length (back_planes s.backs end) ≡ length s.backs + 1
 backs_size s end =
-    rw (length-append (planes_of s.backs) (level end ∷ []), length-map s.backs (λ f. f.plane)) (omega arith)
-
-pub lt_true : (i n : ℕ) → i < n → nat_lt i n ≡ true
-lt_true i n h = grind (arith, nat_tests)
-
-pub lt_false : (i n : ℕ) → n ≤ i → nat_lt i n ≡ false
-lt_false i n h = grind (arith, nat_tests)
+    rw (length-append (planes_in_faces s.backs) (level end ∷ []), length-map s.backs (λ f. f.plane)) (omega arith)
 
 apart : (m n : ℕ) (u v : ℤ) → m + m ≤ n → IsWithin m u → IsWithin m v → IsWithin n (u -ℤ v)
 apart m n u v le (ulow, uhigh) (vlow, vhigh) = (omega (arith, ints), omega (arith, ints))
@@ -77,11 +70,11 @@ three_range a b c in_a in_b in_c = All-append IsInTreeRange (a ++ b) c (All-appe
 
 module _ (s : SolidView) (lawful : IsLawfulSolid s) (end : ℕ) (small : end < 2 ^ 32) where
   fronts_planes : All IsPlane (front_planes s.fronts)
-  fronts_planes = All-cons IsPlane (level 0) (planes_of s.fronts) (level_plane 0 (omega arith))
+  fronts_planes = All-cons IsPlane (level 0) (planes_in_faces s.fronts) (level_plane 0 (omega arith))
       (All-map IsPlane (λ f. f.plane) s.fronts lawful.fronts.planes)
 
   backs_planes : All IsPlane (back_planes s.backs end)
-  backs_planes = All-push IsPlane (planes_of s.backs) (level end)
+  backs_planes = All-push IsPlane (planes_in_faces s.backs) (level end)
       (All-map IsPlane (λ f. f.plane) s.backs lawful.backs.planes) (level_plane end small)
 
   sides_range : All IsInTreeRange s.sides
@@ -106,7 +99,7 @@ module _ (s : SolidView) (lawful : IsLawfulSolid s) (end : ℕ) (small : end < 2
       (trails_range p (back_planes s.backs end) i plane backs_planes)
       (part (λ q. above p q) (λ q h. above_range p q plane h) (front_planes s.fronts) fronts_planes)
 
-  pub plane_of_range : (face : ℕ) → face < face_count s → IsPlane (plane_of s end face)
+  pub plane_of_range : (face : ℕ) → face < face_count s → IsPlane (face_plane s end face)
   plane_of_range face there =
       let planes = front_planes s.fronts ++ back_planes s.backs end in
       All-get_or IsPlane planes face (level 0)

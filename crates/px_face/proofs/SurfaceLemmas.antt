@@ -1,5 +1,5 @@
 -- Where a solid begins it shows a front, and just behind its end it hides a back; and so does a scene.
-use Rattle.std.proofs.Common.{◌≡◌, ◌<◌, ◌≤◌, ◌&&◌, ◌==◌, ℕ, zero, suc, ℤ, pos, Bool, true, false, nat_le, nat_lt}
+use Rattle.std.proofs.Common.{◌≡◌, ◌<◌, ◌≤◌, ◌&&◌, ℕ, zero, suc, ℤ, pos, Bool, true, false, nat_le, nat_lt}
 use Rattle.std.proofs.Common.{List, [], ◌∷◌, ◌++◌, length, map, Option, Some, None, refl, ap, sym, ◌∙◌, arith, inl}
 use Rattle.std.proofs.Common.{inr, if◌then◌else◌, slice_get}
 use Rattle.std.specs.List.{Contains}
@@ -11,12 +11,12 @@ use Rattle.std.proofs.lemmas.Bool.Decides.{nat_tests}
 use Rattle.std.proofs.lemmas.List.{length-append}
 use lib.Signed.{lt_z}
 use Rattle.px_num.specs.Forms.{value_at}
+use Rattle.px_num.proofs.TruthLaws.{int_same_true, lt_false, lt_of_ints, lt_true, same_true}
 use Rattle.px_expr.specs.Cells.{Cell, HasSurface, cell, is_member}
 use Rattle.px_expr.specs.Tree.{HasLeavesBelow, Tree, join, leaf}
 use Rattle.px_expr.proofs.OperatorLaws.{none_of_none}
 use Rattle.px_model.specs.declared.solid.Face.{Face}
-use Rattle.px_model.specs.Solids.{SolidView}
-use Rattle.px_model.specs.Scenes.{IsLawfulScene, SceneView}
+use Rattle.px_model.specs.Scenes.{SolidView, IsLawfulScene, SceneView}
 use Rattle.px_model.specs.Cells.{Depths, backs_at, cell_of, depths_of, end_of, enters_at, far_of, faces_at, fronts_at}
 use Rattle.px_model.specs.Cells.{greatest_fronts, is_inside, leaf_cell, leaves_at, no_cell, scene_cell, solid_cell}
 use Rattle.px_model.specs.Cells.{value_of}
@@ -30,10 +30,7 @@ faces_there : (fs : List Face) (x y : ℕ) (v : ℤ) → Contains (map (λ f. va
     → 0 < length (faces_at fs x y v)
 faces_there [] x y v c = absurd (omega (arith, c.1))
 faces_there (f ∷ fs) x y v (zero, low, c) = let e : int_eq (value_at f.plane x y) v ≡ true =
-    same (value_at f.plane x y) v c in rw e (omega arith)
-  where
-    same : (u v : ℤ) → u ≡ v → int_eq u v ≡ true
-    same u v h = grind (arith, ints)
+    int_same_true (value_at f.plane x y) v c in rw e (omega arith)
 faces_there (f ∷ fs) x y v (suc k, low, c) =
     let later = faces_there fs x y v (k, omega (arith, low), c) in
     elim (cases_Bool (int_eq (value_at f.plane x y) v)) [ inl yea ↦ rw yea (omega arith) | inr nay ↦ rw nay later ]
@@ -73,9 +70,7 @@ module _ (s : SolidView) (d : Depths) (x y : ℕ) where
       near false e = absurd cc
 
   fronts_there : (z : ℕ) → start ≡ z → 0 < length (fronts_at s d x y z)
-  fronts_there z e = rw (same start z e) greatest_there where
-    same : (m n : ℕ) → m ≡ n → (m == n) ≡ true
-    same m n h = grind (arith, nat_tests)
+  fronts_there z e = rw (same_true start z e) greatest_there
 
   inside_is : (z : ℕ) → (is_met s limit x y && nat_le start z && nat_lt z last) ≡ is_inside s d x y z
   inside_is z = sym ((has_cells s d x y).cells z)
@@ -99,16 +94,10 @@ module _ (s : SolidView) (d : Depths) (x y : ℕ) where
   not_limit : (z : ℕ) → z < d.far → leaves ≡ pos limit → last ≡ z → ⊥
   not_limit z before is e =
       let test : nat_lt z last ≡ true =
-      cell_is_least d leaves z ∙ ap (λ v. lt_z (pos (value_of d z)) v) is ∙ sym (less_same (value_of d z) limit)
+      cell_is_least d leaves z ∙ ap (λ v. lt_z (pos (value_of d z)) v) is ∙ sym (lt_of_ints (value_of d z) limit)
       ∙ before_end d z ∙ lt_true z d.far before in
       absurd (lt_never z last test e)
     where
-      less_same : (m n : ℕ) → nat_lt m n ≡ lt_z (pos m) (pos n)
-      less_same m n = grind (arith, ints)
-
-      lt_true : (m n : ℕ) → m < n → nat_lt m n ≡ true
-      lt_true m n h = grind (arith, nat_tests)
-
       lt_never : (m n : ℕ) → nat_lt m n ≡ true → n ≡ m → ⊥
       lt_never m n h e = grind (arith, nat_tests)
 
@@ -118,15 +107,12 @@ module _ (s : SolidView) (d : Depths) (x y : ℕ) where
       let e = last_is (is_met s limit x y) start last z (inside_is z ∙ inside) (inside_is (suc z) ∙ outside) in
       elim (fold-int_min_reached (pos limit) (map (λ f. value_at f.plane x y) s.backs) leaves refl) [
         | inl at_end ↦ absurd (not_limit (suc z) before at_end e)
-        | inr c ↦ rw (inside, same last (suc z) e) (faces_there s.backs x y leaves c)
+        | inr c ↦ rw (inside, same_true last (suc z) e) (faces_there s.backs x y leaves c)
       ]
     where
       last_is : (m : Bool) (first last z : ℕ) → (m && nat_le first z && nat_lt z last) ≡ true
           → (m && nat_le first (suc z) && nat_lt (suc z) last) ≡ false → last ≡ suc z
       last_is m first last z p q = grind arith
-
-      same : (m n : ℕ) → m ≡ n → (m == n) ≡ true
-      same m n h = grind (arith, nat_tests)
 
 pub solid_surface : (s : SolidView) (d : Depths) (x y z : ℕ) → z < d.far → HasSurface (solid_before d x y z s)
     (solid_cell d x y z s)
@@ -136,9 +122,7 @@ solid_surface s d x y (suc z) low = record { first = front_begins s d x y z; beh
 
 -- no solid is inside at the far limit or behind it
 outside_behind : (s : SolidView) (d : Depths) (x y z : ℕ) → d.far ≤ z → is_inside s d x y z ≡ false
-outside_behind s d x y z past = rw (before_end d z, not_before z d.far past) refl where
-  not_before : (m n : ℕ) → n ≤ m → nat_lt m n ≡ false
-  not_before m n h = grind (arith, nat_tests)
+outside_behind s d x y z past = rw (before_end d z, lt_false z d.far past) refl
 
 -- where no solid has a cell, no expression has one
 none_member : (inside : ℕ → Bool) → ((solid : ℕ) → inside solid ≡ false) → (tree : Tree) → is_member inside tree ≡ false

@@ -8,15 +8,16 @@ use Rattle.std.proofs.lemmas.Bool.{cases_Bool, cases_eq}
 use Rattle.std.proofs.lemmas.Bool.Decides.{nat_tests}
 use lib.Signed.{le_z, lt_z}
 use Rattle.px_num.specs.Forms.{value_at}
+use Rattle.px_num.proofs.TruthLaws.{and_left, and_right, first_of_three, int_eq_holds, itself_true, third_of_three}
+use Rattle.px_num.proofs.MostLaws.{all_max, all_min}
 use Rattle.px_model.specs.declared.solid.Face.{Face}
-use Rattle.px_model.specs.Solids.{SolidView}
+use Rattle.px_model.specs.Scenes.{SolidView}
 use Rattle.px_model.specs.Cells.{Depths, cell_of, depths, end_of, enters_at, faces_at, is_inside, is_inside_at}
 use Rattle.px_model.specs.Cells.{leaves_at}
 use Rattle.px_model.proofs.CellLaws.{cell_whole, value_whole}
 use Rattle.px_face.specs.Covering.{is_met}
 use Rattle.px_face.specs.WholeLaws.{WholeBacks, WholeFronts}
-use Rattle.px_face.proofs.DepthLemmas.{all_max, all_min, cells_are, depths_are}
-use Rattle.px_face.proofs.PlaceLemmas.{and_left, and_right}
+use Rattle.px_face.proofs.DepthLaws.{cells_are, depths_are}
 
 no_faces : (t : ℤ → Bool) (fs : List Face) (x y : ℕ) (v : ℤ) → list_all (λ f. t (value_at f.plane x y)) fs ≡ true
     → t v ≡ false → faces_at fs x y v ≡ []
@@ -25,12 +26,10 @@ no_faces t (f ∷ fs) x y v all out =
     let w = value_at f.plane x y in
     let rest = and_right (t w) (list_all (λ g. t (value_at g.plane x y)) fs) all in
     elim (cases_Bool (int_eq w v)) [
-      | inl same ↦ cc (ap t (is_same w v same), out, and_left (t w) (list_all (λ g. t (value_at g.plane x y)) fs) all)
+      | inl same ↦
+          cc (ap t (int_eq_holds w v same), out, and_left (t w) (list_all (λ g. t (value_at g.plane x y)) fs) all)
       | inr other ↦ rw other (no_faces t fs x y v rest out)
     ]
-  where
-    is_same : (u v : ℤ) → int_eq u v ≡ true → u ≡ v
-    is_same u v h = grind (arith, ints)
 
 module _ (s : SolidView) (far x y : ℕ) where
   abbrev d : Depths
@@ -44,9 +43,6 @@ itself v = grind (arith, ints)
 
 same_near : (z : ℕ) → int_eq (pos 0) (pos z) ≡ (z == 0)
 same_near z = grind (arith, nat_tests, ints)
-
-equal : (n : ℕ) → (n == n) ≡ true
-equal n = grind (arith, nat_tests)
 
 unequal : (n z : ℕ) → (n ≡ z → ⊥) → (n == z) ≡ false
 unequal n z h = grind (arith, nat_tests)
@@ -77,7 +73,7 @@ module _ (far near : ℕ) (fs : List Face) (x y z : ℕ) where
       ≡ (if z == 0 then near ∷ [] else []) ++ faces_at fs x y (pos z)
   fronts_by_value (negsuc n) some low all = absurd (omega (arith, ints))
   fronts_by_value (pos n) some low all = rw (cell_whole far n) (elim (cases_eq n z) [
-    | inl same ↦ rw (same, equal z, same_near z) refl
+    | inl same ↦ rw (same, itself_true z, same_near z) refl
     | inr other ↦
         let le = below_is n z low in
         rw (
@@ -93,7 +89,7 @@ module _ (far near : ℕ) (fs : List Face) (x y z : ℕ) where
       → (if cell_of (depths far 0) l == suc z then faces_at fs x y l else []) ≡ faces_at fs x y (pos (suc z))
   backs_by_value (negsuc n) some all = cc (negative n z, some)
   backs_by_value (pos n) some all = rw (cell_whole far n) (elim (cases_eq n (suc z)) [
-    | inl same ↦ rw (same, equal (suc z)) refl
+    | inl same ↦ rw (same, itself_true (suc z)) refl
     | inr other ↦
         let le = past_is n z some in
         rw (
@@ -103,26 +99,17 @@ module _ (far near : ℕ) (fs : List Face) (x y z : ℕ) where
         ) refl
   ])
 
-first_of : (a b c : Bool) → (a && b && c) ≡ true → a ≡ true
-first_of true b c h = refl
-first_of false b c h = h
-
 second_of : (a b c : Bool) → (a && b && c) ≡ true → b ≡ true
 second_of true true c h = refl
 second_of true false c h = h
 second_of false b c h = cc
-
-third_of : (a b c : Bool) → (a && b && c) ≡ true → c ≡ true
-third_of true true c h = h
-third_of true false c h = cc
-third_of false b c h = cc
 
 pub whole_fronts : WholeFronts
 whole_fronts s far x y z inside =
     let e = enters_at s x y in
     let met = is_met s far x y in
     let all = sym (cells_are s far x y z) ∙ sym (inside_whole s far x y z) ∙ inside in
-    let is = first_of met (le_z e (pos z)) (lt_z (pos z) (leaves_at s far x y)) all in
+    let is = first_of_three met (le_z e (pos z)) (lt_z (pos z) (leaves_at s far x y)) all in
     fronts_by_value far s.near_number s.fronts x y z e (depths_are s far x y is).0
     (second_of met (le_z e (pos z)) (lt_z (pos z) (leaves_at s far x y)) all)
     (and_right (le_z (pos 0) e) (list_all (λ f. le_z (value_at f.plane x y) e) s.fronts)
@@ -138,7 +125,7 @@ whole_backs s far x y (suc z) = elim (cases_Bool (is_inside s (depths far 0) x y
       let e : end_of (depths far 0) ≡ far = value_whole far far in
       rw inside (ap (λ end. if cell_of (depths far 0) (leaves_at s end x y) == suc z then faces_at s.backs x y
       (leaves_at s end x y) else []) e
-      ∙ backs_by_value far 0 s.backs x y z l (third_of met (le_z (enters_at s x y) (pos z)) (lt_z (pos z) l) all)
+      ∙ backs_by_value far 0 s.backs x y z l (third_of_three met (le_z (enters_at s x y) (pos z)) (lt_z (pos z) l) all)
       (λ past. and_right (lt_z (pos (suc z)) (pos far)) (list_all (λ b. lt_z (pos (suc z)) (value_at b.plane x y))
       s.backs) (sym (all_min (λ f. value_at f.plane x y) s.backs (pos far) (pos (suc z))) ∙ past)))
   | inr outside ↦ rw outside refl

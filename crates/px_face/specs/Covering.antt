@@ -5,10 +5,10 @@ use Rattle.std.specs.Prelude.{◌≡◌, ℕ, suc, ◌+◌, ◌%◌, ◌<◌, �
 use Rattle.std.specs.List.{list_all, range_with_len}
 use lib.Signed.{le_z, lt_z}
 use Rattle.px_num.specs.Forms.{value_at}
-use Rattle.px_model.specs.Solids.{IsLawfulSolid, SolidView}
+use Rattle.px_model.specs.Scenes.{IsLawfulSolid, SolidView}
 use Rattle.px_model.specs.Cells.{Depths, cell_of, end_of, enters_at, is_inside, is_inside_at, leaves_at}
 use Rattle.px_face.specs.Edges.{hold_at, covers}
-use Rattle.px_face.specs.Faces.{back_planes, face_count, front_planes, is_front, number_of, plane_of}
+use Rattle.px_face.specs.Faces.{back_planes, face_count, front_planes, is_front_face, face_number, face_plane}
 
 -- the sides hold, and the greatest front is below the least back
 abbrev pub is_met : SolidView → (end : ℕ) → (x y : ℕ) → Bool
@@ -31,22 +31,22 @@ covering_back s end x y =
 -- the covering law at a pixel
 pub record IsCoveredOnce (s : SolidView) (end x y : ℕ) : Type 0 where
   -- where the solid is met one of its fronts covers and one of its backs, and elsewhere none
-  pub fronts : (face : ℕ) → is_front s face ≡ true →
+  pub fronts : (face : ℕ) → is_front_face s face ≡ true →
       covers s end face x y ≡ (is_met s end x y && face == covering_front s x y)
-  pub backs : (face : ℕ) → face < face_count s → is_front s face ≡ false →
+  pub backs : (face : ℕ) → face < face_count s → is_front_face s face ≡ false →
       covers s end face x y ≡ (is_met s end x y && face == covering_back s end x y)
-  pub front_there : is_front s (covering_front s x y) ≡ true
+  pub front_there : is_front_face s (covering_front s x y) ≡ true
   pub back_there : covering_back s end x y < face_count s
-  pub back_behind : is_front s (covering_back s end x y) ≡ false
+  pub back_behind : is_front_face s (covering_back s end x y) ≡ false
   -- of the fronts with the greatest value it is the one of least number,
   -- and of the backs with the least value the one of least index
-  pub front_value : value_at (plane_of s end (covering_front s x y)) x y ≡ enters_at s x y
-  pub back_value : value_at (plane_of s end (covering_back s end x y)) x y ≡ leaves_at s end x y
-  pub least_number : IsLawfulSolid s → (face : ℕ) → is_front s face ≡ true →
-      value_at (plane_of s end face) x y ≡ enters_at s x y →
-      number_of s (covering_front s x y) ≤ number_of s face
-  pub least_index : (face : ℕ) → face < face_count s → is_front s face ≡ false →
-      value_at (plane_of s end face) x y ≡ leaves_at s end x y →
+  pub front_value : value_at (face_plane s end (covering_front s x y)) x y ≡ enters_at s x y
+  pub back_value : value_at (face_plane s end (covering_back s end x y)) x y ≡ leaves_at s end x y
+  pub least_number : IsLawfulSolid s → (face : ℕ) → is_front_face s face ≡ true →
+      value_at (face_plane s end face) x y ≡ enters_at s x y →
+      face_number s (covering_front s x y) ≤ face_number s face
+  pub least_index : (face : ℕ) → face < face_count s → is_front_face s face ≡ false →
+      value_at (face_plane s end face) x y ≡ leaves_at s end x y →
       covering_back s end x y ≤ face
   -- a value is inside where the solid is met, from the front's value to before the back's
   pub values : (v : ℕ) → is_inside_at s end x y v
@@ -72,7 +72,7 @@ is_odd n = n % 2 == 1
 -- a face covers the pixel, and its cell is z or before it
 abbrev pub is_passed : SolidView → Depths → (x y z face : ℕ) → Bool
 is_passed s d x y z face =
-    covers s (end_of d) face x y && nat_le (cell_of d (value_at (plane_of s (end_of d) face) x y)) z
+    covers s (end_of d) face x y && nat_le (cell_of d (value_at (face_plane s (end_of d) face) x y)) z
 
 -- the parity law at a pixel
 abbrev pub IsInsideByParity : SolidView → Depths → (x y : ℕ) → Type 0
@@ -89,7 +89,7 @@ CellsLaw = (s : SolidView) (d : Depths) (x y : ℕ) → HasCells s d x y
 -- a face covers the pixel, and its value is v or less
 abbrev pub is_passed_at : SolidView → (end x y v face : ℕ) → Bool
 is_passed_at s end x y v face =
-    covers s end face x y && le_z (value_at (plane_of s end face) x y) (pos v)
+    covers s end face x y && le_z (value_at (face_plane s end face) x y) (pos v)
 
 -- a value is inside where the number of the covering faces that are not above it is odd
 abbrev pub ValueParityLaw : Type 0

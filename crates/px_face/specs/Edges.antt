@@ -4,8 +4,8 @@ use Rattle.std.specs.List.{list_all}
 use lib.Signed.{le_z}
 use Rattle.px_num.specs.declared.linear.Linear.{Linear}
 use Rattle.px_num.specs.Forms.{less_one, minus, value_at}
-use Rattle.px_model.specs.Solids.{SolidView}
-use Rattle.px_face.specs.Faces.{back_planes, front_planes, is_front, level}
+use Rattle.px_model.specs.Scenes.{SolidView}
+use Rattle.px_face.specs.Faces.{back_planes, front_planes, is_front_face, level}
 
 -- the form that is at least 0 where the first plane is at least the second
 abbrev pub at_least : Linear → Linear → Linear
@@ -49,7 +49,7 @@ edge_count s = length s.sides + length s.fronts + length s.backs + 1
 
 abbrev pub edges : SolidView → (end face : ℕ) → List Linear
 edges s end face =
-    if is_front s face then front_edges s end face
+    if is_front_face s face then front_edges s end face
     else back_edges s end (face - (length s.fronts + 1))
 
 -- every form is at least 0 at the pixel

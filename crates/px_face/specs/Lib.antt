@@ -1,6 +1,6 @@
 pub use Rattle.px_num.specs.Forms
 pub use Rattle.px_model.specs.Cells
-pub use Rattle.px_model.specs.Solids
+pub use Rattle.px_model.specs.Scenes
 pub mod Covering
 pub mod EdgeLaws
 pub mod Edges

@@ -3,8 +3,7 @@
 use Rattle.std.specs.Prelude.{◌≡◌, ◌<◌, ◌≤◌, ◌↔◌, ℕ, Bool, true, false, Option, Some, None, All}
 use Prim.Native.Nat.{zero, suc}
 use Rattle.px_expr.specs.Cells.{Cell, HasSurface}
-use Rattle.px_model.specs.Solids.{IsLawfulSolid, SolidView}
-use Rattle.px_model.specs.Scenes.{IsLawfulScene, SceneView, faces_of}
+use Rattle.px_model.specs.Scenes.{IsLawfulSolid, SolidView, IsLawfulScene, SceneView, faces_of}
 use Rattle.px_model.specs.Cells.{Depths, far_of, first_cell, is_member_at, no_cell, picture, scene_cell, solid_cell}
 
 -- a solid at the cell before, which no ray has before its first

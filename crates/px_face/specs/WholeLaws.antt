@@ -1,7 +1,7 @@
 -- Without a fraction a cell is its value: it is inside where that is, and the faces at it are those whose value it is.
 -- Clauses of public calls stand on it.
 use Rattle.std.specs.Prelude.{◌≡◌, ℕ, pos, ◌==◌, true, [], ◌∷◌, ◌++◌, if◌then◌else◌}
-use Rattle.px_model.specs.Solids.{SolidView}
+use Rattle.px_model.specs.Scenes.{SolidView}
 use Rattle.px_model.specs.Cells.{backs_at, depths, faces_at, fronts_at, is_inside, is_inside_at, is_inside_before}
 
 abbrev pub WholeInside : Type 0

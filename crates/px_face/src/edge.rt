@@ -1,7 +1,7 @@
 //! The edges of a face, which are at least 0 where the face bounds its solid.
 ghost use Rattle.std.specs.Prelude.{◌≡◌, ◌+◌, ◌<◌, ◌≤◌, All, get_or, length};
 ghost use Rattle.px_num.specs.Forms.{IsInTreeRange};
-ghost use Rattle.px_model.specs.Solids.{IsPlane};
+ghost use Rattle.px_model.specs.Scenes.{IsPlane};
 ghost use Rattle.px_face.specs.EdgeLaws.{EdgesAreCounted, EdgesAreInRange, PlanesAreInRange};
 ghost use Rattle.px_face.specs.Edges.{above, at_least, edge_count, edges};
 ghost use Rattle.px_face.specs.Orders.{back_orders, front_orders};

@@ -1,16 +1,16 @@
 //! The faces of a solid by their index.
 ghost use Rattle.std.specs.Prelude.{◌≡◌, ◌<◌, ◌≤◌, ◌++◌, ◌∷◌, [], All, length, get_or};
 ghost use Rattle.px_num.specs.Forms.{IsInHalfRange, IsInTreeRange};
-ghost use Rattle.px_model.specs.Solids.{IsPlane};
+ghost use Rattle.px_model.specs.Scenes.{IsPlane};
 ghost use Rattle.px_face.specs.Faces.{
   back_planes,
   face_count,
   front_planes,
-  is_front,
+  is_front_face,
   level,
-  number_of,
-  numbers_of,
-  plane_of,
+  face_number,
+  numbers_in_faces,
+  face_plane,
 };
 
 use px_model::{Face, Solid};
@@ -29,7 +29,7 @@ pub fn face_count(solid: &Solid) -> usize
 /// Whether the face is the near face or a front.
 pub fn is_front(solid: &Solid, face: usize) -> bool
     requires { face < face_count solid.now }
-    ensures { result ≡ is_front solid.now face }
+    ensures { result ≡ is_front_face solid.now face }
 {
     face < solid.fronts().len() + 1
 }
@@ -37,7 +37,7 @@ pub fn is_front(solid: &Solid, face: usize) -> bool
 /// The face's number, and 0 for the far limit.
 pub fn number_of(solid: &Solid, face: usize) -> u32
     requires { face < face_count solid.now }
-    ensures { result ≡ number_of solid.now face }
+    ensures { result ≡ face_number solid.now face }
 {
     let fronts = solid.fronts();
     if face == 0 {
@@ -52,7 +52,7 @@ pub fn number_of(solid: &Solid, face: usize) -> u32
 /// The number of a back, and 0 for the far limit, which is the last back.
 fn back_number(backs: &[Face], i: usize) -> u32
     requires { i ≤ length backs.now }
-    ensures { result ≡ get_or (numbers_of backs.now ++ 0 ∷ []) i 0 }
+    ensures { result ≡ get_or (numbers_in_faces backs.now ++ 0 ∷ []) i 0 }
 {
     if i < backs.len() { backs[i].number } else { 0 }
 }
@@ -61,7 +61,7 @@ fn back_number(backs: &[Face], i: usize) -> u32
 #[tactic(auto, using(crate::proofs::RangeLemmas::plane_range, crate::proofs::RangeLemmas::half_range))]
 pub fn plane_of(solid: &Solid, end: u32, face: usize) -> Linear
     requires { face < face_count solid.now }
-    ensures plane { result ≡ plane_of solid.now end face }
+    ensures plane { result ≡ face_plane solid.now end face }
     ensures range { IsInTreeRange result }
     ensures half { IsInHalfRange result }
 {

@@ -1,14 +1,15 @@
 -- The bits of sets.
-use Rattle.std.proofs.Common.{ℕ, suc, zero, ◌≡◌, ◌≢◌, ◌<◌, ◌/◌, ◌%◌, ◌^◌, max, ◌==◌, ◌||◌, true, false, List, [], ◌∷◌}
+use Rattle.std.proofs.Common.{ℕ, suc, zero, ◌≡◌, ◌<◌, ◌/◌, ◌%◌, ◌^◌, max, ◌==◌, ◌||◌, false, List, [], ◌∷◌}
 use Rattle.std.proofs.Common.{refl, ap, sym, ◌∙◌, arith, inl, inr, get_or, get_or-set_other}
 use Rattle.std.specs.Int.{bit_at}
 use Rattle.std.proofs.lemmas.Grind.{get_or-set_at}
 use Rattle.std.proofs.lemmas.Nat.Bits.{bit_at_or, bit_at-lt, bit_at-zero, bit_at-pow_same, bit_at-pow_other}
 use Rattle.px_normal.specs.declared.set.SolidSet.{SolidSet}
 use Rattle.std.proofs.lemmas.Bool.{cases_eq}
-use Rattle.px_normal.specs.Sets.{has, empty, one, joined, joined_word}
+use Rattle.px_num.proofs.TruthLaws.{other_false, same_true}
+use Rattle.px_normal.specs.Sets.{has, empty, one, sets_joined, joined_word}
 
-word_joined : (a b : SolidSet) (k : ℕ) → k < 4 → get_or (joined a b).words k 0 ≡ joined_word a b k
+word_joined : (a b : SolidSet) (k : ℕ) → k < 4 → get_or (sets_joined a b).words k 0 ≡ joined_word a b k
 word_joined a b zero h = refl
 word_joined a b (suc zero) h = refl
 word_joined a b (suc (suc zero)) h = refl
@@ -18,7 +19,7 @@ word_joined a b (suc (suc (suc (suc k)))) h = absurd (omega arith)
 either_bit : (u v : ℕ) → u < 2 → v < 2 → (max u v == 1) ≡ ((u == 1) || (v == 1))
 either_bit u v p q = grind arith
 
-pub has-joined : (a b : SolidSet) (q : ℕ) → q < 256 → has (joined a b) q ≡ (has a q || has b q)
+pub has-joined : (a b : SolidSet) (q : ℕ) → q < 256 → has (sets_joined a b) q ≡ (has a q || has b q)
 has-joined a b q h =
     ap (λ w. bit_at w (q % 64) == 1) (word_joined a b (q / 64) (omega arith))
     ∙ ap (λ u. u == 1) (bit_at_or (get_or a.words (q / 64) 0) (get_or b.words (q / 64) 0) (q % 64))
@@ -34,22 +35,16 @@ word_of_zeros (suc (suc zero)) = refl
 word_of_zeros (suc (suc (suc zero))) = refl
 word_of_zeros (suc (suc (suc (suc k)))) = refl
 
-pub same_test : (p q : ℕ) → p ≡ q → (p == q) ≡ true
-same_test p q e = grind arith
-
-pub other_test : (p q : ℕ) → p ≢ q → (p == q) ≡ false
-other_test p q e = grind arith
-
 power_bit : (k i : ℕ) → (bit_at (2 ^ k) i == 1) ≡ (i == k)
 power_bit k i = elim (cases_eq i k) [
-  | inl e ↦ rw (e, bit_at-pow_same k) (sym (same_test k k refl))
-  | inr ne ↦ rw (bit_at-pow_other k i ne) (sym (other_test i k ne))
+  | inl e ↦ rw (e, bit_at-pow_same k) (sym (same_true k k refl))
+  | inr ne ↦ rw (bit_at-pow_other k i ne) (sym (other_false i k ne))
 ]
 
 part_test : (p q : ℕ) → p / 64 ≡ q / 64 → (p % 64 == q % 64) ≡ (p == q)
 part_test p q d = elim (cases_eq (p % 64) (q % 64)) [
-  | inl e ↦ same_test _ _ e ∙ sym (same_test p q (omega arith))
-  | inr ne ↦ other_test _ _ ne ∙ sym (other_test p q (λ e. ne (ap (λ n. n % 64) e)))
+  | inl e ↦ same_true _ _ e ∙ sym (same_true p q (omega arith))
+  | inr ne ↦ other_false _ _ ne ∙ sym (other_false p q (λ e. ne (ap (λ n. n % 64) e)))
 ]
 
 pub has-one : (q p : ℕ) → q < 256 → has (one q) p ≡ (p == q)
@@ -58,7 +53,7 @@ has-one q p hq = elim (cases_eq (p / 64) (q / 64)) [
       ∙ power_bit (q % 64) (p % 64) ∙ part_test p q e
   | inr ne ↦ ap (λ w. bit_at w (p % 64) == 1) (get_or-set_other zeros (q / 64) (p / 64) (2 ^ (q % 64)) 0 ne
       ∙ word_of_zeros (p / 64))
-      ∙ ap (λ b. b == 1) (bit_at-zero (p % 64)) ∙ sym (other_test p q (λ e. ne (ap (λ n. n / 64) e)))
+      ∙ ap (λ b. b == 1) (bit_at-zero (p % 64)) ∙ sym (other_false p q (λ e. ne (ap (λ n. n / 64) e)))
 ]
 
 pub has-empty : (p : ℕ) → has empty p ≡ false

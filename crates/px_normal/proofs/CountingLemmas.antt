@@ -6,15 +6,15 @@ use Rattle.std.proofs.lemmas.Bool.{cases_lt}
 use Rattle.std.proofs.lemmas.List.{length-map}
 use Rattle.px_expr.specs.Tree.{Tree, join}
 use Rattle.px_expr.specs.declared.node.Op.{Op}
-use Rattle.px_expr.specs.Combinations.{combination_of, complement_of, opposite}
-use Rattle.px_expr.specs.declared.combination.Sense.{Sense}
-use Rattle.px_expr.specs.declared.combination.Sense.TheVariants.{Plain, Complement}
-use Rattle.px_expr.specs.declared.combination.Combination.{Combination}
-use Rattle.px_expr.specs.declared.combination.Combination.TheVariants.{Both, Either, EitherWay}
+use Rattle.px_expr.specs.Cells.{combination_of, complement_of, opposite}
+use Rattle.px_expr.specs.declared.node.Sense.{Sense}
+use Rattle.px_expr.specs.declared.node.Sense.TheVariants.{Plain, Complement}
+use Rattle.px_expr.specs.declared.node.Combination.{Combination}
+use Rattle.px_expr.specs.declared.node.Combination.TheVariants.{Both, Either, EitherWay}
 use Rattle.px_normal.specs.declared.product.Product.{Product}
 use Rattle.px_normal.specs.Forms.{forms, both, crossed, sum_in, sum_when}
 use Rattle.px_normal.specs.Counting.{capped}
-use Rattle.px_normal.specs.FormCounts.{counts_of, combined_counts, count_in, count_when}
+use Rattle.px_normal.specs.FormCounts.{counts_of, combined_counts, counted_in, count_when}
 use Rattle.px_normal.specs.declared.count.Counts.{Counts}
 
 pub length-crossed : (ps qs : List Product) → length (crossed ps qs) ≡ length ps * length qs
@@ -58,7 +58,7 @@ capped_crossed : (ps qs : List Product) → capped (length (crossed ps qs))
     ≡ capped (capped (length ps) * capped (length qs))
 capped_crossed ps qs = ap capped (length-crossed ps qs) ∙ sym (min_product (2 ^ 32) (length ps) (length qs) (lit≤ tt))
 
-count_in_is : (sense : Sense) (tree : Tree) → count_in sense (counts_of tree)
+count_in_is : (sense : Sense) (tree : Tree) → counted_in sense (counts_of tree)
     ≡ capped (length (sum_in sense (forms tree)))
 count_in_is Plain tree = refl
 count_in_is Complement tree = refl

@@ -1,14 +1,15 @@
 -- What is wanted of a node is made of what is wanted of its sides, and the first list past the limit.
-use Rattle.std.proofs.Common.{ℕ, ◌≡◌, ◌||◌, arith, Bool, true, false, List, [], ◌∷◌, ◌++◌, length, nat_lt, refl, ap}
+use Rattle.std.proofs.Common.{ℕ, ◌≡◌, ◌||◌, Bool, true, false, List, [], ◌∷◌, ◌++◌, length, nat_lt, refl, ap}
 use Rattle.std.proofs.Common.{sym, ◌∙◌}
 use Rattle.std.proofs.Common.{Option, Some, None}
 use Rattle.std.specs.List.{filter}
+use Rattle.px_num.proofs.TruthLaws.{or_left, or_right}
 use Rattle.px_expr.specs.declared.node.Op.{Op}
-use Rattle.px_expr.specs.Combinations.{combination_of, complement_of, opposite}
-use Rattle.px_expr.specs.declared.combination.Sense.{Sense}
-use Rattle.px_expr.specs.declared.combination.Sense.TheVariants.{Plain, Complement}
-use Rattle.px_expr.specs.declared.combination.Combination.{Combination}
-use Rattle.px_expr.specs.declared.combination.Combination.TheVariants.{Both, Either, EitherWay}
+use Rattle.px_expr.specs.Cells.{combination_of, complement_of, opposite}
+use Rattle.px_expr.specs.declared.node.Sense.{Sense}
+use Rattle.px_expr.specs.declared.node.Sense.TheVariants.{Plain, Complement}
+use Rattle.px_expr.specs.declared.node.Combination.{Combination}
+use Rattle.px_expr.specs.declared.node.Combination.TheVariants.{Both, Either, EitherWay}
 use Rattle.px_normal.specs.declared.cell_box.CellBox.{CellBox}
 use Rattle.px_normal.specs.declared.product.Product.{Product}
 use Rattle.px_normal.specs.declared.step.Wanted.{Wanted}
@@ -42,12 +43,6 @@ either_is : (wanted : Wanted) (x : Forms) → wanted.products || wanted.compleme
     → blank (of_either wanted) x ≡ x
 either_is wanted x e = rw e refl
 
-or_first : (a b : Bool) → a ≡ true → a || b ≡ true
-or_first a b e = grind arith
-
-or_second : (a b : Bool) → b ≡ true → a || b ≡ true
-or_second a b e = grind arith
-
 same_sides : (k : Combination) (x y more others : Forms) → x ≡ more → y ≡ others → sum_when k x y
     ≡ sum_when k more others
 same_sides k x y more others first second = rw (first, second) refl
@@ -57,7 +52,7 @@ products_kept : (k : Combination) (wanted : Wanted) (x y : Forms) → wanted.pro
 products_kept (Both s t) wanted x y e = rw (own_in s wanted x e, own_in t wanted y e) refl
 products_kept (Either s t) wanted x y e = rw (own_in s wanted x e, own_in t wanted y e) refl
 products_kept (EitherWay s) wanted x y e =
-    let some = or_first wanted.products wanted.complement e
+    let some = or_left wanted.products wanted.complement e
     in same_sides (EitherWay s) _ _ _ _ (either_is wanted x some) (either_is wanted y some)
 
 complement_kept : (k : Combination) (wanted : Wanted) (x y : Forms) → wanted.complement ≡ true
@@ -66,7 +61,7 @@ complement_kept : (k : Combination) (wanted : Wanted) (x y : Forms) → wanted.c
 complement_kept (Both s t) wanted x y e = rw (other_in s wanted x e, other_in t wanted y e) refl
 complement_kept (Either s t) wanted x y e = rw (other_in s wanted x e, other_in t wanted y e) refl
 complement_kept (EitherWay s) wanted x y e =
-    let some = or_second wanted.products wanted.complement e
+    let some = or_right wanted.products wanted.complement e
     in same_sides (EitherWay (opposite s)) _ _ _ _ (either_is wanted x some) (either_is wanted y some)
 
 where_same : (wanted : Bool) (ps qs : List Product) → (wanted ≡ true → ps ≡ qs)

@@ -1,37 +1,32 @@
 -- Live products: a product of both is live only where each is, and one that holds at a place is live.
-use Rattle.std.proofs.Common.{ℕ, ◌≡◌, ◌<◌, ◌^◌, ◌||◌, ◌&&◌, not, Bool, true, false, List, [], ◌∷◌, ◌++◌, refl, ap}
+use Rattle.std.proofs.Common.{ℕ, ◌≡◌, ◌<◌, ◌&&◌, not, Bool, true, false, List, [], ◌∷◌, ◌++◌, refl, ap}
 use Rattle.std.proofs.Common.{sym, ◌∙◌, arith, map, fold, max, min, nat_le, Option, Some, None}
 use Rattle.std.specs.List.{list_all, list_any, filter}
 use Rattle.std.proofs.lemmas.List.Elements.{filter-append}
 use Rattle.std.proofs.lemmas.Map.Views.{any-filter_same}
-use Rattle.px_expr.specs.Cells.{Cell}
+use Rattle.px_num.proofs.TruthLaws.{and_left, and_right, not_both, not_false, not_true, or_left, or_right}
+use Rattle.px_expr.specs.Cells.{Cell, combination_of, complement_of, opposite}
 use Rattle.px_expr.specs.declared.node.Op.{Op}
-use Rattle.px_expr.specs.Combinations.{combination_of, complement_of, opposite}
-use Rattle.px_expr.specs.declared.combination.Sense.{Sense}
-use Rattle.px_expr.specs.declared.combination.Sense.TheVariants.{Plain, Complement}
-use Rattle.px_expr.specs.declared.combination.Combination.{Combination}
-use Rattle.px_expr.specs.declared.combination.Combination.TheVariants.{Both, Either, EitherWay}
+use Rattle.px_expr.specs.declared.node.Sense.{Sense}
+use Rattle.px_expr.specs.declared.node.Sense.TheVariants.{Plain, Complement}
+use Rattle.px_expr.specs.declared.node.Combination.{Combination}
+use Rattle.px_expr.specs.declared.node.Combination.TheVariants.{Both, Either, EitherWay}
 use Rattle.px_normal.specs.declared.cell_box.CellBox.{CellBox}
 use Rattle.px_normal.specs.declared.set.SolidSet.{SolidSet}
 use Rattle.px_normal.specs.declared.product.Product.{Product}
-use Rattle.px_normal.specs.Sets.{has, joined, solids}
-use Rattle.px_normal.specs.Boxes.{lies_in, has_cell, common_part, everything, narrowed, is_in}
+use Rattle.px_normal.specs.Sets.{has, sets_joined, solids}
+use Rattle.px_normal.specs.Boxes.{lies_in, has_cell, common_part, everything, narrowed, is_in_box}
 use Rattle.px_normal.specs.Forms.{Forms, both, crossed, combined, sum_in, sum_when}
 use Rattle.px_normal.specs.NormalLaw.{holds, shows}
 use Rattle.px_normal.specs.Live.{is_void, box_of_all, has_some_cell, is_live, live}
 use Rattle.px_normal.specs.LiveLaw.{IsPlaceInBoxes, ShowTheSame}
+use Rattle.px_normal.proofs.BoxLaws.{in_everything, in_narrowed}
 use Rattle.px_normal.proofs.BitsLemmas.{has-joined}
 use Rattle.px_normal.proofs.MeetsLemmas.{no_void}
-use Rattle.px_normal.proofs.SolidsLemmas.{all-each, all-joined}
-
-left : (a b : Bool) → a && b ≡ true → a ≡ true
-left a b e = grind arith
-
-right : (a b : Bool) → a && b ≡ true → b ≡ true
-right a b e = grind arith
+use Rattle.px_normal.proofs.SolidsLaws.{all-each, all-joined}
 
 and_mono : {a b c d : Bool} → (a ≡ true → c ≡ true) → (b ≡ true → d ≡ true) → a && b ≡ true → c && d ≡ true
-and_mono {a = a} {b = b} first second e = rw (first (left a b e), second (right a b e)) refl
+and_mono {a = a} {b = b} first second e = rw (first (and_left a b e), second (and_right a b e)) refl
 
 least_past : (m n x : ℕ) → nat_le (max m n) x ≡ true → nat_le m x ≡ true
 least_past m n x e = grind arith
@@ -57,42 +52,34 @@ module _ (x y z : ℕ) where
       and_mono (and_mono (and_mono (and_mono (and_mono (least_other a.x0 b.x0 x) (most_other a.x1 b.x1 x))
       (least_other a.y0 b.y0 y)) (most_other a.y1 b.y1 y)) (least_other a.z0 b.z0 z)) (most_other a.z1 b.z1 z) e
 
-  in_common_part : (a b : CellBox) → lies_in a x y z ≡ true → lies_in b x y z ≡ true
-      → lies_in (common_part a b) x y z ≡ true
-  in_common_part a b e f = grind arith
-
-  in_narrowed : (a b : Option CellBox) → is_in a x y z ≡ true → is_in b x y z ≡ true → is_in (narrowed a b) x y z ≡ true
-  in_narrowed (Some a) (Some b) e f = in_common_part a b e f
-  in_narrowed (Some a) None e f = f
-  in_narrowed None b e f = e
-
-  of_narrowed : (a b : Option CellBox) → is_in (narrowed a b) x y z ≡ true → (is_in a x y z ≡ true)
-      × (is_in b x y z ≡ true)
+  of_narrowed : (a b : Option CellBox) → is_in_box (narrowed a b) x y z ≡ true → (is_in_box a x y z ≡ true)
+      × (is_in_box b x y z ≡ true)
   of_narrowed (Some a) (Some b) e = (in_first a b e, in_second a b e)
   of_narrowed (Some a) None e = absurd cc
   of_narrowed None b e = absurd cc
 
-  has_the_cell : (box : Option CellBox) → is_in box x y z ≡ true → has_some_cell box ≡ true
+  has_the_cell : (box : Option CellBox) → is_in_box box x y z ≡ true → has_some_cell box ≡ true
   has_the_cell None e = e
   has_the_cell (Some b) e = grind arith
 
   module _ (boxes : ℕ → Option CellBox) where
-    in_all : (start : Option CellBox) (qs : List ℕ) → is_in start x y z ≡ true → list_all (λ q. is_in (boxes q) x y z)
+    in_all : (start : Option CellBox) (qs : List ℕ) → is_in_box start x y z ≡ true → list_all (λ q. is_in_box (boxes q) x y z)
         qs ≡ true
-        → is_in (fold (λ part q. narrowed part (boxes q)) start qs) x y z ≡ true
+        → is_in_box (fold (λ part q. narrowed part (boxes q)) start qs) x y z ≡ true
     in_all start [] e f = e
     in_all start (q ∷ qs) e f =
-        let rest = list_all (λ q. is_in (boxes q) x y z) qs
-        in in_all (narrowed start (boxes q)) qs (in_narrowed start (boxes q) e (left (is_in (boxes q) x y z) rest f))
-        (right (is_in (boxes q) x y z) rest f)
+        let rest = list_all (λ q. is_in_box (boxes q) x y z) qs
+        in in_all (narrowed start (boxes q)) qs
+        (in_narrowed x y z start (boxes q) e (and_left (is_in_box (boxes q) x y z) rest f))
+        (and_right (is_in_box (boxes q) x y z) rest f)
 
-    in_start : (start : Option CellBox) (qs : List ℕ) → is_in (fold (λ part q. narrowed part (boxes q)) start qs) x y
-        z ≡ true → is_in start x y z ≡ true
+    in_start : (start : Option CellBox) (qs : List ℕ) → is_in_box (fold (λ part q. narrowed part (boxes q)) start qs) x y
+        z ≡ true → is_in_box start x y z ≡ true
     in_start start [] e = e
     in_start start (q ∷ qs) e = (of_narrowed start (boxes q) (in_start (narrowed start (boxes q)) qs e)).0
 
-    in_each : (start : Option CellBox) (qs : List ℕ) → is_in (fold (λ part q. narrowed part (boxes q)) start qs) x y z
-        ≡ true → list_all (λ q. is_in (boxes q) x y z) qs ≡ true
+    in_each : (start : Option CellBox) (qs : List ℕ) → is_in_box (fold (λ part q. narrowed part (boxes q)) start qs) x y z
+        ≡ true → list_all (λ q. is_in_box (boxes q) x y z) qs ≡ true
     in_each start [] e = refl
     in_each start (q ∷ qs) e =
         rw (
@@ -113,18 +100,18 @@ fewer_solids boxes few many each some = at_first (box_of_all boxes many) refl so
   at_first None is none = absurd cc
   at_first (Some b) is some =
       let x = b.x0 in let y = b.y0 in let z = b.z0
-      in let within : is_in (box_of_all boxes many) x y z ≡ true = ap (λ box. is_in box x y z) is ∙ first_cell b some
+      in let within : is_in_box (box_of_all boxes many) x y z ≡ true = ap (λ box. is_in_box box x y z) is ∙ first_cell b some
       in has_the_cell x y z (box_of_all boxes few)
       (in_all x y z boxes (Some everything) few (in_start x y z boxes (Some everything) many within)
-      (each (λ q. is_in (boxes q) x y z) (in_each x y z boxes (Some everything) many within)))
+      (each (λ q. is_in_box (boxes q) x y z) (in_each x y z boxes (Some everything) many within)))
 
 -- the boxes of two sets have a common cell where their common parts have one
 part_of_both : (boxes : ℕ → Option CellBox) (a b : SolidSet)
     → has_some_cell (narrowed (box_of_all boxes (solids a)) (box_of_all boxes (solids b)))
-    ≡ has_some_cell (box_of_all boxes (solids (joined a b)))
+    ≡ has_some_cell (box_of_all boxes (solids (sets_joined a b)))
 part_of_both boxes a b =
     same_test _ _ (at_first (narrowed (box_of_all boxes (solids a)) (box_of_all boxes (solids b))) refl)
-    (at_common (box_of_all boxes (solids (joined a b))) refl) where
+    (at_common (box_of_all boxes (solids (sets_joined a b))) refl) where
       same_test : (u v : Bool) → (u ≡ true → v ≡ true) → (v ≡ true → u ≡ true) → u ≡ v
       same_test true v there back = sym (there refl)
       same_test false true there back = back refl
@@ -132,37 +119,37 @@ part_of_both boxes a b =
 
       at_first : (box : Option CellBox) → narrowed (box_of_all boxes (solids a)) (box_of_all boxes (solids b)) ≡ box
           → has_some_cell box ≡ true
-          → has_some_cell (box_of_all boxes (solids (joined a b))) ≡ true
+          → has_some_cell (box_of_all boxes (solids (sets_joined a b))) ≡ true
       at_first None is some = absurd cc
       at_first (Some c) is some =
           let x = c.x0 in let y = c.y0 in let z = c.z0
           in let within = of_narrowed x y z (box_of_all boxes (solids a)) (box_of_all boxes (solids b))
-          (ap (λ box. is_in box x y z) is ∙ first_cell c some)
-          in let all : list_all (λ q. is_in (boxes q) x y z) (solids (joined a b)) ≡ true =
-          all-joined (λ q. is_in (boxes q) x y z) a b ∙ rw (
+          (ap (λ box. is_in_box box x y z) is ∙ first_cell c some)
+          in let all : list_all (λ q. is_in_box (boxes q) x y z) (solids (sets_joined a b)) ≡ true =
+          all-joined (λ q. is_in_box (boxes q) x y z) a b ∙ rw (
             in_each x y z boxes (Some everything) (solids a) within.0,
             in_each x y z boxes (Some everything) (solids b) within.1,
           ) refl
-          in has_the_cell x y z (box_of_all boxes (solids (joined a b)))
-          (in_all x y z boxes (Some everything) (solids (joined a b)) (in_start x y z boxes (Some everything) (solids a)
+          in has_the_cell x y z (box_of_all boxes (solids (sets_joined a b)))
+          (in_all x y z boxes (Some everything) (solids (sets_joined a b)) (in_start x y z boxes (Some everything) (solids a)
           within.0) all)
 
-      at_common : (box : Option CellBox) → box_of_all boxes (solids (joined a b)) ≡ box → has_some_cell box ≡ true
+      at_common : (box : Option CellBox) → box_of_all boxes (solids (sets_joined a b)) ≡ box → has_some_cell box ≡ true
           → has_some_cell (narrowed (box_of_all boxes (solids a)) (box_of_all boxes (solids b))) ≡ true
       at_common None is some = absurd cc
       at_common (Some c) is some =
           let x = c.x0 in let y = c.y0 in let z = c.z0
-          in let within : is_in (box_of_all boxes (solids (joined a b))) x y z ≡ true =
-          ap (λ box. is_in box x y z) is ∙ first_cell c some
-          in let start = in_start x y z boxes (Some everything) (solids (joined a b)) within
-          in let test = λ (q : ℕ). is_in (boxes q) x y z
+          in let within : is_in_box (box_of_all boxes (solids (sets_joined a b))) x y z ≡ true =
+          ap (λ box. is_in_box box x y z) is ∙ first_cell c some
+          in let start = in_start x y z boxes (Some everything) (solids (sets_joined a b)) within
+          in let test = λ (q : ℕ). is_in_box (boxes q) x y z
           in let all : list_all test (solids a) && list_all test (solids b) ≡ true =
-          sym (all-joined test a b) ∙ in_each x y z boxes (Some everything) (solids (joined a b)) within
+          sym (all-joined test a b) ∙ in_each x y z boxes (Some everything) (solids (sets_joined a b)) within
           in has_the_cell x y z _ (in_narrowed x y z (box_of_all boxes (solids a)) (box_of_all boxes (solids b))
           (in_all x y z boxes (Some everything) (solids a) start
-          (left (list_all test (solids a)) (list_all test (solids b)) all))
+          (and_left (list_all test (solids a)) (list_all test (solids b)) all))
           (in_all x y z boxes (Some everything) (solids b) start
-          (right (list_all test (solids a)) (list_all test (solids b)) all)))
+          (and_right (list_all test (solids a)) (list_all test (solids b)) all)))
 
 pub live_by_parts : (boxes : ℕ → Option CellBox) (p q : Product) (first second : Option CellBox)
     → first ≡ box_of_all boxes (solids p.plain) → second ≡ box_of_all boxes (solids q.plain)
@@ -181,9 +168,7 @@ apart_from plain barred more others within beyond apart =
     (λ q lt there. kept (has barred q) (has others q) (beyond q lt) ((all-each (λ q. not (has others q)) more).0 all
     q lt (within q lt there)))) where
       all : list_all (λ q. not (has others q)) (solids more) ≡ true
-      all = turned (list_all (λ q. not (has others q)) (solids more)) (sym (no_void more (has others)) ∙ apart) where
-        turned : (b : Bool) → not b ≡ false → b ≡ true
-        turned b e = grind arith
+      all = not_false (list_all (λ q. not (has others q)) (solids more)) (sym (no_void more (has others)) ∙ apart)
 
       kept : (a b : Bool) → (a ≡ true → b ≡ true) → not b ≡ true → not a ≡ true
       kept true b more none = absurd (never b (more refl) none) where
@@ -199,21 +184,13 @@ module _ (boxes : ℕ → Option CellBox) where
   unfolding is_live
   live_of_more p more plain barred live =
       let apart : is_void p ≡ false = apart_from p.plain p.barred more.plain more.barred plain barred
-      (turned (is_void more)
-      (left (not (is_void more)) (has_some_cell (box_of_all boxes (solids more.plain))) live))
+      (not_true (is_void more)
+      (and_left (not (is_void more)) (has_some_cell (box_of_all boxes (solids more.plain))) live))
       in let some : has_some_cell (box_of_all boxes (solids p.plain)) ≡ true =
       fewer_solids boxes (solids p.plain) (solids more.plain)
       (λ test all. (all-each test p.plain).1 (λ q lt there. (all-each test more.plain).0 all q lt (plain q lt there)))
-      (right (not (is_void more)) (has_some_cell (box_of_all boxes (solids more.plain))) live)
-      in rw (apart, some) refl where
-        turned : (b : Bool) → not b ≡ true → b ≡ false
-        turned b e = grind arith
-
-  or_left : (a b : Bool) → a ≡ true → a || b ≡ true
-  or_left a b e = grind arith
-
-  or_right : (a b : Bool) → b ≡ true → a || b ≡ true
-  or_right a b e = grind arith
+      (and_right (not (is_void more)) (has_some_cell (box_of_all boxes (solids more.plain))) live)
+      in rw (apart, some) refl
 
   live_left : (p q : Product) → is_live boxes (both p q) ≡ true → is_live boxes p ≡ true
   live_left p q = live_of_more p (both p q)
@@ -311,37 +288,28 @@ module _ (boxes : ℕ → Option CellBox) where
 
   -- a product that holds at a place in the boxes is live
   module _ (at : ℕ → Cell) (x y z : ℕ) (is : IsPlaceInBoxes boxes at x y z) where
-    in_everything : x < 2 ^ 32 → y < 2 ^ 32 → z < 2 ^ 32 → lies_in everything x y z ≡ true
-    in_everything p q r = grind arith
-
-    plain_boxed : (qs : List ℕ) → list_all (λ q. (at q).member) qs ≡ true → list_all (λ q. is_in (boxes q) x y z)
+    plain_boxed : (qs : List ℕ) → list_all (λ q. (at q).member) qs ≡ true → list_all (λ q. is_in_box (boxes q) x y z)
         qs ≡ true
     plain_boxed [] e = refl
     plain_boxed (q ∷ qs) e =
         let rest = list_all (λ q. (at q).member) qs
-        in rw (is.boxed q (left (at q).member rest e), plain_boxed qs (right (at q).member rest e)) refl
-
-    member_apart : (a b : Bool) → a ≡ true → (b ≡ true → not a ≡ true) → not b ≡ true
-    member_apart a true e none = absurd (never a e (none refl)) where
-      never : (a : Bool) → a ≡ true → not a ≡ true → ⊥
-      never a e f = grind arith
-    member_apart a false e none = refl
+        in rw (is.boxed q (and_left (at q).member rest e), plain_boxed qs (and_right (at q).member rest e)) refl
 
     live_here : (p : Product) → holds at p ≡ true → is_live boxes p ≡ true
     unfolding is_live
     live_here p e =
         let members = list_all (λ q. (at q).member) (solids p.plain)
         in let others = list_all (λ q. not (at q).member) (solids p.barred)
-        in let plain : members ≡ true = left members others e
-        in let barred : others ≡ true = right members others e
+        in let plain : members ≡ true = and_left members others e
+        in let barred : others ≡ true = and_right members others e
         in let apart : is_void p ≡ false =
         no_void p.plain (has p.barred)
         ∙ ap not ((all-each (λ q. not (has p.barred q)) p.plain).1
-        (λ q lt there. member_apart (at q).member (has p.barred q) ((all-each (λ q. (at q).member) p.plain).0 plain q
+        (λ q lt there. not_both (at q).member (has p.barred q) ((all-each (λ q. (at q).member) p.plain).0 plain q
         lt there) (λ in_barred. (all-each (λ q. not (at q).member) p.barred).0 barred q lt in_barred)))
         in let some : has_some_cell (box_of_all boxes (solids p.plain)) ≡ true =
         has_the_cell x y z (box_of_all boxes (solids p.plain))
-        (in_all x y z boxes (Some everything) (solids p.plain) (in_everything is.column is.row is.depth)
+        (in_all x y z boxes (Some everything) (solids p.plain) (in_everything x y z is.column is.row is.depth)
         (plain_boxed (solids p.plain) plain))
         in rw (apart, some) refl
 
@@ -349,5 +317,5 @@ module _ (boxes : ℕ → Option CellBox) where
     live_places ps = record {
       members = any-filter_same (holds at) (is_live boxes) true live_here ps;
       faces = λ face. any-filter_same (λ p. holds at p && shows at face p) (is_live boxes) true
-          (λ p e. live_here p (left (holds at p) (shows at face p) e)) ps;
+          (λ p e. live_here p (and_left (holds at p) (shows at face p) e)) ps;
     }

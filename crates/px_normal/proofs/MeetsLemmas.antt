@@ -5,9 +5,10 @@ use Rattle.std.proofs.Common.{bit_and, bit_or}
 use Rattle.std.specs.List.{list_all, list_any}
 use Rattle.std.specs.Int.{bit_at}
 use Rattle.std.proofs.lemmas.Nat.Bits.{bit_at_and, bit_at_or, bit_at-lt, bit_at-zero, same_from_bits_below}
+use Rattle.px_num.proofs.TruthLaws.{never}
 use Rattle.px_normal.specs.declared.set.SolidSet.{SolidSet}
 use Rattle.px_normal.specs.Sets.{has, solids}
-use Rattle.px_normal.proofs.SolidsLemmas.{all-each}
+use Rattle.px_normal.proofs.SolidsLaws.{all-each}
 
 -- no solid passes a test where each fails it
 pub no_void : (ps : SolidSet) (test : ℕ → Bool) → list_any test (solids ps)
@@ -89,9 +90,6 @@ module _ (a b : SolidSet) where
   meets_is small = step (list_all (λ q. not (has b q)) (solids a)) refl ∙ sym (no_void a (has b)) where
     some_word : (w : ℕ) → (w ≡ 0 → ⊥) → not (nat_eq w 0) ≡ true
     some_word w some = grind arith
-
-    never : (x : Bool) → x ≡ false → x ≡ true → ⊥
-    never x e f = grind arith
 
     step : (x : Bool) → list_all (λ q. not (has b q)) (solids a) ≡ x → not (nat_eq all_common 0)
         ≡ not (list_all (λ q. not (has b q)) (solids a))

@@ -1,30 +1,31 @@
 -- Normal forms say what the expression says.
 use Rattle.std.proofs.Common.{ℕ, ◌≡◌, ◌<◌, ◌==◌, ◌||◌, ◌&&◌, not, if◌then◌else◌, Bool, true, false, List, [], ◌∷◌}
-use Rattle.std.proofs.Common.{◌++◌, length, refl, ap, sym, ◌∙◌, arith, ◌⊎◌, inl, inr}
+use Rattle.std.proofs.Common.{◌++◌, length, refl, ap, sym, ◌∙◌, arith, inl, inr}
 use Rattle.std.specs.List.{list_any, All}
 use Rattle.std.proofs.lemmas.List.Folds.{list_any-append}
 use Rattle.std.proofs.lemmas.List.Elements.{All-nil, All-cons, All-append}
 use Rattle.std.proofs.lemmas.Bool.Decides.{nat_tests}
+use Rattle.px_num.proofs.TruthLaws.{or_cases, or_true}
 use Rattle.px_expr.specs.Tree.{Tree, leaf, join, HasLeavesBelow}
 use Rattle.px_expr.specs.Cells.{Cell, cell, where_true, has_face, shown_in, shown_when, shown_where, own_faces}
 use Rattle.px_expr.specs.Cells.{combined as cells_combined}
-use Rattle.px_expr.specs.Combinations.{combination_of, complement_of, opposite, truth_in, truth_when}
+use Rattle.px_expr.specs.Cells.{combination_of, complement_of, opposite, truth_in, truth_when}
 use Rattle.px_expr.proofs.CombinationLaws.{truth_of_complement}
 use Rattle.px_expr.proofs.OperatorLaws.{none_of_none}
 use Rattle.px_expr.specs.declared.node.Op.{Op}
-use Rattle.px_expr.specs.declared.combination.Sense.{Sense}
-use Rattle.px_expr.specs.declared.combination.Sense.TheVariants.{Plain, Complement}
-use Rattle.px_expr.specs.declared.combination.Combination.{Combination}
-use Rattle.px_expr.specs.declared.combination.Combination.TheVariants.{Both, Either, EitherWay}
+use Rattle.px_expr.specs.declared.node.Sense.{Sense}
+use Rattle.px_expr.specs.declared.node.Sense.TheVariants.{Plain, Complement}
+use Rattle.px_expr.specs.declared.node.Combination.{Combination}
+use Rattle.px_expr.specs.declared.node.Combination.TheVariants.{Both, Either, EitherWay}
 use Rattle.px_normal.specs.declared.set.SolidSet.{SolidSet}
 use Rattle.px_normal.specs.declared.product.Product.{Product}
-use Rattle.px_normal.specs.Sets.{has, empty, one, joined, solids, IsBelow}
+use Rattle.px_normal.specs.Sets.{has, empty, one, sets_joined, solids, IsBelow}
 use Rattle.px_normal.specs.Forms.{Forms, forms, combined, both, crossed, sum_in, sum_when}
 use Rattle.px_normal.specs.Forms.{sum_of_products, plain_one, barred_one, HasPlain, HasSolidsBelow}
 use Rattle.px_normal.specs.NormalLaw.{holds, shows, IsNormalForm}
 use Rattle.px_normal.proofs.BitsLemmas.{has-joined, has-one, has-empty}
 use Rattle.px_normal.proofs.CrossedLemmas.{any_crossed, shown_crossed, each_crossed}
-use Rattle.px_normal.proofs.SolidsLemmas.{all-joined, any-joined, all-empty, any-empty, all-one, any-one}
+use Rattle.px_normal.proofs.SolidsLaws.{all-joined, any-joined, all-empty, any-empty, all-one, any-one}
 
 holds_both : (at : ℕ → Cell) (p q : Product) → holds at (both p q) ≡ holds at p && holds at q
 holds_both at p q = rw (
@@ -196,9 +197,7 @@ plain_both p q plain = some_any _ (rw (any-joined (λ _. true) p.plain q.plain, 
 
 plain_right : (p q : Product) → HasPlain q → HasPlain (both p q)
 plain_right p q plain = some_any _ (rw (any-joined (λ _. true) p.plain q.plain, any_some (solids q.plain) plain)
-    (or_true (list_any (λ _. true) (solids p.plain)))) where
-      or_true : (b : Bool) → b || true ≡ true
-      or_true b = grind arith
+    (or_true (list_any (λ _. true) (solids p.plain))))
 
 anything : (ps : List Product) → All (λ _. Unit {0}) ps
 anything ps = λ i any lt. tt
@@ -232,15 +231,12 @@ all_plain (join op left right) below =
     (all_plain right below.1)
 
 -- each solid of a product is one of the leaves'
-below_joined : (count : ℕ) (a b : SolidSet) → IsBelow count a → IsBelow count b → IsBelow count (joined a b)
+below_joined : (count : ℕ) (a b : SolidSet) → IsBelow count a → IsBelow count b → IsBelow count (sets_joined a b)
 below_joined count a b first second solid lt in_both =
-    elim (either (has a solid) (has b solid) (sym (has-joined a b solid lt) ∙ in_both)) [
+    elim (or_cases (has a solid) (has b solid) (sym (has-joined a b solid lt) ∙ in_both)) [
       | inl in_first ↦ first solid lt in_first
       | inr in_second ↦ second solid lt in_second
-    ] where
-      either : (x y : Bool) → x || y ≡ true → (x ≡ true) ⊎ (y ≡ true)
-      either true y e = inl refl
-      either false y e = inr e
+    ]
 
 below_one : (count solid : ℕ) → solid < 256 → solid < count → IsBelow count (one solid)
 below_one count solid fits lt other small in_one = same other solid (sym (has-one solid other fits) ∙ in_one) lt where

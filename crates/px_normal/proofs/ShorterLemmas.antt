@@ -6,12 +6,12 @@ use Rattle.std.proofs.lemmas.Bool.Decides.{nat_tests}
 use Rattle.std.proofs.lemmas.List.Elements.{All-nil, All-cons, All-append, All-head, All-tail}
 use Rattle.std.proofs.lemmas.List.Sums.{length-filter, count_by-le-length}
 use Rattle.px_expr.specs.Tree.{Tree, leaf, join}
-use Rattle.px_expr.specs.Combinations.{combination_of, complement_of, opposite}
+use Rattle.px_expr.specs.Cells.{combination_of, complement_of, opposite}
 use Rattle.px_expr.proofs.OperatorLaws.{IsOneWay, one_way}
-use Rattle.px_expr.specs.declared.combination.Sense.{Sense}
-use Rattle.px_expr.specs.declared.combination.Sense.TheVariants.{Plain, Complement}
-use Rattle.px_expr.specs.declared.combination.Combination.{Combination}
-use Rattle.px_expr.specs.declared.combination.Combination.TheVariants.{Both, Either, EitherWay}
+use Rattle.px_expr.specs.declared.node.Sense.{Sense}
+use Rattle.px_expr.specs.declared.node.Sense.TheVariants.{Plain, Complement}
+use Rattle.px_expr.specs.declared.node.Combination.{Combination}
+use Rattle.px_expr.specs.declared.node.Combination.TheVariants.{Both, Either, EitherWay}
 use Rattle.px_normal.specs.declared.cell_box.CellBox.{CellBox}
 use Rattle.px_normal.specs.declared.product.Product.{Product}
 use Rattle.px_normal.specs.declared.step.Wanted.{Wanted}

@@ -41,6 +41,6 @@ narrowed (Some a) None = None
 narrowed None b = None
 
 -- a box is there and has the cell
-abbrev pub is_in : Option CellBox → ℕ → ℕ → ℕ → Bool
-is_in None x y z = false
-is_in (Some b) x y z = lies_in b x y z
+abbrev pub is_in_box : Option CellBox → ℕ → ℕ → ℕ → Bool
+is_in_box None x y z = false
+is_in_box (Some b) x y z = lies_in b x y z

@@ -2,13 +2,13 @@
 use Rattle.std.specs.Prelude.{ℕ, ◌<◌, List, [], ◌∷◌, ◌++◌, map, length, flat_map}
 use Rattle.px_expr.specs.Tree.{Tree, leaf, join}
 use Rattle.px_expr.specs.declared.node.Op.{Op}
-use Rattle.px_expr.specs.Combinations.{combination_of, complement_of, opposite}
-use Rattle.px_expr.specs.declared.combination.Sense.{Sense}
-use Rattle.px_expr.specs.declared.combination.Sense.TheVariants.{Plain, Complement}
-use Rattle.px_expr.specs.declared.combination.Combination.{Combination}
-use Rattle.px_expr.specs.declared.combination.Combination.TheVariants.{Both, Either, EitherWay}
+use Rattle.px_expr.specs.Cells.{combination_of, complement_of, opposite}
+use Rattle.px_expr.specs.declared.node.Sense.{Sense}
+use Rattle.px_expr.specs.declared.node.Sense.TheVariants.{Plain, Complement}
+use Rattle.px_expr.specs.declared.node.Combination.{Combination}
+use Rattle.px_expr.specs.declared.node.Combination.TheVariants.{Both, Either, EitherWay}
 use Rattle.px_normal.specs.declared.product.Product.{Product}
-use Rattle.px_normal.specs.Sets.{empty, one, joined, solids, IsBelow}
+use Rattle.px_normal.specs.Sets.{empty, one, sets_joined, solids, IsBelow}
 
 abbrev pub plain_one : ℕ → Product
 plain_one solid = record { plain = one solid; barred = empty }
@@ -18,7 +18,7 @@ barred_one solid = record { plain = empty; barred = one solid }
 
 -- both products at once
 abbrev pub both : Product → Product → Product
-both p q = record { plain = joined p.plain q.plain; barred = joined p.barred q.barred }
+both p q = record { plain = sets_joined p.plain q.plain; barred = sets_joined p.barred q.barred }
 
 -- each of the first with each of the second
 abbrev pub crossed : List Product → List Product → List Product

@@ -5,7 +5,7 @@ use Rattle.px_expr.specs.Cells.{Cell}
 use Rattle.px_expr.specs.declared.node.Op.{Op}
 use Rattle.px_normal.specs.declared.cell_box.CellBox.{CellBox}
 use Rattle.px_normal.specs.declared.product.Product.{Product}
-use Rattle.px_normal.specs.Boxes.{is_in}
+use Rattle.px_normal.specs.Boxes.{is_in_box}
 use Rattle.px_normal.specs.Forms.{Forms, combined}
 use Rattle.px_normal.specs.NormalLaw.{some_holds, some_shows}
 use Rattle.px_normal.specs.Live.{is_live, live}
@@ -15,7 +15,7 @@ pub record IsPlaceInBoxes (boxes : ℕ → Option CellBox) (solid_at : ℕ → C
   pub column : x < 2 ^ 32
   pub row : y < 2 ^ 32
   pub depth : z < 2 ^ 32
-  pub boxed : (solid : ℕ) → (solid_at solid).member ≡ true → is_in (boxes solid) x y z ≡ true
+  pub boxed : (solid : ℕ) → (solid_at solid).member ≡ true → is_in_box (boxes solid) x y z ≡ true
 
 pub record ShowTheSame (solid_at : ℕ → Cell) (products kept : List Product) : Type 0 where
   pub members : some_holds solid_at kept ≡ some_holds solid_at products

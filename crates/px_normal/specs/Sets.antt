@@ -17,8 +17,8 @@ one solid = record { words = slice_set (0 ∷ 0 ∷ 0 ∷ 0 ∷ []) (solid / 64)
 abbrev pub joined_word : SolidSet → SolidSet → ℕ → ℕ
 joined_word a b place = bit_or (slice_index a.words place) (slice_index b.words place)
 
-abbrev pub joined : SolidSet → SolidSet → SolidSet
-joined a b = record {
+abbrev pub sets_joined : SolidSet → SolidSet → SolidSet
+sets_joined a b = record {
   words = joined_word a b 0 ∷ joined_word a b 1 ∷ joined_word a b 2 ∷ joined_word a b 3 ∷ [];
 }
 

@@ -3,7 +3,7 @@ ghost use Rattle.std.specs.Prelude.{◌≡◌, ◌≤◌, ◌+◌, ◌*◌, leng
 ghost use Rattle.arrayvec.specs.ArrayVec.{array_vec_len};
 ghost use Rattle.px_expr.specs.Shapes.{joined, put, CanPlace};
 ghost use Rattle.px_normal.specs.Counting.{capped};
-ghost use Rattle.px_normal.specs.FormCounts.{leaf_counts, combined_counts, count_in, count_when};
+ghost use Rattle.px_normal.specs.FormCounts.{leaf_counts, combined_counts, counted_in, count_when};
 ghost use Rattle.px_normal.specs.Forms.{sum_of_products};
 
 use arrayvec::ArrayVec;
@@ -86,7 +86,7 @@ fn counted(combination: Combination, left: &Counts, right: &Counts) -> u64
 
 impl Counts {
     fn in_sense(&self, sense: Sense) -> u64
-        ensures { result ≡ count_in sense self.now }
+        ensures { result ≡ counted_in sense self.now }
     {
         match sense {
             Sense::Plain => self.products,

@@ -1,7 +1,7 @@
 //! Sets of solids.
 ghost use Rattle.std.specs.Prelude.{◌≡◌, ◌<◌, ◌≤◌, ◌||◌, ◌==◌, ◌^◌, ℕ, false, not, nat_eq};
 ghost use Rattle.std.specs.List.{list_any};
-ghost use Rattle.px_normal.specs.Sets.{has, empty, one, joined, solids};
+ghost use Rattle.px_normal.specs.Sets.{has, empty, one, sets_joined, solids};
 ghost use Rattle.px_normal.specs.SetLaws.{LawsOfSets};
 
 use arrayvec::ArrayVec;
@@ -22,7 +22,7 @@ impl SolidSet {
 
     /// The set and one solid more.
     pub fn with(&self, solid: u8) -> SolidSet
-        ensures set { result ≡ joined self.now (one solid) }
+        ensures set { result ≡ sets_joined self.now (one solid) }
         ensures solids { (q : ℕ) → q < 256 → has result q ≡ (has self.now q || q == solid) }
     {
         self.joined(&SolidSet::one(solid))
@@ -30,7 +30,7 @@ impl SolidSet {
 
     /// The solids of either set.
     pub fn joined(&self, other: &SolidSet) -> SolidSet
-        ensures set { result ≡ joined self.now other.now }
+        ensures set { result ≡ sets_joined self.now other.now }
         ensures solids { (q : ℕ) → q < 256 → has result q ≡ (has self.now q || has other.now q) }
     {
         let [a, b, c, d] = self.words;

@@ -2,7 +2,7 @@
 use Rattle.std.specs.Prelude.{ℕ, ◌≡◌, Bool, true, false, Option, Some, None}
 use Rattle.px_expr.specs.Cells.{Cell, has_face}
 use Rattle.px_normal.specs.declared.cell_box.CellBox.{CellBox}
-use Rattle.px_normal.specs.Boxes.{lies_in, is_in}
+use Rattle.px_normal.specs.Boxes.{lies_in, is_in_box}
 use Rattle.px_prune.specs.Boxes.{with_cells_behind}
 
 -- a box is there and has the cell, or the one before it along the ray
@@ -11,5 +11,5 @@ is_in_or_behind None x y z = false
 is_in_or_behind (Some b) x y z = lies_in (with_cells_behind b) x y z
 
 pub record HasCells (boxes : ℕ → Option CellBox) (x y z : ℕ) (at : ℕ → Cell) : Type 0 where
-  pub members : (q : ℕ) → (at q).member ≡ true → is_in (boxes q) x y z ≡ true
+  pub members : (q : ℕ) → (at q).member ≡ true → is_in_box (boxes q) x y z ≡ true
   pub hidden : (q n : ℕ) → has_face n (at q).hidden ≡ true → is_in_or_behind (boxes q) x y z ≡ true

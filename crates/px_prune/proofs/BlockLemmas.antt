@@ -8,7 +8,7 @@ use Rattle.std.proofs.lemmas.Int.{ints}
 use Rattle.px_num.specs.declared.linear.Linear.{Linear}
 use Rattle.px_num.specs.Forms.{value_at}
 use Rattle.px_prune.specs.declared.block.Block.{Block}
-use Rattle.px_prune.specs.Blocks.{greatest_in, has_pixel, is_pixel, least_in}
+use Rattle.px_prune.specs.Blocks.{greatest_in, has_pixel, is_one_pixel, least_in}
 
 -- a multiple of a place is least at the first or at the last one, by its sign, and greatest at the other
 not_below : (a : ℕ) → nat_lt a 0 ≡ false
@@ -36,10 +36,10 @@ at_corners : (form : Linear) (s t : Bool) (m n i j : ℕ) {x y : ℕ} → m ≡ 
     → value_at form (if s then m else n) (if t then i else j) ≡ value_at form x y
 at_corners form s t m n i j {x = x} {y = y} p q u v = rw (same s m n x p q, same t i j y u v) refl
 
-pub one_column : (b : Block) → is_pixel b ≡ true → b.x1 ≡ b.x0
+pub one_column : (b : Block) → is_one_pixel b ≡ true → b.x1 ≡ b.x0
 one_column b one = grind arith
 
-pub one_row : (b : Block) → is_pixel b ≡ true → b.y1 ≡ b.y0
+pub one_row : (b : Block) → is_one_pixel b ≡ true → b.y1 ≡ b.y0
 one_row b one = grind arith
 
 module _ (b : Block) (form : Linear) where
@@ -68,7 +68,7 @@ module _ (b : Block) (form : Linear) where
         (high form.a b.x0 b.x1 x from_left to_right)
         (high form.b b.y0 b.y1 y from_top to_bottom)
 
-  module _ (one : is_pixel b ≡ true) where
+  module _ (one : is_one_pixel b ≡ true) where
     pub least_at_pixel : least_in b form ≡ value_at form b.x0 b.y0
     unfolding least_in
     least_at_pixel = at_corners form (lt_z form.a (pos 0)) (lt_z form.b (pos 0)) b.x1 b.x0 b.y1 b.y0

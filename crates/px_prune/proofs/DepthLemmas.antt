@@ -1,6 +1,6 @@
 -- The depths that the greatest front and the least back leave.
-use Rattle.std.proofs.Common.{ℕ, ℤ, pos, negsuc, ◌≡◌, ◌<◌, ◌≤◌, ◌*◌, ◌^◌, ◌≤ℤ◌, ◌<ℤ◌, ◌&&◌, Bool, true, false, nat_le}
-use Rattle.std.proofs.Common.{nat_lt, List, [], ◌∷◌, refl, ap, sym, ◌∙◌, arith, map, fold, w64, to_z, of_z}
+use Rattle.std.proofs.Common.{ℕ, ℤ, pos, negsuc, ◌≡◌, ◌<◌, ◌≤◌, ◌*◌, ◌^◌, ◌≤ℤ◌, ◌<ℤ◌, ◌&&◌, Bool, true, nat_le}
+use Rattle.std.proofs.Common.{nat_lt, List, refl, ap, sym, ◌∙◌, arith, map, fold, w64, to_z, of_z}
 use Rattle.std.specs.Int.{int_max, int_min}
 use Rattle.std.specs.List.{list_all}
 use Rattle.std.proofs.lemmas.Int.{ints}
@@ -8,34 +8,10 @@ use Rattle.px_model.specs.Cells.{Depths, cell_of, depths}
 use Rattle.px_model.proofs.CellLaws.{cell_is_first, cell_is_least, cells_end, cells_grow}
 use Rattle.std.proofs.Math.Nat.{mul-le-mul}
 use Rattle.std.proofs.Math.Pow.{pow_mono}
+use Rattle.px_num.proofs.MostLaws.{all_max, all_min}
+use Rattle.px_num.proofs.TruthLaws.{lt_of_ints}
 use lib.Signed.{lt_z, le_z}
 use lib.IntN.{nat_abs}
-
-and_max : (a b z : ℤ) → le_z (int_max a b) z ≡ (le_z a z && le_z b z)
-and_max a b z = grind (arith, ints)
-
-and_min : (a b z : ℤ) → lt_z z (int_min a b) ≡ (lt_z z a && lt_z z b)
-and_min a b z = grind (arith, ints)
-
-and_true : (a : Bool) → a && true ≡ a
-and_true true = refl
-and_true false = refl
-
-turned : (a b c : Bool) → (a && b) && c ≡ a && (b && c)
-turned true b c = refl
-turned false b c = refl
-
-all_max : {X : Type 0} (v : X → ℤ) (xs : List X) (m z : ℤ) → le_z (fold int_max m (map v xs)) z
-    ≡ (le_z m z && list_all (λ x. le_z (v x) z) xs)
-all_max v [] m z = sym (and_true (le_z m z))
-all_max v (x ∷ xs) m z = all_max v xs (int_max m (v x)) z ∙ ap (λ b. b && list_all (λ x'. le_z (v x') z) xs)
-    (and_max m (v x) z) ∙ turned (le_z m z) (le_z (v x) z) (list_all (λ x'. le_z (v x') z) xs)
-
-all_min : {X : Type 0} (v : X → ℤ) (xs : List X) (m z : ℤ) → lt_z z (fold int_min m (map v xs))
-    ≡ (lt_z z m && list_all (λ x. lt_z z (v x)) xs)
-all_min v [] m z = sym (and_true (lt_z z m))
-all_min v (x ∷ xs) m z = all_min v xs (int_min m (v x)) z ∙ ap (λ b. b && list_all (λ x'. lt_z z (v x')) xs)
-    (and_min m (v x) z) ∙ turned (lt_z z m) (lt_z z (v x)) (list_all (λ x'. lt_z z (v x')) xs)
 
 -- a depth keeps in 64 bits
 in_bits : (m : ℤ) → pos 0 ≤ℤ m → m <ℤ pos (2 ^ 39) → nat_abs (to_z w64 (of_z w64 m)) ≡ nat_abs m
@@ -76,16 +52,13 @@ cells_behind v xs m far f is z =
     and_first : (a b : Bool) → a ≡ true → b ≡ (a && b)
     and_first a b e = rw e refl
 
-nat_before : (m n : ℕ) → nat_lt m n ≡ lt_z (pos m) (pos n)
-nat_before m n = grind (arith, ints)
-
 -- and those before all backs are those before the cell of the least one
 pub cells_before : {X : Type 0} (v : X → ℤ) (xs : List X) (m : ℤ) (far f : ℕ) → m ≡ fold int_min (pos (far * 2 ^ f))
     (map v xs) → (z : ℕ)
     → (nat_lt (z * 2 ^ f) (far * 2 ^ f) && list_all (λ x. lt_z (pos (z * 2 ^ f)) (v x)) xs)
     ≡ nat_lt z (cell_of (depths far f) m)
 cells_before v xs m far f is z =
-    ap (λ b. b && list_all (λ x. lt_z (pos (z * 2 ^ f)) (v x)) xs) (nat_before (z * 2 ^ f) (far * 2 ^ f))
+    ap (λ b. b && list_all (λ x. lt_z (pos (z * 2 ^ f)) (v x)) xs) (lt_of_ints (z * 2 ^ f) (far * 2 ^ f))
     ∙ sym (cell_is_least (depths far f) m z ∙ ap (λ k. lt_z (pos (z * 2 ^ f)) k) is
     ∙ all_min v xs (pos (far * 2 ^ f)) (pos (z * 2 ^ f)))
 

@@ -1,8 +1,9 @@
 -- Boxes of cells that are joined to one.
 use Rattle.std.proofs.Common.{ℕ, ◌≡◌, ◌<◌, ◌≤◌, ◌+◌, ◌-◌, ◌==◌, ◌||◌, ◌&&◌, nat_le, nat_lt, Bool, true, false, refl}
-use Rattle.std.proofs.Common.{sym, ◌∙◌, arith, inl, inr, ◌⊎◌, Option, Some, None}
+use Rattle.std.proofs.Common.{sym, ◌∙◌, arith, inl, inr, Option, Some, None}
+use Rattle.px_num.proofs.TruthLaws.{or_cases, or_left, or_right}
 use Rattle.px_normal.specs.declared.cell_box.CellBox.{CellBox}
-use Rattle.px_normal.specs.Boxes.{lies_in, is_in}
+use Rattle.px_normal.specs.Boxes.{lies_in, is_in_box}
 use Rattle.px_prune.specs.Boxes.{hull, is_part}
 use Rattle.px_prune.specs.Bounding.{IsBoxOf, in_rows}
 
@@ -13,12 +14,12 @@ at_pixel cells x y a b z = (a == x) && (b == y) && cells a b z
 abbrev pub in_row : (ℕ → ℕ → ℕ → Bool) → ℕ → ℕ → ℕ → ℕ → ℕ → Bool
 in_row cells width y a b z = nat_lt a width && (b == y) && cells a b z
 
-in_hull_left : (x y z : ℕ) (o u : Option CellBox) → is_in o x y z ≡ true → is_in (hull o u) x y z ≡ true
+in_hull_left : (x y z : ℕ) (o u : Option CellBox) → is_in_box o x y z ≡ true → is_in_box (hull o u) x y z ≡ true
 in_hull_left x y z None u p = grind arith
 in_hull_left x y z (Some a) None p = p
 in_hull_left x y z (Some a) (Some b) p = grind arith
 
-in_hull_right : (x y z : ℕ) (o u : Option CellBox) → is_in u x y z ≡ true → is_in (hull o u) x y z ≡ true
+in_hull_right : (x y z : ℕ) (o u : Option CellBox) → is_in_box u x y z ≡ true → is_in_box (hull o u) x y z ≡ true
 in_hull_right x y z None u p = p
 in_hull_right x y z (Some a) None p = grind arith
 in_hull_right x y z (Some a) (Some b) p = grind arith
@@ -36,16 +37,6 @@ pub in_part : (a b : CellBox) (x y z : ℕ) → is_part (Some a) b ≡ true → 
 in_part a b x y z e h =
     within_ends b x y z (grind arith) (grind arith) (grind arith) (grind arith) (grind arith) (grind arith)
 
-or_cases : (a b : Bool) → a || b ≡ true → (a ≡ true) ⊎ (b ≡ true)
-or_cases true b e = inl refl
-or_cases false b e = inr e
-
-or_left : (a b : Bool) → a ≡ true → a || b ≡ true
-or_left a b e = rw e refl
-
-or_right : (a b : Bool) → b ≡ true → a || b ≡ true
-or_right a b e = grind arith
-
 empty_none : (cells : ℕ → ℕ → ℕ → Bool) → ((x y z : ℕ) → cells x y z ≡ true → false ≡ true) → (x y z : ℕ)
     → cells x y z ≡ false
 empty_none cells h x y z = step (cells x y z) (h x y z) where
@@ -57,7 +48,7 @@ less_than_itself : (b : CellBox) → is_part (Some b) (record b { x0 = b.x0 + 1 
 less_than_itself b h = grind arith
 
 -- a box that holds the cells, and is a part of each that does, is none exactly where there is no cell
-box_is : (cells : ℕ → ℕ → ℕ → Bool) (box : Option CellBox) → ((x y z : ℕ) → cells x y z ≡ true → is_in box x y z ≡ true)
+box_is : (cells : ℕ → ℕ → ℕ → Bool) (box : Option CellBox) → ((x y z : ℕ) → cells x y z ≡ true → is_in_box box x y z ≡ true)
     → ((b : CellBox) → ((x y z : ℕ) → cells x y z ≡ true → lies_in b x y z ≡ true) → is_part box b ≡ true)
     → IsBoxOf cells box
 box_is cells None holds least = record { holds = holds; least = least; none = (λ _. empty_none cells holds, λ _. refl) }
@@ -87,7 +78,7 @@ joined_box c d e o u same p q = box_is e (hull o u)
 
 -- cells that lie in the box already leave it as it is
 pub covered_box : (c d : ℕ → ℕ → ℕ → Bool) (o : Option CellBox) → IsBoxOf c o
-    → ((x y z : ℕ) → d x y z ≡ true → is_in o x y z ≡ true) → IsBoxOf (λ x y z. c x y z || d x y z) o
+    → ((x y z : ℕ) → d x y z ≡ true → is_in_box o x y z ≡ true) → IsBoxOf (λ x y z. c x y z || d x y z) o
 covered_box c d o p inside = box_is (λ x y z. c x y z || d x y z) o
     (λ x y z h. elim (or_cases (c x y z) (d x y z) h) [
       | inl l ↦ p.holds x y z l

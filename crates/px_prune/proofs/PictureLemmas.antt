@@ -11,10 +11,9 @@ use Rattle.std.proofs.lemmas.Option.{slice_get_past, slice_get_read}
 use Rattle.px_expr.specs.Cells.{has_face}
 use Rattle.px_model.specs.Cells.{Depths, cell_of, depths, depths_of, end_of, faces_at, far_of, is_inside, leaf_cell}
 use Rattle.px_model.specs.Cells.{leaves_at, no_cell, solid_cell}
-use Rattle.px_model.specs.Scenes.{SceneView}
-use Rattle.px_model.specs.Solids.{SolidView}
+use Rattle.px_model.specs.Scenes.{SceneView, SolidView}
 use Rattle.px_normal.specs.declared.cell_box.CellBox.{CellBox}
-use Rattle.px_normal.specs.Boxes.{is_in}
+use Rattle.px_normal.specs.Boxes.{is_in_box}
 use Rattle.px_normal.specs.declared.product.Product.{Product}
 use Rattle.px_prune.specs.Kept.{kept_of, kept_products}
 use Rattle.px_prune.specs.declared.block.Block.{Block}
@@ -28,7 +27,7 @@ in_picture : (x y width height : ℕ) (v : Bool) → x < width → y < height �
     && v ≡ true
 in_picture x y width height v p q r = grind arith
 
-one_behind : (box : Option CellBox) (x y z : ℕ) → is_in box x y z ≡ true → is_in_or_behind box x y (suc z) ≡ true
+one_behind : (box : Option CellBox) (x y z : ℕ) → is_in_box box x y z ≡ true → is_in_or_behind box x y (suc z) ≡ true
 one_behind None x y z h = h
 one_behind (Some b) x y z h = grind arith
 
@@ -54,7 +53,7 @@ none_behind (Some s) d x y n h = h
 module _ (scene : SceneView) (boxes : ℕ → Option CellBox) (bounding : (q : ℕ) → IsBoundingBox scene q (boxes q))
     (x y : ℕ) (left : x < scene.width) (up : y < scene.height) where
   member_in : (z q : ℕ) → (leaf_cell scene.solids (depths_of scene) x y z q).member ≡ true
-      → is_in (boxes q) x y z ≡ true
+      → is_in_box (boxes q) x y z ≡ true
   member_in z q h =
       (bounding q).holds x y z (in_picture x y scene.width scene.height (leaf_cell scene.solids (depths_of scene) x y
       z q).member left up h)

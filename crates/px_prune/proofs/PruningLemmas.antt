@@ -1,18 +1,20 @@
 -- Kept products say the same.
-use Rattle.std.proofs.Common.{ℕ, ◌≡◌, ◌<◌, ◌≤◌, ◌^◌, length, arith, ◌||◌, ◌&&◌, not, Bool, true, false, List, [], ◌∷◌}
+use Rattle.std.proofs.Common.{ℕ, ◌≡◌, ◌<◌, ◌≤◌, ◌^◌, length, ◌||◌, ◌&&◌, not, Bool, true, false, List, [], ◌∷◌}
 use Rattle.std.proofs.Common.{refl, ap, sym, ◌∙◌, Option, Some, None, if◌then◌else◌}
 use Rattle.std.specs.List.{list_all, list_any, filter, filter_map, cons_option}
+use Rattle.px_num.proofs.TruthLaws.{filtered_few}
 use Rattle.px_expr.specs.Cells.{Cell, has_face}
 use Rattle.px_normal.specs.declared.product.Product.{Product}
 use Rattle.px_normal.specs.Sets.{solids}
 use Rattle.px_normal.specs.SetLaws.{LawsOfSets}
 use Rattle.px_normal.specs.NormalLaw.{holds, shows, some_holds, some_shows}
 use Rattle.px_normal.specs.declared.cell_box.CellBox.{CellBox}
-use Rattle.px_normal.specs.Boxes.{lies_in, has_cell, everything, is_in}
+use Rattle.px_normal.specs.Boxes.{lies_in, has_cell, everything, is_in_box}
 use Rattle.px_normal.specs.Live.{box_of_all, has_some_cell, is_live, is_void}
+use Rattle.px_normal.proofs.BoxLaws.{in_everything}
 use Rattle.px_prune.specs.Kept.{meets, set_of, staying, pruned, pruned_within, kept_products}
 use Rattle.px_prune.proofs.BehindLemmas.{HasCells}
-use Rattle.px_prune.proofs.WithinLemmas.{in_fold, inside_has, inside_everything, in_or_behind, meets_cell, all_filter}
+use Rattle.px_prune.proofs.WithinLemmas.{in_fold, inside_has, in_or_behind, meets_cell, all_filter}
 use Rattle.px_prune.proofs.WithinLemmas.{any_filter, filtered_solids, all-set_of, any-set_of, void_solids}
 
 -- a test of a product that is kept
@@ -63,7 +65,7 @@ module _ (laws : LawsOfSets) (boxes : ℕ → Option CellBox) (at : ℕ → Cell
     step false e = e
 
   -- where all plain solids have the cell
-  plain_there : (p : Product) (o : Option CellBox) → is_in o x y z ≡ true
+  plain_there : (p : Product) (o : Option CellBox) → is_in_box o x y z ≡ true
       → list_all (λ q. (at q).member) (solids p.plain) ≡ true → IsSame at p (pruned_within boxes p o)
   plain_there p None i e = cc
   plain_there p (Some c) i e = step (is_void p) refl where
@@ -87,7 +89,7 @@ module _ (laws : LawsOfSets) (boxes : ℕ → Option CellBox) (at : ℕ → Cell
   is_same hx hy hz p = step (list_all (λ q. (at q).member) (solids p.plain)) refl where
     step : (b : Bool) → list_all (λ q. (at q).member) (solids p.plain) ≡ b → IsSame at p (pruned boxes p)
     step true e = plain_there p (box_of_all boxes (solids p.plain)) (in_fold x y z boxes (λ q. (at q).member)
-        fits.members (solids p.plain) (Some everything) (inside_everything x y z hx hy hz) e) e
+        fits.members (solids p.plain) (Some everything) (in_everything x y z hx hy hz) e) e
     step false e = none_hold p (pruned boxes p) (plain_missing p (box_of_all boxes (solids p.plain)) e) (rw e refl)
 
 pub kept_holds : (laws : LawsOfSets) (boxes : ℕ → Option CellBox) (at : ℕ → Cell) (x y z : ℕ) → x < 2 ^ 32
@@ -102,18 +104,9 @@ pub kept_shows : (laws : LawsOfSets) (boxes : ℕ → Option CellBox) (at : ℕ 
 kept_shows laws boxes at x y z hx hy hz fits ps n = any_kept (λ u. holds at u && shows at n u) (pruned boxes)
     (λ p. (is_same laws boxes at x y z fits hx hy hz p).showing n) ps
 
--- products are left out, and none is added
-fewer : {X Y : Type 0} (g : X → Option Y) (xs : List X) → length (filter_map g xs) ≤ length xs
-fewer g [] = omega arith
-fewer {Y = Y} g (x ∷ xs) = step (g x) refl (fewer g xs) where
-  step : (o : Option Y) → g x ≡ o → length (filter_map g xs) ≤ length xs → length (filter_map g (x ∷ xs))
-      ≤ length (x ∷ xs)
-  step None e ih = rw e (omega (arith, ih))
-  step (Some y) e ih = rw e (omega (arith, ih))
-
 pub kept_fewer : (boxes : ℕ → Option CellBox) (products kept : List Product) → kept ≡ kept_products boxes products
     → length kept ≤ length products
-kept_fewer boxes products kept list = rw list (fewer (pruned boxes) products)
+kept_fewer boxes products kept list = rw list (filtered_few (pruned boxes) products)
 
 -- of a product that is not live nothing is kept
 module _ (boxes : ℕ → Option CellBox) where

@@ -1,19 +1,19 @@
 -- What a solid can have in a block: depths from the least that its fronts allow to the greatest that its backs do.
 use Rattle.std.proofs.Common.{ℕ, ℤ, pos, ◌≡◌, ◌<◌, ◌≤◌, ◌-◌, ◌≤ℤ◌, ◌&&◌, ◌||◌, ◌==◌, Bool, true, false, nat_le}
 use Rattle.std.proofs.Common.{nat_lt, List, [], ◌∷◌, refl, ap, sym, ◌∙◌, arith, Some, None, Option}
-use Rattle.std.proofs.Math.Path.{fun_ext}
 use Rattle.std.specs.List.{list_all}
 use Rattle.std.proofs.lemmas.Int.{ints}
 use lib.Signed.{lt_z, le_z}
 use Rattle.px_num.specs.Forms.{value_at}
-use Rattle.px_model.specs.Solids.{SolidView}
+use Rattle.px_num.proofs.MostLaws.{all_same}
+use Rattle.px_model.specs.Scenes.{SolidView}
 use Rattle.px_model.specs.Cells.{Depths, end_of, is_inside, value_of}
 use Rattle.px_prune.specs.declared.block.Block.{Block}
 use Rattle.px_normal.specs.declared.cell_box.CellBox.{CellBox}
-use Rattle.px_normal.specs.Boxes.{is_in, lies_in}
+use Rattle.px_normal.specs.Boxes.{is_in_box, lies_in}
 use Rattle.px_prune.specs.Boxes.{hull}
 use Rattle.px_prune.specs.Covered.{is_covered}
-use Rattle.px_prune.specs.Blocks.{IsReachOf, greatest_in, has_pixel, in_block, is_pixel, least_in, with_block}
+use Rattle.px_prune.specs.Blocks.{IsReachOf, greatest_in, has_pixel, in_block, is_one_pixel, least_in, with_block}
 use Rattle.px_prune.specs.Bounding.{IsBoxOf}
 use Rattle.px_prune.proofs.BlockLemmas.{greatest_at_pixel, greatest_bounds, least_at_pixel, least_bounds, one_column}
 use Rattle.px_prune.proofs.BlockLemmas.{one_row}
@@ -26,9 +26,6 @@ all_pass p q h (x ∷ xs) all = step (p x) (q x) (list_all p xs) (list_all q xs)
   step : (a b c d : Bool) → a && c ≡ true → (a ≡ true → b ≡ true) → (c ≡ true → d ≡ true) → b && d ≡ true
   step a b c d e f g = grind arith
 
-all_same : {X : Type 0} (p q : X → Bool) → ((x : X) → p x ≡ q x) → (xs : List X) → list_all p xs ≡ list_all q xs
-all_same p q h xs = ap (λ test. list_all test xs) (fun_ext h)
-
 le_below : (a b c : ℤ) → a ≤ℤ b → le_z b c ≡ true → le_z a c ≡ true
 le_below a b c h e = grind (arith, ints)
 
@@ -38,7 +35,7 @@ le_above a b c h e = grind (arith, ints)
 lt_above : (a b c : ℤ) → b ≤ℤ c → lt_z a b ≡ true → lt_z a c ≡ true
 lt_above a b c h e = grind (arith, ints)
 
-same_pixel : (b : Block) → is_pixel b ≡ true → (x y : ℕ) (v : Bool)
+same_pixel : (b : Block) → is_one_pixel b ≡ true → (x y : ℕ) (v : Bool)
     → (x == b.x0) && (y == b.y0) && v ≡ has_pixel b x y && v
 same_pixel b one x y v = grind arith
 
@@ -78,7 +75,7 @@ module _ (s : SolidView) (d : Depths) (b : Block) where
             → (t ≡ true → q ≡ true → v ≡ true) → (t ≡ true → r ≡ true → w ≡ true) → n && u && v && w ≡ true
         step t n p q r u v w h f g k = grind arith
 
-  inside_pixel : is_pixel b ≡ true → (z : ℕ) → inside b.x0 b.y0 z ≡ can_reach z
+  inside_pixel : is_one_pixel b ≡ true → (z : ℕ) → inside b.x0 b.y0 z ≡ can_reach z
   inside_pixel one z = parts (nat_lt (value_of d z) (end_of d)) _ _ _ sides_can (fronts_can z) (backs_can z)
       (all_same _ _ (λ side. ap (le_z (pos 0)) (sym (greatest_at_pixel b side one))) s.sides)
       (all_same _ _ (λ f. ap (λ v. le_z v (pos (value_of d z))) (sym (least_at_pixel b f.plane one))) s.fronts)
@@ -86,7 +83,7 @@ module _ (s : SolidView) (d : Depths) (b : Block) where
         parts : (n p q r u v w : Bool) → p ≡ u → q ≡ v → r ≡ w → n && p && q && r ≡ n && u && v && w
         parts n p q r u v w e f g = grind arith
 
-  none_inside : ((z : ℕ) → can_reach z ≡ false) → (x y z : ℕ) → in_block inside b x y z ≡ true → is_in None x y z ≡ true
+  none_inside : ((z : ℕ) → can_reach z ≡ false) → (x y z : ℕ) → in_block inside b x y z ≡ true → is_in_box None x y z ≡ true
   none_inside none x y z h = cc (none z, inside_reaches x y z h)
 
   -- where it can have none
@@ -127,7 +124,7 @@ module _ (s : SolidView) (d : Depths) (b : Block) where
       abbrev reached : CellBox
       reached = record { x0 = b.x0; x1 = b.x1; y0 = b.y0; y1 = b.y1; z0 = first; z1 = end - 1 }
 
-      some_inside : (x y z : ℕ) → in_block inside b x y z ≡ true → is_in (Some reached) x y z ≡ true
+      some_inside : (x y z : ℕ) → in_block inside b x y z ≡ true → is_in_box (Some reached) x y z ≡ true
       some_inside x y z h = step (inside x y z) h (sym (reached_at z) ∙ inside_reaches x y z h) where
         step : (v : Bool) → has_pixel b x y && v ≡ true → nat_le first z && nat_lt z end ≡ true
             → lies_in reached x y z ≡ true
@@ -142,7 +139,7 @@ module _ (s : SolidView) (d : Depths) (b : Block) where
             (pixel_box inside b.x0 b.y0 first end lt (λ z. inside_pixel one z ∙ reached_at z)));
       }
 
-in_cover : (o u : Option CellBox) (x y z : ℕ) → is_covered o u ≡ true → is_in o x y z ≡ true → is_in u x y z ≡ true
+in_cover : (o u : Option CellBox) (x y z : ℕ) → is_covered o u ≡ true → is_in_box o x y z ≡ true → is_in_box u x y z ≡ true
 in_cover None u x y z e h = cc
 in_cover (Some a) None x y z e h = e
 in_cover (Some a) (Some c) x y z e h = in_part a c x y z e h
@@ -154,7 +151,7 @@ module _ (found inside : ℕ → ℕ → ℕ → Bool) (b : Block) (box : Option
     passed_over inner =
         covered_box found (in_block inside b) box is (λ x y z h. in_cover reach box x y z inner (near.holds x y z h))
 
-    pub joined_on : is_pixel b ≡ true → IsBoxOf (with_block found inside b) (hull box reach)
+    pub joined_on : is_one_pixel b ≡ true → IsBoxOf (with_block found inside b) (hull box reach)
     joined_on one =
         joined_box found (in_block inside b) (with_block found inside b) box reach (λ x y z. refl) is (near.least one)
 

@@ -1,12 +1,13 @@
 -- What is kept of a product has no solid that the product has not, and none both plain and barred.
 use Rattle.std.proofs.Common.{ℕ, suc, zero, ◌≡◌, ◌<◌, ◌≤◌, ◌==◌, ◌||◌, ◌&&◌, not, nat_lt, Bool, true, false, List, []}
-use Rattle.std.proofs.Common.{◌∷◌, ◌++◌, refl, ap, sym, ◌∙◌, subst, arith, Option, Some, None, inl, inr}
+use Rattle.std.proofs.Common.{◌∷◌, refl, ap, sym, ◌∙◌, subst, arith, Option, Some, None, inl, inr}
 use Rattle.std.proofs.Common.{if◌then◌else◌}
 use Rattle.std.specs.List.{All, list_all, list_any, filter, filter_map}
 use Rattle.std.proofs.lemmas.Bool.{cases_eq}
 use Rattle.std.proofs.lemmas.Bool.Decides.{nat_tests}
 use Rattle.std.proofs.lemmas.List.Elements.{All-cons, All-nil, filter-append}
-use Rattle.std.proofs.lemmas.List.Folds.{list_all-append, list_any-append}
+use Rattle.std.proofs.lemmas.List.Folds.{list_all-append}
+use Rattle.px_num.proofs.TruthLaws.{and_right}
 use Rattle.px_normal.specs.declared.set.SolidSet.{SolidSet}
 use Rattle.px_normal.specs.declared.product.Product.{Product}
 use Rattle.px_normal.specs.Sets.{has, solids, below}
@@ -15,19 +16,9 @@ use Rattle.px_normal.specs.SetLaws.{LawsOfSets}
 use Rattle.px_normal.specs.declared.cell_box.CellBox.{CellBox}
 use Rattle.px_normal.specs.Boxes.{has_cell}
 use Rattle.px_normal.specs.Live.{box_of_all, is_void}
+use Rattle.px_normal.proofs.SolidsLaws.{any_last}
 use Rattle.px_prune.specs.Kept.{kept_products, meets, pruned, pruned_within, set_of, staying}
 use Rattle.px_prune.proofs.WithinLemmas.{any-set_of, filtered_solids, is_solid}
-
-any_last : (P h : ℕ → Bool) (xs : List ℕ) (n : ℕ) → list_any P (filter h (xs ++ n ∷ [])) ≡ list_any P (filter h xs)
-    || (h n && P n)
-any_last P h xs n =
-    ap (list_any P) (filter-append h xs (n ∷ []))
-    ∙ list_any-append P (filter h xs) (filter h (n ∷ []))
-    ∙ ap (λ b. list_any P (filter h xs) || b) (last (h n) refl)
-  where
-    last : (b : Bool) → h n ≡ b → list_any P (filter h (n ∷ [])) ≡ h n && P n
-    last true e = rw e (grind arith)
-    last false e = rw e refl
 
 are_solids : (f : ℕ → Bool) (n : ℕ) → n ≤ 256 → list_all is_solid (filter f (below n)) ≡ true
 are_solids f zero h = refl
@@ -89,13 +80,10 @@ any_fewer : (g h : ℕ → Bool) → ((q : ℕ) → q < 256 → g q ≡ true →
 any_fewer g h fewer [] all none = refl
 any_fewer g h fewer (q ∷ qs) all none =
     step (g q) (h q) (list_any g qs) (list_any h qs) (λ e. fewer q (small q _ all) e)
-    (any_fewer g h fewer qs (rest (is_solid q) _ all)) none
+    (any_fewer g h fewer qs (and_right (is_solid q) _ all)) none
   where
     small : (q : ℕ) (b : Bool) → is_solid q && b ≡ true → q < 256
     small q b e = grind arith
-
-    rest : (a b : Bool) → a && b ≡ true → b ≡ true
-    rest a b e = grind arith
 
     step : (a b c d : Bool) → (a ≡ true → b ≡ true) → (d ≡ false → c ≡ false) → b || d ≡ false → a || c ≡ false
     step a b c d p q e = grind arith

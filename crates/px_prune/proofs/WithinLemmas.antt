@@ -1,58 +1,44 @@
 -- Cells in boxes, and solids of filtered sets.
-use Rattle.std.proofs.Common.{ℕ, ◌≡◌, ◌<◌, ◌^◌, ◌||◌, ◌&&◌, not, nat_lt, Bool, true, false, List, [], ◌∷◌, refl, ap}
+use Rattle.std.proofs.Common.{ℕ, ◌≡◌, ◌<◌, ◌||◌, ◌&&◌, not, nat_lt, Bool, true, false, List, [], ◌∷◌, refl, ap}
 use Rattle.std.proofs.Common.{sym, ◌∙◌, arith, Option, Some, None, fold}
 use Rattle.std.specs.List.{list_all, list_any, filter}
+use Rattle.px_num.proofs.TruthLaws.{and_both, and_left, and_right, and_true, not_both, or_false}
 use Rattle.px_normal.specs.declared.set.SolidSet.{SolidSet}
-use Rattle.px_normal.specs.Sets.{has, empty, one, joined, solids}
+use Rattle.px_normal.specs.Sets.{has, empty, one, sets_joined, solids}
 use Rattle.px_normal.specs.SetLaws.{LawsOfSets}
 use Rattle.px_normal.specs.declared.cell_box.CellBox.{CellBox}
-use Rattle.px_normal.specs.Boxes.{lies_in, has_cell, common_part, everything, narrowed, is_in}
+use Rattle.px_normal.specs.Boxes.{lies_in, has_cell, common_part, narrowed, is_in_box}
+use Rattle.px_normal.proofs.BoxLaws.{in_common_part, in_narrowed}
 use Rattle.px_prune.specs.Boxes.{with_cells_behind}
 use Rattle.px_prune.proofs.BehindLemmas.{is_in_or_behind}
 use Rattle.px_prune.specs.Kept.{meets, set_of}
 
 module _ (x y z : ℕ) where
-  inside_common_part : (a b : CellBox) → lies_in a x y z ≡ true → lies_in b x y z ≡ true
-      → lies_in (common_part a b) x y z ≡ true
-  inside_common_part a b p q = grind arith
-
   pub inside_has : (a : CellBox) → lies_in a x y z ≡ true → has_cell a ≡ true
   inside_has a p = grind arith
 
   inside_raised : (a : CellBox) → lies_in a x y z ≡ true → lies_in (with_cells_behind a) x y z ≡ true
   inside_raised a p = grind arith
 
-  pub inside_everything : x < 2 ^ 32 → y < 2 ^ 32 → z < 2 ^ 32 → lies_in everything x y z ≡ true
-  inside_everything p q r = grind arith
-
-  pub in_or_behind : (o : Option CellBox) → is_in o x y z ≡ true → is_in_or_behind o x y z ≡ true
+  pub in_or_behind : (o : Option CellBox) → is_in_box o x y z ≡ true → is_in_or_behind o x y z ≡ true
   in_or_behind None p = p
   in_or_behind (Some b) p = inside_raised b p
 
-  in_narrowed : (o u : Option CellBox) → is_in o x y z ≡ true → is_in u x y z ≡ true → is_in (narrowed o u) x y z ≡ true
-  in_narrowed (Some a) (Some b) p q = inside_common_part a b p q
-  in_narrowed (Some a) None p q = q
-  in_narrowed None u p q = p
-
   -- a cell in the box of each solid is in their common part
-  pub in_fold : (boxes : ℕ → Option CellBox) (m : ℕ → Bool) → ((q : ℕ) → m q ≡ true → is_in (boxes q) x y z ≡ true)
+  pub in_fold : (boxes : ℕ → Option CellBox) (m : ℕ → Bool) → ((q : ℕ) → m q ≡ true → is_in_box (boxes q) x y z ≡ true)
       → (qs : List ℕ) (o : Option CellBox)
-      → is_in o x y z ≡ true → list_all m qs ≡ true → is_in (fold (λ c q. narrowed c (boxes q)) o qs) x y z ≡ true
+      → is_in_box o x y z ≡ true → list_all m qs ≡ true → is_in_box (fold (λ c q. narrowed c (boxes q)) o qs) x y z ≡ true
   in_fold boxes m h [] o p all = p
   in_fold boxes m h (q ∷ qs) o p all =
-      in_fold boxes m h qs (narrowed o (boxes q)) (in_narrowed o (boxes q) p (h q (left (m q) (list_all m qs) all)))
-      (right (m q) (list_all m qs) all) where
-        left : (a b : Bool) → a && b ≡ true → a ≡ true
-        left a b e = grind arith
-
-        right : (a b : Bool) → a && b ≡ true → b ≡ true
-        right a b e = grind arith
+      in_fold boxes m h qs (narrowed o (boxes q))
+      (in_narrowed x y z o (boxes q) p (h q (and_left (m q) (list_all m qs) all)))
+      (and_right (m q) (list_all m qs) all)
 
   pub meets_cell : (o : Option CellBox) (c : CellBox) → is_in_or_behind o x y z ≡ true → lies_in c x y z ≡ true
       → meets o c ≡ true
   meets_cell None c p q = p
   meets_cell (Some b) c p q =
-      inside_has (common_part (with_cells_behind b) c) (inside_common_part (with_cells_behind b) c p q)
+      inside_has (common_part (with_cells_behind b) c) (in_common_part x y z (with_cells_behind b) c p q)
 
 pub all_filter : (P f : ℕ → Bool) → ((q : ℕ) → f q ≡ false → P q ≡ true) → (qs : List ℕ) → list_all P (filter f qs)
     ≡ list_all P qs
@@ -78,10 +64,7 @@ is_solid q = nat_lt q 256
 
 still_solids : (f : ℕ → Bool) (qs : List ℕ) → list_all is_solid qs ≡ true → list_all is_solid (filter f qs) ≡ true
 still_solids f [] h = refl
-still_solids f (q ∷ qs) h = step (f q) refl (still_solids f qs (rest (is_solid q) _ h)) where
-  rest : (a b : Bool) → a && b ≡ true → b ≡ true
-  rest a b e = grind arith
-
+still_solids f (q ∷ qs) h = step (f q) refl (still_solids f qs (and_right (is_solid q) _ h)) where
   step : (b : Bool) → f q ≡ b → list_all is_solid (filter f qs) ≡ true → list_all is_solid (filter f (q ∷ qs)) ≡ true
   step true e ih = rw (e, ih) (here (is_solid q) _ h) where
     here : (a b : Bool) → a && b ≡ true → a && true ≡ true
@@ -103,33 +86,20 @@ module _ (laws : LawsOfSets) where
 
   -- the solids of a set that is made of a list
   all_fold : (P : ℕ → Bool) (qs : List ℕ) (s : SolidSet) → list_all is_solid qs ≡ true
-      → list_all P (solids (fold (λ s q. joined s (one q)) s qs)) ≡ list_all P (solids s) && list_all P qs
-  all_fold P [] s h = sym (and_true (list_all P (solids s))) where
-    and_true : (a : Bool) → a && true ≡ a
-    and_true a = grind arith
-  all_fold P (q ∷ qs) s h = all_fold P qs (joined s (one q)) (rest (is_solid q) _ h)
+      → list_all P (solids (fold (λ s q. sets_joined s (one q)) s qs)) ≡ list_all P (solids s) && list_all P qs
+  all_fold P [] s h = sym (and_true (list_all P (solids s)))
+  all_fold P (q ∷ qs) s h = all_fold P qs (sets_joined s (one q)) (and_right (is_solid q) _ h)
       ∙ rw (laws.all_of_joined P s (one q), laws.all_of_one P q (below_256 q _ h))
-      (turned (list_all P (solids s)) (P q) (list_all P qs)) where
-        rest : (a b : Bool) → a && b ≡ true → b ≡ true
-        rest a b e = grind arith
-
+      (and_both (list_all P (solids s)) (P q) (list_all P qs)) where
         below_256 : (q : ℕ) (b : Bool) → is_solid q && b ≡ true → q < 256
         below_256 q b e = grind arith
 
-        turned : (a b c : Bool) → (a && b) && c ≡ a && (b && c)
-        turned a b c = grind arith
-
   any_fold : (P : ℕ → Bool) (qs : List ℕ) (s : SolidSet) → list_all is_solid qs ≡ true
-      → list_any P (solids (fold (λ s q. joined s (one q)) s qs)) ≡ list_any P (solids s) || list_any P qs
-  any_fold P [] s h = sym (or_false (list_any P (solids s))) where
-    or_false : (a : Bool) → a || false ≡ a
-    or_false a = grind arith
-  any_fold P (q ∷ qs) s h = any_fold P qs (joined s (one q)) (rest (is_solid q) _ h)
+      → list_any P (solids (fold (λ s q. sets_joined s (one q)) s qs)) ≡ list_any P (solids s) || list_any P qs
+  any_fold P [] s h = sym (or_false (list_any P (solids s)))
+  any_fold P (q ∷ qs) s h = any_fold P qs (sets_joined s (one q)) (and_right (is_solid q) _ h)
       ∙ rw (laws.some_of_joined P s (one q), laws.some_of_one P q (below_256 q _ h))
       (turned (list_any P (solids s)) (P q) (list_any P qs)) where
-        rest : (a b : Bool) → a && b ≡ true → b ≡ true
-        rest a b e = grind arith
-
         below_256 : (q : ℕ) (b : Bool) → is_solid q && b ≡ true → q < 256
         below_256 q b e = grind arith
 
@@ -148,12 +118,8 @@ module _ (laws : LawsOfSets) where
   pub void_solids : (m : ℕ → Bool) (s t : SolidSet) → list_all m (solids s) ≡ true → list_any (has t) (solids s)
       ≡ true → list_all (λ q. not (m q)) (solids t) ≡ false
   void_solids m s t plain void = step (list_all (λ q. not (m q)) (solids t)) refl where
-    apart : (m h : Bool) → m ≡ true → (h ≡ true → not m ≡ true) → not h ≡ true
-    apart m true e f = sym (ap not e) ∙ f refl
-    apart m false e f = refl
-
     step : (v : Bool) → list_all (λ q. not (m q)) (solids t) ≡ v → v ≡ false
     step false e = refl
     step true barred = sym void ∙ none_passes (has t) (solids s)
-        ((laws.each (λ q. not (has t q)) s).1 (λ q lt there. apart (m q) (has t q)
+        ((laws.each (λ q. not (has t q)) s).1 (λ q lt there. not_both (m q) (has t q)
         ((laws.each m s).0 plain q lt there) ((laws.each (λ q. not (m q)) t).0 barred q lt)))

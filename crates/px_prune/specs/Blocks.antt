@@ -5,7 +5,7 @@ use Rattle.px_num.specs.declared.linear.Linear.{Linear}
 use Rattle.px_num.specs.Forms.{value_at}
 use Rattle.px_prune.specs.declared.block.Block.{Block}
 use Rattle.px_normal.specs.declared.cell_box.CellBox.{CellBox}
-use Rattle.px_normal.specs.Boxes.{is_in}
+use Rattle.px_normal.specs.Boxes.{is_in_box}
 use Rattle.px_prune.specs.Bounding.{IsBoxOf}
 
 -- the pixel (x, y) is one of the block's
@@ -13,8 +13,8 @@ abbrev pub has_pixel : Block → ℕ → ℕ → Bool
 has_pixel b x y = nat_le b.x0 x && nat_le x b.x1 && nat_le b.y0 y && nat_le y b.y1
 
 -- the block is one pixel
-abbrev pub is_pixel : Block → Bool
-is_pixel b = (b.x0 == b.x1) && (b.y0 == b.y1)
+abbrev pub is_one_pixel : Block → Bool
+is_one_pixel b = (b.x0 == b.x1) && (b.y0 == b.y1)
 
 -- how far a block is from being one pixel
 abbrev pub extent : Block → ℕ
@@ -35,8 +35,8 @@ in_block cells b x y z = has_pixel b x y && cells x y z
 
 -- the box holds the cells at the pixels of a block, and is their least box where the block is one pixel
 pub record IsReachOf (cells : ℕ → ℕ → ℕ → Bool) (block : Block) (box : Option CellBox) : Type 0 where
-  pub holds : (x y z : ℕ) → in_block cells block x y z ≡ true → is_in box x y z ≡ true
-  pub least : is_pixel block ≡ true → IsBoxOf (in_block cells block) box
+  pub holds : (x y z : ℕ) → in_block cells block x y z ≡ true → is_in_box box x y z ≡ true
+  pub least : is_one_pixel block ≡ true → IsBoxOf (in_block cells block) box
 
 -- the cells found, and those at the pixels of a block
 abbrev pub with_block : (ℕ → ℕ → ℕ → Bool) → (ℕ → ℕ → ℕ → Bool) → Block → ℕ → ℕ → ℕ → Bool

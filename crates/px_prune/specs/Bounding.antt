@@ -4,13 +4,13 @@ use Prim.Native.Nat.{zero, suc}
 use Rattle.px_model.specs.Scenes.{SceneView}
 use Rattle.px_model.specs.Cells.{leaf_cell, depths_of, far_of}
 use Rattle.px_normal.specs.declared.cell_box.CellBox.{CellBox}
-use Rattle.px_normal.specs.Boxes.{lies_in, is_in}
+use Rattle.px_normal.specs.Boxes.{lies_in, is_in_box}
 use Rattle.px_prune.specs.Boxes.{is_part, hull}
 
 -- the box holds all the cells, and each box that does has it as a part;
 -- none comes exactly where there is no cell
 pub record IsBoxOf (cells : ℕ → ℕ → ℕ → Bool) (box : Option CellBox) : Type 0 where
-  pub holds : (x y z : ℕ) → cells x y z ≡ true → is_in box x y z ≡ true
+  pub holds : (x y z : ℕ) → cells x y z ≡ true → is_in_box box x y z ≡ true
   pub least : (b : CellBox) →
       ((x y z : ℕ) → cells x y z ≡ true → lies_in b x y z ≡ true) → is_part box b ≡ true
   pub none : (box ≡ None) ↔ ((x y z : ℕ) → cells x y z ≡ false)

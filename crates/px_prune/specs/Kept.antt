@@ -3,7 +3,7 @@ use Rattle.std.specs.Prelude.{ℕ, Bool, false, ◌&&◌, not, List, Option, Som
 use Rattle.std.specs.List.{filter_map}
 use Rattle.px_normal.specs.declared.set.SolidSet.{SolidSet}
 use Rattle.px_normal.specs.declared.product.Product.{Product}
-use Rattle.px_normal.specs.Sets.{empty, one, joined, solids}
+use Rattle.px_normal.specs.Sets.{empty, one, sets_joined, solids}
 use Rattle.px_model.specs.Scenes.{SceneView}
 use Rattle.px_normal.specs.declared.cell_box.CellBox.{CellBox}
 use Rattle.px_normal.specs.Boxes.{common_part, has_cell}
@@ -19,7 +19,7 @@ meets None part = false
 meets (Some b) part = has_cell (common_part (with_cells_behind b) part)
 
 abbrev pub set_of : List ℕ → SolidSet
-set_of list = fold (λ set q. joined set (one q)) empty list
+set_of list = fold (λ set q. sets_joined set (one q)) empty list
 
 -- the barred solids that count within a part
 abbrev pub staying : (ℕ → Option CellBox) → CellBox → SolidSet → SolidSet

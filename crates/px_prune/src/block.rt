@@ -20,13 +20,13 @@ pub(crate) struct Block {
 impl Block {
     ghost use Rattle.std.specs.Prelude.{◌≡◌, ◌<◌, ◌-◌, ◌^◌, ◌≤ℤ◌, ◌&&◌, ◌||◌, nat_lt, ℕ, true, false};
     ghost use Rattle.px_num.specs.Forms.{IsWithin, value_at};
-    ghost use Rattle.px_model.specs.Solids.{IsPlane};
+    ghost use Rattle.px_model.specs.Scenes.{IsPlane};
     ghost use Rattle.px_model.specs.declared.limits.TheConstants.{MAX_PICTURE_SIZE};
     ghost use Rattle.px_prune.specs.Blocks.{
       extent,
       greatest_in,
       has_pixel,
-      is_pixel,
+      is_one_pixel,
       least_in,
     };
 
@@ -47,14 +47,14 @@ impl Block {
     }
 
     pub(crate) fn is_pixel(&self) -> bool
-        ensures { result ≡ is_pixel self.now }
+        ensures { result ≡ is_one_pixel self.now }
     {
         self.x0 == self.x1 && self.y0 == self.y1
     }
 
     /// Its two halves, across the longer side.
     pub(crate) fn halves(&self) -> (Block, Block)
-        requires { is_pixel self.now ≡ false }
+        requires { is_one_pixel self.now ≡ false }
         ensures parts { (x y : ℕ) → has_pixel self.now x y
             ≡ (has_pixel result.0 x y || has_pixel result.1 x y) }
         ensures first { extent result.0 < extent self.now }

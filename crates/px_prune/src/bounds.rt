@@ -24,8 +24,7 @@ ghost use Rattle.std.specs.Prelude.{
 ghost use Rattle.std.specs.Int.{int_max, int_min};
 ghost use Rattle.std.specs.List.{list_all};
 ghost use Rattle.std.specs.Int.Signed.{le_z, lt_z};
-ghost use Rattle.px_model.specs.Solids.{IsPlane};
-ghost use Rattle.px_model.specs.Scenes.{IsLawfulScene};
+ghost use Rattle.px_model.specs.Scenes.{IsPlane, IsLawfulScene};
 ghost use Rattle.px_model.specs.Cells.{cell_of, depths, is_inside};
 ghost use Rattle.px_prune.specs.Blocks.{IsReachOf, greatest_in, least_in, with_block};
 ghost use Rattle.px_normal.specs.Live.{boxes_in};

@@ -1,4 +1,4 @@
-use Rattle.px_normal.proofs.SolidsLemmas.{all-each, all-empty, all-joined, all-one, any-empty, any-joined, any-one}
+use Rattle.px_normal.proofs.SolidsLaws.{all-each, all-empty, all-joined, all-one, any-empty, any-joined, any-one}
 use Rattle.px_normal.proofs.set.laws_of_sets.Goals as goal
 
 pub returns : goal.returns

@@ -1,50 +1,23 @@
 -- Where a ray enters a solid and leaves it: the greatest front and the least back, as tests of all fronts and backs.
-use Rattle.std.proofs.Common.{◌≡◌, ◌-ℤ◌, ◌≤ℤ◌, ◌<ℤ◌, ℕ, ℤ, pos, neg_ℤ, Bool, true, false, ◌&&◌, List, [], ◌∷◌, map}
+use Rattle.std.proofs.Common.{◌≡◌, ◌-ℤ◌, ◌≤ℤ◌, ◌<ℤ◌, ℕ, ℤ, pos, neg_ℤ, Bool, true, false, ◌&&◌, [], ◌∷◌, map}
 use Rattle.std.proofs.Common.{nat_lt, refl, ap, sym, ◌∙◌, arith}
-use Rattle.std.specs.List.{fold, list_all}
-use Rattle.std.specs.Int.{int_max, int_min}
+use Rattle.std.specs.List.{list_all}
 use Rattle.std.proofs.lemmas.Int.{fold-int_max_bounds, fold-int_min_bounds, ints}
 use Rattle.std.proofs.lemmas.List.Folds.{list_all-append, list_all-map}
 use Rattle.std.proofs.Math.IntN.{zero-*ℤ}
 use lib.Signed.{le_z, lt_z}
 use Rattle.px_num.specs.declared.linear.Linear.{Linear}
 use Rattle.px_num.specs.Forms.{value_at}
-use Rattle.px_model.specs.Solids.{SolidView}
+use Rattle.px_num.proofs.TruthLaws.{and_right}
+use Rattle.px_num.proofs.MostLaws.{all_max, all_min, all_same}
+use Rattle.px_model.specs.Scenes.{SolidView}
 use Rattle.px_model.specs.Cells.{enters_at, is_inside_at, leaves_at}
 use Rattle.px_face.specs.Covering.{is_met}
 use Rattle.px_face.specs.Edges.{hold_at}
-use Rattle.px_face.specs.Faces.{back_planes, front_planes, level, planes_of}
-use Rattle.px_face.proofs.PlaceLemmas.{and_both, and_right, and_true}
+use Rattle.px_face.specs.Faces.{back_planes, front_planes, level, planes_in_faces}
 
 pub value_at-level : (n x y : ℕ) → value_at (level n) x y ≡ pos n
 value_at-level n x y = omega (arith, ints, zero-*ℤ (pos x), zero-*ℤ (pos y))
-
-pub list_all_same : {X : Type 0} (p q : X → Bool) → ((x : X) → p x ≡ q x) → (xs : List X) → list_all p xs
-    ≡ list_all q xs
-list_all_same p q same [] = refl
-list_all_same p q same (x ∷ xs) = rw (same x, list_all_same p q same xs) refl
-
-and_max : (a b z : ℤ) → le_z (int_max a b) z ≡ (le_z a z && le_z b z)
-and_max a b z = grind (arith, ints)
-
-and_min : (a b z : ℤ) → lt_z z (int_min a b) ≡ (lt_z z a && lt_z z b)
-and_min a b z = grind (arith, ints)
-
-pub all_max : {X : Type 0} (v : X → ℤ) (xs : List X) (m z : ℤ) → le_z (fold int_max m (map v xs)) z
-    ≡ (le_z m z && list_all (λ x. le_z (v x) z) xs)
-all_max v [] m z = sym (and_true (le_z m z))
-all_max v (x ∷ xs) m z =
-    all_max v xs (int_max m (v x)) z
-    ∙ ap (λ b. b && list_all (λ w. le_z (v w) z) xs) (and_max m (v x) z)
-    ∙ and_both (le_z m z) (le_z (v x) z) (list_all (λ w. le_z (v w) z) xs)
-
-pub all_min : {X : Type 0} (v : X → ℤ) (xs : List X) (m z : ℤ) → lt_z z (fold int_min m (map v xs))
-    ≡ (lt_z z m && list_all (λ x. lt_z z (v x)) xs)
-all_min v [] m z = sym (and_true (lt_z z m))
-all_min v (x ∷ xs) m z =
-    all_min v xs (int_min m (v x)) z
-    ∙ ap (λ b. b && list_all (λ w. lt_z z (v w)) xs) (and_min m (v x) z)
-    ∙ and_both (lt_z z m) (lt_z z (v x)) (list_all (λ w. lt_z z (v w)) xs)
 
 both_same : (a b c d : Bool) → a ≡ b → c ≡ d → (a && c) ≡ (b && d)
 both_same a b c d p q = rw (p, q) refl
@@ -84,15 +57,15 @@ module _ (s : SolidView) (end x y : ℕ) where
 
   pub fronts_below : (z : ℤ) → list_all (λ u. le_z u z) (map at (front_planes s.fronts)) ≡ le_z (enters_at s x y) z
   fronts_below z =
-      both_same (le_z (at (level 0)) z) (le_z (pos 0) z) (list_all (λ u. le_z u z) (map at (planes_of s.fronts)))
+      both_same (le_z (at (level 0)) z) (le_z (pos 0) z) (list_all (λ u. le_z u z) (map at (planes_in_faces s.fronts)))
       (list_all (λ f. le_z (value_at f.plane x y) z) s.fronts)
       (ap (λ v. le_z v z) (value_at-level 0 x y))
-      (list_all-map (λ u. le_z u z) at (planes_of s.fronts) ∙ list_all-map (λ q. le_z (at q) z) (λ f. f.plane) s.fronts)
+      (list_all-map (λ u. le_z u z) at (planes_in_faces s.fronts) ∙ list_all-map (λ q. le_z (at q) z) (λ f. f.plane) s.fronts)
       ∙ sym (all_max (λ f. value_at f.plane x y) s.fronts (pos 0) z)
 
   pub fronts_under : (z : ℤ) → list_all (λ u. lt_z u z) (map at (front_planes s.fronts)) ≡ lt_z (enters_at s x y) z
   fronts_under z =
-      list_all_same (λ u. lt_z u z) (λ u. le_z u (z -ℤ pos 1)) (λ u. below_is_most u z) (map at (front_planes s.fronts))
+      all_same (λ u. lt_z u z) (λ u. le_z u (z -ℤ pos 1)) (λ u. below_is_most u z) (map at (front_planes s.fronts))
       ∙ fronts_below (z -ℤ pos 1)
       ∙ sym (below_is_most (enters_at s x y) z)
 
@@ -100,7 +73,7 @@ module _ (s : SolidView) (end x y : ℕ) where
   backs_over z =
       rw (
         list_all-map (λ u. lt_z z u) at (back_planes s.backs end),
-        list_all-append (λ q. lt_z z (at q)) (planes_of s.backs) (level end ∷ []),
+        list_all-append (λ q. lt_z z (at q)) (planes_in_faces s.backs) (level end ∷ []),
         list_all-map (λ q. lt_z z (at q)) (λ f. f.plane) s.backs,
         value_at-level end x y,
       )
@@ -111,7 +84,7 @@ module _ (s : SolidView) (end x y : ℕ) where
       ≡ lt_z z (leaves_at s end x y)
   turned_backs z =
       list_all-map (λ u. le_z u (neg_ℤ z -ℤ pos 1)) turned (back_planes s.backs end)
-      ∙ list_all_same (λ q. le_z (turned q) (neg_ℤ z -ℤ pos 1)) (λ q. lt_z z (at q)) (λ q. before_turned z (at q))
+      ∙ all_same (λ q. le_z (turned q) (neg_ℤ z -ℤ pos 1)) (λ q. lt_z z (at q)) (λ q. before_turned z (at q))
       (back_planes s.backs end)
       ∙ sym (list_all-map (λ u. lt_z z u) at (back_planes s.backs end))
       ∙ backs_over z

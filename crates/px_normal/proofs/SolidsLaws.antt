@@ -3,9 +3,10 @@ use Rattle.std.proofs.Common.{ℕ, suc, zero, ◌≡◌, ◌<◌, ◌↔◌, ◌
 use Rattle.std.proofs.Common.{◌++◌, refl, ap, ◌∙◌, arith, inl, inr}
 use Rattle.std.specs.List.{list_all, list_any, filter}
 use Rattle.std.proofs.lemmas.Bool.{cases_eq}
+use Rattle.px_num.proofs.TruthLaws.{and_left, and_true, or_false, other_false, same_true}
 use Rattle.px_normal.specs.declared.set.SolidSet.{SolidSet}
-use Rattle.px_normal.specs.Sets.{has, empty, one, joined, below, solids}
-use Rattle.px_normal.proofs.BitsLemmas.{has-joined, has-one, has-empty, same_test, other_test}
+use Rattle.px_normal.specs.Sets.{has, empty, one, sets_joined, below, solids}
+use Rattle.px_normal.proofs.BitsLemmas.{has-joined, has-one, has-empty}
 
 all_last : (P h : ℕ → Bool) (xs : List ℕ) (n : ℕ) → list_all P (filter h (xs ++ n ∷ [])) ≡ list_all P (filter h xs)
     && (not (h n) || P n)
@@ -19,7 +20,7 @@ all_last P h (x ∷ xs) n = step (h x) refl (all_last P h xs n) where
   step true e ih = grind arith
   step false e ih = grind arith
 
-any_last : (P h : ℕ → Bool) (xs : List ℕ) (n : ℕ) → list_any P (filter h (xs ++ n ∷ [])) ≡ list_any P (filter h xs)
+pub any_last : (P h : ℕ → Bool) (xs : List ℕ) (n : ℕ) → list_any P (filter h (xs ++ n ∷ [])) ≡ list_any P (filter h xs)
     || (h n && P n)
 any_last P h [] n = last (h n) refl where
   last : (b : Bool) → h n ≡ b → list_any P (filter h (n ∷ [])) ≡ h n && P n
@@ -74,20 +75,16 @@ module _ (P h : ℕ → Bool) where
   all_one : (n a : ℕ) → a < n → ((q : ℕ) → h q ≡ (q == a)) → list_all P (filter h (below n)) ≡ P a
   all_one zero a lt e = absurd (omega arith)
   all_one (suc n) a lt e = all_last P h (below n) n ∙ elim (cases_eq n a) [
-    | inl same ↦ rw (all_none n (λ q lt. e q ∙ other_test q a (omega arith)), e n, same_test n a same) (ap P same)
-    | inr other ↦ rw (all_one n a (omega arith) e, e n, other_test n a other) (and_true (P a))
-  ] where
-    and_true : (b : Bool) → b && true ≡ b
-    and_true b = grind arith
+    | inl same ↦ rw (all_none n (λ q lt. e q ∙ other_false q a (omega arith)), e n, same_true n a same) (ap P same)
+    | inr other ↦ rw (all_one n a (omega arith) e, e n, other_false n a other) (and_true (P a))
+  ]
 
   any_one : (n a : ℕ) → a < n → ((q : ℕ) → h q ≡ (q == a)) → list_any P (filter h (below n)) ≡ P a
   any_one zero a lt e = absurd (omega arith)
   any_one (suc n) a lt e = any_last P h (below n) n ∙ elim (cases_eq n a) [
-    | inl same ↦ rw (any_none n (λ q lt. e q ∙ other_test q a (omega arith)), e n, same_test n a same) (ap P same)
-    | inr other ↦ rw (any_one n a (omega arith) e, e n, other_test n a other) (or_false (P a))
-  ] where
-    or_false : (b : Bool) → b || false ≡ b
-    or_false b = grind arith
+    | inl same ↦ rw (any_none n (λ q lt. e q ∙ other_false q a (omega arith)), e n, same_true n a same) (ap P same)
+    | inr other ↦ rw (any_one n a (omega arith) e, e n, other_false n a other) (or_false (P a))
+  ]
 
 -- a test of each solid
 module _ (P h : ℕ → Bool) where
@@ -97,14 +94,11 @@ module _ (P h : ℕ → Bool) where
       let both : list_all P (filter h (below n)) && (not (h n) || P n) ≡ true = rw (← all_last P h (below n) n) all
       in elim (cases_eq q n) [
         | inl last ↦ rw last (of_last (list_all P (filter h (below n))) (h n) (P n) both (rw last at there))
-        | inr before ↦ each_passes n (of_rest (list_all P (filter h (below n))) (not (h n) || P n) both) q
+        | inr before ↦ each_passes n (and_left (list_all P (filter h (below n))) (not (h n) || P n) both) q
             (omega arith) there
       ] where
         of_last : (a b p : Bool) → a && (not b || p) ≡ true → b ≡ true → p ≡ true
         of_last a b p e f = grind arith
-
-        of_rest : (a b : Bool) → a && b ≡ true → a ≡ true
-        of_rest a b e = grind arith
 
   all_pass : (n : ℕ) → ((q : ℕ) → q < n → h q ≡ true → P q ≡ true) → list_all P (filter h (below n)) ≡ true
   all_pass zero each = refl
@@ -119,13 +113,13 @@ module _ (P : ℕ → Bool) where
   unfolding solids
   all-each s = (each_passes P (has s) 256, all_pass P (has s) 256)
 
-  pub all-joined : (a b : SolidSet) → list_all P (solids (joined a b)) ≡ list_all P (solids a) && list_all P (solids b)
+  pub all-joined : (a b : SolidSet) → list_all P (solids (sets_joined a b)) ≡ list_all P (solids a) && list_all P (solids b)
   unfolding solids
-  all-joined a b = all_joined P (has (joined a b)) (has a) (has b) 256 (has-joined a b)
+  all-joined a b = all_joined P (has (sets_joined a b)) (has a) (has b) 256 (has-joined a b)
 
-  pub any-joined : (a b : SolidSet) → list_any P (solids (joined a b)) ≡ list_any P (solids a) || list_any P (solids b)
+  pub any-joined : (a b : SolidSet) → list_any P (solids (sets_joined a b)) ≡ list_any P (solids a) || list_any P (solids b)
   unfolding solids
-  any-joined a b = any_joined P (has (joined a b)) (has a) (has b) 256 (has-joined a b)
+  any-joined a b = any_joined P (has (sets_joined a b)) (has a) (has b) 256 (has-joined a b)
 
   pub all-empty : list_all P (solids empty) ≡ true
   unfolding solids
