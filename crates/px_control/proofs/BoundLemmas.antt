@@ -1,8 +1,8 @@
 -- A scene of few products takes less than 2 ^ 43 clocks, and at least one for each operation.
 use Rattle.std.proofs.Common.{◌≡◌, ℕ, suc, zero, ◌+◌, ◌-◌, ◌*◌, ◌^◌, ◌==◌, ◌<◌, ◌≤◌, Bool, true, false, not, cond}
-use Rattle.std.proofs.Common.{List, [], ◌∷◌, ◌++◌, Option, Some, None, length, map, drop, get_or, refl, ap, sym, ◌∙◌}
+use Rattle.std.proofs.Common.{List, [], ◌∷◌, ◌++◌, length, map, drop, get_or, refl, ap, sym, ◌∙◌}
 use Rattle.std.proofs.Common.{arith}
-use Rattle.std.specs.List.{All, filter, filter_map, flat_map, list_any, range_with_len, sum_by}
+use Rattle.std.specs.List.{All, filter, flat_map, list_any, range_with_len, sum_by}
 use Rattle.std.proofs.lemmas.Bool.Decides.{nat_tests}
 use Rattle.std.proofs.lemmas.List.FromFn.{length-range_with_len}
 use Rattle.std.proofs.lemmas.List.Sums.{sum_by-append, sum_by-cons, sum_by-drop_more, sum_by-le, sum_by-le-sum_by}
@@ -10,8 +10,9 @@ use Rattle.std.proofs.lemmas.Nat.{mul-le}
 use Rattle.px_asm.specs.Micros.{all_micros}
 use Rattle.px_num.specs.Forms as forms
 use Rattle.px_num.specs.declared.linear.Linear.{Linear}
+use Rattle.px_num.proofs.TruthLaws.{filtered_few}
 use Rattle.px_face.specs.Edges.{edges}
-use Rattle.px_face.specs.Faces.{face_count, plane_of}
+use Rattle.px_face.specs.Faces.{face_count, face_plane}
 use Rattle.px_macro.specs.declared.operation.Macro.{Macro}
 use Rattle.px_macro.specs.declared.operation.Macro.TheVariants as m
 use Rattle.px_expr.specs.Tree.{HasLeavesBelow, Tree}
@@ -23,8 +24,7 @@ use Rattle.px_normal.specs.Live.{is_void}
 use Rattle.px_prune.specs.Kept.{kept_of, pruned}
 use Rattle.px_normal.specs.Sets.{has, solids}
 use Rattle.px_model.specs.Cells.{Depths, depths_of, end_of}
-use Rattle.px_model.specs.Scenes.{IsLawfulScene, SceneView, faces_of}
-use Rattle.px_model.specs.Solids.{IsLawfulSolid, SolidView, faces_in}
+use Rattle.px_model.specs.Scenes.{IsLawfulScene, SceneView, faces_of, IsLawfulSolid, SolidView, faces_in}
 use Rattle.px_sched.specs.declared.literal.Literal.{Literal}
 use Rattle.px_sched.specs.Layouts.{layout_with}
 use Rattle.px_sched.specs.Passes.{candidate, candidate_faces, confirm, drop_behind, literal_passes, literals, merge}
@@ -32,28 +32,20 @@ use Rattle.px_sched.specs.Passes.{no_solid, others, passes, passes_with, solid_o
 use Rattle.px_control.specs.declared.costs.Costs.{Costs}
 use Rattle.px_control.specs.declared.costs.Lengths.{Lengths}
 use Rattle.px_control.specs.Costs.{AreShort, clearing, confirming, cost_of, lengths_of, own_passes, passes_against}
-use Rattle.px_control.specs.Costs.{plus, product_passes, share, times}
+use Rattle.px_control.specs.Costs.{costs_plus, product_passes, share, times}
 use Rattle.px_control.specs.Program.{columns_of, program, rows_of, total}
 use Rattle.px_control.proofs.CostLemmas.{barred_costs, candidate_costs, candidate_more, candidate_weight}
 use Rattle.px_control.proofs.CostLemmas.{classify_costs, clocked, clocks_on, counted, covered_costs, drop_costs}
 use Rattle.px_control.proofs.CostLemmas.{drop_weight, five, flat_weight, layout_of_lengths, no_clearing}
-use Rattle.px_control.proofs.CostLemmas.{not_confirmed, number_few, one, ones, own_costs, own_more, plain_costs}
+use Rattle.px_control.proofs.CostLemmas.{not_confirmed, one, ones, own_costs, own_more, plain_costs}
 use Rattle.px_control.proofs.CostLemmas.{some_clearing, turn_costs, turn_more, turn_weight}
 use Rattle.px_control.proofs.GridLemmas.{exponent_between}
 use Rattle.px_control.proofs.ProductLemmas.{literal_weight, literals_length, passes_weight, product_costs, solids_range}
 use Rattle.px_normal.specs.declared.product.TheConstants.{MAX_PRODUCTS}
-
--- no more products are kept than there are
-kept_option : {A B : Type 0} (f : A → Option B) (xs : List A) → length (filter_map f xs) ≤ length xs
-kept_option f [] = omega arith
-kept_option {B = B} f (x ∷ xs) = step (f x) refl (kept_option f xs) where
-  step : (o : Option B) → f x ≡ o → length (filter_map f xs) ≤ length xs →
-      length (filter_map f (x ∷ xs)) ≤ suc (length xs)
-  step None is rest = rw is (omega arith)
-  step (Some y) is rest = rw is (omega arith)
+use Rattle.px_sched.proofs.LayoutLaws.{bit_length_most}
 
 pub kept_few : (scene : SceneView) (products : List Product) → length (kept_of scene products) ≤ length products
-kept_few scene products = kept_option (pruned (bounding_box scene)) products
+kept_few scene products = filtered_few (pruned (bounding_box scene)) products
 
 -- what the lower crates know of the solids of products
 pub record AreKnown : Type 0 where
@@ -103,40 +95,40 @@ module _ (lengths : Lengths) (d : Depths) (s : SolidView) where
   covered = times edge_count (record { operations = 1; clocks = 41 + lengths.columns + lengths.rows })
 
   abbrev turned : Costs
-  turned = plus covered (turn_more lengths)
+  turned = costs_plus covered (turn_more lengths)
 
   abbrev found : Costs
-  found = plus (plus covered (cost_of lengths (clearing lengths d))) (candidate_more lengths)
+  found = costs_plus (costs_plus covered (cost_of lengths (clearing lengths d))) (candidate_more lengths)
 
   turned_is : (face : ℕ) (form : Linear) → face < face_count s →
       turned ≡ cost_of lengths (turn (layout_of_lengths lengths) (end_of d) s face form)
   turned_is face form there =
-      ap (λ (costs : Costs). plus costs (turn_more lengths))
+      ap (λ (costs : Costs). costs_plus costs (turn_more lengths))
       (covered_costs lengths (end_of d) s face edge_count there refl)
       ∙ turn_costs lengths (end_of d) s face form
 
   dropped_is : (face : ℕ) → face < face_count s →
       turned ≡ cost_of lengths (drop_behind (layout_of_lengths lengths) (end_of d) s face)
   dropped_is face there =
-      ap (λ (costs : Costs). plus costs (turn_more lengths))
+      ap (λ (costs : Costs). costs_plus costs (turn_more lengths))
       (covered_costs lengths (end_of d) s face edge_count there refl)
       ∙ drop_costs lengths (end_of d) s face
 
   found_is : (face : ℕ) → face < face_count s →
       found ≡ cost_of lengths (candidate (layout_of_lengths lengths) d s face)
   found_is face there =
-      ap (λ (costs : Costs). plus (plus costs (cost_of lengths (clearing lengths d))) (candidate_more lengths))
+      ap (λ (costs : Costs). costs_plus (costs_plus costs (cost_of lengths (clearing lengths d))) (candidate_more lengths))
       (covered_costs lengths (end_of d) s face edge_count there refl)
       ∙ candidate_costs lengths d s face
 
   against_is : (plain : Bool) →
-      plus (times (face_count s) turned) five ≡ cost_of lengths (passes_against lengths (end_of d) s plain)
+      costs_plus (times (face_count s) turned) five ≡ cost_of lengths (passes_against lengths (end_of d) s plain)
   against_is plain =
       classify_costs lengths (end_of d) s plain (face_count s) turned refl
-      (λ face there. turned_is face (plane_of s (end_of d) face) there)
+      (λ face there. turned_is face (face_plane s (end_of d) face) there)
 
   own_is : (plain : Bool) →
-      plus (plus (times (length (candidate_faces s plain)) found) (cost_of lengths (confirming lengths d s plain)))
+      costs_plus (costs_plus (times (length (candidate_faces s plain)) found) (cost_of lengths (confirming lengths d s plain)))
       (own_more lengths)
       ≡ cost_of lengths (own_passes lengths d s plain)
   own_is plain = own_costs lengths d s plain (length (candidate_faces s plain)) found refl found_is
@@ -304,7 +296,7 @@ module _ (scene : SceneView) (lawful : IsLawfulScene scene) (each : All IsLawful
     );
     depth = lawful.depth;
     fraction = lawful.fraction;
-    number = number_few (faces_of scene.solids);
+    number = bit_length_most (faces_of scene.solids);
   }
 
   few_literals : (product : Product) → HasSolidsBelow (length scene.solids) product → is_void product ≡ false →
@@ -454,14 +446,14 @@ module _ (lengths : Lengths) (some : 1 ≤ lengths.depth) (scene : SceneView) (s
         )
 
     pays_against : (plain : Bool) → Pays (passes_against lengths end s plain)
-    pays_against plain = pays_turns (λ face. plane_of s end face) (not plain) (face_count s)
+    pays_against plain = pays_turns (λ face. face_plane s end face) (not plain) (face_count s)
 
     pays_confirm : (plain : Bool) → Pays (confirm (layout_of_lengths lengths) (depths_of scene) s plain)
     pays_confirm true =
         pays_flat (drop_behind (layout_of_lengths lengths) end s) pays_drop
         (range_with_len (length s.fronts + 1) (length s.backs + 1))
     pays_confirm false =
-        pays_turns (λ face. forms.plus (plane_of s end face) (2 ^ scene.fraction_bits)) false (length s.fronts + 1)
+        pays_turns (λ face. forms.plus (face_plane s end face) (2 ^ scene.fraction_bits)) false (length s.fronts + 1)
 
     pays_confirming : (plain : Bool) → Pays (confirming lengths (depths_of scene) s plain)
     pays_confirming plain = step (scene.fraction_bits == 0) refl where

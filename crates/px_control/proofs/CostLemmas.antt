@@ -1,32 +1,32 @@
 -- What the passes of faces and literals cost, as sums over their operations.
 use Rattle.std.proofs.Common.{◌≡◌, ◌≢◌, ℕ, suc, zero, ◌+◌, ◌-◌, ◌*◌, ◌<◌, ◌≤◌, ◌^◌, ◌==◌, Bool, true, false, not}
-use Rattle.std.proofs.Common.{nat_le, if◌then◌else◌, List, [], ◌∷◌, ◌++◌, length, map, get_or, refl, ap, sym, ◌∙◌}
+use Rattle.std.proofs.Common.{if◌then◌else◌, List, [], ◌∷◌, ◌++◌, length, map, get_or, refl, ap, sym, ◌∙◌}
 use Rattle.std.proofs.Common.{arith}
-use Rattle.std.specs.List.{count_by, flat_map, range_with_len, sum_by}
+use Rattle.std.specs.List.{flat_map, range_with_len, sum_by}
 use Rattle.std.proofs.lemmas.Bool.Decides.{nat_tests}
 use Rattle.std.proofs.lemmas.List.{length-append, length-drop, length-map, length-take}
 use Rattle.std.proofs.lemmas.List.Concat.{length-flat_map}
 use Rattle.std.proofs.lemmas.List.FromFn.{length-range_with_len}
-use Rattle.std.proofs.lemmas.List.Sums.{count_by-le-length, sum_by-append, sum_by-cons}
+use Rattle.std.proofs.lemmas.List.Sums.{sum_by-append, sum_by-cons}
 use Rattle.std.proofs.lemmas.Nat.{mul-le}
 use Rattle.px_num.specs.declared.linear.Linear.{Linear}
 use Rattle.px_num.specs.Forms as forms
 use Rattle.px_num.proofs.ListLaws.{length-tabulate}
 use Rattle.px_asm.specs.Micros.{all_micros, cycles, micro_at, micros}
 use Rattle.px_face.specs.Edges.{above, back_edges, edges, front_edges, leads, over, trails, under}
-use Rattle.px_face.specs.Faces.{back_planes, face_count, front_planes, is_front, level, number_of, plane_of, planes_of}
+use Rattle.px_face.specs.Faces.{back_planes, face_count, front_planes, is_front_face, level, face_number, face_plane}
+use Rattle.px_face.specs.Faces.{planes_in_faces}
 use Rattle.px_macro.specs.declared.operation.Macro.{Macro}
 use Rattle.px_macro.specs.declared.operation.Macro.TheVariants as m
 use Rattle.px_model.specs.Cells.{Depths, end_of}
 use Rattle.px_model.specs.declared.solid.Face.{Face}
-use Rattle.px_model.specs.Scenes.{SceneView}
-use Rattle.px_model.specs.Solids.{SolidView}
-use Rattle.px_sched.specs.Layouts.{LayoutView, bit_length, deep_part, fraction_part, layout_with, number_part}
+use Rattle.px_model.specs.Scenes.{SceneView, SolidView}
+use Rattle.px_sched.specs.Layouts.{LayoutView, deep_part, fraction_part, layout_with, number_part}
 use Rattle.px_sched.specs.Passes.{candidate, candidate_faces, classify, confirm, drop_behind, keep_covered, merge}
 use Rattle.px_sched.specs.Passes.{passes_with, turn}
 use Rattle.px_control.specs.declared.costs.Costs.{Costs}
 use Rattle.px_control.specs.declared.costs.Lengths.{Lengths}
-use Rattle.px_control.specs.Costs.{IsAtMost, clearing, confirming, cost_of, own_passes, plus, times}
+use Rattle.px_control.specs.Costs.{AreCostsAtMost, clearing, confirming, cost_of, own_passes, costs_plus, times}
 
 abbrev pub layout_of_lengths : Lengths → LayoutView
 layout_of_lengths lengths = layout_with lengths.depth lengths.fraction lengths.number
@@ -47,7 +47,7 @@ fronts_length fronts = omega (arith, length-map fronts (λ f. f.plane))
 
 backs_length : (backs : List Face) (far : ℕ) → length (back_planes backs far) ≡ length backs + 1
 backs_length backs far =
-    omega (arith, length-map backs (λ f. f.plane), length-append (planes_of backs) (level far ∷ []))
+    omega (arith, length-map backs (λ f. f.plane), length-append (planes_in_faces backs) (level far ∷ []))
 
 front_edges_length : (s : SolidView) (far i : ℕ) → i ≤ length s.fronts →
     length (front_edges s far i) + 1 ≡ length s.sides + face_count s
@@ -79,8 +79,8 @@ back_edges_length s far i there =
 
 pub edges_length : (s : SolidView) (far face : ℕ) → face < face_count s →
     length (edges s far face) + 1 ≡ length s.sides + face_count s
-edges_length s far face there = by_kind (is_front s face) refl where
-  by_kind : (b : Bool) → is_front s face ≡ b →
+edges_length s far face there = by_kind (is_front_face s face) refl where
+  by_kind : (b : Bool) → is_front_face s face ≡ b →
       length (if b then front_edges s far face else back_edges s far (face - (length s.fronts + 1))) + 1
       ≡ length s.sides + face_count s
   by_kind true front =
@@ -156,11 +156,11 @@ module _ (w : Macro → ℕ) where
   pub drop_weight : (lengths : Lengths) (end : ℕ) (s : SolidView) (face : ℕ) → let l = layout_of_lengths lengths in
       sum_by w (drop_behind l end s face)
       ≡ sum_by w (keep_covered end s face)
-      + (w m.All + w (m.KeepBit l.alive true) + w (m.KeepAtMost (plane_of s end face) (deep_part l l.key_t))
+      + (w m.All + w (m.KeepBit l.alive true) + w (m.KeepAtMost (face_plane s end face) (deep_part l l.key_t))
       + w (m.SetBit l.alive false))
   drop_weight lengths end s face =
       let l = layout_of_lengths lengths
-      in let back = m.KeepAtMost (plane_of s end face) (deep_part l l.key_t) ∷ m.SetBit l.alive false ∷ []
+      in let back = m.KeepAtMost (face_plane s end face) (deep_part l l.key_t) ∷ m.SetBit l.alive false ∷ []
       in omega (
         arith,
         sum_by-append w (m.All ∷ m.KeepBit l.alive true ∷ keep_covered end s face) back,
@@ -172,13 +172,13 @@ module _ (w : Macro → ℕ) where
       sum_by w (candidate l d s face)
       ≡ sum_by w (keep_covered (end_of d) s face) + sum_by w (clearing lengths d)
       + (w m.All
-      + w (m.LoadLinear (forms.plus (plane_of s (end_of d) face) (2 ^ d.fraction_bits - 1)) (deep_part l l.key_t))
-      + w (m.LoadConst (number_part l l.key_t) (number_of s face)) + w (m.SetBit l.alive true))
+      + w (m.LoadLinear (forms.plus (face_plane s (end_of d) face) (2 ^ d.fraction_bits - 1)) (deep_part l l.key_t))
+      + w (m.LoadConst (number_part l l.key_t) (face_number s face)) + w (m.SetBit l.alive true))
   candidate_weight lengths d s face =
       let l = layout_of_lengths lengths
       in let load =
-      m.LoadLinear (forms.plus (plane_of s (end_of d) face) (2 ^ d.fraction_bits - 1)) (deep_part l l.key_t)
-      in let back = m.LoadConst (number_part l l.key_t) (number_of s face) ∷ m.SetBit l.alive true ∷ []
+      m.LoadLinear (forms.plus (face_plane s (end_of d) face) (2 ^ d.fraction_bits - 1)) (deep_part l l.key_t)
+      in let back = m.LoadConst (number_part l l.key_t) (face_number s face) ∷ m.SetBit l.alive true ∷ []
       in let kept = keep_covered (end_of d) s face
       in omega (
         arith,
@@ -192,13 +192,13 @@ module _ (w : Macro → ℕ) where
 
   pub classify_weight : (lengths : Lengths) (end : ℕ) (s : SolidView) (plain : Bool) (value : ℕ) → let l =
       layout_of_lengths lengths in
-      ((face : ℕ) → face < face_count s → sum_by w (turn l end s face (plane_of s end face)) ≡ value) →
+      ((face : ℕ) → face < face_count s → sum_by w (turn l end s face (face_plane s end face)) ≡ value) →
       sum_by w (classify l end s plain)
       ≡ face_count s * value
       + (w m.All + w (m.SetBit l.par false) + (w m.All + w (m.KeepBit l.par (not plain)) + w (m.SetBit l.alive false)))
   classify_weight lengths end s plain value each =
       let l = layout_of_lengths lengths
-      in let turned : ℕ → List Macro = λ face. turn l end s face (plane_of s end face)
+      in let turned : ℕ → List Macro = λ face. turn l end s face (face_plane s end face)
       in let turns = flat_map turned (range_with_len 0 (face_count s))
       in let back = m.All ∷ m.KeepBit l.par (not plain) ∷ m.SetBit l.alive false ∷ []
       in omega (
@@ -229,7 +229,7 @@ module _ (w : Macro → ℕ) where
   barred_weight lengths d s value each =
       let l = layout_of_lengths lengths
       in let turned : ℕ → List Macro
-      = λ face. turn l (end_of d) s face (forms.plus (plane_of s (end_of d) face) (2 ^ d.fraction_bits))
+      = λ face. turn l (end_of d) s face (forms.plus (face_plane s (end_of d) face) (2 ^ d.fraction_bits))
       in let turns = flat_map turned (range_with_len 0 (length s.fronts + 1))
       in let back = m.All ∷ m.KeepBit l.par false ∷ m.SetBit l.alive false ∷ []
       in omega (
@@ -238,7 +238,7 @@ module _ (w : Macro → ℕ) where
         sum_by-append w (m.All ∷ m.SetBit l.par false ∷ []) turns,
         flat_weight turned (range_with_len 0 (length s.fronts + 1)),
         sum_by-same (λ face. sum_by w (turned face)) value 0 (length s.fronts + 1)
-            (λ face below. each face (forms.plus (plane_of s (end_of d) face) (2 ^ d.fraction_bits)) (omega arith)),
+            (λ face below. each face (forms.plus (face_plane s (end_of d) face) (2 ^ d.fraction_bits)) (omega arith)),
       )
 
   faces_weight : (lengths : Lengths) (d : Depths) (s : SolidView) (plain : Bool) (value : ℕ) → let l =
@@ -307,31 +307,24 @@ cost_is lengths costs ms operations clocks =
     same_costs costs.operations costs.clocks (cost_of lengths ms).operations (cost_of lengths ms).clocks
     (operations ∙ sym (ones ms)) (clocks ∙ sym (clocked lengths ms))
 
-pub times_at_most : (n most count : ℕ) (costs : Costs) → count ≤ n → IsAtMost most costs →
-    IsAtMost (n * most) (times count costs)
+pub times_at_most : (n most count : ℕ) (costs : Costs) → count ≤ n → AreCostsAtMost most costs →
+    AreCostsAtMost (n * most) (times count costs)
 times_at_most n most count costs few each = record {
   operations = mul-le count costs.operations n most few each.operations;
   clocks = mul-le count costs.clocks n most few each.clocks;
 }
 
-pub plus_at_most : (n k : ℕ) (a b : Costs) → IsAtMost n a → IsAtMost k b → IsAtMost (n + k) (plus a b)
+pub plus_at_most : (n k : ℕ) (a b : Costs) → AreCostsAtMost n a → AreCostsAtMost k b → AreCostsAtMost (n + k) (costs_plus a b)
 plus_at_most n k a b first second = record {
   operations = omega (arith, first.operations, second.operations);
   clocks = omega (arith, first.clocks, second.clocks);
 }
 
-pub at_most_more : (n k : ℕ) (costs : Costs) → n ≤ k → IsAtMost n costs → IsAtMost k costs
+pub at_most_more : (n k : ℕ) (costs : Costs) → n ≤ k → AreCostsAtMost n costs → AreCostsAtMost k costs
 at_most_more n k costs more each = record {
   operations = omega (arith, each.operations);
   clocks = omega (arith, each.clocks);
 }
-
-powers_few : (n count : ℕ) → count_by (λ t. nat_le (2 ^ t) n) (range_with_len 0 count) ≤ count
-powers_few n count =
-    omega (arith, count_by-le-length (λ t. nat_le (2 ^ t) n) (range_with_len 0 count), length-range_with_len 0 count)
-
-pub number_few : (n : ℕ) → bit_length n ≤ 12
-number_few n = powers_few n 12
 
 pub background_costs : (lengths : Lengths) (scene : SceneView) →
     let result : Costs = record { operations = 2; clocks = 1 + lengths.depth + lengths.fraction + lengths.number } in
@@ -376,7 +369,7 @@ module _ (lengths : Lengths) (end : ℕ) (s : SolidView) where
   covered face = keep_covered end s face
 
   pub turn_costs : (face : ℕ) (form : Linear) →
-      plus (cost_of lengths (keep_covered end s face)) (turn_more lengths)
+      costs_plus (cost_of lengths (keep_covered end s face)) (turn_more lengths)
       ≡ cost_of lengths (turn (layout_of_lengths lengths) end s face form)
   turn_costs face form =
       cost_is lengths _ (turn (layout_of_lengths lengths) end s face form)
@@ -384,7 +377,7 @@ module _ (lengths : Lengths) (end : ℕ) (s : SolidView) where
       (omega (arith, clocked lengths (covered face), turn_weight (clocks_on lengths) lengths end s face form))
 
   pub drop_costs : (face : ℕ) →
-      plus (cost_of lengths (keep_covered end s face)) (turn_more lengths)
+      costs_plus (cost_of lengths (keep_covered end s face)) (turn_more lengths)
       ≡ cost_of lengths (drop_behind (layout_of_lengths lengths) end s face)
   drop_costs face =
       cost_is lengths _ (drop_behind (layout_of_lengths lengths) end s face)
@@ -393,8 +386,8 @@ module _ (lengths : Lengths) (end : ℕ) (s : SolidView) where
 
   pub classify_costs : (plain : Bool) (count : ℕ) (turned : Costs) → count ≡ face_count s →
       ((face : ℕ) → face < face_count s → turned ≡ cost_of lengths
-      (turn (layout_of_lengths lengths) end s face (plane_of s end face))) →
-      plus (times count turned) five
+      (turn (layout_of_lengths lengths) end s face (face_plane s end face))) →
+      costs_plus (times count turned) five
       ≡ cost_of lengths (classify (layout_of_lengths lengths) end s plain)
   classify_costs plain count turned same each =
       cost_is lengths _ (classify (layout_of_lengths lengths) end s plain)
@@ -402,13 +395,13 @@ module _ (lengths : Lengths) (end : ℕ) (s : SolidView) where
         arith,
         classify_weight one lengths end s plain turned.operations
             (λ face there. sym (ap (λ costs. costs.operations) (each face there)
-            ∙ ones (turn (layout_of_lengths lengths) end s face (plane_of s end face)))),
+            ∙ ones (turn (layout_of_lengths lengths) end s face (face_plane s end face)))),
       )))
       (rw same (omega (
         arith,
         classify_weight (clocks_on lengths) lengths end s plain turned.clocks
             (λ face there. sym (ap (λ costs. costs.clocks) (each face there)
-            ∙ clocked lengths (turn (layout_of_lengths lengths) end s face (plane_of s end face)))),
+            ∙ clocked lengths (turn (layout_of_lengths lengths) end s face (face_plane s end face)))),
       )))
 
 pub not_none : (n : ℕ) → n ≢ 0 → (n == 0) ≡ false
@@ -431,7 +424,7 @@ module _ (lengths : Lengths) (d : Depths) where
 
   module _ (s : SolidView) where
     pub candidate_costs : (face : ℕ) →
-        plus (plus (cost_of lengths (keep_covered (end_of d) s face)) (cost_of lengths (clearing lengths d)))
+        costs_plus (costs_plus (cost_of lengths (keep_covered (end_of d) s face)) (cost_of lengths (clearing lengths d)))
         (candidate_more lengths)
         ≡ cost_of lengths (candidate (layout_of_lengths lengths) d s face)
     candidate_costs face =
@@ -471,11 +464,11 @@ module _ (lengths : Lengths) (d : Depths) where
     pub barred_costs : (count : ℕ) (turned : Costs) → (d.fraction_bits == 0) ≡ false → count ≡ length s.fronts + 1 →
         ((face : ℕ) (form : Linear) → face < face_count s → turned ≡ cost_of lengths
         (turn (layout_of_lengths lengths) (end_of d) s face form)) →
-        plus (times count turned) five ≡ cost_of lengths (confirming lengths d s false)
+        costs_plus (times count turned) five ≡ cost_of lengths (confirming lengths d s false)
     barred_costs count turned some same each =
         let passes = confirm (layout_of_lengths lengths) d s false
         in rw (some, same)
-        (cost_is lengths (plus (times (length s.fronts + 1) turned) five) passes
+        (cost_is lengths (costs_plus (times (length s.fronts + 1) turned) five) passes
         (omega (
           arith,
           barred_weight one lengths d s turned.operations
@@ -492,7 +485,7 @@ module _ (lengths : Lengths) (d : Depths) where
     pub own_costs : (plain : Bool) (count : ℕ) (found : Costs) → count ≡ length (candidate_faces s plain) →
         ((face : ℕ) → face < face_count s → found ≡ cost_of lengths
         (candidate (layout_of_lengths lengths) d s face)) →
-        plus (plus (times count found) (cost_of lengths (confirming lengths d s plain))) (own_more lengths)
+        costs_plus (costs_plus (times count found) (cost_of lengths (confirming lengths d s plain))) (own_more lengths)
         ≡ cost_of lengths (own_passes lengths d s plain)
     own_costs plain count found same each =
         cost_is lengths _ (own_passes lengths d s plain)

@@ -1,15 +1,15 @@
 -- The ends of operations before and after a clock.
-use Rattle.std.proofs.Common.{◌≡◌, ℕ, zero, suc, ◌+◌, ◌-◌, ◌<◌, ◌≤◌, true, false, List, [], ◌∷◌, ◌++◌, length, take}
+use Rattle.std.proofs.Common.{◌≡◌, ℕ, zero, suc, ◌+◌, ◌-◌, ◌<◌, ◌≤◌, List, [], ◌∷◌, ◌++◌, length, take}
 use Rattle.std.proofs.Common.{drop, filter, Option, Some, None, refl, ap, ◌∙◌, arith, length-append, add-one}
 use Rattle.std.specs.List.{flat_map, slice_get}
 use Rattle.std.specs.Prelude.{nat_lt, nat_le}
 use Rattle.std.proofs.Math.Seq.{drop-cons}
 use Rattle.std.proofs.lemmas.Bool.{lt-ltb}
-use Rattle.std.proofs.lemmas.Bool.Decides.{nat_tests}
 use Rattle.std.proofs.lemmas.Option.{slice_get_within, get_or_from_slice_get}
 use Rattle.std.proofs.lemmas.List.{take_all, take-append-drop}
 use Rattle.std.proofs.lemmas.List.Concat.{flat_map-append, flat_map-cons}
 use Rattle.px_num.proofs.ListLaws.{length-tabulate}
+use Rattle.px_num.proofs.TruthLaws.{le_false, le_true, lt_false}
 use Rattle.px_array.specs.declared.micro.Micro.{Micro}
 use Rattle.px_asm.specs.Micros.{all_micros, micros}
 use Rattle.px_macro.specs.declared.operation.Macro.{Macro}
@@ -33,15 +33,6 @@ micros_in scene m = micros m (columns_of scene) (rows_of scene)
 start_cons : (scene : SceneView) (x : Macro) (xs : List Macro) (k : ℕ) → start_in scene (x ∷ xs) (suc k)
     ≡ cycles_in scene x + start_in scene xs k
 start_cons scene x xs k = simp (flat_map-cons, length-append, length-tabulate)
-
-lt_no : (a b : ℕ) → b ≤ a → nat_lt a b ≡ false
-lt_no a b h = grind (arith, nat_tests)
-
-le_no : (a b : ℕ) → b < a → nat_le a b ≡ false
-le_no a b h = grind (arith, nat_tests)
-
-le_yes : (a b : ℕ) → a ≤ b → nat_le a b ≡ true
-le_yes a b h = grind (arith, nat_tests)
 
 keep_all : (scene : SceneView) (ms : List Macro) (b n : ℕ) → n < b → filter (λ e. nat_lt n e) (ends_from scene ms b)
     ≡ ends_from scene ms b
@@ -69,7 +60,7 @@ ends_here scene (x ∷ xs) zero i b n o e w h =
 ends_here scene (x ∷ xs) (suc k) i b n o e w h =
     let s = start_cons scene x xs k in
     let ih = ends_here scene xs k i (b + cycles_in scene x) n o e w (omega arith) in
-    let t = lt_no n (b + cycles_in scene x) (omega arith) in
+    let t = lt_false n (b + cycles_in scene x) (omega arith) in
     rw (t, s) (ih ∙ ap (λ z. ends_from scene (drop k xs) z) (omega arith))
 
 none_below : (scene : SceneView) (ms : List Macro) (b n : ℕ) → n < b
@@ -77,7 +68,7 @@ none_below : (scene : SceneView) (ms : List Macro) (b n : ℕ) → n < b
 none_below scene [] b n h = refl
 none_below scene (x ∷ xs) b n h =
     let ih = none_below scene xs (b + cycles_in scene x) n (omega arith) in
-    let t = le_no (b + cycles_in scene x) n (omega arith) in
+    let t = le_false (b + cycles_in scene x) n (omega arith) in
     rw (t, ih) refl
 
 -- as many operations have ended as stand before the clock's own
@@ -90,12 +81,12 @@ operation_here scene [] (suc k) i b n o e w h l = absurd (omega arith)
 operation_here scene (x ∷ xs) zero i b n o e w h l =
     let r = micro_below scene i x o e w in
     let ih = none_below scene xs (b + cycles_in scene x) n (omega arith) in
-    let t = le_no (b + cycles_in scene x) n (omega arith) in
+    let t = le_false (b + cycles_in scene x) n (omega arith) in
     rw (t, ih) refl
 operation_here scene (x ∷ xs) (suc k) i b n o e w h l =
     let s = start_cons scene x xs k in
     let ih = operation_here scene xs k i (b + cycles_in scene x) n o e w (omega arith) (omega arith) in
-    let t = le_yes (b + cycles_in scene x) n (omega arith) in
+    let t = le_true (b + cycles_in scene x) n (omega arith) in
     rw (t, ih) (omega arith)
 
 pub start_all : (scene : SceneView) (ms : List Macro) (k : ℕ) → length ms ≤ k →
@@ -138,7 +129,7 @@ none_after scene (x ∷ xs) b n h =
     let l : length (all_micros (x ∷ xs) (columns_of scene) (rows_of scene)) ≡ cycles_in scene x
     + length (all_micros xs (columns_of scene) (rows_of scene)) =
     simp (flat_map-cons, length-append, length-tabulate) in
-    let t = lt_no n (b + cycles_in scene x) (omega arith) in
+    let t = lt_false n (b + cycles_in scene x) (omega arith) in
     rw t (none_after scene xs (b + cycles_in scene x) n (omega arith))
 
 -- no operation ends after the last clock

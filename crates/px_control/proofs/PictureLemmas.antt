@@ -1,35 +1,25 @@
 -- What the program leaves in each pixel is what the passes mean there.
-use Rattle.std.proofs.Common.{◌≡◌, ℕ, ◌+◌, ◌*◌, ◌^◌, ◌<◌, ◌≤◌, false, length, replicate, get_or, refl, ap, ◌∙◌, arith}
-use Rattle.std.specs.Prelude.{All}
+use Rattle.std.proofs.Common.{◌≡◌, ℕ, ◌+◌, ◌*◌, ◌^◌, ◌<◌, false, length, replicate, get_or, refl, ap, ◌∙◌, arith}
 use Rattle.std.proofs.lemmas.List.{get_or-replicate, length-replicate, take_all}
-use Rattle.std.proofs.lemmas.List.Elements.{All-weaker}
 use Rattle.px_array.specs.Arrays.{HasGrid, no_pixel, pixel_of, zero_state}
 use Rattle.px_array.specs.Clocks.{after_clocks}
 use Rattle.px_asm.specs.Micros.{all_micros}
 use Rattle.px_asm.specs.Microprograms.{LeaveTheMeanings, bits_of}
-use Rattle.px_macro.specs.Macros.{IsLawful, IsLawfulInMore, after_macros}
+use Rattle.px_macro.specs.Macros.{IsLawfulInMore, after_macros}
 use Rattle.px_pixel.specs.Pixels.{zero_pixel}
 use Rattle.px_model.specs.Scenes.{IsLawfulScene, SceneView}
-use Rattle.px_model.specs.Solids.{IsLawfulSolid}
 use Rattle.px_tree.specs.Nodes.{IsGrid}
 use Rattle.px_tree.proofs.PlaceLaws.{index_below}
-use Rattle.px_sched.specs.Layouts.{layout_of, need_of}
 use Rattle.px_sched.specs.Passes.{passes}
 use Rattle.px_sched.specs.PassesFacts.{PassesAreLawful}
 use Rattle.px_sched.specs.PassesLaw.{PassesLaw}
+use Rattle.px_sched.proofs.LawfulLaws.{passes_lawful}
 use Rattle.px_control.specs.PictureLaw.{PictureLaw}
 use Rattle.px_control.specs.Program.{array_after, columns_of, program, rows_of, total}
 use Rattle.px_control.proofs.GridLemmas.{exponent_between, exponent_is}
 
 pub scene_grid : (scene : SceneView) → IsLawfulScene scene → IsGrid (columns_of scene) (rows_of scene)
 scene_grid scene lawful = (exponent_between scene.width lawful.width, exponent_between scene.height lawful.height)
-
-pub lawful_in : IsLawfulInMore → PassesAreLawful → (bits : ℕ) (scene : SceneView) → IsLawfulScene scene
-    → All IsLawfulSolid scene.solids →
-    need_of (layout_of scene) ≤ bits → All (λ m. IsLawful m bits) (passes scene)
-lawful_in more lawful bits scene h solids enough =
-    All-weaker (λ m. IsLawful m (need_of (layout_of scene))) (λ m. IsLawful m bits)
-    (λ m small. more m (need_of (layout_of scene)) bits enough small) (passes scene) (lawful scene h solids)
 
 zero_pixel_at : (bits count place : ℕ) → place < count → get_or (replicate count (zero_pixel bits)) place no_pixel
     ≡ zero_pixel bits
@@ -60,7 +50,7 @@ picture_law more meanings lawful shown bits scene device law solids at x y left 
     in let pixel : pixel_of start x y ≡ zero_pixel bits =
     zero_pixel_at bits (2 ^ (nx + ny)) (x * 2 ^ ny + y) (index_below nx ny x y column row)
     in let left_there = meanings bits nx ny (scene_grid scene law) (passes scene)
-    (lawful_in more lawful bits scene law solids at.enough) start (zero_grid bits nx ny) x y column row
+    (passes_lawful more lawful bits scene law solids at.enough) start (zero_grid bits nx ny) x y column row
     in let state : device.state ≡ after_clocks (all_micros (passes scene) nx ny) start =
     ap (λ d. d.state) at.reached ∙ whole bits scene
     in let memory : (pixel_of device.state x y).memory

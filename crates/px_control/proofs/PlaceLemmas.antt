@@ -18,8 +18,8 @@ use Rattle.px_sched.specs.Passes.{passes}
 use Rattle.px_control.specs.declared.place.Place.{Place}
 use Rattle.px_control.specs.Program.{IsAt, array_after, columns_of, cycles_in, ends_after, micro_at_clock}
 use Rattle.px_control.specs.Program.{operation_at, operation_ends, program, rows_of, start_of, total}
-use Rattle.px_control.specs.ProgramLaws.{AreLawful, HaveClocks}
-use Rattle.px_control.specs.Standing.{IsWithin, StandsFor}
+use Rattle.px_control.specs.ProgramLaws.{HaveLawfulPasses, HaveClocks}
+use Rattle.px_control.specs.Standing.{IsWithinOperation, StandsFor}
 use Rattle.px_control.proofs.EndLemmas.{next_end_here, operation_here, start_all, start_within}
 use Rattle.px_control.proofs.ArrayLaws.{columns_at}
 use Rattle.px_control.proofs.StepLemmas.{below_total, lawful_here, micro_here, start_more}
@@ -31,7 +31,7 @@ pub record Here (scene : SceneView) (p : Place) (m : Macro) : Type 0 where
   pub below : p.clock < total scene
   pub next : start_of scene (p.operation + 1) ≡ start_of scene p.operation + cycles_in scene m
 
-pub here_of : (scene : SceneView) (p : Place) (m : Macro) → AreLawful scene → StandsFor scene p → p.current ≡ Some m
+pub here_of : (scene : SceneView) (p : Place) (m : Macro) → HaveLawfulPasses scene → StandsFor scene p → p.current ≡ Some m
     → Here scene p m
 unfolding program
 here_of scene p m lawful stands e =
@@ -49,8 +49,8 @@ here_of scene p m lawful stands e =
       next = start_more (passes scene) nx ny p.operation m at;
     }
 
-zero_within : (scene : SceneView) (k : ℕ) (o : Option Macro) → AreLawful scene → HaveClocks scene
-    → slice_get (passes scene) k ≡ o → IsWithin scene 0 o
+zero_within : (scene : SceneView) (k : ℕ) (o : Option Macro) → HaveLawfulPasses scene → HaveClocks scene
+    → slice_get (passes scene) k ≡ o → IsWithinOperation scene 0 o
 zero_within scene k None lawful some e = refl
 zero_within scene k (Some m) lawful some e =
     some m (lawful_here (need_of (layout_of scene)) (passes scene) k m e lawful)
@@ -68,7 +68,7 @@ given_next ms j old new (Some m) h g e more stays = let l = slice_get_within ms 
 
 -- the place behind the last micro of an operation
 pub stands_next : (scene : SceneView) (p : Place) (m : Macro) (new : Cursor) (o : Option Macro) (clock : ℕ)
-    → AreLawful scene → HaveClocks scene →
+    → HaveLawfulPasses scene → HaveClocks scene →
     StandsFor scene p → p.current ≡ Some m → clock ≡ p.clock + (cycles_in scene m - p.micro) →
     o ≡ slice_get (passes scene) p.cursor.given → Stands scene new → OnSome o (new.given ≡ p.cursor.given + 1)
     → IfNone o (new ≡ p.cursor) →
@@ -93,7 +93,7 @@ stands_next scene p m new o clock lawful some stands e end is cursor more stays 
     same (Some m) e = e
 
 -- the broadcast at a place
-pub next_broadcast : (scene : SceneView) (p : Place) (m : Macro) → AreLawful scene → StandsFor scene p
+pub next_broadcast : (scene : SceneView) (p : Place) (m : Macro) → HaveLawfulPasses scene → StandsFor scene p
     → p.current ≡ Some m → (d : Micro) →
     get_or (program scene) p.clock d ≡ micro_at m (columns_of scene) (rows_of scene) p.micro
 unfolding program
@@ -102,7 +102,7 @@ next_broadcast scene p m lawful stands e d =
     in rw stands.clock (micro_here (passes scene) (columns_of scene) (rows_of scene) p.operation p.micro m d h.at
     h.micro)
 
-pub next_is : (scene : SceneView) (p : Place) (m : Macro) → AreLawful scene → StandsFor scene p → p.current ≡ Some m →
+pub next_is : (scene : SceneView) (p : Place) (m : Macro) → HaveLawfulPasses scene → StandsFor scene p → p.current ≡ Some m →
     slice_get (program scene) p.clock ≡ Some (micro_at m (columns_of scene) (rows_of scene) p.micro)
 next_is scene p m lawful stands e =
     let h = here_of scene p m lawful stands e
@@ -119,12 +119,12 @@ at_end scene p stands e =
     in let a = start_all scene (passes scene) p.operation l
     in omega (arith, stands.clock)
 
-within_total : (scene : SceneView) (p : Place) (o : Option Macro) → AreLawful scene → StandsFor scene p
+within_total : (scene : SceneView) (p : Place) (o : Option Macro) → HaveLawfulPasses scene → StandsFor scene p
     → p.current ≡ o → p.clock ≤ total scene
 within_total scene p None lawful stands e = omega (arith, at_end scene p stands e)
 within_total scene p (Some m) lawful stands e = let h = here_of scene p m lawful stands e in omega (arith, h.below)
 
-pub clock_within : (scene : SceneView) (p : Place) → AreLawful scene → StandsFor scene p → p.clock ≤ total scene
+pub clock_within : (scene : SceneView) (p : Place) → HaveLawfulPasses scene → StandsFor scene p → p.clock ≤ total scene
 clock_within scene p lawful stands = within_total scene p p.current lawful stands refl
 
 pub operation_is : (scene : SceneView) (p : Place) → StandsFor scene p → p.operation ≡ operation_at scene p.clock
@@ -136,7 +136,7 @@ operation_is scene p stands =
 pub micro_is : (scene : SceneView) (p : Place) → StandsFor scene p → p.micro ≡ micro_at_clock scene p.clock
 micro_is scene p stands = rw (← operation_is scene p stands) (omega (arith, stands.clock))
 
-pub next_end_is : (scene : SceneView) (p : Place) (m : Macro) (e : ℕ) → AreLawful scene → HaveClocks scene
+pub next_end_is : (scene : SceneView) (p : Place) (m : Macro) (e : ℕ) → HaveLawfulPasses scene → HaveClocks scene
     → StandsFor scene p → p.current ≡ Some m →
     e ≡ p.clock - p.micro + cycles_in scene m → ends_after scene p.clock ≡ e ∷ ends_after scene e
 unfolding operation_ends
@@ -145,7 +145,7 @@ next_end_is scene p m e lawful some stands c is =
     in next_end_here scene (passes scene) p.operation p.micro p.clock e m h.at h.micro h.next
     (zero_within scene (p.operation + 1) (slice_get (passes scene) (p.operation + 1)) lawful some refl) stands.clock is
 
-pub next_end_within : (scene : SceneView) (p : Place) (m : Macro) (e : ℕ) → AreLawful scene → StandsFor scene p
+pub next_end_within : (scene : SceneView) (p : Place) (m : Macro) (e : ℕ) → HaveLawfulPasses scene → StandsFor scene p
     → p.current ≡ Some m →
     e ≡ p.clock - p.micro + cycles_in scene m → e ≤ total scene
 unfolding program

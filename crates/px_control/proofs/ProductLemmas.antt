@@ -1,11 +1,12 @@
 -- What the literals of a product cost: each is compared with each of the others, so each classifies for all but itself.
-use Rattle.std.proofs.Common.{◌≡◌, ◌≢◌, ℕ, suc, zero, ◌+◌, ◌-◌, ◌*◌, ◌^◌, ◌<◌, ◌==◌, ◌||◌, Bool, true, false, not}
+use Rattle.std.proofs.Common.{◌≡◌, ◌≢◌, ℕ, suc, zero, ◌+◌, ◌-◌, ◌*◌, ◌^◌, ◌<◌, ◌==◌, Bool, true, false, not}
 use Rattle.std.proofs.Common.{cond, List, [], ◌∷◌, ◌++◌, length, map, refl, ap, sym, ◌∙◌, arith}
 use Rattle.std.specs.List.{All, filter, flat_map, list_any, range_with_len, sum_by}
 use Rattle.std.proofs.lemmas.Bool.Decides.{nat_tests}
 use Rattle.std.proofs.lemmas.List.{length-append, length-map}
 use Rattle.std.proofs.lemmas.List.Elements.{All-cons, All-nil}
 use Rattle.std.proofs.lemmas.List.Sums.{sum_by-append, sum_by-cons, sum_by_push}
+use Rattle.px_num.proofs.TruthLaws.{neither_left, neither_right}
 use Rattle.px_asm.specs.Micros.{all_micros}
 use Rattle.px_macro.specs.declared.operation.Macro.{Macro}
 use Rattle.px_macro.specs.declared.operation.Macro.TheVariants as m
@@ -21,7 +22,8 @@ use Rattle.px_sched.specs.Passes.{candidate, candidate_faces, classify, literal_
 use Rattle.px_sched.specs.Passes.{passes_with, solid_of}
 use Rattle.px_control.specs.declared.costs.Costs.{Costs}
 use Rattle.px_control.specs.declared.costs.Lengths.{Lengths}
-use Rattle.px_control.specs.Costs.{confirming, cost_of, own_passes, passes_against, plus, product_passes, share, sum_of}
+use Rattle.px_control.specs.Costs.{confirming, cost_of, own_passes, passes_against, costs_plus, product_passes, share}
+use Rattle.px_control.specs.Costs.{sum_of}
 use Rattle.px_control.proofs.CostLemmas.{clocked, clocks_on, cost_is, flat_weight, one, ones, sum_by-agree}
 
 -- the solids of a set stand in ascending order
@@ -119,14 +121,6 @@ both_apart : (plain barred : ℕ → Bool) (from count : ℕ) (qs : List ℕ) �
 both_apart plain barred from zero qs different rest = rest
 both_apart plain barred from (suc count) qs different rest =
     step (plain from) refl different (λ later. both_apart plain barred (from + 1) count qs later rest) where
-      left : (a b : Bool) → a || b ≡ false → a ≡ false
-      left true b no_one = no_one
-      left false b no_one = refl
-
-      right : (a b : Bool) → a || b ≡ false → b ≡ false
-      right true b no_one = absurd (cc)
-      right false b no_one = no_one
-
       step : (b : Bool) → plain from ≡ b →
           list_any barred (cond b (from ∷ filter plain (range_with_len (from + 1) count))
           (filter plain (range_with_len (from + 1) count))) ≡ false →
@@ -140,9 +134,9 @@ both_apart plain barred from (suc count) qs different rest =
         apart_both from (map (literal_at true) (filter plain (range_with_len (from + 1) count)))
             (map (literal_at false) (filter barred qs))
             (later_apart true plain from (from + 1) count (omega arith))
-            (barred_apart barred from qs (left (barred from)
+            (barred_apart barred from qs (neither_left (barred from)
             (list_any barred (filter plain (range_with_len (from + 1) count))) no_one)),
-        more (right (barred from) (list_any barred (filter plain (range_with_len (from + 1) count))) no_one),
+        more (neither_right (barred from) (list_any barred (filter plain (range_with_len (from + 1) count))) no_one),
       )
       step false here no_one more = more no_one
 
@@ -313,7 +307,7 @@ module _ (lengths : Lengths) (scene : SceneView) (product : Product) (count : �
       )
 
   pub product_costs : count ≡ length (literals product) - 1 → is_void product ≡ false →
-      plus (sum_of (shares_of true) (solids product.plain)) (sum_of (shares_of false) (solids product.barred))
+      costs_plus (sum_of (shares_of true) (solids product.plain)) (sum_of (shares_of false) (solids product.barred))
       ≡ cost_of lengths (flat_map (literal_passes scene (layout_with lengths.depth lengths.fraction lengths.number)
       product)
       (literals product))
@@ -366,7 +360,7 @@ module _ (lengths : Lengths) (scene : SceneView) where
 
   pub passes_more : (products : List Product) (product : Product) → let l =
       layout_with lengths.depth lengths.fraction lengths.number in
-      plus (cost_of lengths (passes_with scene l products)) (cost_of lengths (product_passes lengths scene product))
+      costs_plus (cost_of lengths (passes_with scene l products)) (cost_of lengths (product_passes lengths scene product))
       ≡ cost_of lengths (passes_with scene l (products ++ product ∷ []))
   passes_more products product =
       let l = layout_with lengths.depth lengths.fraction lengths.number

@@ -17,7 +17,7 @@ use Rattle.px_model.specs.Scenes.{SceneView}
 use Rattle.px_sched.specs.Passes.{passes}
 use Rattle.px_tree.specs.Nodes.{IsGrid}
 use Rattle.px_control.specs.Program.{IsAt, array_after, columns_of, cycles_in, program, rows_of, start_of, total}
-use Rattle.px_control.specs.ProgramLaws.{AreLawful}
+use Rattle.px_control.specs.ProgramLaws.{HaveLawfulPasses}
 use Rattle.px_control.specs.Standing.{StandsFor}
 use Rattle.px_control.specs.declared.place.Place.{Place}
 use Rattle.px_control.proofs.EndLemmas.{start_within}
@@ -89,7 +89,7 @@ cycles_are bits scene n device m at =
     ∙ ap (λ y. cycles m (columns_of scene) y) (rows_are bits scene n device at)
 
 -- the array after these broadcasts
-pub at_run : (bits : ℕ) (scene : SceneView) (p : Place) (m : Macro) (to : ℕ) (before now : Device) → AreLawful scene
+pub at_run : (bits : ℕ) (scene : SceneView) (p : Place) (m : Macro) (to : ℕ) (before now : Device) → HaveLawfulPasses scene
     → StandsFor scene p →
     p.current ≡ Some m → p.micro ≤ to → to ≤ cycles_in scene m → IsAt bits scene p.clock before →
     now ≡ all_clocked (between p.micro to (micros_on before m)) before → IsAt bits scene (p.clock + (to - p.micro)) now

@@ -1,8 +1,7 @@
 -- The clock bound: how many clocks a scene takes at most, and at least. Clauses of public calls stand on it.
 use Rattle.std.specs.Prelude.{◌^◌, ◌<◌, ◌≤◌, All, length}
 use Rattle.px_prune.specs.Kept.{plan_of}
-use Rattle.px_model.specs.Scenes.{IsLawfulScene, SceneView}
-use Rattle.px_model.specs.Solids.{IsLawfulSolid}
+use Rattle.px_model.specs.Scenes.{IsLawfulScene, SceneView, IsLawfulSolid}
 use Rattle.px_sched.specs.Passes.{passes}
 use Rattle.px_control.specs.Program.{total}
 use Rattle.px_normal.specs.declared.product.TheConstants.{MAX_PRODUCTS}

@@ -6,8 +6,7 @@ use Rattle.px_macro.specs.declared.operation.Macro.{Macro}
 use Rattle.px_macro.specs.declared.operation.Macro.TheVariants as m
 use Rattle.px_normal.specs.declared.product.Product.{Product}
 use Rattle.px_model.specs.Cells.{Depths, end_of}
-use Rattle.px_model.specs.Scenes.{SceneView, faces_of}
-use Rattle.px_model.specs.Solids.{SolidView}
+use Rattle.px_model.specs.Scenes.{SceneView, faces_of, SolidView}
 use Rattle.px_sched.specs.Layouts.{bit_length, fraction_part, layout_with}
 use Rattle.px_sched.specs.Passes.{candidate, candidate_faces, classify, confirm, literal_passes, literals, merge, where_fraction}
 use Rattle.px_control.specs.declared.costs.Costs.{Costs}
@@ -20,8 +19,8 @@ cost_of lengths ms = record {
   clocks = length (all_micros ms lengths.columns lengths.rows);
 }
 
-abbrev pub plus : Costs → Costs → Costs
-plus a b = record { operations = a.operations + b.operations; clocks = a.clocks + b.clocks }
+abbrev pub costs_plus : Costs → Costs → Costs
+costs_plus a b = record { operations = a.operations + b.operations; clocks = a.clocks + b.clocks }
 
 abbrev pub times : ℕ → Costs → Costs
 times n a = record { operations = n * a.operations; clocks = n * a.clocks }
@@ -43,7 +42,7 @@ lengths_of scene = record {
 }
 
 -- neither part is greater
-pub record IsAtMost (most : ℕ) (costs : Costs) : Type 0 where
+pub record AreCostsAtMost (most : ℕ) (costs : Costs) : Type 0 where
   pub operations : costs.operations ≤ most
   pub clocks : costs.clocks ≤ most
 
@@ -85,5 +84,5 @@ product_passes lengths scene product =
 -- what a literal adds to its product: its own passes, and those against it of each of the others
 abbrev pub share : Lengths → Depths → SolidView → (plain : Bool) → (others : ℕ) → Costs
 share lengths d s plain others =
-    plus (cost_of lengths (own_passes lengths d s plain))
+    costs_plus (cost_of lengths (own_passes lengths d s plain))
     (times others (cost_of lengths (passes_against lengths (end_of d) s plain)))

@@ -1,8 +1,7 @@
 -- The keys that an array stores after the whole program of a scene are the picture. Clauses of public calls stand on it.
 use Rattle.std.specs.Prelude.{ℕ, All}
 use Rattle.px_array.specs.Arrays.{Device, pixel_of}
-use Rattle.px_model.specs.Scenes.{IsLawfulScene, SceneView}
-use Rattle.px_model.specs.Solids.{IsLawfulSolid}
+use Rattle.px_model.specs.Scenes.{IsLawfulScene, SceneView, IsLawfulSolid}
 use Rattle.px_sched.specs.Layouts.{layout_of}
 use Rattle.px_sched.specs.PassesLaw.{ShowsThePicture}
 use Rattle.px_control.specs.Program.{IsAt, total}

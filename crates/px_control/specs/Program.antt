@@ -6,8 +6,7 @@ use Rattle.px_array.specs.Clocks.{after_clocks}
 use Rattle.px_asm.specs.Micros.{all_micros, cycles}
 use Rattle.px_macro.specs.declared.operation.Macro.{Macro}
 use Rattle.px_prune.specs.Kept.{plan_of}
-use Rattle.px_model.specs.Scenes.{IsLawfulScene, SceneView}
-use Rattle.px_model.specs.Solids.{IsLawfulSolid}
+use Rattle.px_model.specs.Scenes.{IsLawfulScene, SceneView, IsLawfulSolid}
 use Rattle.px_sched.specs.Layouts.{layout_of, need_of}
 use Rattle.px_sched.specs.Passes.{passes}
 use Rattle.px_normal.specs.declared.product.TheConstants.{MAX_PRODUCTS}

@@ -10,8 +10,8 @@ use Rattle.px_control.specs.declared.law.TheConstants.{MAX_LAYOUT_BITS}
 use Rattle.px_control.specs.Program.{columns_of, cycles_in, rows_of, total}
 
 -- pixels that have bits enough can carry every operation out
-abbrev pub AreLawful : SceneView → Type 0
-AreLawful scene = All (λ m. IsLawful m (need_of (layout_of scene))) (passes scene)
+abbrev pub HaveLawfulPasses : SceneView → Type 0
+HaveLawfulPasses scene = All (λ m. IsLawful m (need_of (layout_of scene))) (passes scene)
 
 -- every operation that they can carry out takes a clock at least
 abbrev pub HaveClocks : SceneView → Type 0
@@ -20,7 +20,7 @@ HaveClocks scene = (m : Macro) → IsLawful m (need_of (layout_of scene)) → 1 
 pub record IsGoodProgram (scene : SceneView) : Type 0 where
   pub grid : IsGrid (columns_of scene) (rows_of scene)
   pub bits : need_of (layout_of scene) ≤ MAX_LAYOUT_BITS
-  pub lawful : AreLawful scene
+  pub lawful : HaveLawfulPasses scene
   pub some : HaveClocks scene
   pub few : (m : Macro) → IsLawful m (need_of (layout_of scene)) → cycles_in scene m ≤ 82
   pub operations : length (passes scene) ≤ total scene

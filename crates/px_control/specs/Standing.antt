@@ -11,9 +11,9 @@ use Rattle.px_control.specs.declared.place.Place.{Place}
 use Rattle.px_control.specs.Program.{cycles_in, start_of}
 
 -- the micro is one of the operation's, or the first where none is left
-abbrev pub IsWithin : SceneView → (micro : ℕ) → Option Macro → Type 0
-IsWithin scene micro None = micro ≡ 0
-IsWithin scene micro (Some m) = micro < cycles_in scene m
+abbrev pub IsWithinOperation : SceneView → (micro : ℕ) → Option Macro → Type 0
+IsWithinOperation scene micro None = micro ≡ 0
+IsWithinOperation scene micro (Some m) = micro < cycles_in scene m
 
 -- the place is that of its clock: its operation and micro are those of the next broadcast, and its cursor has given the operation
 pub record StandsFor (scene : SceneView) (p : Place) : Type 0 where
@@ -22,7 +22,7 @@ pub record StandsFor (scene : SceneView) (p : Place) : Type 0 where
   pub operation : p.operation ≤ length (passes scene)
   pub current : slice_get (passes scene) p.operation ≡ p.current
   pub clock : p.clock ≡ start_of scene p.operation + p.micro
-  pub micro : IsWithin scene p.micro p.current
+  pub micro : IsWithinOperation scene p.micro p.current
 
 -- what a contract sees of a job
 pub record JobView : Type 0 where

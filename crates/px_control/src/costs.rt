@@ -1,6 +1,6 @@
 //! Costs of operations, and what they depend on.
 ghost use Rattle.std.specs.Prelude.{◌≡◌, ◌^◌, ◌≤◌};
-ghost use Rattle.px_control.specs.Costs.{IsAtMost, plus, times};
+ghost use Rattle.px_control.specs.Costs.{AreCostsAtMost, costs_plus, times};
 
 /// How many operations there are, and how many clocks they take.
 #[derive(Clone, Copy, Debug, PartialEq, Eq)]
@@ -12,9 +12,9 @@ pub(crate) struct Costs {
 impl Costs {
     /// One after the other.
     pub(crate) fn plus(&self, other: &Costs) -> Costs
-        requires first { IsAtMost (2 ^ 62) self.now }
-        requires second { IsAtMost (2 ^ 62) other.now }
-        ensures { result ≡ plus self.now other.now }
+        requires first { AreCostsAtMost (2 ^ 62) self.now }
+        requires second { AreCostsAtMost (2 ^ 62) other.now }
+        ensures { result ≡ costs_plus self.now other.now }
     {
         Costs {
             operations: self.operations + other.operations,
@@ -25,7 +25,7 @@ impl Costs {
     /// So many times.
     pub(crate) fn times(&self, count: u64) -> Costs
         requires few { count ≤ 511 }
-        requires costs { IsAtMost 400000 self.now }
+        requires costs { AreCostsAtMost 400000 self.now }
         ensures { result ≡ times count self.now }
     {
         Costs {

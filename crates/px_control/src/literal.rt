@@ -13,7 +13,7 @@ ghost use Rattle.px_sched.specs.Passes.{
 };
 ghost use Rattle.px_control.specs.Costs.{
   AreShort,
-  IsAtMost,
+  AreCostsAtMost,
   clearing,
   confirming,
   cost_of,
@@ -32,7 +32,7 @@ pub(crate) fn share(solid: &Solid, plain: bool, others: u64, lengths: &Lengths) 
     requires others { others ≤ 511 }
     ensures cost { (d : Depths) → d.fraction_bits ≡ lengths.now.fraction →
         result ≡ share lengths.now d solid.now plain others }
-    ensures few { IsAtMost (2 ^ 28) result }
+    ensures few { AreCostsAtMost (2 ^ 28) result }
 {
     own_cost(solid, plain, lengths).plus(&classify_cost(solid, lengths).times(others))
 }
@@ -43,7 +43,7 @@ fn own_cost(solid: &Solid, plain: bool, lengths: &Lengths) -> Costs
     requires { AreShort lengths.now }
     ensures cost { (d : Depths) → d.fraction_bits ≡ lengths.now.fraction →
         result ≡ cost_of lengths.now (own_passes lengths.now d solid.now plain) }
-    ensures few { IsAtMost 390000 result }
+    ensures few { AreCostsAtMost 390000 result }
 {
     candidate_cost(solid, lengths)
         .times(candidates(solid, plain))
@@ -72,7 +72,7 @@ fn confirm_cost(solid: &Solid, plain: bool, lengths: &Lengths) -> Costs
     requires { AreShort lengths.now }
     ensures cost { (d : Depths) → d.fraction_bits ≡ lengths.now.fraction →
         result ≡ cost_of lengths.now (confirming lengths.now d solid.now plain) }
-    ensures few { IsAtMost 195000 result }
+    ensures few { AreCostsAtMost 195000 result }
 {
     if lengths.fraction == 0 {
         Costs {
@@ -96,7 +96,7 @@ fn clear_cost(lengths: &Lengths) -> Costs
     requires { AreShort lengths.now }
     ensures cost { (d : Depths) → d.fraction_bits ≡ lengths.now.fraction →
         result ≡ cost_of lengths.now (clearing lengths.now d) }
-    ensures few { IsAtMost 8 result }
+    ensures few { AreCostsAtMost 8 result }
 {
     if lengths.fraction == 0 {
         Costs {
@@ -118,7 +118,7 @@ fn candidate_cost(solid: &Solid, lengths: &Lengths) -> Costs
     ensures cost { (d : Depths) (face : ℕ) → d.fraction_bits ≡ lengths.now.fraction →
         face < face_count solid.now → result ≡ cost_of lengths.now (candidate
         (layout_with lengths.now.depth lengths.now.fraction lengths.now.number) d solid.now face) }
-    ensures few { IsAtMost 5800 result }
+    ensures few { AreCostsAtMost 5800 result }
 {
     keep_covered_cost(solid, lengths)
         .plus(&clear_cost(lengths))
@@ -139,7 +139,7 @@ fn classify_cost(solid: &Solid, lengths: &Lengths) -> Costs
     requires { AreShort lengths.now }
     ensures cost { (end : ℕ) (plain : Bool) →
         result ≡ cost_of lengths.now (passes_against lengths.now end solid.now plain) }
-    ensures few { IsAtMost 400000 result }
+    ensures few { AreCostsAtMost 400000 result }
 {
     turn_cost(solid, lengths)
         .times(face_count(solid) as u64)
@@ -160,7 +160,7 @@ fn turn_cost(solid: &Solid, lengths: &Lengths) -> Costs
         (drop_behind (layout_with lengths.now.depth lengths.now.fraction lengths.now.number)
         end solid.now face) }
     ensures faces { face_count solid.now ≤ 66 }
-    ensures few { IsAtMost 5800 result }
+    ensures few { AreCostsAtMost 5800 result }
 {
     keep_covered_cost(solid, lengths).plus(&Costs {
         operations: 4,
@@ -174,7 +174,7 @@ fn keep_covered_cost(solid: &Solid, lengths: &Lengths) -> Costs
     ensures cost { (far face : ℕ) → face < face_count solid.now →
         result ≡ cost_of lengths.now (keep_covered far solid.now face) }
     ensures faces { face_count solid.now ≤ 66 }
-    ensures few { IsAtMost 5723 result }
+    ensures few { AreCostsAtMost 5723 result }
 {
     let edge = Costs {
         operations: 1,

@@ -10,7 +10,7 @@ ghost use Rattle.px_sched.specs.Passes.{passes, passes_with, solid_of};
 ghost use Rattle.px_control.specs.ClockLaw.{ClockBound, EachTakesAClock};
 ghost use Rattle.px_control.specs.Costs.{
   AreShort,
-  IsAtMost,
+  AreCostsAtMost,
   cost_of,
   lengths_of,
   product_passes,
@@ -100,7 +100,7 @@ fn background_cost(lengths: &Lengths) -> Costs
     requires { AreShort lengths.now }
     ensures cost { (scene : SceneView) → result ≡ cost_of lengths.now
         (passes_with scene (layout_with lengths.now.depth lengths.now.fraction lengths.now.number) []) }
-    ensures few { IsAtMost 100 result }
+    ensures few { AreCostsAtMost 100 result }
 {
     Costs {
         operations: 2,
@@ -115,7 +115,7 @@ fn product_cost(scene: &Scene, product: &Product, lengths: &Lengths) -> Costs
     requires apart { is_void product.now ≡ false }
     requires known { HasSolidsBelow (length scene.now.solids) product.now }
     ensures cost { result ≡ cost_of lengths.now (product_passes lengths.now scene.now product.now) }
-    ensures few { IsAtMost (2 ^ 37) result }
+    ensures few { AreCostsAtMost (2 ^ 37) result }
 {
     let plain = product.plain.solids();
     let barred = product.barred.solids();
@@ -135,7 +135,7 @@ fn shares(scene: &Scene, solids: &[u8], plain: bool, others: u64, lengths: &Leng
     ensures costs { result ≡ sum_of
         (λ solid. share lengths.now (depths_of scene.now) (solid_of scene.now solid) plain others)
         solids.now }
-    ensures few { IsAtMost (2 ^ 36) result }
+    ensures few { AreCostsAtMost (2 ^ 36) result }
 {
     let all = scene.solids();
     let mut costs = Costs {

@@ -10,23 +10,25 @@ use Rattle.std.proofs.lemmas.List.Sums.{fold-append}
 use Rattle.px_num.specs.Bits.{modulo}
 use Rattle.px_num.specs.Forms.{plus}
 use Rattle.px_num.proofs.FormLaws.{value_at-plus}
-use Rattle.px_model.specs.Solids.{SolidView}
-use Rattle.px_model.specs.Scenes.{SceneView}
+use Rattle.px_num.proofs.TruthLaws.{and_both, and_false, and_left, and_true, beq_true, lt_fails, lt_false, lt_holds}
+use Rattle.px_num.proofs.TruthLaws.{lt_true}
+use Rattle.px_model.specs.Scenes.{SolidView, SceneView}
 use Rattle.px_model.specs.Cells.{Depths, cell_of, depths_of, end_of, enters_at, is_inside, is_inside_before}
 use Rattle.px_model.specs.Cells.{leaves_at, value_of}
 use Rattle.px_face.specs.Covering.{CoveringLaw, ValueParityLaw, covering_back, covering_front, is_met}
 use Rattle.px_face.specs.Edges.{covers}
-use Rattle.px_face.specs.Faces.{number_of, plane_of}
+use Rattle.px_face.specs.Faces.{face_number, face_plane}
 use Rattle.px_normal.specs.declared.product.Product.{Product}
 use Rattle.px_sched.specs.declared.literal.Literal.{Literal}
 use Rattle.px_sched.specs.Passes.{candidate_faces, literals, others, solid_of}
-use Rattle.px_sched.specs.Numbers.{Keys, Numbers, KeyedPixel, after, all, candidate_on_numbers, classify_on_numbers}
+use Rattle.px_sched.specs.Numbers.{Keys, Numbers, KeyedPixel, after_passes, all, candidate_on_numbers}
+use Rattle.px_sched.specs.Numbers.{classify_on_numbers}
 use Rattle.px_sched.specs.Numbers.{key, literal_on_numbers, load_best, merge_on_numbers, passes_on_numbers, residue}
-use Rattle.px_sched.specs.Numbers.{set_alive, cleared, confirm_on_numbers, where_fraction}
+use Rattle.px_sched.specs.Numbers.{set_alive, without_fraction, confirm_on_numbers, passes_where_fraction}
 use Rattle.px_sched.proofs.RunLemmas.{HasRoom, after-append, at, candidate_keys, classified, classify_keys, end_small}
 use Rattle.px_sched.proofs.RunLemmas.{keys_in_range, loaded, part_along, rounded, suits}
-use Rattle.px_sched.proofs.CoverLaws.{and_both, and_left, and_true, enters_depth, leaves_depth}
-use Rattle.px_sched.proofs.FoldLemmas.{and_false, elsewhere, fold_none, fold_single, where_test}
+use Rattle.px_sched.proofs.CoverLaws.{enters_depth, leaves_depth}
+use Rattle.px_sched.proofs.FoldLemmas.{elsewhere, fold_none, fold_single, where_test}
 use Rattle.px_sched.proofs.ConfirmLemmas.{IsConfirmed, barred_test, confirmed, plain_test, test}
 
 -- a candidate face covers the pixel
@@ -43,7 +45,7 @@ abbrev pub cell_found : SolidView → (plain : Bool) → Depths → (x y : ℕ) 
 cell_found s plain d x y = if plain then cell_of d (enters_at s x y) else cell_of d (leaves_at s (end_of d) x y)
 
 abbrev pub number_found : SolidView → (plain : Bool) → Depths → (x y : ℕ) → ℕ
-number_found s plain d x y = number_of s (face_found s plain (end_of d) x y)
+number_found s plain d x y = face_number s (face_found s plain (end_of d) x y)
 
 -- the solid has a cell at a front, or just before a back
 abbrev pub has_cell : SolidView → (plain : Bool) → Depths → (x y c : ℕ) → Bool
@@ -71,18 +73,6 @@ keys_found scene l product q =
 abbrev pub all_found : SceneView → KeyedPixel → List Product → List ℕ
 all_found scene l products = flat_map (λ product. flat_map (keys_found scene l product) (literals product)) products
 
-pub lt_true : (i n : ℕ) → i < n → nat_lt i n ≡ true
-lt_true i n h = grind (arith, nat_tests)
-
-pub lt_false : (i n : ℕ) → n ≤ i → nat_lt i n ≡ false
-lt_false i n h = grind (arith, nat_tests)
-
-pub lt_holds : (i n : ℕ) → nat_lt i n ≡ true → i < n
-lt_holds i n h = grind (arith, nat_tests)
-
-pub lt_fails : (i n : ℕ) → nat_lt i n ≡ false → n ≤ i
-lt_fails i n h = grind (arith, nat_tests)
-
 fold-flat_map : {X Y Z : Type 0} (f : Z → Y → Z) (g : X → List Y) (xs : List X) (a : Z)
     → fold (λ b x. fold f b (g x)) a xs ≡ fold f a (flat_map g xs)
 fold-flat_map f g [] a = refl
@@ -96,15 +86,11 @@ pick false a b = refl
 abbrev merged : KeyedPixel → Keys → ℕ
 merged l k = if k.alive && nat_lt (key l k.deep k.number) k.best then key l k.deep k.number else k.best
 
-alive_is : (a : Bool) → beq a true ≡ a
-alive_is true = refl
-alive_is false = refl
-
-merge_best : (l : KeyedPixel) (p : Numbers) → (after l merge_on_numbers p).keys.best ≡ merged l p.keys
+merge_best : (l : KeyedPixel) (p : Numbers) → (after_passes l merge_on_numbers p).keys.best ≡ merged l p.keys
 merge_best l p =
     let less = nat_lt (key l p.keys.deep p.keys.number) p.keys.best in
     pick ((true && beq p.keys.alive true) && less) (record p.keys { best = key l p.keys.deep p.keys.number }) p.keys
-    ∙ ap (λ a. if (true && a) && less then key l p.keys.deep p.keys.number else p.keys.best) (alive_is p.keys.alive)
+    ∙ ap (λ a. if (true && a) && less then key l p.keys.deep p.keys.number else p.keys.best) (beq_true p.keys.alive)
 
 merged_is : (l : KeyedPixel) (k : Keys) (a : Bool) (b d n : ℕ) → k.alive ≡ a → k.best ≡ b → k.deep ≡ d → k.number ≡ n
     → merged l k ≡ (if a && nat_lt (key l d n) b then key l d n else b)
@@ -127,7 +113,7 @@ module _ (covering : CoveringLaw) (parity : ValueParityLaw) (scene : SceneView) 
 
   -- the candidate of a literal
   candidates_keys : (s : SolidView) (plain : Bool) (p : Numbers)
-      → (after l (flat_map (candidate_on_numbers d s) (candidate_faces s plain)) p).keys
+      → (after_passes l (flat_map (candidate_on_numbers d s) (candidate_faces s plain)) p).keys
       ≡ (if is_covered s plain far l.x l.y then loaded l d s p.keys (face_found s plain far l.x l.y) else p.keys)
   candidates_keys s true p =
       let law = covering s far l.x l.y in
@@ -200,19 +186,19 @@ module _ (covering : CoveringLaw) (parity : ValueParityLaw) (scene : SceneView) 
 
   -- the depth of a candidate is that of its cell
   loaded_deep : (s : SolidView) (plain : Bool) → is_covered s plain far l.x l.y ≡ true
-      → cleared l (residue l (plus (plane_of s far (face_found s plain far l.x l.y)) (2 ^ d.fraction_bits - 1)))
+      → without_fraction l (residue l (plus (face_plane s far (face_found s plain far l.x l.y)) (2 ^ d.fraction_bits - 1)))
       ≡ value_of d (cell_found s plain d l.x l.y)
   loaded_deep s true met =
       let more = 2 ^ d.fraction_bits - 1 in
-      ap (λ v. cleared l (modulo v (l.depth_bits + l.fraction_bits)))
-      (value_at-plus (plane_of s far (covering_front s l.x l.y)) more l.x l.y
+      ap (λ v. without_fraction l (modulo v (l.depth_bits + l.fraction_bits)))
+      (value_at-plus (face_plane s far (covering_front s l.x l.y)) more l.x l.y
       ∙ ap (λ v. v +ℤ pos more) (covering s far l.x l.y).front_value)
       ∙ rounded l d room (enters_at s l.x l.y) (enters_depth covering far s l.x l.y met)
   loaded_deep s false both =
       let more = 2 ^ d.fraction_bits - 1 in
       let met = and_left (is_met s far l.x l.y) _ both in
-      ap (λ v. cleared l (modulo v (l.depth_bits + l.fraction_bits)))
-      (value_at-plus (plane_of s far (covering_back s far l.x l.y)) more l.x l.y
+      ap (λ v. without_fraction l (modulo v (l.depth_bits + l.fraction_bits)))
+      (value_at-plus (face_plane s far (covering_back s far l.x l.y)) more l.x l.y
       ∙ ap (λ v. v +ℤ pos more) (covering s far l.x l.y).back_value)
       ∙ rounded l d room (leaves_at s far l.x l.y) (leaves_depth covering far s l.x l.y met)
 
@@ -265,7 +251,7 @@ module _ (covering : CoveringLaw) (parity : ValueParityLaw) (scene : SceneView) 
 
   -- the passes of one literal
   literal_best : (product : Product) (q : Literal) (e : Bool) (k : Keys)
-      → (after l (literal_on_numbers scene product q) (at e k)).keys.best
+      → (after_passes l (literal_on_numbers scene product q) (at e k)).keys.best
       ≡ fold min k.best (keys_found scene l product q)
   literal_best product q e k =
       let s = solid_of scene q.solid in
@@ -274,21 +260,21 @@ module _ (covering : CoveringLaw) (parity : ValueParityLaw) (scene : SceneView) 
       let tests = flat_map (λ r. classify_on_numbers far (solid_of scene r.solid) r.plain) rs in
       let fresh = record k { alive = false } in
       let first = all ∷ set_alive false ∷ flat_map (candidate_on_numbers d s) (candidate_faces s q.plain) in
-      let confirm = where_fraction d.fraction_bits (confirm_on_numbers d s q.plain) in
-      let start = after l first (at e k) in
-      let new = (after l confirm start).keys in
-      let same : (after l (first ++ confirm) (at e k)).keys ≡ new =
+      let confirm = passes_where_fraction d.fraction_bits (confirm_on_numbers d s q.plain) in
+      let start = after_passes l first (at e k) in
+      let new = (after_passes l confirm start).keys in
+      let same : (after_passes l (first ++ confirm) (at e k)).keys ≡ new =
       ap (λ (p : Numbers). p.keys) (after-append l first confirm (at e k)) in
       let r = kept s q.plain fresh start.keys new refl (candidates_keys s q.plain (at true fresh))
       (confirmed covering l d room s q.plain start.enable start.keys) in
-      let middle : (after l ((first ++ confirm) ++ tests) (at e k)).keys ≡ fold classified_by new rs =
+      let middle : (after_passes l ((first ++ confirm) ++ tests) (at e k)).keys ≡ fold classified_by new rs =
       ap (λ (p : Numbers). p.keys) (after-append l (first ++ confirm) tests (at e k))
       ∙ part_along l (λ k. k) (λ r. classify_on_numbers far (solid_of scene r.solid) r.plain) classified_by
       (λ r e k. classify_keys covering parity far l (end_small l d room) (solid_of scene r.solid) r.plain e k) rs
-      (after l (first ++ confirm) (at e k))
+      (after_passes l (first ++ confirm) (at e k))
       ∙ ap (λ c. fold classified_by c rs) same in
       ap (λ (p : Numbers). p.keys.best) (after-append l ((first ++ confirm) ++ tests) merge_on_numbers (at e k))
-      ∙ merge_best l (after l ((first ++ confirm) ++ tests) (at e k))
+      ∙ merge_best l (after_passes l ((first ++ confirm) ++ tests) (at e k))
       ∙ ap (merged l) middle
       ∙ ended new k.best (value_of d z) (number_found s q.plain d l.x l.y) (is_found s q.plain d l.x l.y)
       (list_all (suited scene l z) rs) rs r.best r.alive r.has refl
@@ -298,7 +284,7 @@ module _ (covering : CoveringLaw) (parity : ValueParityLaw) (scene : SceneView) 
 
   -- the passes of all literals of all products
   pub passes_best : (products : List Product) (p : Numbers)
-      → (after l (passes_on_numbers scene l.number_bits products) p).keys.best ≡ fold min (key l far 0)
+      → (after_passes l (passes_on_numbers scene l.number_bits products) p).keys.best ≡ fold min (key l far 0)
       (all_found scene l products)
   passes_best products p =
       part_along l (λ k. k.best) (λ product. flat_map (literal_on_numbers scene product) (literals product))
@@ -306,7 +292,7 @@ module _ (covering : CoveringLaw) (parity : ValueParityLaw) (scene : SceneView) 
       (λ product e k. part_along l (λ k. k.best) (literal_on_numbers scene product)
       (λ b q. fold min b (keys_found scene l product q)) (literal_best product) (literals product) (at e k)
       ∙ fold-flat_map min (keys_found scene l product) (literals product) k.best)
-      products (after l (all ∷ load_best (far * 2 ^ l.number_bits) ∷ []) p)
+      products (after_passes l (all ∷ load_best (far * 2 ^ l.number_bits) ∷ []) p)
       ∙ fold-flat_map min (λ product. flat_map (keys_found scene l product) (literals product)) products
       (far * 2 ^ l.number_bits)
       ∙ ap (λ b. fold min b (all_found scene l products)) background

@@ -16,7 +16,8 @@ use Rattle.px_macro.specs.declared.field.Field.{Field}
 use Rattle.px_macro.specs.declared.operation.Macro.{Macro}
 use Rattle.px_macro.specs.declared.operation.Macro.TheVariants as m
 use Rattle.px_sched.specs.Layouts.{deep_part, depth_part, fraction_part, layout_with, number_part}
-use Rattle.px_sched.specs.Numbers.{Keys, Numbers, Pass, KeyedPixel, after, key, meaning, all, keep_sign, keep_at_most}
+use Rattle.px_sched.specs.Numbers.{Keys, Numbers, Pass, KeyedPixel, after_passes, key, meaning, all, keep_sign}
+use Rattle.px_sched.specs.Numbers.{keep_at_most}
 use Rattle.px_sched.specs.Numbers.{keep_alive, keep_par, keep_less, load_deep, clear_fraction, load_number, load_best}
 use Rattle.px_sched.specs.Numbers.{set_alive, set_par, toggle_par, copy}
 
@@ -136,15 +137,15 @@ fraction_written : FieldLaws → (w f i : ℕ) (memory : List Bool) → need w f
     keys_in w f i (with_number (t_fraction w f i) 0 memory) ≡ record (keys_in w f i memory)
     { deep = number_in (t_deep w f i) memory / 2 ^ f * 2 ^ f }
 fraction_written laws w f i memory long =
-    let after = with_number (t_fraction w f i) 0 memory in
+    let after_passes = with_number (t_fraction w f i) 0 memory in
     let low = t_fraction w f i in
     let high : Field = record { at = low.at + f; len = w } in
     let parts : (memory : List Bool) → number_in (t_deep w f i) memory ≡ number_in low memory + 2 ^ f
     * number_in high memory =
     λ memory. let e : w + f ≡ f + w = omega arith in ap (λ n. number_in (record { at = low.at; len = n }) memory) e
     ∙ laws.parts low.at f w memory in
-    let deep : number_in (t_deep w f i) after ≡ number_in (t_deep w f i) memory / 2 ^ f * 2 ^ f =
-    parts after
+    let deep : number_in (t_deep w f i) after_passes ≡ number_in (t_deep w f i) memory / 2 ^ f * 2 ^ f =
+    parts after_passes
     ∙ rw (
       read_back laws low 0 memory (omega arith) (pow_above f),
       laws.kept low high 0 memory (omega arith)
@@ -269,14 +270,14 @@ step_on_numbers laws w f i x y pass room p long = by_enable pass room p.enable p
 pub all_on_numbers : FieldLaws → (w f i x y : ℕ) (passes : List Pass) → All (HasRoom w f i) passes → (p : PixelBits)
     → need w f i ≤ length p.memory →
     let place : KeyedPixel = record { depth_bits = w; fraction_bits = f; number_bits = i; x = x; y = y } in
-    numbers_in w f i (after_macros (map (macro_of w f i) passes) x y p) ≡ after place passes (numbers_in w f i p)
+    numbers_in w f i (after_macros (map (macro_of w f i) passes) x y p) ≡ after_passes place passes (numbers_in w f i p)
 all_on_numbers laws w f i x y [] room p long = refl
 all_on_numbers laws w f i x y (pass ∷ passes) room p long =
     let place : KeyedPixel = record { depth_bits = w; fraction_bits = f; number_bits = i; x = x; y = y }
     in let next = after_macro (macro_of w f i pass) x y p
     in all_on_numbers laws w f i x y passes (All-tail (HasRoom w f i) pass passes room) next
     (omega (arith, laws.size (macro_of w f i pass) x y p))
-    ∙ ap (after place passes) (step_on_numbers laws w f i x y pass (All-head (HasRoom w f i) pass passes room) p long)
+    ∙ ap (after_passes place passes) (step_on_numbers laws w f i x y pass (All-head (HasRoom w f i) pass passes room) p long)
 
 -- two numbers are what their joined number is cut into
 low_part : (i a b c d : ℕ) → a < 2 ^ i → c < 2 ^ i → a + 2 ^ i * b ≡ c + 2 ^ i * d → a ≡ c

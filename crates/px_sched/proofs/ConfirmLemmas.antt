@@ -12,18 +12,21 @@ use Rattle.std.proofs.lemmas.Nat.{pow_pos}
 use Rattle.px_num.specs.Bits.{modulo}
 use Rattle.px_num.specs.Forms.{plus, value_at}
 use Rattle.px_num.proofs.FormLaws.{value_at-plus}
-use Rattle.px_model.specs.Solids.{SolidView}
+use Rattle.px_num.proofs.TruthLaws.{and_both, and_true, beq_true, eqb_holds, le_same, lt_fails, lt_false, lt_holds}
+use Rattle.px_num.proofs.TruthLaws.{lt_is_not_le, lt_true, turned_from_false}
+use Rattle.px_model.specs.Scenes.{SolidView}
 use Rattle.px_model.specs.Cells.{Depths, cell_of, end_of, enters_at, is_inside, is_inside_before, leaves_at, value_of}
 use Rattle.px_model.proofs.CellLaws.{cell_is_first, cell_is_least}
 use Rattle.px_face.specs.Covering.{CoveringLaw, covering_back, covering_front, is_met}
 use Rattle.px_face.specs.Edges.{covers, edges}
-use Rattle.px_face.specs.Faces.{plane_of}
-use Rattle.px_sched.specs.Numbers.{Keys, Numbers, Pass, KeyedPixel, after, all, confirm_on_numbers, drop_on_numbers}
+use Rattle.px_face.specs.Faces.{face_plane}
+use Rattle.px_sched.specs.Numbers.{Keys, Numbers, Pass, KeyedPixel, after_passes, all, confirm_on_numbers}
+use Rattle.px_sched.specs.Numbers.{drop_on_numbers}
 use Rattle.px_sched.specs.Numbers.{keep_at_most, keep_covered_on_numbers, keep_par, residue, set_alive}
-use Rattle.px_sched.specs.Numbers.{turn_on_numbers, where_fraction}
-use Rattle.px_sched.proofs.RunLemmas.{HasRoom, after-append, at, beq_true, end_room, end_small, ended, flip_step}
+use Rattle.px_sched.specs.Numbers.{turn_on_numbers, passes_where_fraction}
+use Rattle.px_sched.proofs.RunLemmas.{HasRoom, after-append, at, end_room, end_small, ended, flip_step}
 use Rattle.px_sched.proofs.RunLemmas.{flips, keys_in_range, keys_of, more_at_most, signed, turn_keys}
-use Rattle.px_sched.proofs.CoverLaws.{and_both, and_true, at_most_is, enters_depth, leaves_depth, same_place}
+use Rattle.px_sched.proofs.CoverLaws.{at_most_is, enters_depth, leaves_depth}
 use Rattle.px_sched.proofs.FoldLemmas.{fold_single, where_test}
 
 -- a test that adds something where the place is the one
@@ -40,15 +43,15 @@ dropped k = record k { alive = false }
 
 -- what a back drops
 drop_keys : (l : KeyedPixel) (end : ℕ) (s : SolidView) (i : ℕ) (e : Bool) (k : Keys)
-    → (after l (drop_on_numbers end s i) (at e k)).keys
-    ≡ (if k.alive && (covers s end i l.x l.y && nat_le (residue l (plane_of s end i)) k.deep) then dropped k else k)
+    → (after_passes l (drop_on_numbers end s i) (at e k)).keys
+    ≡ (if k.alive && (covers s end i l.x l.y && nat_le (residue l (face_plane s end i)) k.deep) then dropped k else k)
 drop_keys l end s i e k =
     let c = covers s end i l.x l.y in
-    let form = plane_of s end i in
+    let form = face_plane s end i in
     let last = keep_at_most form ∷ set_alive false ∷ [] in
     ap (λ (q : Numbers). q.keys) (after-append l (keep_covered_on_numbers end s i) last
     (at (true && beq k.alive true) k))
-    ∙ ap (λ (q : Numbers). (after l last q).keys) (signed l (edges s end i) (true && beq k.alive true) k)
+    ∙ ap (λ (q : Numbers). (after_passes l last q).keys) (signed l (edges s end i) (true && beq k.alive true) k)
     ∙ ap (λ b. if b then dropped k else k)
     (ap (λ a. ((true && a) && c) && nat_le (residue l form) k.deep) (beq_true k.alive)
     ∙ and_both k.alive c (nat_le (residue l form) k.deep))
@@ -79,18 +82,8 @@ and_not true false = refl
 and_not false true = refl
 and_not false false = refl
 
-itself : (b : Bool) → (if b then not false else false) ≡ b
-itself true = refl
-itself false = refl
-
-le_self : (c : ℕ) → nat_le c c ≡ true
-le_self c = grind (arith, nat_tests)
-
 lt_next : (z : ℕ) → nat_lt z (suc z) ≡ true
 lt_next z = grind (arith, nat_tests)
-
-not_le : (u v : ℤ) → lt_z v u ≡ not (le_z u v)
-not_le u v = grind (arith, ints)
 
 above : (u : ℤ) (v : ℕ) → pos v <ℤ u → le_z u (pos v) ≡ false
 above u v h = grind (arith, ints)
@@ -135,35 +128,35 @@ module _ (covering : CoveringLaw) (l : KeyedPixel) (d : Depths) (room : HasRoom 
 
   -- of the backs only the covering one can drop
   back_drops : (v i : ℕ) → covers s end i l.x l.y ≡ (met && eqb i (covering_back s end l.x l.y))
-      → (covers s end i l.x l.y && nat_le (residue l (plane_of s end i)) v)
+      → (covers s end i l.x l.y && nat_le (residue l (face_plane s end i)) v)
       ≡ ((met && le_z leaves (pos v)) && eqb i (covering_back s end l.x l.y))
   back_drops v i is =
-      rw is (where_here met (eqb i (covering_back s end l.x l.y)) (nat_le (residue l (plane_of s end i)) v)
+      rw is (where_here met (eqb i (covering_back s end l.x l.y)) (nat_le (residue l (face_plane s end i)) v)
       (le_z leaves (pos v))
       (λ m here.
-      ap (λ w. nat_le (modulo w bits) v) (ap (λ j. value_at (plane_of s end j) l.x l.y)
-      (same_place i (covering_back s end l.x l.y) here) ∙ (covering s end l.x l.y).back_value)
+      ap (λ w. nat_le (modulo w bits) v) (ap (λ j. value_at (face_plane s end j) l.x l.y)
+      (eqb_holds i (covering_back s end l.x l.y) here) ∙ (covering s end l.x l.y).back_value)
       ∙ at_most_is leaves end bits v (end_small l d room) (leaves_depth covering end s l.x l.y m)))
 
   -- of the fronts only the covering one can turn
   front_turns : (v i : ℕ) → covers s end i l.x l.y ≡ (met && eqb i (covering_front s l.x l.y))
-      → (covers s end i l.x l.y && nat_le (residue l (plus (plane_of s end i) unit)) v)
+      → (covers s end i l.x l.y && nat_le (residue l (plus (face_plane s end i) unit)) v)
       ≡ ((met && le_z (enters +ℤ pos unit) (pos v)) && eqb i (covering_front s l.x l.y))
   front_turns v i is =
-      rw is (where_here met (eqb i (covering_front s l.x l.y)) (nat_le (residue l (plus (plane_of s end i) unit)) v)
+      rw is (where_here met (eqb i (covering_front s l.x l.y)) (nat_le (residue l (plus (face_plane s end i) unit)) v)
       (le_z (enters +ℤ pos unit) (pos v))
       (λ m here.
       let e = enters_depth covering end s l.x l.y m in
       let below = (covering s end l.x l.y).depths m in
       let less : e.depth < end = omega (arith, ints, e.is, below.1, below.2) in
-      ap (λ w. nat_le (modulo w bits) v) (value_at-plus (plane_of s end i) unit l.x l.y
-      ∙ ap (λ w. w +ℤ pos unit) (ap (λ j. value_at (plane_of s end j) l.x l.y)
-      (same_place i (covering_front s l.x l.y) here) ∙ (covering s end l.x l.y).front_value))
+      ap (λ w. nat_le (modulo w bits) v) (value_at-plus (face_plane s end i) unit l.x l.y
+      ∙ ap (λ w. w +ℤ pos unit) (ap (λ j. value_at (face_plane s end j) l.x l.y)
+      (eqb_holds i (covering_front s l.x l.y) here) ∙ (covering s end l.x l.y).front_value))
       ∙ more_at_most enters end bits v e unit (omega (arith, less, end_room l d room))))
 
   -- a plain solid's candidate stays alive where its depth is before the least back
   pub confirm_plain : (e : Bool) (k : Keys)
-      → (after l (confirm_on_numbers d s true) (at e k)).keys
+      → (after_passes l (confirm_on_numbers d s true) (at e k)).keys
       ≡ record k { alive = k.alive && not (met && le_z leaves (pos k.deep)) }
   confirm_plain e k =
       let law = covering s end l.x l.y in
@@ -171,23 +164,17 @@ module _ (covering : CoveringLaw) (l : KeyedPixel) (d : Depths) (room : HasRoom 
       let nb = length s.backs + 1 in
       let kb = covering_back s end l.x l.y in
       let g = met && le_z leaves (pos k.deep) in
-      let t : ℕ → ℕ → Bool = λ v i. covers s end i l.x l.y && nat_le (residue l (plane_of s end i)) v in
+      let t : ℕ → ℕ → Bool = λ v i. covers s end i l.x l.y && nat_le (residue l (face_plane s end i)) v in
       keys_in_range l (drop_on_numbers end s) (drop_step t) nf nb (λ i low high e k. drop_keys l end s i e k) (at e k)
       ∙ drops t k (range_with_len nf nb)
       ∙ ap (λ a. record k { alive = a })
       (fold_single (t k.deep) (λ alive i. false) k.alive nf nb kb g
-      (λ i low high. back_drops k.deep i (law.backs i (omega arith) (is_back i nf low)))
-      (back_low kb nf law.back_behind) (omega (arith, law.back_there))
+      (λ i low high. back_drops k.deep i (law.backs i (omega arith) (lt_false i nf low)))
+      (lt_fails kb nf law.back_behind) (omega (arith, law.back_there))
       ∙ and_not g k.alive)
-    where
-      is_back : (i n : ℕ) → n ≤ i → nat_lt i n ≡ false
-      is_back i n h = grind (arith, nat_tests)
-
-      back_low : (i n : ℕ) → nat_lt i n ≡ false → n ≤ i
-      back_low i n h = grind (arith, nat_tests)
 
   abbrev turns : List Pass
-  turns = flat_map (λ i. turn_on_numbers end s i (plus (plane_of s end i) unit))
+  turns = flat_map (λ i. turn_on_numbers end s i (plus (face_plane s end i) unit))
       (range_with_len 0 (length s.fronts + 1))
 
   and_here : (a b c g h : Bool) → (b && c) ≡ (g && h) → (a && (b && c)) ≡ ((a && g) && h)
@@ -197,34 +184,28 @@ module _ (covering : CoveringLaw) (l : KeyedPixel) (d : Depths) (room : HasRoom 
   -- a barred solid's where the greatest front is a whole cell before it, or more
   pub confirm_barred : (e : Bool) (k : Keys)
       → (let g = k.alive && (met && le_z (enters +ℤ pos unit) (pos k.deep)) in
-      (after l (confirm_on_numbers d s false) (at e k)).keys ≡ keys_of k.best k.deep k.number g g)
+      (after_passes l (confirm_on_numbers d s false) (at e k)).keys ≡ keys_of k.best k.deep k.number g g)
   confirm_barred e k =
       let law = covering s end l.x l.y in
       let nf = length s.fronts + 1 in
       let kf = covering_front s l.x l.y in
       let g = met && le_z (enters +ℤ pos unit) (pos k.deep) in
-      let t : ℕ → ℕ → Bool = λ v i. covers s end i l.x l.y && nat_le (residue l (plus (plane_of s end i) unit)) v in
+      let t : ℕ → ℕ → Bool = λ v i. covers s end i l.x l.y && nat_le (residue l (plus (face_plane s end i) unit)) v in
       let start = record k { par = false } in
       let last = all ∷ keep_par false ∷ set_alive false ∷ [] in
-      let turned : (after l turns (at true start)).keys ≡ keys_of k.best k.deep k.number k.alive (k.alive && g) =
-      keys_in_range l (λ i. turn_on_numbers end s i (plus (plane_of s end i) unit)) (flip_step t) 0 nf
-      (λ i low high e k. turn_keys l end s i (plus (plane_of s end i) unit) e k) (at true start)
+      let turned : (after_passes l turns (at true start)).keys ≡ keys_of k.best k.deep k.number k.alive (k.alive && g) =
+      keys_in_range l (λ i. turn_on_numbers end s i (plus (face_plane s end i) unit)) (flip_step t) 0 nf
+      (λ i low high e k. turn_keys l end s i (plus (face_plane s end i) unit) e k) (at true start)
       ∙ flips t start (range_with_len 0 nf)
       ∙ ap (λ b. keys_of k.best k.deep k.number k.alive b)
       (fold_single (λ i. k.alive && t k.deep i) (λ odd i. not odd) false 0 nf kf (k.alive && g)
-      (λ i low high. and_here k.alive (covers s end i l.x l.y) (nat_le (residue l (plus (plane_of s end i) unit))
-      k.deep) g (eqb i kf) (front_turns k.deep i (law.fronts i (is_front_place i nf (omega arith)))))
-      (omega arith) (omega (arith, front_low kf nf law.front_there))
-      ∙ itself (k.alive && g)) in
+      (λ i low high. and_here k.alive (covers s end i l.x l.y) (nat_le (residue l (plus (face_plane s end i) unit))
+      k.deep) g (eqb i kf) (front_turns k.deep i (law.fronts i (lt_true i nf (omega arith)))))
+      (omega arith) (omega (arith, lt_holds kf nf law.front_there))
+      ∙ turned_from_false (k.alive && g)) in
       ap (λ (q : Numbers). q.keys) (after-append l turns last (at true start))
       ∙ ap (λ (q : Keys). if true && beq q.par false then record q { alive = false } else q) turned
       ∙ ended k.best k.deep k.number k.alive g true
-    where
-      is_front_place : (i n : ℕ) → i < n → nat_lt i n ≡ true
-      is_front_place i n h = grind (arith, nat_tests)
-
-      front_low : (i n : ℕ) → nat_lt i n ≡ true → i < n
-      front_low i n h = grind (arith, nat_tests)
 
   abbrev pub test : (plain : Bool) → (v : ℕ) → Bool
   test plain v = if plain then not (met && le_z leaves (pos v)) else (met && le_z (enters +ℤ pos unit) (pos v))
@@ -237,14 +218,14 @@ module _ (covering : CoveringLaw) (l : KeyedPixel) (d : Depths) (room : HasRoom 
     pub alive : new.alive ≡ (k.alive && ((d.fraction_bits == 0) || test plain k.deep))
 
   by_kind : (plain e : Bool) (k : Keys) → (d.fraction_bits == 0) ≡ false
-      → IsConfirmed plain k (after l (confirm_on_numbers d s plain) (at e k)).keys
+      → IsConfirmed plain k (after_passes l (confirm_on_numbers d s plain) (at e k)).keys
   by_kind true e k some =
       rw (confirm_plain e k) (record { best = refl; deep = refl; number = refl; alive = rw some refl })
   by_kind false e k some =
       rw (confirm_barred e k) (record { best = refl; deep = refl; number = refl; alive = rw some refl })
 
   pub confirmed : (plain e : Bool) (k : Keys)
-      → IsConfirmed plain k (after l (where_fraction d.fraction_bits (confirm_on_numbers d s plain)) (at e k)).keys
+      → IsConfirmed plain k (after_passes l (passes_where_fraction d.fraction_bits (confirm_on_numbers d s plain)) (at e k)).keys
   confirmed plain e k = elim (cases_Bool (d.fraction_bits == 0)) [
     | inl none ↦ rw none (record { best = refl; deep = refl; number = refl; alive = rw none (sym (and_true k.alive)) })
     | inr some ↦ rw some (by_kind plain e k some)
@@ -255,9 +236,9 @@ module _ (covering : CoveringLaw) (l : KeyedPixel) (d : Depths) (room : HasRoom 
       ≡ is_inside s d l.x l.y c
   plain_test c e m =
       let v = value_of d c in
-      let low : le_z enters (pos v) ≡ true = sym (cell_is_first d enters c) ∙ ap (λ n. nat_le n c) e ∙ le_self c in
+      let low : le_z enters (pos v) ≡ true = sym (cell_is_first d enters c) ∙ ap (λ n. nat_le n c) e ∙ le_same c in
       let inside : is_inside s d l.x l.y c ≡ not (met && le_z leaves (pos v)) =
-      (covering s end l.x l.y).values v ∙ rw (m, low) (not_le leaves (pos v)) in
+      (covering s end l.x l.y).values v ∙ rw (m, low) (lt_is_not_le leaves (pos v)) in
       elim (cases_Bool (d.fraction_bits == 0)) [
         | inl none ↦ ap (λ b. b || test true v) none ∙ sym (inside ∙ rw (m, whole none) refl)
         | inr some ↦ ap (λ b. b || test true v) some ∙ sym inside

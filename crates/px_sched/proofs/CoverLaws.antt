@@ -9,34 +9,16 @@ use Rattle.std.proofs.lemmas.Nat.{mod-mul-add}
 use lib.Signed.{le_z}
 use Rattle.px_num.specs.Bits.{modulo}
 use Rattle.px_num.specs.Forms.{value_at}
-use Rattle.px_model.specs.Solids.{SolidView}
+use Rattle.px_num.proofs.TruthLaws.{and_left, and_right, eqb_holds}
+use Rattle.px_model.specs.Scenes.{SolidView}
 use Rattle.px_model.specs.Cells.{enters_at, leaves_at}
 use Rattle.px_face.specs.Covering.{CoveringLaw, covering_back, covering_front, is_met}
 use Rattle.px_face.specs.Edges.{covers}
-use Rattle.px_face.specs.Faces.{face_count, is_front, plane_of}
-
-pub and_true : (a : Bool) → a && true ≡ a
-and_true true = refl
-and_true false = refl
-
-pub and_both : (a b c : Bool) → (a && b) && c ≡ a && (b && c)
-and_both true b c = refl
-and_both false b c = refl
-
-pub and_left : (a b : Bool) → a && b ≡ true → a ≡ true
-and_left true b e = refl
-and_left false b e = e
-
-pub and_right : (a b : Bool) → a && b ≡ true → b ≡ true
-and_right true b e = e
-and_right false b e = cc
+use Rattle.px_face.specs.Faces.{face_count, is_front_face, face_plane}
 
 pub and_same : (c a b : Bool) → (c ≡ true → a ≡ b) → (c && a) ≡ (c && b)
 and_same true a b h = h refl
 and_same false a b h = refl
-
-pub same_place : (i k : ℕ) → eqb i k ≡ true → i ≡ k
-same_place i k h = grind (arith, nat_tests)
 
 pub not_negative : (v : ℤ) → not (is_negative v) ≡ le_z (pos 0) v
 not_negative v = grind (arith, ints)
@@ -77,34 +59,34 @@ module _ (covering : CoveringLaw) (end : ℕ) (s : SolidView) (x y : ℕ) where
       depth_of (leaves_at s end x y) end (omega (arith, ints, d.0, d.1)) d.2
 
   front_value : (i : ℕ) → (is_met s end x y && eqb i (covering_front s x y)) ≡ true
-      → IsDepth (value_at (plane_of s end i) x y) end
+      → IsDepth (value_at (face_plane s end i) x y) end
   front_value i e =
       let one = enters_depth (and_left (is_met s end x y) (eqb i (covering_front s x y)) e) in
-      let same = same_place i (covering_front s x y) (and_right (is_met s end x y) (eqb i (covering_front s x y)) e) in
+      let same = eqb_holds i (covering_front s x y) (and_right (is_met s end x y) (eqb i (covering_front s x y)) e) in
       record {
         depth = one.depth;
-        is = ap (λ j. value_at (plane_of s end j) x y) same
+        is = ap (λ j. value_at (face_plane s end j) x y) same
             ∙ (covering s end x y).front_value ∙ one.is;
         below = one.below;
       }
 
   back_value : (i : ℕ) → (is_met s end x y && eqb i (covering_back s end x y)) ≡ true
-      → IsDepth (value_at (plane_of s end i) x y) end
+      → IsDepth (value_at (face_plane s end i) x y) end
   back_value i e =
       let one = leaves_depth (and_left (is_met s end x y) (eqb i (covering_back s end x y)) e) in
-      let same = same_place i (covering_back s end x y)
+      let same = eqb_holds i (covering_back s end x y)
       (and_right (is_met s end x y) (eqb i (covering_back s end x y)) e) in
       record {
         depth = one.depth;
-        is = ap (λ j. value_at (plane_of s end j) x y) same
+        is = ap (λ j. value_at (face_plane s end j) x y) same
             ∙ (covering s end x y).back_value ∙ one.is;
         below = one.below;
       }
 
   -- the value of a face that covers is a depth
   pub covering_value : (i : ℕ) → i < face_count s → covers s end i x y ≡ true
-      → IsDepth (value_at (plane_of s end i) x y) end
-  covering_value i there c = elim (cases_Bool (is_front s i)) [
+      → IsDepth (value_at (face_plane s end i) x y) end
+  covering_value i there c = elim (cases_Bool (is_front_face s i)) [
     | inl front ↦ front_value i (sym ((covering s end x y).fronts i front) ∙ c)
     | inr back ↦ back_value i (sym ((covering s end x y).backs i there back) ∙ c)
   ]

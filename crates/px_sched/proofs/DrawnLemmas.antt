@@ -2,11 +2,11 @@
 use Rattle.std.proofs.Common.{◌≡◌, ℕ, ◌<◌, All, Bool, true, false, List, [], ◌∷◌, filter, get_or, length, nat_lt}
 use Rattle.std.proofs.Common.{refl, ap, sym, subst, ◌∙◌, arith, length-append}
 use Rattle.std.specs.List.{list_all}
-use Rattle.std.proofs.lemmas.Bool.Decides.{nat_tests}
 use Rattle.std.proofs.lemmas.List.{length-map}
 use Rattle.std.proofs.lemmas.List.Elements.{All-append, All-map, All-weaker, filter-append}
 use Rattle.std.proofs.lemmas.List.Folds.{list_all-append}
 use Rattle.std.proofs.lemmas.List.Sums.{AllPass-from_list_all}
+use Rattle.px_num.proofs.TruthLaws.{lt_holds, lt_true}
 use Prim.Native.Nat.{zero, suc}
 use Rattle.px_normal.specs.declared.product.Product.{Product}
 use Rattle.px_normal.specs.declared.set.SolidSet.{SolidSet}
@@ -16,7 +16,7 @@ use Rattle.px_prune.specs.Kept.{kept_of}
 use Rattle.px_prune.specs.PruningLaw.{PlainIsKept}
 use Rattle.px_model.specs.Scenes.{IsLawfulScene, SceneView}
 use Rattle.px_sched.specs.declared.literal.Literal.{Literal}
-use Rattle.px_sched.specs.Onward.{IsDrawn}
+use Rattle.px_sched.specs.Onward.{HasKnownLiterals}
 use Rattle.px_sched.specs.Passes.{literals_of}
 
 abbrev is_known : ℕ → ℕ → Bool
@@ -50,12 +50,6 @@ unfolding solids
 solids_pass set test n e known = ap (λ k. list_all test (filter (has set) (below k))) (sym e)
     ∙ pass n (has set) test (λ q low. known q (omega (arith, low, e)))
 
-lt_true : (i n : ℕ) → i < n → nat_lt i n ≡ true
-lt_true i n h = grind (arith, nat_tests)
-
-lt_below : (i n : ℕ) → nat_lt i n ≡ true → i < n
-lt_below i n h = grind (arith, nat_tests)
-
 known_solids : (count : ℕ) (p : Product) → HasSolidsBelow count p → HasSolids (is_known count) p
 known_solids count p (plain, barred) = record {
   plain = solids_pass p.plain (is_known count) 256 refl (λ q low h. lt_true q count (plain q low h));
@@ -66,10 +60,10 @@ known_literals : (count : ℕ) (plain : Bool) (qs : List ℕ) → list_all (is_k
     → All (λ r. r.solid < count) (literals_of plain qs)
 known_literals count plain qs known =
     All-map (λ r. r.solid < count) (λ solid. record { solid = solid; plain = plain }) qs
-    (All-weaker (λ q. is_known count q ≡ true) (λ q. q < count) (λ q e. lt_below q count e) qs
+    (All-weaker (λ q. is_known count q ≡ true) (λ q. q < count) (λ q e. lt_holds q count e) qs
     (AllPass-from_list_all (is_known count) qs known))
 
-drawn : (scene : SceneView) (p : Product) → HasPlain p → HasSolids (is_known (length scene.solids)) p → IsDrawn scene p
+drawn : (scene : SceneView) (p : Product) → HasPlain p → HasSolids (is_known (length scene.solids)) p → HasKnownLiterals scene p
 drawn scene p plain known = record {
   some = omega (
     arith,
@@ -87,17 +81,17 @@ drawn scene p plain known = record {
     one plain solid = record { solid = solid; plain = plain }
 
 both_drawn : (scene : SceneView) (ps : List Product) → All HasPlain ps
-    → All (HasSolids (is_known (length scene.solids))) ps → All (IsDrawn scene) ps
+    → All (HasSolids (is_known (length scene.solids))) ps → All (HasKnownLiterals scene) ps
 both_drawn scene ps plain known k d low = drawn scene (get_or ps k d) (plain k d low) (known k d low)
 
 pub kept_drawn : PlainIsKept → KnownAreKept → (scene : SceneView) (ps : List Product) → IsLawfulScene scene
     → All HasPlain (sum_of_products scene.show)
     → All (HasSolidsBelow (length scene.solids)) (sum_of_products scene.show)
-    → ps ≡ kept_of scene (sum_of_products scene.show) → All (IsDrawn scene) ps
+    → ps ≡ kept_of scene (sum_of_products scene.show) → All (HasKnownLiterals scene) ps
 kept_drawn keeps_plain keeps_known scene ps lawful plain known is =
     let count = length scene.solids in
     let sum = sum_of_products scene.show in
-    subst (All (IsDrawn scene)) (sym is)
+    subst (All (HasKnownLiterals scene)) (sym is)
     (both_drawn scene (kept_of scene sum) (keeps_plain scene sum plain)
     (All-weaker (HasSolidsBelow count) (HasSolids (is_known count)) (known_solids count) (kept_of scene sum)
     (keeps_known count scene sum known)))

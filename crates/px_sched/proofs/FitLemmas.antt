@@ -16,9 +16,10 @@ use Rattle.std.proofs.Math.Pow.{pow_mono}
 use Prim.Native.Nat.{zero, suc}
 use Rattle.px_num.proofs.RangeLaws.{range_all}
 use Rattle.px_num.proofs.FormLaws.{wider}
+use Rattle.px_num.proofs.TruthLaws.{le_false, le_true}
 use Rattle.px_face.specs.EdgeLaws.{EdgesAreInRange, PlanesAreInRange}
 use Rattle.px_face.specs.Edges.{edges}
-use Rattle.px_face.specs.Faces.{face_count, number_of, numbers_of, plane_of}
+use Rattle.px_face.specs.Faces.{face_count, face_number, numbers_in_faces, face_plane}
 use Rattle.px_macro.specs.Macros.{IsField, IsLawful}
 use Rattle.px_macro.specs.declared.operation.Macro.{Macro}
 use Rattle.px_macro.specs.declared.operation.Macro.TheVariants as m
@@ -27,7 +28,7 @@ use Rattle.px_model.specs.Cells.{Depths, depths_of, end_of}
 use Rattle.px_model.proofs.CellLaws.{end_is_small}
 use Rattle.px_model.proofs.PlaneLaws.{plane_range}
 use Rattle.px_model.specs.Scenes.{AreNumberedFrom, IsLawfulScene, IsNumberedFrom, SceneView, faces_of}
-use Rattle.px_model.specs.Solids.{IsLawfulSolid, IsPlane, SolidView, faces_in}
+use Rattle.px_model.specs.Scenes.{IsLawfulSolid, IsPlane, SolidView, faces_in}
 use Rattle.px_model.specs.declared.solid.Face.{Face}
 use Rattle.px_sched.specs.declared.literal.Literal.{Literal}
 use Rattle.px_sched.specs.Layouts.{LayoutView, bit_length, deep_part, fraction_part, layout_of, layout_with, need_of}
@@ -35,8 +36,8 @@ use Rattle.px_sched.specs.Layouts.{number_part}
 use Rattle.px_sched.specs.Passes.{candidate, candidate_faces, classify, confirm, drop_behind, where_fraction}
 use Rattle.px_sched.specs.Passes.{keep_covered, literal_passes, literals, merge, no_solid, others, passes_with}
 use Rattle.px_sched.specs.Passes.{solid_of, turn}
-use Rattle.px_sched.proofs.FewLemmas.{any_solid, candidate_faces_there, no_solid_lawful}
-use Rattle.px_sched.proofs.LayoutLemmas.{counted, passed_over, le_false, le_true, scene_layout}
+use Rattle.px_sched.proofs.FewLaws.{any_solid, candidate_faces_there, no_solid_lawful}
+use Rattle.px_sched.proofs.LayoutLaws.{counted, passed_over, scene_layout}
 
 all_flat : {X : Type 0} (P : Macro → Type 0) (Q : X → Type 0) (f : X → List Macro) → ((x : X) → Q x → All P (f x))
     → (xs : List X) → All Q xs → All P (flat_map f xs)
@@ -124,20 +125,20 @@ module _ (ranges : EdgesAreInRange) (planes : PlanesAreInRange) (w i : ℕ) (sce
     signs_fit : (s : SolidView) (face : ℕ) → IsLawfulSolid s → face < face_count s → All Fits (keep_covered end s face)
     signs_fit s face lawful there = All-map Fits m.KeepSign (edges s end face) (ranges s lawful end face small there)
 
-    candidate_fits : (s : SolidView) → IsLawfulSolid s → ((face : ℕ) → number_of s face < 2 ^ i) → (face : ℕ)
+    candidate_fits : (s : SolidView) → IsLawfulSolid s → ((face : ℕ) → face_number s face < 2 ^ i) → (face : ℕ)
         → face < face_count s → All Fits (candidate l d s face)
     candidate_fits s lawful number face there =
-        let load = m.LoadLinear (plus (plane_of s end face) (2 ^ f - 1)) (deep_part l l.key_t) in
+        let load = m.LoadLinear (plus (face_plane s end face) (2 ^ f - 1)) (deep_part l l.key_t) in
         let zero = m.LoadConst (fraction_part l l.key_t) 0 in
         let clear = where_fraction d (zero ∷ []) in
-        let take = m.LoadConst (number_part l l.key_t) (number_of s face) in
+        let take = m.LoadConst (number_part l l.key_t) (face_number s face) in
         let set = m.SetBit l.alive true in
         let rest = load ∷ clear ++ take ∷ set ∷ [] in
         cons m.All (keep_covered end s face ++ rest) tt
         (All-append Fits (keep_covered end s face) rest (signs_fit s face lawful there)
         (All-append Fits (load ∷ clear) (take ∷ set ∷ [])
         (cons load clear (
-          plus_range (plane_of s end face) (2 ^ f - 1) (omega (arith, unit_most))
+          plus_range (face_plane s end face) (2 ^ f - 1) (omega (arith, unit_most))
               (planes s lawful end face small there),
           deep_field,
         )
@@ -160,14 +161,14 @@ module _ (ranges : EdgesAreInRange) (planes : PlanesAreInRange) (w i : ℕ) (sce
     drop_fits : (s : SolidView) → IsLawfulSolid s → (face : ℕ) → face < face_count s
         → All Fits (drop_behind l end s face)
     drop_fits s lawful face there =
-        let test = m.KeepAtMost (plane_of s end face) (deep_part l l.key_t) in
+        let test = m.KeepAtMost (face_plane s end face) (deep_part l l.key_t) in
         let set = m.SetBit l.alive false in
         let keep = m.KeepBit l.alive true in
         let signs = keep_covered end s face in
         cons m.All (keep ∷ (signs ++ (test ∷ set ∷ []))) tt
         (cons keep (signs ++ (test ∷ set ∷ [])) alive_there
         (All-append Fits signs (test ∷ set ∷ []) (signs_fit s face lawful there)
-        (cons test (set ∷ []) (plane_range (plane_of s end face) (planes s lawful end face small there), deep_field)
+        (cons test (set ∷ []) (plane_range (face_plane s end face) (planes s lawful end face small there), deep_field)
         (one set alive_there))))
 
     turns_fit : (s : SolidView) → IsLawfulSolid s → (form : ℕ → Linear)
@@ -187,7 +188,7 @@ module _ (ranges : EdgesAreInRange) (planes : PlanesAreInRange) (w i : ℕ) (sce
 
     classify_fits : (s : SolidView) (plain : Bool) → IsLawfulSolid s → All Fits (classify l end s plain)
     classify_fits s plain lawful =
-        turns_fit s lawful (plane_of s end) (λ face there. plane_range (plane_of s end face)
+        turns_fit s lawful (face_plane s end) (λ face there. plane_range (face_plane s end face)
         (planes s lawful end face small there)) (not plain) (face_count s) (omega arith)
 
     confirm_fits : (s : SolidView) (plain : Bool) → IsLawfulSolid s → All Fits (confirm l d s plain)
@@ -197,8 +198,8 @@ module _ (ranges : EdgesAreInRange) (planes : PlanesAreInRange) (w i : ℕ) (sce
         (range_with_len (length s.fronts + 1) n)
         (range_all (λ face. face < face_count s) (length s.fronts + 1) n (λ i low high. omega arith))
     confirm_fits s false lawful =
-        turns_fit s lawful (λ face. plus (plane_of s end face) (2 ^ f))
-        (λ face there. plus_range (plane_of s end face) (2 ^ f) (omega (arith, unit_most))
+        turns_fit s lawful (λ face. plus (face_plane s end face) (2 ^ f))
+        (λ face there. plus_range (face_plane s end face) (2 ^ f) (omega (arith, unit_most))
         (planes s lawful end face small there)) false (length s.fronts + 1) (omega arith)
 
     merge_fits : All Fits (merge l)
@@ -213,7 +214,7 @@ module _ (ranges : EdgesAreInRange) (planes : PlanesAreInRange) (w i : ℕ) (sce
         (All-nil Fits))))
 
   module _ (small : end < 2 ^ (w + f)) (lawful : All IsLawfulSolid scene.solids) (numbers : (solid face : ℕ)
-      → number_of (solid_of scene solid) face < 2 ^ i) where
+      → face_number (solid_of scene solid) face < 2 ^ i) where
     end_small : end < 2 ^ 32
     end_small = let bound : 2 ^ (w + f) ≤ 2 ^ 24 = pow_mono {i = w + f} {j = 24} w_most in omega (arith, small, bound)
 
@@ -281,42 +282,42 @@ any_number b some [] all k = some
 any_number b some (n ∷ ns) all zero = All-head (λ n. n < b) n ns all
 any_number b some (n ∷ ns) all (suc k) = any_number b some ns (All-tail (λ n. n < b) n ns all) k
 
-faces_below : (b : ℕ) (faces : List Face) → All (λ f. f.number < b) faces → All (λ n. n < b) (numbers_of faces)
+faces_below : (b : ℕ) (faces : List Face) → All (λ f. f.number < b) faces → All (λ n. n < b) (numbers_in_faces faces)
 faces_below b faces all = All-map (λ n. n < b) (λ f. f.number) faces all
 
 numbers_below : (b first : ℕ) (s : SolidView) → IsNumberedFrom first s → first + faces_in s ≤ b → (face : ℕ)
-    → number_of s face < b
+    → face_number s face < b
 numbers_below b first s is high face =
     let some : 0 < b = omega (arith, high) in
     let wide : (faces : List Face) → All (λ f. f.number < first + faces_in s) faces → All (λ f. f.number < b) faces =
     λ faces all k d low. omega (arith, all k d low, high) in
-    any_number b some ((s.near_number ∷ numbers_of s.fronts) ++ (numbers_of s.backs ++ 0 ∷ []))
-    (All-append (λ n. n < b) (s.near_number ∷ numbers_of s.fronts) (numbers_of s.backs ++ 0 ∷ [])
-    (All-cons (λ n. n < b) s.near_number (numbers_of s.fronts) (omega (arith, is.near, high))
+    any_number b some ((s.near_number ∷ numbers_in_faces s.fronts) ++ (numbers_in_faces s.backs ++ 0 ∷ []))
+    (All-append (λ n. n < b) (s.near_number ∷ numbers_in_faces s.fronts) (numbers_in_faces s.backs ++ 0 ∷ [])
+    (All-cons (λ n. n < b) s.near_number (numbers_in_faces s.fronts) (omega (arith, is.near, high))
     (faces_below b s.fronts (wide s.fronts is.fronts)))
-    (All-append (λ n. n < b) (numbers_of s.backs) (0 ∷ []) (faces_below b s.backs (wide s.backs is.backs))
+    (All-append (λ n. n < b) (numbers_in_faces s.backs) (0 ∷ []) (faces_below b s.backs (wide s.backs is.backs))
     (All-cons (λ n. n < b) 0 [] some (All-nil (λ n. n < b)))))
     face
 
 all_below : (b first : ℕ) (ss : List SolidView) → AreNumberedFrom first ss → first + faces_of ss ≤ b
-    → All (λ s. (face : ℕ) → number_of s face < b) ss
+    → All (λ s. (face : ℕ) → face_number s face < b) ss
 all_below b first [] are high = All-nil _
 all_below b first (s ∷ ss) (is, are) high =
     let size = sum_by-cons faces_in s ss in
-    All-cons (λ s. (face : ℕ) → number_of s face < b) s ss (numbers_below b first s is (omega (arith, high, size)))
+    All-cons (λ s. (face : ℕ) → face_number s face < b) s ss (numbers_below b first s is (omega (arith, high, size)))
     (all_below b (first + faces_in s) ss are (omega (arith, high, size)))
 
-numbers_fit : (scene : SceneView) → IsLawfulScene scene → (solid face : ℕ) → number_of (solid_of scene solid) face
+numbers_fit : (scene : SceneView) → IsLawfulScene scene → (solid face : ℕ) → face_number (solid_of scene solid) face
     < 2 ^ bit_length (faces_of scene.solids)
 numbers_fit scene lawful solid face =
     let n = faces_of scene.solids in
     let fits : n < 2 ^ bit_length n = room n 12 (omega (arith, lawful.faces)) in
     let b = 1 + n in
-    let none : (face : ℕ) → number_of no_solid face < b =
+    let none : (face : ℕ) → face_number no_solid face < b =
     λ face. any_number b (omega arith) (0 ∷ 0 ∷ []) (All-cons (λ n. n < b) 0 (0 ∷ []) (omega arith)
     (All-cons (λ n. n < b) 0 [] (omega arith) (All-nil (λ n. n < b)))) face in
-    let low : number_of (solid_of scene solid) face < b =
-    any_solid (λ s. (face : ℕ) → number_of s face < b) scene (all_below b 1 scene.solids lawful.numbers (omega arith))
+    let low : face_number (solid_of scene solid) face < b =
+    any_solid (λ s. (face : ℕ) → face_number s face < b) scene (all_below b 1 scene.solids lawful.numbers (omega arith))
     none solid face in
     omega (arith, low, fits)
 

@@ -4,17 +4,7 @@ use Rattle.std.proofs.Common.{inl, inr, if◌then◌else◌}
 use Rattle.std.specs.List.{fold, range_with_len}
 use Rattle.std.proofs.lemmas.Bool.{cases_eq, cond-false}
 use Rattle.std.proofs.lemmas.Bool.Decides.{nat_tests}
-use Rattle.px_sched.proofs.CoverLaws.{and_true}
-
-pub and_false : (a : Bool) → a && false ≡ false
-and_false true = refl
-and_false false = refl
-
-eqb_same : (k : ℕ) → eqb k k ≡ true
-eqb_same k = grind (arith, nat_tests)
-
-eqb_other : (i k : ℕ) → (i ≡ k → ⊥) → eqb i k ≡ false
-eqb_other i k h = grind (arith, nat_tests)
+use Rattle.px_num.proofs.TruthLaws.{and_false, and_true, eqb_itself, eqb_other}
 
 pub elsewhere : (m : Bool) (i n k : ℕ) → i < n → n ≤ k → (m && eqb i k) ≡ false
 elsewhere true i n k p q = grind (arith, nat_tests)
@@ -39,7 +29,7 @@ pub fold_single : {S : Type 0} (t : ℕ → Bool) (f : S → ℕ → S) (s : S) 
 fold_single t f s a zero k g one low high = absurd (omega arith)
 fold_single t f s a (suc n) k g one low high = elim (cases_eq a k) [
   | inl e ↦
-      let here : t a ≡ g = one a (omega arith) (omega arith) ∙ rw (e, eqb_same k) (and_true g) in
+      let here : t a ≡ g = one a (omega arith) (omega arith) ∙ rw (e, eqb_itself k) (and_true g) in
       let first : where_test t f s a ≡ (if g then f s k else s) = rw (here, e) refl in
       ap (λ v. fold (where_test t f) v (range_with_len (a + 1) n)) first
       ∙ fold_none t f (if g then f s k else s) (a + 1) n (λ i p q. one i (omega arith) (omega arith)

@@ -11,7 +11,7 @@ use Rattle.px_sched.specs.Groups.{IsGroup, literal_of, no_product, others_of, pr
 use Rattle.px_sched.specs.Layouts.{LayoutView}
 use Rattle.px_sched.specs.Passes.{literals}
 use Rattle.px_sched.specs.Steps.{IsStep, IsStepOf, behind_step}
-use Rattle.px_sched.specs.Onward.{AreKnown, from_step_if_any, IsDrawn}
+use Rattle.px_sched.specs.Onward.{AreKnown, from_step_if_any, HasKnownLiterals}
 
 -- the literal of a group and the others, as they were found
 pub others_are : (products : List Product) (g : Group) (q : Literal) (rs all : List Literal)
@@ -22,9 +22,9 @@ others_are products g q rs all e f h =
     ∙ ap (λ (p : Literal). filter (λ r. not (r.solid == p.solid)) (literals (product_at products g.product))) f
 
 pub others_known : (scene : SceneView) (products : List Product) (g : Group) (rs : List Literal)
-    → g.product < length products → All (IsDrawn scene) products → rs ≡ others_of products g → AreKnown scene rs
+    → g.product < length products → All (HasKnownLiterals scene) products → rs ≡ others_of products g → AreKnown scene rs
 others_known scene products g rs there drawn e =
-    let known = (All-get_or (IsDrawn scene) products g.product no_product there drawn).known in
+    let known = (All-get_or (HasKnownLiterals scene) products g.product no_product there drawn).known in
     subst (AreKnown scene) (sym e)
     (All-filter (λ r. not (r.solid == (literal_of products g).solid)) (λ r. r.solid < length scene.solids)
     (literals (product_at products g.product)) known)

@@ -3,9 +3,10 @@ use Rattle.std.proofs.Common.{◌≡◌, ◌<◌, ◌≤◌, ◌+◌, ◌*◌, �
 use Rattle.std.proofs.Common.{nat_lt, List, length, min, refl, ap, sym, ◌∙◌, arith, inl, inr, ◌⊎◌, eqb}
 use Rattle.std.specs.List.{All, fold, flat_map, list_all}
 use Rattle.std.proofs.lemmas.Bool.{cases_Bool}
-use Rattle.std.proofs.lemmas.Bool.Decides.{nat_tests}
+use Rattle.px_num.proofs.TruthLaws.{and_false, and_left, and_right, eqb_holds, first_of_three, lt_false, lt_holds}
+use Rattle.px_num.proofs.TruthLaws.{lt_true, third_of_three}
 use Rattle.px_model.specs.Scenes.{AreNumberedFrom, IsNumberedFrom, SceneView, faces_of}
-use Rattle.px_model.specs.Solids.{IsLawfulSolid, SolidView, faces_in}
+use Rattle.px_model.specs.Scenes.{IsLawfulSolid, SolidView, faces_in}
 use Rattle.px_model.specs.Cells.{Depths, cell_of, depths_of, end_of, enters_at, far_of, is_inside, is_inside_before}
 use Rattle.px_model.specs.Cells.{leaf_cell, leaves_at, value_of}
 use Rattle.px_face.specs.Covering.{CellsLaw, CoveringLaw, covering_back, is_met}
@@ -15,10 +16,8 @@ use Rattle.px_sched.specs.declared.literal.Literal.{Literal}
 use Rattle.px_sched.specs.Numbers.{KeyedPixel, key}
 use Rattle.px_sched.specs.Passes.{literals, no_solid, others, solid_of}
 use Rattle.px_sched.proofs.RunLemmas.{suits}
-use Rattle.px_sched.proofs.CoverLaws.{and_left, and_right}
-use Rattle.px_sched.proofs.BlockLemmas.{all_found, cell_found, is_covered, is_found, keys_found, lt_false, lt_holds}
-use Rattle.px_sched.proofs.BlockLemmas.{lt_true, number_found, suited}
-use Rattle.px_sched.proofs.FoldLemmas.{and_false}
+use Rattle.px_sched.proofs.BlockLemmas.{all_found, cell_found, is_covered, is_found, keys_found}
+use Rattle.px_sched.proofs.BlockLemmas.{number_found, suited}
 use Rattle.px_sched.proofs.MemberLemmas.{In, all_kept, all_of, any_in, any_out, in_filter, in_flat, in_where}
 use Rattle.px_sched.proofs.MemberLemmas.{min_below, min_reached, min_start, one_of, out_flat}
 use Rattle.px_sched.proofs.LiteralLemmas.{backs_below, barred_seen, barred_there, fronts_below, plain_seen, plain_shows}
@@ -43,12 +42,8 @@ module _ (covering : CoveringLaw) (cells : CellsLaw) (d : Depths) (s : SolidView
 
   met_inside : (z : ℕ) → is_inside s d x y z ≡ true → is_met s (end_of d) x y ≡ true
   met_inside z inside =
-      first_of (is_met s (end_of d) x y) (nat_le (cell_of d (enters_at s x y)) z)
+      first_of_three (is_met s (end_of d) x y) (nat_le (cell_of d (enters_at s x y)) z)
       (nat_lt z (cell_of d (leaves_at s (end_of d) x y))) (sym ((cells s d x y).cells z) ∙ inside)
-    where
-      first_of : (a b c : Bool) → (a && b && c) ≡ true → a ≡ true
-      first_of true b c h = refl
-      first_of false b c h = h
 
   is_candidate : (plain : Bool) → is_found s plain d x y ≡ true → IsCandidate plain
   is_candidate true found =
@@ -67,13 +62,8 @@ module _ (covering : CoveringLaw) (cells : CellsLaw) (d : Depths) (s : SolidView
         shown = plain_shows covering s d x y;
       }
     where
-      third_of : (a b c : Bool) → (a && b && c) ≡ true → c ≡ true
-      third_of true true c h = h
-      third_of true false c h = cc
-      third_of false b c h = cc
-
       before : (m : Bool) (c last : ℕ) → (m && nat_le c c && nat_lt c last) ≡ true → c < last
-      before m c last h = lt_holds c last (third_of m (nat_le c c) (nat_lt c last) h)
+      before m c last h = lt_holds c last (third_of_three m (nat_le c c) (nat_lt c last) h)
   is_candidate false found =
       let c = cell_of d (leaves_at s (end_of d) x y) in
       let both = and_left (is_covered s false (end_of d) x y) (is_inside_before s d x y c) found in
@@ -116,9 +106,6 @@ module _ (covering : CoveringLaw) (cells : CellsLaw) (d : Depths) (s : SolidView
 differs : (i k : ℕ) → (eqb i k ≡ true) ⊎ (not (eqb i k) ≡ true)
 differs i k = elim (cases_Bool (eqb i k)) [ inl a ↦ inl a | inr b ↦ inr (rw b refl) ]
 
-same : (i k : ℕ) → eqb i k ≡ true → i ≡ k
-same i k h = grind (arith, nat_tests)
-
 module _ (covering : CoveringLaw) (cells : CellsLaw) (scene : SceneView) (lawful : All IsLawfulSolid scene.solids)
     (numbered : AreNumberedFrom 1 scene.solids)
     (l : KeyedPixel) (products : List Product)
@@ -158,7 +145,7 @@ module _ (covering : CoveringLaw) (cells : CellsLaw) (scene : SceneView) (lawful
       let found = is_candidate covering cells d s l.x l.y q.plain here in
       let each : (r : Literal) → In r (literals p) → suited scene l z r ≡ true =
       λ r there. elim (differs r.solid q.solid) [
-        | inl e ↦ ap (suited scene l z) (whole.once q r b.there there (same r.solid q.solid e)) ∙ found.suited
+        | inl e ↦ ap (suited scene l z) (whole.once q r b.there there (eqb_holds r.solid q.solid e)) ∙ found.suited
         | inr e ↦ one_of (suited scene l z) (others q p) r (in_filter (λ t. not (eqb t.solid q.solid)) (literals p) r
             there e) rest
       ] in

@@ -1,42 +1,32 @@
 -- The candidate of a literal is what it shows at its cell of least number, and nothing that it shows comes before.
-use Rattle.std.proofs.Common.{◌≡◌, ◌<◌, ◌≤◌, ◌+◌, ◌-◌, ℕ, zero, suc, ℤ, pos, Bool, true, false, ◌&&◌, nat_le, List}
+use Rattle.std.proofs.Common.{◌≡◌, ◌<◌, ◌≤◌, ◌+◌, ◌-◌, ℕ, zero, suc, ℤ, pos, Bool, true, false, ◌&&◌, List}
 use Rattle.std.proofs.Common.{[], ◌∷◌, ◌++◌, length, get_or, refl, ap, sym, ◌∙◌, subst, arith, inl, inr, ◌⊎◌}
 use Rattle.std.proofs.Common.{if◌then◌else◌, ◌==◌}
 use Rattle.std.specs.List.{All, AllPairs}
 use Rattle.std.specs.Ordering.{int_eq}
-use Rattle.std.proofs.lemmas.Int.{ints}
 use Rattle.std.proofs.lemmas.Bool.{cases_Bool, cases_eq}
 use Rattle.std.proofs.lemmas.Bool.Decides.{nat_tests}
 use Rattle.std.proofs.lemmas.List.{get_or_append_left, get_or-append_right, get_or-map, length-map}
-use Rattle.std.proofs.Math.IntN.{zero-*ℤ}
 use Rattle.px_num.specs.declared.linear.Linear.{Linear}
 use Rattle.px_num.specs.Forms.{value_at}
+use Rattle.px_num.proofs.TruthLaws.{and_left, and_right, int_eq_holds, int_same_true, lt_fails, lt_false, lt_holds}
+use Rattle.px_num.proofs.TruthLaws.{lt_true, same_true}
 use Rattle.px_model.specs.declared.solid.Face.{Face}
-use Rattle.px_model.specs.Scenes.{IsNumberedFrom}
-use Rattle.px_model.specs.Solids.{IsLawfulSolid, SolidView, faces_in}
+use Rattle.px_model.specs.Scenes.{IsNumberedFrom, IsLawfulSolid, SolidView, faces_in}
 use Rattle.px_model.specs.Cells.{Depths, backs_at, cell_of, end_of, enters_at, faces_at, fronts_at, greatest_fronts}
 use Rattle.px_model.specs.Cells.{is_inside_before, leaves_at}
 use Rattle.px_face.specs.Covering.{CoveringLaw, covering_back, covering_front}
-use Rattle.px_face.specs.Faces.{back_planes, front_planes, is_front, level, number_of, numbers_of, plane_of, planes_of}
-use Rattle.px_sched.proofs.CoverLaws.{and_left, and_right}
-use Rattle.px_sched.proofs.BlockLemmas.{lt_false, lt_fails, lt_holds, lt_true}
+use Rattle.px_face.specs.Faces.{back_planes, front_planes, is_front_face, level, face_number, numbers_in_faces}
+use Rattle.px_face.specs.Faces.{face_plane, planes_in_faces}
+use Rattle.px_face.proofs.DepthLaws.{value_at-level}
 use Rattle.px_sched.proofs.MemberLemmas.{In, all_in, in_either, in_right, out_filter, out_map}
-
-value_at-level : (n x y : ℕ) → value_at (level n) x y ≡ pos n
-value_at-level n x y = omega (arith, ints, zero-*ℤ (pos x), zero-*ℤ (pos y))
-
-true_eq : (u v : ℤ) → u ≡ v → int_eq u v ≡ true
-true_eq u v h = grind (arith, ints)
-
-eq_true : (u v : ℤ) → int_eq u v ≡ true → u ≡ v
-eq_true u v h = grind (arith, ints)
 
 -- faces among others, by their places
 module _ (planes : List Linear) (numbers : List ℕ) (x y : ℕ) (v : ℤ) where
-  in_faces : (fs : List Face) (k : ℕ) → k < length fs → value_at (get_or (planes_of fs ++ planes) k (level 0)) x y ≡ v
-      → In (get_or (numbers_of fs ++ numbers) k 0) (faces_at fs x y v)
+  in_faces : (fs : List Face) (k : ℕ) → k < length fs → value_at (get_or (planes_in_faces fs ++ planes) k (level 0)) x y ≡ v
+      → In (get_or (numbers_in_faces fs ++ numbers) k 0) (faces_at fs x y v)
   in_faces [] k h e = absurd (omega arith)
-  in_faces (f ∷ fs) zero h e = rw (true_eq (value_at f.plane x y) v e) (inl refl)
+  in_faces (f ∷ fs) zero h e = rw (int_same_true (value_at f.plane x y) v e) (inl refl)
   in_faces (f ∷ fs) (suc k) h e = elim (cases_Bool (int_eq (value_at f.plane x y) v)) [
     | inl yea ↦ rw yea (inr (in_faces fs k (omega arith) e))
     | inr nay ↦ rw nay (in_faces fs k (omega arith) e)
@@ -45,8 +35,8 @@ module _ (planes : List Linear) (numbers : List ℕ) (x y : ℕ) (v : ℤ) where
   record FaceAt (fs : List Face) (n : ℕ) : Type 0 where
     place : ℕ
     below : place < length fs
-    value_is : value_at (get_or (planes_of fs ++ planes) place (level 0)) x y ≡ v
-    number_is : get_or (numbers_of fs ++ numbers) place 0 ≡ n
+    value_is : value_at (get_or (planes_in_faces fs ++ planes) place (level 0)) x y ≡ v
+    number_is : get_or (numbers_in_faces fs ++ numbers) place 0 ≡ n
 
   next_face : (f : Face) (fs : List Face) (n : ℕ) → FaceAt fs n → FaceAt (f ∷ fs) n
   next_face f fs n r =
@@ -62,17 +52,8 @@ module _ (planes : List Linear) (numbers : List ℕ) (x y : ℕ) (v : ℤ) where
       first : int_eq (value_at f.plane x y) v ≡ true → (In n (faces_at fs x y v) → FaceAt fs n)
           → (f.number ≡ n) ⊎ In n (faces_at fs x y v) → FaceAt (f ∷ fs) n
       first yea others (inl e) =
-          record { place = 0; below = omega arith; value_is = eq_true (value_at f.plane x y) v yea; number_is = e }
+          record { place = 0; below = omega arith; value_is = int_eq_holds (value_at f.plane x y) v yea; number_is = e }
       first yea others (inr k) = next_face f fs n (others k)
-
-le_holds : (m n : ℕ) → nat_le m n ≡ true → m ≤ n
-le_holds m n h = grind (arith, nat_tests)
-
-le_true : (m n : ℕ) → m ≤ n → nat_le m n ≡ true
-le_true m n h = grind (arith, nat_tests)
-
-same_true : (m n : ℕ) → m ≡ n → (m == n) ≡ true
-same_true m n h = grind (arith, nat_tests)
 
 same_holds : (m n : ℕ) → (m == n) ≡ true → m ≡ n
 same_holds m n h = grind (arith, nat_tests)
@@ -89,21 +70,21 @@ module _ (covering : CoveringLaw) (s : SolidView) (d : Depths) (x y : ℕ) where
   end = end_of d
 
   -- ---- fronts
-  in_fronts : (k : ℕ) → is_front s k ≡ true → value_at (plane_of s end k) x y ≡ enters_at s x y
-      → In (number_of s k) (greatest_fronts s x y)
-  in_fronts zero front e = rw (true_eq (pos 0) (enters_at s x y) (sym (value_at-level 0 x y) ∙ e)) (inl refl)
+  in_fronts : (k : ℕ) → is_front_face s k ≡ true → value_at (face_plane s end k) x y ≡ enters_at s x y
+      → In (face_number s k) (greatest_fronts s x y)
+  in_fronts zero front e = rw (int_same_true (pos 0) (enters_at s x y) (sym (value_at-level 0 x y) ∙ e)) (inl refl)
   in_fronts (suc k) front e =
       let low = lt_holds (suc k) (length s.fronts + 1) front in
-      in_right (number_of s (suc k)) (if int_eq (pos 0) (enters_at s x y) then s.near_number ∷ [] else [])
+      in_right (face_number s (suc k)) (if int_eq (pos 0) (enters_at s x y) then s.near_number ∷ [] else [])
       (faces_at s.fronts x y (enters_at s x y))
-      (in_faces (back_planes s.backs end) (numbers_of s.backs ++ 0 ∷ []) x y (enters_at s x y) s.fronts k
+      (in_faces (back_planes s.backs end) (numbers_in_faces s.backs ++ 0 ∷ []) x y (enters_at s x y) s.fronts k
       (omega (arith, low)) e)
 
   record FrontAt (n : ℕ) : Type 0 where
     place : ℕ
-    front : is_front s place ≡ true
-    value_is : value_at (plane_of s end place) x y ≡ enters_at s x y
-    number_is : number_of s place ≡ n
+    front : is_front_face s place ≡ true
+    value_is : value_at (face_plane s end place) x y ≡ enters_at s x y
+    number_is : face_number s place ≡ n
 
   out_fronts : (n : ℕ) → In n (greatest_fronts s x y) → FrontAt n
   out_fronts n h = elim (cases_Bool (int_eq (pos 0) (enters_at s x y))) [
@@ -112,7 +93,7 @@ module _ (covering : CoveringLaw) (s : SolidView) (d : Depths) (x y : ℕ) where
         | inl e ↦ record {
           place = 0;
           front = lt_true 0 (length s.fronts + 1) (omega arith);
-          value_is = value_at-level 0 x y ∙ eq_true (pos 0) (enters_at s x y) yea;
+          value_is = value_at-level 0 x y ∙ int_eq_holds (pos 0) (enters_at s x y) yea;
           number_is = e;
         }
         | inr b ↦ absurd b
@@ -124,7 +105,7 @@ module _ (covering : CoveringLaw) (s : SolidView) (d : Depths) (x y : ℕ) where
     where
       later_front : In n (faces_at s.fronts x y (enters_at s x y)) → FrontAt n
       later_front b =
-          let r = out_faces (back_planes s.backs end) (numbers_of s.backs ++ 0 ∷ []) x y (enters_at s x y)
+          let r = out_faces (back_planes s.backs end) (numbers_in_faces s.backs ++ 0 ∷ []) x y (enters_at s x y)
           s.fronts n b in
           record {
             place = suc r.place;
@@ -134,16 +115,16 @@ module _ (covering : CoveringLaw) (s : SolidView) (d : Depths) (x y : ℕ) where
           }
 
   -- ---- a plain literal
-  pub plain_shows : In (number_of s (covering_front s x y)) (fronts_at s d x y (cell_of d (enters_at s x y)))
+  pub plain_shows : In (face_number s (covering_front s x y)) (fronts_at s d x y (cell_of d (enters_at s x y)))
   plain_shows =
       let law = covering s end x y in
       let c = cell_of d (enters_at s x y) in
-      where_is_true (c == c) (number_of s (covering_front s x y)) (greatest_fronts s x y) (same_true c c refl)
+      where_is_true (c == c) (face_number s (covering_front s x y)) (greatest_fronts s x y) (same_true c c refl)
       (in_fronts (covering_front s x y) law.front_there law.front_value)
 
   pub record PlainSeen (z n : ℕ) : Type 0 where
     pub cell : cell_of d (enters_at s x y) ≡ z
-    pub number : number_of s (covering_front s x y) ≤ n
+    pub number : face_number s (covering_front s x y) ≤ n
 
   pub plain_seen : IsLawfulSolid s → (z n : ℕ) → In n (fronts_at s d x y z) → PlainSeen z n
   plain_seen lawful z n h =
@@ -157,21 +138,21 @@ module _ (covering : CoveringLaw) (s : SolidView) (d : Depths) (x y : ℕ) where
   first_back = length s.fronts + 1
 
   back_plane : (face : ℕ) → first_back ≤ face
-      → plane_of s end face ≡ get_or (back_planes s.backs end) (face - first_back) (level 0)
+      → face_plane s end face ≡ get_or (back_planes s.backs end) (face - first_back) (level 0)
   back_plane face low =
       let count : length (front_planes s.fronts) ≡ first_back = omega (arith, length-map s.fronts (λ f. f.plane)) in
       get_or-append_right (front_planes s.fronts) (back_planes s.backs end) first_back face (level 0) count low
 
   back_number : (face : ℕ) → first_back ≤ face
-      → number_of s face ≡ get_or (numbers_of s.backs ++ 0 ∷ []) (face - first_back) 0
+      → face_number s face ≡ get_or (numbers_in_faces s.backs ++ 0 ∷ []) (face - first_back) 0
   back_number face low =
-      let count : length (s.near_number ∷ numbers_of s.fronts) ≡ first_back =
+      let count : length (s.near_number ∷ numbers_in_faces s.fronts) ≡ first_back =
       omega (arith, length-map s.fronts (λ f. f.number)) in
-      get_or-append_right (s.near_number ∷ numbers_of s.fronts) (numbers_of s.backs ++ 0 ∷ []) first_back face 0
+      get_or-append_right (s.near_number ∷ numbers_in_faces s.fronts) (numbers_in_faces s.backs ++ 0 ∷ []) first_back face 0
       count low
 
   pub barred_shows : covering_back s end x y < first_back + length s.backs
-      → In (number_of s (covering_back s end x y)) (faces_at s.backs x y (leaves_at s end x y))
+      → In (face_number s (covering_back s end x y)) (faces_at s.backs x y (leaves_at s end x y))
   barred_shows there =
       let law = covering s end x y in
       let back = covering_back s end x y in
@@ -182,21 +163,21 @@ module _ (covering : CoveringLaw) (s : SolidView) (d : Depths) (x y : ℕ) where
 
   pub barred_there : (z : ℕ) → covering_back s end x y < first_back + length s.backs
       → is_inside_before s d x y z ≡ true → cell_of d (leaves_at s end x y) ≡ z
-      → In (number_of s (covering_back s end x y)) (backs_at s d x y z)
+      → In (face_number s (covering_back s end x y)) (backs_at s d x y z)
   barred_there z there before e =
       where_is_true (is_inside_before s d x y z && (cell_of d (leaves_at s end x y) == z))
-      (number_of s (covering_back s end x y)) (faces_at s.backs x y (leaves_at s end x y))
+      (face_number s (covering_back s end x y)) (faces_at s.backs x y (leaves_at s end x y))
       (rw (before, same_true (cell_of d (leaves_at s end x y)) z e) refl) (barred_shows there)
 
   pub record BarredSeen (z n : ℕ) : Type 0 where
     pub before : is_inside_before s d x y z ≡ true
     pub there : covering_back s end x y < first_back + length s.backs
     pub cell : cell_of d (leaves_at s end x y) ≡ z
-    pub number : number_of s (covering_back s end x y) ≤ n
+    pub number : face_number s (covering_back s end x y) ≤ n
 
   numbers_grow : (fs : List Face) (ns : List ℕ) (i j : ℕ) → AllPairs (λ f g. f.number < g.number) fs → i ≤ j
       → j < length fs
-      → get_or (numbers_of fs ++ ns) i 0 ≤ get_or (numbers_of fs ++ ns) j 0
+      → get_or (numbers_in_faces fs ++ ns) i 0 ≤ get_or (numbers_in_faces fs ++ ns) j 0
   numbers_grow fs ns i j order le lt = elim (cases_eq i j) [
     | inl e ↦ rw e (omega arith)
     | inr ne ↦ omega (arith, number_at i (omega arith), number_at j lt, order i j any (omega arith) lt)
@@ -205,10 +186,10 @@ module _ (covering : CoveringLaw) (s : SolidView) (d : Depths) (x y : ℕ) where
       any : Face
       any = record { number = 0; plane = level 0; colour = s.colour }
 
-      number_at : (k : ℕ) → k < length fs → get_or (numbers_of fs ++ ns) k 0 ≡ (get_or fs k any).number
+      number_at : (k : ℕ) → k < length fs → get_or (numbers_in_faces fs ++ ns) k 0 ≡ (get_or fs k any).number
       number_at k h =
-          let room : k < length (numbers_of fs) = omega (arith, length-map fs (λ f. f.number)) in
-          get_or_append_left (numbers_of fs) ns 0 k room ∙ get_or-map (λ f. f.number) fs k any 0 h
+          let room : k < length (numbers_in_faces fs) = omega (arith, length-map fs (λ f. f.number)) in
+          get_or_append_left (numbers_in_faces fs) ns 0 k room ∙ get_or-map (λ f. f.number) fs k any 0 h
 
   pub barred_seen : IsLawfulSolid s → (z n : ℕ) → In n (backs_at s d x y z) → BarredSeen z n
   barred_seen lawful z n h =
@@ -219,7 +200,7 @@ module _ (covering : CoveringLaw) (s : SolidView) (d : Depths) (x y : ℕ) where
       let r = out_faces (level end ∷ []) (0 ∷ []) x y (leaves_at s end x y) s.backs n two.1 in
       let face = first_back + r.place in
       let place : face - first_back ≡ r.place = omega arith in
-      let value : value_at (plane_of s end face) x y ≡ leaves_at s end x y =
+      let value : value_at (face_plane s end face) x y ≡ leaves_at s end x y =
       ap (λ p. value_at p x y) (back_plane face (omega arith)
       ∙ ap (λ k. get_or (back_planes s.backs end) k (level 0)) place)
       ∙ r.value_is in

@@ -1,11 +1,11 @@
 -- Members of lists, and the least of them.
-use Rattle.std.proofs.Common.{◌≡◌, ◌≤◌, ◌||◌, ℕ, suc, Bool, true, false, List, [], ◌∷◌, ◌++◌, map, min, refl, ap, sym}
+use Rattle.std.proofs.Common.{◌≡◌, ◌≤◌, ℕ, suc, Bool, true, false, List, [], ◌∷◌, ◌++◌, map, min, refl, ap, sym}
 use Rattle.std.proofs.Common.{◌∙◌, subst, arith, inl, inr, ◌⊎◌, if◌then◌else◌, ◌==◌}
 use Rattle.std.specs.List.{All, filter, flat_map, fold, list_all, list_any}
 use Rattle.std.proofs.lemmas.Bool.{cases_Bool}
 use Rattle.std.proofs.lemmas.Bool.Decides.{nat_tests}
+use Rattle.px_num.proofs.TruthLaws.{and_left, and_right, or_true}
 use Rattle.px_expr.specs.Cells.{has_face}
-use Rattle.px_sched.proofs.CoverLaws.{and_left, and_right}
 
 abbrev pub In : {X : Type 0} → X → List X → Type 0
 In x [] = ⊥
@@ -91,11 +91,7 @@ all_kept t f xs h = all_of t (filter f xs) (λ x k. one_of t xs x (out_filter f 
 pub any_in : {X : Type 0} (t : X → Bool) (xs : List X) (x : X) → In x xs → t x ≡ true → list_any t xs ≡ true
 any_in t [] x h e = absurd h
 any_in t (y ∷ ys) x (inl same) e = rw (ap t same ∙ e) refl
-any_in t (y ∷ ys) x (inr h) e = rw (any_in t ys x h e) (either (t y))
-  where
-    either : (b : Bool) → b || true ≡ true
-    either true = refl
-    either false = refl
+any_in t (y ∷ ys) x (inr h) e = rw (any_in t ys x h e) (or_true (t y))
 
 pub any_out : {X : Type 0} (t : X → Bool) (xs : List X) → list_any t xs ≡ true → From (λ x. t x ≡ true) xs
 any_out t [] e = absurd (cc)

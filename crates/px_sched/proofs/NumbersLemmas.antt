@@ -1,15 +1,15 @@
 -- The passes leave the key of the picture.
 use Rattle.std.proofs.Common.{◌≡◌, ◌<◌, ◌≤◌, ◌+◌, ◌*◌, ◌^◌, ◌&&◌, ℕ, zero, suc, Bool, true, false, List, [], ◌∷◌}
-use Rattle.std.proofs.Common.{length, min, Option, Some, None, refl, ap, sym, ◌∙◌, subst, arith, inl, inr, ◌⊎◌, fold}
+use Rattle.std.proofs.Common.{length, min, Option, Some, None, refl, ap, sym, ◌∙◌, subst, arith, inl, inr, fold}
 use Rattle.std.specs.List.{All}
 use Rattle.std.proofs.Math.Nat.{mul-le-mul, mul-le-mul_left}
 use Rattle.std.proofs.lemmas.Bool.{cases_lt, cases_order}
 use Rattle.std.proofs.lemmas.Nat.{pow_pos}
+use Rattle.px_num.proofs.TruthLaws.{and_left, and_right, min_cases, never}
 use Rattle.px_expr.specs.Cells.{Cell, cell, has_face}
 use Rattle.px_expr.specs.Tree.{HasLeavesBelow, Tree}
 use Rattle.px_expr.proofs.LeafLaws.{leaves_below}
-use Rattle.px_model.specs.Scenes.{IsLawfulScene, SceneView}
-use Rattle.px_model.specs.Solids.{IsLawfulSolid}
+use Rattle.px_model.specs.Scenes.{IsLawfulScene, SceneView, IsLawfulSolid}
 use Rattle.px_model.specs.Cells.{Depths, depths_of, far_of, value_of, first_cell, is_member_at, leaf_cell, least}
 use Rattle.px_model.specs.Cells.{picture, scene_cell, sight_at}
 use Rattle.px_face.specs.Covering.{CellsLaw, CoveringLaw, ValueParityLaw}
@@ -20,10 +20,9 @@ use Rattle.px_normal.specs.NormalLaw.{IsNormalForm, some_shows}
 use Rattle.px_normal.specs.Live.{is_void}
 use Rattle.px_prune.specs.Kept.{kept_of}
 use Rattle.px_prune.specs.PruningLaw.{PruningLaw}
-use Rattle.px_sched.specs.Numbers.{KeyedPixel, after, key}
+use Rattle.px_sched.specs.Numbers.{KeyedPixel, after_passes, key}
 use Rattle.px_sched.specs.NumbersLaw.{IsKeyOf, IsPixelOf, NumbersShowThePicture}
 use Rattle.px_sched.proofs.RunLemmas.{HasRoom}
-use Rattle.px_sched.proofs.CoverLaws.{and_left, and_right}
 use Rattle.px_sched.proofs.BlockLemmas.{all_found, passes_best}
 use Rattle.px_sched.proofs.MemberLemmas.{In, all_in, face_in, in_face}
 use Rattle.px_sched.proofs.ProductLemmas.{IsFit, fit}
@@ -32,13 +31,10 @@ use Rattle.px_sched.proofs.JoinLemmas.{best_is_least}
 least_in : (ns : List ℕ) → 0 < length ns → In (least ns) ns
 least_in [] h = absurd (omega arith)
 least_in (n ∷ []) h = inl refl
-least_in (n ∷ m ∷ ns) h = elim (one n (least (m ∷ ns))) [
+least_in (n ∷ m ∷ ns) h = elim (min_cases n (least (m ∷ ns))) [
   | inl e ↦ inl (sym e)
   | inr e ↦ inr (subst (λ k. In k (m ∷ ns)) (sym e) (least_in (m ∷ ns) (omega arith)))
 ]
-  where
-    one : (a b : ℕ) → (min a b ≡ a) ⊎ (min a b ≡ b)
-    one a b = grind arith
 
 least_below : (ns : List ℕ) (n : ℕ) → In n ns → least ns ≤ n
 least_below [] n h = absurd h
@@ -53,14 +49,11 @@ key_before : (l : KeyedPixel) (d : Depths) (y z m n : ℕ) → y < z → m < 2 ^
 key_before l d y z m n h small =
     let f = 2 ^ d.fraction_bits in
     let some : 0 < f = pow_pos d.fraction_bits in
-    let one : (y + 1) * f ≡ y * f + f = grind arith in
+    let min_cases : (y + 1) * f ≡ y * f + f = grind arith in
     let more : y + 1 ≤ z = omega arith in
     let le : (y + 1) * f ≤ z * f = mul-le-mul more (omega arith) in
-    let e : value_of d y + 1 ≤ value_of d z = omega (arith, le, one, some) in
+    let e : value_of d y + 1 ≤ value_of d z = omega (arith, le, min_cases, some) in
     omega (arith, mul-le-mul_left (2 ^ l.number_bits) e)
-
-never : (b : Bool) → b ≡ false → b ≡ true → ⊥
-never b p q = cc
 
 -- the laws of the lower crates
 pub record Laws : Type 0 where
@@ -160,8 +153,8 @@ module _ (laws : Laws) (scene : SceneView) (lawful : IsLawfulScene scene) (l : K
             )
             | inr o ↦ elim o [
               | inl before ↦ absurd (omega (arith, k.is, low.0, key_before l d t k.depth face k.number before small))
-              | inr after ↦
-                  absurd (never (test k.depth) (r.none_before k.depth after)
+              | inr after_passes ↦
+                  absurd (never (test k.depth) (r.none_before k.depth after_passes)
                   (member_at k.depth k.number (omega (arith, r.below)) k.shown))
             ]
           ]

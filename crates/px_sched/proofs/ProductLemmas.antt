@@ -1,14 +1,14 @@
 -- The literals of a product, and what it shows where it holds.
-use Rattle.std.proofs.Common.{◌≡◌, ◌<◌, ◌≤◌, ◌+◌, ◌||◌, ℕ, zero, suc, Bool, true, false, not, List, [], ◌∷◌, length}
-use Rattle.std.proofs.Common.{get_or, refl, ap, sym, ◌∙◌, subst, arith, inl, inr, if◌then◌else◌}
+use Rattle.std.proofs.Common.{◌≡◌, ◌<◌, ◌≤◌, ◌+◌, ℕ, zero, suc, Bool, true, false, not, List, [], ◌∷◌, length}
+use Rattle.std.proofs.Common.{get_or, ap, sym, ◌∙◌, subst, arith, inl, inr, if◌then◌else◌}
 use Rattle.std.specs.List.{filter, list_all, list_any}
 use Rattle.std.specs.Option.{option_map_or}
 use Rattle.std.proofs.lemmas.Bool.{cases_Bool}
 use Rattle.std.proofs.lemmas.List.Sums.{sum_by-cons}
 use Rattle.std.proofs.lemmas.Option.{slice_get-get_or}
+use Rattle.px_num.proofs.TruthLaws.{and_left, and_right, or_left, or_right}
 use Rattle.px_expr.specs.Cells.{Cell, has_face}
-use Rattle.px_model.specs.Scenes.{AreNumberedFrom, IsNumberedFrom, SceneView, faces_of}
-use Rattle.px_model.specs.Solids.{SolidView, faces_in}
+use Rattle.px_model.specs.Scenes.{AreNumberedFrom, IsNumberedFrom, SceneView, faces_of, SolidView, faces_in}
 use Rattle.px_model.specs.Cells.{Depths, backs_at, depths_of, fronts_at, leaf_cell, no_cell, solid_cell}
 use Rattle.px_normal.specs.declared.set.SolidSet.{SolidSet}
 use Rattle.px_normal.specs.declared.product.Product.{Product}
@@ -19,7 +19,6 @@ use Rattle.px_normal.specs.Live.{is_void}
 use Rattle.px_sched.specs.declared.literal.Literal.{Literal}
 use Rattle.px_sched.specs.Numbers.{KeyedPixel}
 use Rattle.px_sched.specs.Passes.{literals, literals_of, no_solid, solid_of}
-use Rattle.px_sched.proofs.CoverLaws.{and_left, and_right}
 use Rattle.px_sched.proofs.BlockLemmas.{suited}
 use Rattle.px_sched.proofs.MemberLemmas.{From, In, all_of, any_in, any_out, face_in, in_either, in_face, in_left}
 use Rattle.px_sched.proofs.MemberLemmas.{in_map, in_right, one_of, out_filter, out_map}
@@ -131,19 +130,12 @@ module _ (scene : SceneView) (l : KeyedPixel) (p : Product) (whole : IsFit (leng
   pub shows_there : (n : ℕ) (r : Literal) → In r (literals p) → Gives n r → shows at n p ≡ true
   shows_there n =
       each_literal p (λ r. Gives n r → shows at n p ≡ true)
-      (λ q i g. first _ _ (any_in (λ q. has_face n (at q).shown) (solids p.plain) q i
+      (λ q i g. or_left _ _ (any_in (λ q. has_face n (at q).shown) (solids p.plain) q i
       (ap (λ c. has_face n c.shown) (plain_at q i)
       ∙ in_face n _ g)))
-      (λ q i g. second _ _ (any_in (λ q. has_face n (at q).hidden) (solids p.barred) q i
+      (λ q i g. or_right _ _ (any_in (λ q. has_face n (at q).hidden) (solids p.barred) q i
       (ap (λ c. has_face n c.hidden) (barred_at q i)
       ∙ in_face n _ g)))
-    where
-      first : (a b : Bool) → a ≡ true → a || b ≡ true
-      first a b e = rw e refl
-
-      second : (a b : Bool) → b ≡ true → a || b ≡ true
-      second true b e = refl
-      second false b e = e
 
   pub shows_out : (n : ℕ) → shows at n p ≡ true → From (Gives n) (literals p)
   shows_out n h = elim (cases_Bool (list_any (λ q. has_face n (at q).shown) (solids p.plain))) [

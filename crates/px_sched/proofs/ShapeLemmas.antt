@@ -7,11 +7,10 @@ use Rattle.std.proofs.lemmas.Bool.{cases_Bool}
 use Rattle.px_macro.specs.declared.operation.Macro.{Macro}
 use Rattle.px_num.specs.Forms.{plus}
 use Rattle.px_num.specs.declared.linear.Linear.{Linear}
-use Rattle.px_model.specs.Scenes.{SceneView}
-use Rattle.px_model.specs.Solids.{SolidView}
+use Rattle.px_model.specs.Scenes.{SceneView, SolidView}
 use Rattle.px_model.specs.Cells.{Depths, depths_of, end_of}
 use Rattle.px_face.specs.Edges.{edges}
-use Rattle.px_face.specs.Faces.{face_count, number_of, plane_of}
+use Rattle.px_face.specs.Faces.{face_count, face_number, face_plane}
 use Rattle.px_normal.specs.declared.product.Product.{Product}
 use Rattle.px_macro.specs.declared.operation.Macro.TheVariants as m
 use Rattle.px_sched.specs.declared.literal.Literal.{Literal}
@@ -53,7 +52,7 @@ module _ (w i : ℕ) (d : Depths) where
   covered_shape s face = signs_shape (edges s end face)
 
   fraction_shape : (ms : List Macro) (ps : List Pass) → ms ≡ map of ps → where_fraction d ms
-      ≡ map of (n.where_fraction f ps)
+      ≡ map of (n.passes_where_fraction f ps)
   fraction_shape ms ps same = elim (cases_Bool (f == 0)) [
     | inl none ↦ rw none refl
     | inr some ↦ rw some same
@@ -61,9 +60,9 @@ module _ (w i : ℕ) (d : Depths) where
 
   candidate_shape : (s : SolidView) (face : ℕ) → candidate l d s face ≡ map of (candidate_on_numbers d s face)
   candidate_shape s face =
-      let load = load_deep (plus (plane_of s end face) (2 ^ f - 1)) in
-      let clear = n.where_fraction f (clear_fraction ∷ []) in
-      let last = load_number (number_of s face) ∷ set_alive true ∷ [] in
+      let load = load_deep (plus (face_plane s end face) (2 ^ f - 1)) in
+      let clear = n.passes_where_fraction f (clear_fraction ∷ []) in
+      let last = load_number (face_number s face) ∷ set_alive true ∷ [] in
       rw (
         covered_shape s face,
         fraction_shape (m.LoadConst (fraction_part l l.key_t) 0 ∷ [])
@@ -93,13 +92,13 @@ module _ (w i : ℕ) (d : Depths) where
       (sym (map-append of (first ++ turns) last ∙ ap (λ ms. ms ++ map of last) (map-append of first turns)))
 
   classify_shape : (s : SolidView) (plain : Bool) → classify l end s plain ≡ map of (classify_on_numbers end s plain)
-  classify_shape s plain = turns_shape s (plane_of s end) (range_with_len 0 (face_count s)) (all ∷ set_par false ∷ [])
+  classify_shape s plain = turns_shape s (face_plane s end) (range_with_len 0 (face_count s)) (all ∷ set_par false ∷ [])
       (all ∷ keep_par (not plain) ∷ set_alive false ∷ [])
 
   confirm_shape : (s : SolidView) (plain : Bool) → confirm l d s plain ≡ map of (confirm_on_numbers d s plain)
   confirm_shape s true = map-flat_map of (drop_on_numbers end s) (drop_behind l end s) (drop_shape s)
       (range_with_len (length s.fronts + 1) (length s.backs + 1))
-  confirm_shape s false = turns_shape s (λ face. plus (plane_of s end face) (2 ^ f))
+  confirm_shape s false = turns_shape s (λ face. plus (face_plane s end face) (2 ^ f))
       (range_with_len 0 (length s.fronts + 1)) (all ∷ set_par false ∷ []) (all ∷ keep_par false ∷ set_alive false ∷ [])
 
 literal_shape : (w i : ℕ) (scene : SceneView) (product : Product) (q : Literal) →
@@ -113,7 +112,7 @@ literal_shape w i scene product q =
     in let s = solid_of scene q.solid
     in let faces = candidate_faces s q.plain
     in let found = flat_map (candidate_on_numbers d s) faces
-    in let sure = n.where_fraction d.fraction_bits (confirm_on_numbers d s q.plain)
+    in let sure = n.passes_where_fraction d.fraction_bits (confirm_on_numbers d s q.plain)
     in let judged = flat_map (λ r. classify_on_numbers end (solid_of scene r.solid) r.plain) (others q product)
     in rw (
       map-flat_map of (candidate_on_numbers d s) (candidate l d s) (candidate_shape w i d s) faces,

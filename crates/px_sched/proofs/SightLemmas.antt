@@ -1,16 +1,15 @@
 -- The passes leave in the memory what they leave in the numbers: the sight of the pixel.
-use Rattle.std.proofs.Common.{◌≡◌, ℕ, ◌+◌, ◌*◌, ◌^◌, ◌<◌, ◌≤◌, true, false, cond, [], ◌∷◌, ◌++◌, All, length, nat_le}
+use Rattle.std.proofs.Common.{◌≡◌, ℕ, ◌+◌, ◌^◌, ◌<◌, ◌≤◌, true, false, cond, [], ◌∷◌, ◌++◌, All, length, nat_le}
 use Rattle.std.proofs.Common.{count_by, inl, inr, refl, ap, ◌∙◌, arith}
 use Prim.Native.Nat.{zero, suc}
 use Rattle.std.specs.List.{range_with_len}
 use Rattle.std.proofs.lemmas.Bool.{cases_lt}
 use Rattle.std.proofs.lemmas.Bool.Decides.{nat_tests}
 use Rattle.std.proofs.lemmas.List.Sums.{sum_by-append}
-use Rattle.std.proofs.Math.Nat.{pow-suc}
 use Rattle.px_num.proofs.RangeLaws.{range_more}
+use Rattle.px_num.proofs.TruthLaws.{double_pow}
 use Rattle.px_macro.specs.Macros.{PixelBits, after_macros}
-use Rattle.px_model.specs.Scenes.{IsLawfulScene, SceneView, faces_of}
-use Rattle.px_model.specs.Solids.{IsLawfulSolid}
+use Rattle.px_model.specs.Scenes.{IsLawfulScene, SceneView, faces_of, IsLawfulSolid}
 use Rattle.px_model.specs.Cells.{picture}
 use Rattle.px_model.proofs.CellLaws.{end_is_small}
 use Rattle.px_normal.specs.Forms.{sum_of_products}
@@ -43,9 +42,6 @@ passed_over : (n bound : ℕ) → n < 2 ^ bound → powers n (suc bound) ≡ pow
 passed_over n bound h =
     let no : nat_le (2 ^ bound) n ≡ false = grind (arith, nat_tests)
     in one_more n bound ∙ rw no (omega arith)
-
-double_pow : (n : ℕ) → 2 ^ suc n ≡ 2 * 2 ^ n
-double_pow n = pow-suc 2 n ∙ omega arith
 
 all_counted : (n bound : ℕ) → 2 ^ bound ≤ n → powers n (suc bound) ≡ suc bound
 all_counted n zero h = counted n 0 h

@@ -7,10 +7,9 @@ use Rattle.std.proofs.lemmas.Bool.Decides.{nat_tests}
 use Prim.Native.Nat.{zero, suc}
 use Rattle.px_macro.specs.declared.operation.Macro.{Macro}
 use Rattle.px_macro.specs.declared.operation.Macro.TheVariants as m
-use Rattle.px_model.specs.Scenes.{SceneView}
-use Rattle.px_model.specs.Solids.{SolidView}
+use Rattle.px_model.specs.Scenes.{SceneView, SolidView}
 use Rattle.px_model.specs.Cells.{depths_of, end_of}
-use Rattle.px_face.specs.Faces.{face_count, level, plane_of}
+use Rattle.px_face.specs.Faces.{face_count, level, face_plane}
 use Rattle.px_macro.specs.declared.field.Field.{Field}
 use Rattle.px_num.specs.declared.linear.Linear.{Linear}
 use Rattle.px_normal.specs.declared.product.Product.{Product}
@@ -206,7 +205,7 @@ opens scene l p q =
 
 module _ (l : LayoutView) (s : SolidView) (face at : ℕ) where
   pub drop_operation : (end limit : ℕ) (plane : Linear) (deep : Field) (alive : ℕ) (r : Macro) → limit ≡ end
-      → plane ≡ plane_of s limit face → deep ≡ deep_part l l.key_t → alive ≡ l.alive
+      → plane ≡ face_plane s limit face → deep ≡ deep_part l l.key_t → alive ≡ l.alive
       → r ≡ get_or ((m.All ∷ m.KeepBit alive true ∷ []) ++ keep_covered limit s face
       ++ (m.KeepAtMost plane deep ∷ m.SetBit alive false ∷ [])) at m.All
       → r ≡ get_or (drop_behind l end s face) at m.All
@@ -214,9 +213,9 @@ module _ (l : LayoutView) (s : SolidView) (face at : ℕ) where
       is ∙ ap (λ p. get_or ((m.All ∷ m.KeepBit alive true ∷ []) ++ keep_covered limit s face
       ++ (m.KeepAtMost p deep ∷ m.SetBit alive false ∷ [])) at m.All) is_plane
       ∙ ap (λ f. get_or ((m.All ∷ m.KeepBit alive true ∷ []) ++ keep_covered limit s face
-      ++ (m.KeepAtMost (plane_of s limit face) f ∷ m.SetBit alive false ∷ [])) at m.All) is_deep
+      ++ (m.KeepAtMost (face_plane s limit face) f ∷ m.SetBit alive false ∷ [])) at m.All) is_deep
       ∙ ap (λ a. get_or ((m.All ∷ m.KeepBit a true ∷ []) ++ keep_covered limit s face
-      ++ (m.KeepAtMost (plane_of s limit face) (deep_part l l.key_t) ∷ m.SetBit a false ∷ [])) at m.All) is_alive
+      ++ (m.KeepAtMost (face_plane s limit face) (deep_part l l.key_t) ∷ m.SetBit a false ∷ [])) at m.All) is_alive
       ∙ ap (λ e. get_or (drop_behind l e s face) at m.All) is_end
 
   pub turn_operation : (end limit : ℕ) (form other : Linear) (r : Macro) → limit ≡ end → form ≡ other

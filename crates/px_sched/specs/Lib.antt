@@ -2,7 +2,6 @@ pub use Rattle.px_macro.specs.Fields
 pub use Rattle.px_macro.specs.Macros
 pub use Rattle.px_model.specs.Cells
 pub use Rattle.px_model.specs.Scenes
-pub use Rattle.px_model.specs.Solids
 pub mod Cursors
 pub mod Groups
 pub mod Layouts

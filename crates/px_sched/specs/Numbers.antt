@@ -7,10 +7,9 @@ use Rattle.std.specs.List.{flat_map, range_with_len}
 use Rattle.px_num.specs.Bits.{modulo}
 use Rattle.px_num.specs.Forms.{plus, value_at}
 use Rattle.px_num.specs.declared.linear.Linear.{Linear}
-use Rattle.px_model.specs.Scenes.{SceneView}
-use Rattle.px_model.specs.Solids.{SolidView}
+use Rattle.px_model.specs.Scenes.{SceneView, SolidView}
 use Rattle.px_model.specs.Cells.{Depths, depths_of, end_of}
-use Rattle.px_face.specs.Faces.{face_count, number_of, plane_of}
+use Rattle.px_face.specs.Faces.{face_count, face_number, face_plane}
 use Rattle.px_face.specs.Edges.{edges}
 use Rattle.px_normal.specs.declared.product.Product.{Product}
 use Rattle.px_sched.specs.declared.literal.Literal.{Literal}
@@ -61,8 +60,8 @@ abbrev pub residue : KeyedPixel → Linear → ℕ
 residue l form = modulo (value_at form l.x l.y) (l.depth_bits + l.fraction_bits)
 
 -- without its fraction
-abbrev pub cleared : KeyedPixel → (deep : ℕ) → ℕ
-cleared l deep = deep / 2 ^ l.fraction_bits * 2 ^ l.fraction_bits
+abbrev pub without_fraction : KeyedPixel → (deep : ℕ) → ℕ
+without_fraction l deep = deep / 2 ^ l.fraction_bits * 2 ^ l.fraction_bits
 
 -- where a test fails, the pixel is enabled no longer
 abbrev pub keep : Bool → Numbers → Numbers
@@ -80,7 +79,7 @@ meaning l (keep_alive v) p = keep (beq p.keys.alive v) p
 meaning l (keep_par v) p = keep (beq p.keys.par v) p
 meaning l keep_less p = keep (nat_lt (key l p.keys.deep p.keys.number) p.keys.best) p
 meaning l (load_deep form) p = store (record p.keys { deep = residue l form }) p
-meaning l clear_fraction p = store (record p.keys { deep = cleared l p.keys.deep }) p
+meaning l clear_fraction p = store (record p.keys { deep = without_fraction l p.keys.deep }) p
 meaning l (load_number n) p = store (record p.keys { number = n }) p
 meaning l (load_best n) p = store (record p.keys { best = n }) p
 meaning l (set_alive v) p = store (record p.keys { alive = v }) p
@@ -89,28 +88,28 @@ meaning l toggle_par p = store (record p.keys { par = not p.keys.par }) p
 meaning l copy p = store (record p.keys { best = key l p.keys.deep p.keys.number }) p
 
 -- what passes leave, one after another
-abbrev pub after : KeyedPixel → List Pass → Numbers → Numbers
-after l [] p = p
-after l (m ∷ ms) p = after l ms (meaning l m p)
+abbrev pub after_passes : KeyedPixel → List Pass → Numbers → Numbers
+after_passes l [] p = p
+after_passes l (m ∷ ms) p = after_passes l ms (meaning l m p)
 
 abbrev pub keep_covered_on_numbers : (end : ℕ) → SolidView → (face : ℕ) → List Pass
 keep_covered_on_numbers end s face = map keep_sign (edges s end face)
 
 -- where there is a fraction
-abbrev pub where_fraction : (fraction_bits : ℕ) → List Pass → List Pass
-where_fraction fraction_bits passes = if fraction_bits == 0 then [] else passes
+abbrev pub passes_where_fraction : (fraction_bits : ℕ) → List Pass → List Pass
+passes_where_fraction fraction_bits passes = if fraction_bits == 0 then [] else passes
 
 abbrev pub candidate_on_numbers : Depths → SolidView → (face : ℕ) → List Pass
 candidate_on_numbers d s face =
     all ∷ keep_covered_on_numbers (end_of d) s face
-    ++ (load_deep (plus (plane_of s (end_of d) face) (2 ^ d.fraction_bits - 1))
-    ∷ where_fraction d.fraction_bits (clear_fraction ∷ [])
-    ++ load_number (number_of s face) ∷ set_alive true ∷ [])
+    ++ (load_deep (plus (face_plane s (end_of d) face) (2 ^ d.fraction_bits - 1))
+    ∷ passes_where_fraction d.fraction_bits (clear_fraction ∷ [])
+    ++ load_number (face_number s face) ∷ set_alive true ∷ [])
 
 -- no candidate stays alive where it is not before a back
 abbrev pub drop_on_numbers : (end : ℕ) → SolidView → (face : ℕ) → List Pass
 drop_on_numbers end s face =
-    all ∷ keep_alive true ∷ keep_covered_on_numbers end s face ++ keep_at_most (plane_of s end face) ∷ set_alive false ∷ []
+    all ∷ keep_alive true ∷ keep_covered_on_numbers end s face ++ keep_at_most (face_plane s end face) ∷ set_alive false ∷ []
 
 -- a face turns the parity where a form is not above the candidate
 abbrev pub turn_on_numbers : (end : ℕ) → SolidView → (face : ℕ) → Linear → List Pass
@@ -123,13 +122,13 @@ confirm_on_numbers d s plain =
     if plain then flat_map (drop_on_numbers (end_of d) s) (range_with_len (length s.fronts + 1) (length s.backs + 1))
     else
     all ∷ set_par false
-    ∷ flat_map (λ face. turn_on_numbers (end_of d) s face (plus (plane_of s (end_of d) face) (2 ^ d.fraction_bits)))
+    ∷ flat_map (λ face. turn_on_numbers (end_of d) s face (plus (face_plane s (end_of d) face) (2 ^ d.fraction_bits)))
     (range_with_len 0 (length s.fronts + 1))
     ++ all ∷ keep_par false ∷ set_alive false ∷ []
 
 abbrev pub classify_on_numbers : (end : ℕ) → SolidView → (plain : Bool) → List Pass
 classify_on_numbers end s plain =
-    all ∷ set_par false ∷ flat_map (λ face. turn_on_numbers end s face (plane_of s end face)) (range_with_len 0 (face_count s))
+    all ∷ set_par false ∷ flat_map (λ face. turn_on_numbers end s face (face_plane s end face)) (range_with_len 0 (face_count s))
     ++ all ∷ keep_par (not plain) ∷ set_alive false ∷ []
 
 abbrev pub merge_on_numbers : List Pass
@@ -141,7 +140,7 @@ literal_on_numbers scene product q =
     let s = solid_of scene q.solid in
     all ∷ set_alive false
     ∷ flat_map (candidate_on_numbers d s) (candidate_faces s q.plain)
-    ++ where_fraction d.fraction_bits (confirm_on_numbers d s q.plain)
+    ++ passes_where_fraction d.fraction_bits (confirm_on_numbers d s q.plain)
     ++ flat_map (λ r. classify_on_numbers (end_of d) (solid_of scene r.solid) r.plain) (others q product)
     ++ merge_on_numbers
 

@@ -1,12 +1,11 @@
 -- The passes law on numbers: whatever the numbers of a pixel of the picture were, the passes leave the key of what it shows.
 -- Only proofs and private functions stand on it.
 use Rattle.std.specs.Prelude.{◌≡◌, ◌<◌, ◌*◌, ◌^◌, ℕ, All}
-use Rattle.px_model.specs.Scenes.{IsLawfulScene, SceneView, faces_of}
-use Rattle.px_model.specs.Solids.{IsLawfulSolid}
+use Rattle.px_model.specs.Scenes.{IsLawfulScene, SceneView, faces_of, IsLawfulSolid}
 use Rattle.px_model.specs.Cells.{Sight, picture}
 use Rattle.px_normal.specs.Forms.{sum_of_products}
 use Rattle.px_prune.specs.Kept.{kept_of}
-use Rattle.px_sched.specs.Numbers.{Numbers, KeyedPixel, after, key, passes_on_numbers}
+use Rattle.px_sched.specs.Numbers.{Numbers, KeyedPixel, after_passes, key, passes_on_numbers}
 
 -- the best key is that of a depth and a face number, which have room in it
 pub record IsKeyOf (l : KeyedPixel) (sight : Sight) (best : ℕ) : Type 0 where
@@ -26,4 +25,4 @@ abbrev pub NumbersShowThePicture : Type 0
 NumbersShowThePicture = (scene : SceneView) → IsLawfulScene scene → All IsLawfulSolid scene.solids →
     (l : KeyedPixel) → IsPixelOf scene l → (p : Numbers) →
     IsKeyOf l (picture scene l.x l.y)
-    (after l (passes_on_numbers scene l.number_bits (kept_of scene (sum_of_products scene.show))) p).keys.best
+    (after_passes l (passes_on_numbers scene l.number_bits (kept_of scene (sum_of_products scene.show))) p).keys.best

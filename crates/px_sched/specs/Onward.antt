@@ -26,6 +26,6 @@ abbrev pub AreKnown : SceneView → List Literal → Type 0
 AreKnown scene rs = All (λ r. r.solid < length scene.solids) rs
 
 -- a product has a literal, and its literals are of solids of the scene
-pub record IsDrawn (scene : SceneView) (product : Product) : Type 0 where
+pub record HasKnownLiterals (scene : SceneView) (product : Product) : Type 0 where
   pub some : 0 < length (literals product)
   pub known : AreKnown scene (literals product)

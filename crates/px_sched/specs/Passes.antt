@@ -5,10 +5,9 @@ use Rattle.px_macro.specs.declared.operation.Macro.{Macro}
 use Rattle.px_macro.specs.declared.operation.Macro.TheVariants as m
 use Rattle.px_num.specs.Forms.{plus}
 use Rattle.px_num.specs.declared.linear.Linear.{Linear}
-use Rattle.px_model.specs.Scenes.{SceneView, black}
-use Rattle.px_model.specs.Solids.{SolidView}
+use Rattle.px_model.specs.Scenes.{SceneView, black, SolidView}
 use Rattle.px_model.specs.Cells.{Depths, depths_of, end_of}
-use Rattle.px_face.specs.Faces.{face_count, number_of, plane_of}
+use Rattle.px_face.specs.Faces.{face_count, face_number, face_plane}
 use Rattle.px_face.specs.Edges.{edges}
 use Rattle.px_normal.specs.declared.product.Product.{Product}
 use Rattle.px_normal.specs.Sets.{solids}
@@ -46,9 +45,9 @@ where_fraction d operations = if d.fraction_bits == 0 then [] else operations
 abbrev pub candidate : LayoutView → Depths → SolidView → (face : ℕ) → List Macro
 candidate l d s face =
     m.All ∷ keep_covered (end_of d) s face
-    ++ (m.LoadLinear (plus (plane_of s (end_of d) face) (2 ^ d.fraction_bits - 1)) (deep_part l l.key_t)
+    ++ (m.LoadLinear (plus (face_plane s (end_of d) face) (2 ^ d.fraction_bits - 1)) (deep_part l l.key_t)
     ∷ where_fraction d (m.LoadConst (fraction_part l l.key_t) 0 ∷ [])
-    ++ m.LoadConst (number_part l l.key_t) (number_of s face)
+    ++ m.LoadConst (number_part l l.key_t) (face_number s face)
     ∷ m.SetBit l.alive true ∷ [])
 
 -- the candidate faces: a plain solid's fronts with its near face, a barred one's backs without the far limit
@@ -68,7 +67,7 @@ turn l end s face form =
 abbrev pub drop_behind : LayoutView → (end : ℕ) → SolidView → (face : ℕ) → List Macro
 drop_behind l end s face =
     m.All ∷ m.KeepBit l.alive true ∷ keep_covered end s face
-    ++ m.KeepAtMost (plane_of s end face) (deep_part l l.key_t)
+    ++ m.KeepAtMost (face_plane s end face) (deep_part l l.key_t)
     ∷ m.SetBit l.alive false ∷ []
 
 -- the candidate stays alive only where its own solid has a cell:
@@ -78,7 +77,7 @@ confirm l d s plain =
     if plain then flat_map (drop_behind l (end_of d) s) (range_with_len (length s.fronts + 1) (length s.backs + 1))
     else
     m.All ∷ m.SetBit l.par false
-    ∷ flat_map (λ face. turn l (end_of d) s face (plus (plane_of s (end_of d) face) (2 ^ d.fraction_bits)))
+    ∷ flat_map (λ face. turn l (end_of d) s face (plus (face_plane s (end_of d) face) (2 ^ d.fraction_bits)))
     (range_with_len 0 (length s.fronts + 1))
     ++ m.All ∷ m.KeepBit l.par false ∷ m.SetBit l.alive false ∷ []
 
@@ -86,7 +85,7 @@ confirm l d s plain =
 abbrev pub classify : LayoutView → (end : ℕ) → SolidView → (plain : Bool) → List Macro
 classify l end s plain =
     m.All ∷ m.SetBit l.par false
-    ∷ flat_map (λ face. turn l end s face (plane_of s end face)) (range_with_len 0 (face_count s))
+    ∷ flat_map (λ face. turn l end s face (face_plane s end face)) (range_with_len 0 (face_count s))
     ++ m.All ∷ m.KeepBit l.par (not plain) ∷ m.SetBit l.alive false ∷ []
 
 -- a live candidate takes the place of the best key where its own is less

@@ -2,8 +2,7 @@
 use Rattle.std.specs.Prelude.{◌^◌, ◌≤◌, All, length}
 use Rattle.px_macro.specs.Macros.{IsLawful}
 use Rattle.px_prune.specs.Kept.{plan_of}
-use Rattle.px_model.specs.Scenes.{IsLawfulScene, SceneView}
-use Rattle.px_model.specs.Solids.{IsLawfulSolid}
+use Rattle.px_model.specs.Scenes.{IsLawfulScene, SceneView, IsLawfulSolid}
 use Rattle.px_sched.specs.Layouts.{IsLayout, layout_of, need_of}
 use Rattle.px_sched.specs.Passes.{passes}
 use Rattle.px_normal.specs.declared.product.TheConstants.{MAX_PRODUCTS}

@@ -3,8 +3,7 @@
 use Rattle.std.specs.Prelude.{◌≡◌, ℕ, ◌<◌, ◌≤◌, All, Bool, List, length}
 use Rattle.px_macro.specs.Fields.{number_in}
 use Rattle.px_macro.specs.Macros.{PixelBits, after_macros}
-use Rattle.px_model.specs.Scenes.{SceneView, IsLawfulScene}
-use Rattle.px_model.specs.Solids.{IsLawfulSolid}
+use Rattle.px_model.specs.Scenes.{SceneView, IsLawfulScene, IsLawfulSolid}
 use Rattle.px_model.specs.Cells.{Sight, picture}
 use Rattle.px_sched.specs.Layouts.{LayoutView, depth_part, fraction_part, layout_of, need_of, number_part}
 use Rattle.px_sched.specs.Passes.{passes}

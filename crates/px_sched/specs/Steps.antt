@@ -1,13 +1,12 @@
 -- The passes of a literal step by step. A step is a few operations that begin with "all". Clauses of public calls stand on it.
-use Rattle.std.specs.Prelude.{◌≡◌, ℕ, ◌+◌, ◌-◌, ◌^◌, ◌<◌, ⊤, All, Bool, false, not, List, [], ◌∷◌, ◌++◌, drop, length, get_or, if◌then◌else◌}
+use Rattle.std.specs.Prelude.{◌≡◌, ℕ, ◌+◌, ◌-◌, ◌^◌, ◌<◌, ⊤, Bool, false, not, List, [], ◌∷◌, ◌++◌, drop, length, get_or, if◌then◌else◌}
 use Rattle.std.specs.List.{flat_map, range_with_len}
 use Rattle.px_macro.specs.declared.operation.Macro.{Macro}
 use Rattle.px_macro.specs.declared.operation.Macro.TheVariants as m
-use Rattle.px_model.specs.Scenes.{SceneView}
-use Rattle.px_model.specs.Solids.{SolidView}
+use Rattle.px_model.specs.Scenes.{SceneView, SolidView}
 use Rattle.px_model.specs.Cells.{depths_of, end_of}
 use Rattle.px_num.specs.Forms.{plus}
-use Rattle.px_face.specs.Faces.{face_count, plane_of}
+use Rattle.px_face.specs.Faces.{face_count, face_plane}
 use Rattle.px_sched.specs.declared.literal.Literal.{Literal}
 use Rattle.px_sched.specs.declared.step.Step.{Step}
 use Rattle.px_sched.specs.declared.step.Step.TheVariants.{Begin, Candidate, Clear, Close, Confirm, Drop, Front, Merge, Open, Turn}
@@ -24,13 +23,13 @@ literal_at rs place = get_or rs place no_literal
 abbrev pub front_turn : SceneView → LayoutView → SolidView → (face : ℕ) → List Macro
 front_turn scene l s face =
     let d = depths_of scene in
-    turn l (end_of d) s face (plus (plane_of s (end_of d) face) (2 ^ d.fraction_bits))
+    turn l (end_of d) s face (plus (face_plane s (end_of d) face) (2 ^ d.fraction_bits))
 
 -- a face turns the parity where it is not behind the candidate
 abbrev pub face_turn : SceneView → LayoutView → SolidView → (face : ℕ) → List Macro
 face_turn scene l s face =
     let end = end_of (depths_of scene) in
-    turn l end s face (plane_of s end face)
+    turn l end s face (face_plane s end face)
 
 abbrev pub step_operations : SceneView → LayoutView → Step → List Macro
 step_operations scene l Open = m.All ∷ m.SetBit l.alive false ∷ []

@@ -15,7 +15,7 @@ ghost use Rattle.px_prune.specs.Kept.{plan_of};
 ghost use Rattle.px_model.specs.Scenes.{SceneView};
 ghost use Rattle.px_sched.specs.Cursors.{Stands, StandsIn};
 ghost use Rattle.px_sched.specs.Groups.{IsStage, stage_operations};
-ghost use Rattle.px_sched.specs.Onward.{IsDrawn};
+ghost use Rattle.px_sched.specs.Onward.{HasKnownLiterals};
 ghost use Rattle.px_sched.specs.Layouts.{LayoutView, layout_of};
 ghost use Rattle.px_sched.specs.Passes.{passes, passes_with};
 
@@ -72,7 +72,7 @@ impl Cursor {
 
     /// Gives the next operation of the passes over some products.
     fn give(&mut self, scene: &Scene, products: &[Product], layout: &Layout) -> Option<Macro>
-        requires drawn { All (IsDrawn scene.now) products.now }
+        requires drawn { All (HasKnownLiterals scene.now) products.now }
         requires bits { layout.now.fraction_bits ≡ scene.now.fraction_bits }
         requires stands { StandsIn scene.now layout.now products.now self.old }
         ensures operation { result ≡
@@ -94,7 +94,7 @@ impl Cursor {
 
     /// One operation further, where the stage has `count` of them.
     fn after(self, count: usize, scene: &Scene, products: &[Product]) -> Cursor
-        requires drawn { All (IsDrawn scene.now) products.now }
+        requires drawn { All (HasKnownLiterals scene.now) products.now }
         requires stage { IsStage scene.now products.now self.stage }
         requires count { (l : LayoutView) →
             length (stage_operations scene.now l self.stage) ≡ count }

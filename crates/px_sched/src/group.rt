@@ -14,7 +14,7 @@ ghost use Rattle.px_sched.specs.Groups.{
   products_from,
   stage_operations,
 };
-ghost use Rattle.px_sched.specs.Onward.{IsDrawn, from_stage, from_step_if_any};
+ghost use Rattle.px_sched.specs.Onward.{HasKnownLiterals, from_stage, from_step_if_any};
 ghost use Rattle.px_sched.specs.Layouts.{LayoutView};
 ghost use Rattle.px_sched.specs.Passes.{literals};
 ghost use Rattle.px_sched.specs.Steps.{behind_step};
@@ -91,7 +91,7 @@ impl Stage {
 
     /// What comes behind these operations.
     pub(crate) fn next(self, scene: &Scene, products: &[Product]) -> Stage
-        requires drawn { All (IsDrawn scene.now) products.now }
+        requires drawn { All (HasKnownLiterals scene.now) products.now }
         requires stage { IsStage scene.now products.now self }
         ensures left { (l : LayoutView) → behind_stage scene.now l products.now self ≡
             from_stage scene.now l products.now result }
@@ -108,7 +108,7 @@ impl Stage {
 impl Group {
     /// What comes behind this group.
     fn next(self, scene: &Scene, products: &[Product]) -> Stage
-        requires drawn { All (IsDrawn scene.now) products.now }
+        requires drawn { All (HasKnownLiterals scene.now) products.now }
         requires group { IsGroup scene.now products.now self }
         ensures left { (l : LayoutView) → behind_stage scene.now l products.now (s.At self) ≡
             from_stage scene.now l products.now result }
@@ -122,7 +122,7 @@ impl Group {
 
     /// The step behind this one, of the same literal.
     fn next_step(self, scene: &Scene, products: &[Product]) -> Option<Step>
-        requires drawn { All (IsDrawn scene.now) products.now }
+        requires drawn { All (HasKnownLiterals scene.now) products.now }
         requires group { IsGroup scene.now products.now self }
         ensures left { (l : LayoutView) →
             behind_step scene.now l (literal_of products.now self)
@@ -153,7 +153,7 @@ impl Group {
 
 /// The literals of a product from one on, and the products behind it.
 fn literal_from(scene: &Scene, products: &[Product], product: usize, literal: usize) -> Stage
-    requires drawn { All (IsDrawn scene.now) products.now }
+    requires drawn { All (HasKnownLiterals scene.now) products.now }
     requires product { product < length products.now }
     ensures left { (l : LayoutView) → literals_from scene.now l products.now product literal ≡
         from_stage scene.now l products.now result }
@@ -172,7 +172,7 @@ fn literal_from(scene: &Scene, products: &[Product], product: usize, literal: us
 
 /// The products from one on.
 fn product_from(scene: &Scene, products: &[Product], product: usize) -> Stage
-    requires drawn { All (IsDrawn scene.now) products.now }
+    requires drawn { All (HasKnownLiterals scene.now) products.now }
     ensures left { (l : LayoutView) → products_from scene.now l products.now product ≡
         from_stage scene.now l products.now result }
     ensures stage { IsStage scene.now products.now result }

@@ -1,5 +1,5 @@
 use Rattle.std.proofs.Common.{◌∙◌, ◌+◌, ◌*◌, ◌^◌, arith}
-use Rattle.px_face.specs.Faces.{plane_of}
+use Rattle.px_face.specs.Faces.{face_plane}
 use Rattle.px_control.proofs.CostLemmas.{at_most_more, classify_costs, plus_at_most, times_at_most}
 use Rattle.px_control.proofs.literal.classify_cost.Goals as goal
 
@@ -8,7 +8,7 @@ returns-clause-cost c end plain =
     c.plus.ensures
     ∙ rw c.times.ensures
     (classify_costs c.args.lengths.now end c.args.solid.now plain _ c.turn_cost.result c.face_count.ensures.count
-    (λ face there. c.turn_cost.ensures.cost end face (plane_of c.args.solid.now end face) there))
+    (λ face there. c.turn_cost.ensures.cost end face (face_plane c.args.solid.now end face) there))
 
 pub plus-requires-clause-first : goal.plus-requires-clause-first
 plus-requires-clause-first c =

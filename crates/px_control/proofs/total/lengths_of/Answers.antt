@@ -1,6 +1,6 @@
 use Rattle.std.proofs.Common.{refl, arith, ap}
 use Rattle.px_model.specs.Scenes.{faces_of}
-use Rattle.px_control.proofs.CostLemmas.{number_few}
+use Rattle.px_sched.proofs.LayoutLaws.{bit_length_most}
 use Rattle.px_control.proofs.GridLemmas.{exponent_between, grid_exponent_is}
 use Rattle.px_control.proofs.total.lengths_of.Goals as goal
 
@@ -50,5 +50,5 @@ returns-clause-short c =
         lawful.depth,
       );
       fraction = omega (arith, c.from-4.ensures, c.fraction_bits.ensures.value, lawful.fraction);
-      number = omega (arith, c.from-5.ensures, c.number_bits.ensures, number, number_few (faces_of scene.solids));
+      number = omega (arith, c.from-5.ensures, c.number_bits.ensures, number, bit_length_most (faces_of scene.solids));
     }

@@ -5,7 +5,7 @@ use Rattle.px_sched.specs.Layouts.{layout_with}
 use Rattle.px_sched.specs.Passes.{passes_with}
 use Rattle.px_control.specs.declared.costs.Costs.{Costs}
 use Rattle.px_control.specs.declared.costs.Lengths.{Lengths}
-use Rattle.px_control.specs.Costs.{IsAtMost, cost_of}
+use Rattle.px_control.specs.Costs.{AreCostsAtMost, cost_of}
 use Rattle.px_control.proofs.total.products_cost.Given as goal
 
 -- the cost of the background and of the first products
@@ -13,7 +13,7 @@ pub record AreCounted (costs : Costs) (lengths : Lengths) (scene : SceneView) (p
     Type 0 where
   pub counted : costs ≡ cost_of lengths (passes_with scene (layout_with lengths.depth lengths.fraction lengths.number)
       (take count products))
-  pub few : IsAtMost (100 + count * 2 ^ 37) costs
+  pub few : AreCostsAtMost (100 + count * 2 ^ 37) costs
 
 abbrev pub invariant-loop-product : goal.invariant-loop-product
 invariant-loop-product l = AreCounted l.costs l.lengths l.scene l.products l.product-index

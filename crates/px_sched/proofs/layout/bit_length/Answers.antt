@@ -1,5 +1,6 @@
 use Rattle.std.proofs.Common.{◌^◌, nat_le, arith, ◌∙◌}
-use Rattle.px_sched.proofs.LayoutLemmas.{counted, le_false, le_true, passed_over}
+use Rattle.px_num.proofs.TruthLaws.{le_false, le_true}
+use Rattle.px_sched.proofs.LayoutLaws.{counted, passed_over}
 use Rattle.px_sched.proofs.layout.bit_length.Goals as goal
 use Rattle.px_sched.proofs.layout.bit_length.Goals.{then-power-number, else-power-number}
 

@@ -1,9 +1,9 @@
 use Rattle.px_normal.specs.Forms.{sum_of_products}
 use Rattle.px_prune.specs.Kept.{kept_of}
 use Rattle.px_sched.specs.Layouts.{layout_of}
-use Rattle.px_sched.proofs.FewLemmas.{few_passes}
+use Rattle.px_sched.proofs.FewLaws.{few_passes}
 use Rattle.px_sched.proofs.FitLemmas.{scene_passes_fit}
-use Rattle.px_sched.proofs.LayoutLemmas.{scene_layout}
+use Rattle.px_sched.proofs.LayoutLaws.{scene_layout}
 use Rattle.px_sched.proofs.SightLemmas.{passes_law}
 use Rattle.px_sched.proofs.passes.laws_of_passes.Goals as goal
 

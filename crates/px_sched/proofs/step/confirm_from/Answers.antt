@@ -1,5 +1,5 @@
 use Rattle.std.proofs.Common.{arith, ap, length, ◌+◌}
-use Rattle.px_model.specs.Solids.{SolidView}
+use Rattle.px_model.specs.Scenes.{SolidView}
 use Rattle.px_sched.proofs.StepLemmas.{clear_begins, drops_begin}
 use Rattle.px_sched.proofs.step.confirm_from.Goals as goal
 

@@ -1,5 +1,5 @@
 use Rattle.std.proofs.Common.{arith, ap, length}
-use Rattle.px_model.specs.Solids.{SolidView}
+use Rattle.px_model.specs.Scenes.{SolidView}
 use Rattle.px_sched.proofs.StepLemmas.{front_more}
 use Rattle.px_sched.proofs.step.front_from.Goals as goal
 

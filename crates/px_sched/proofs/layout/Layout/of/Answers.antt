@@ -1,6 +1,6 @@
 use Rattle.std.proofs.Common.{◌≤◌, ap, sym, subst, ◌∙◌}
 use Rattle.px_sched.specs.Layouts.{bit_length}
-use Rattle.px_sched.proofs.LayoutLemmas.{scene_layout}
+use Rattle.px_sched.proofs.LayoutLaws.{scene_layout}
 use Rattle.px_sched.proofs.layout.Layout.of.Goals as goal
 
 pub with-layout-requires-clause-some_number : goal.with-layout-requires-clause-some_number

@@ -1,7 +1,7 @@
 use Rattle.std.proofs.Common.{ap, sym, ◌∙◌, get_or}
 use Rattle.px_macro.specs.declared.operation.Macro.TheVariants as m
 use Rattle.px_model.specs.Cells.{depths_of, end_of}
-use Rattle.px_model.specs.Solids.{SolidView}
+use Rattle.px_model.specs.Scenes.{SolidView}
 use Rattle.px_sched.specs.declared.step.Step.{Step}
 use Rattle.px_sched.specs.Passes.{candidate, drop_behind}
 use Rattle.px_sched.specs.Steps.{face_turn, front_turn, step_operations}

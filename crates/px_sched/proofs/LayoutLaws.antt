@@ -2,29 +2,17 @@
 use Rattle.std.proofs.Common.{◌≡◌, ℕ, ◌+◌, ◌^◌, ◌<◌, ◌≤◌, Bool, true, false, List, [], ◌∷◌, ◌++◌, length, nat_le}
 use Rattle.std.proofs.Common.{count_by, filter, length-append, refl, ap, sym, ◌∙◌, arith}
 use Rattle.std.specs.List.{range_with_len}
-use Rattle.std.proofs.lemmas.Bool.Decides.{nat_tests}
 use Rattle.std.proofs.lemmas.List.Sums.{count_by-le-length, length-filter, sum_by-cons}
 use Rattle.std.proofs.lemmas.List.Elements.{filter-append}
 use Rattle.px_num.proofs.RangeLaws.{range_cut}
-use Rattle.px_expr.specs.Tree.{HasLeavesBelow, Tree, join, leaf}
-use Rattle.px_model.specs.Scenes.{IsLawfulScene, SceneView, faces_of}
-use Rattle.px_model.specs.Solids.{SolidView, faces_in}
+use Rattle.px_num.proofs.TruthLaws.{le_true}
+use Rattle.px_expr.proofs.LeafLaws.{some_solid}
+use Rattle.px_model.specs.Scenes.{IsLawfulScene, SceneView, faces_of, SolidView, faces_in}
 use Rattle.px_sched.specs.Layouts.{IsLayout, bit_length, layout_of}
-
--- an expression over no solid has no leaf, and each has one
-some_solid : (tree : Tree) (count : ℕ) → HasLeavesBelow count tree → 0 < count
-some_solid (leaf solid) count below = omega (arith, below)
-some_solid (join op left right) count (in_left, in_right) = some_solid left count in_left
 
 some_face : (solids : List SolidView) → 0 < length solids → 1 ≤ faces_of solids
 some_face [] some = absurd (omega (arith, some))
 some_face (s ∷ ss) some = omega (arith, sum_by-cons faces_in s ss)
-
-pub le_false : (m n : ℕ) → n < m → nat_le m n ≡ false
-le_false m n h = grind (arith, nat_tests)
-
-pub le_true : (m n : ℕ) → m ≤ n → nat_le m n ≡ true
-le_true m n h = grind (arith, nat_tests)
 
 pub bit_length_most : (n : ℕ) → bit_length n ≤ 12
 bit_length_most n = count_by-le-length (λ t. nat_le (2 ^ t) n) (range_with_len 0 12)

@@ -13,15 +13,14 @@ use Rattle.px_num.specs.declared.linear.Linear.{Linear}
 use Rattle.px_num.proofs.RangeLaws.{range_all}
 use Rattle.px_face.specs.EdgeLaws.{EdgesAreCounted}
 use Rattle.px_face.specs.Edges.{edges}
-use Rattle.px_face.specs.Faces.{face_count, number_of, plane_of}
+use Rattle.px_face.specs.Faces.{face_count, face_number, face_plane}
 use Rattle.px_macro.specs.declared.operation.Macro.{Macro}
 use Rattle.px_macro.specs.declared.operation.Macro.TheVariants as m
 use Rattle.px_normal.specs.declared.product.Product.{Product}
 use Rattle.px_normal.specs.declared.set.SolidSet.{SolidSet}
 use Rattle.px_normal.specs.Sets.{below, has, solids}
 use Rattle.px_model.specs.Cells.{Depths, depths_of, end_of}
-use Rattle.px_model.specs.Scenes.{SceneView}
-use Rattle.px_model.specs.Solids.{IsLawfulSolid, SolidView}
+use Rattle.px_model.specs.Scenes.{SceneView, IsLawfulSolid, SolidView}
 use Rattle.px_sched.specs.declared.literal.Literal.{Literal}
 use Rattle.px_sched.specs.Layouts.{LayoutView, deep_part, fraction_part, number_part}
 use Rattle.px_sched.specs.Passes.{candidate, candidate_faces, classify, confirm, drop_behind, where_fraction}
@@ -71,7 +70,7 @@ no_solid_lawful = record {
   sides = All-nil _;
 }
 
-few_filtered : (h : ℕ → Bool) (n : ℕ) → length (filter h (below n)) ≤ n
+pub few_filtered : (h : ℕ → Bool) (n : ℕ) → length (filter h (below n)) ≤ n
 few_filtered h zero = omega arith
 few_filtered h (suc n) = omega (
   arith,
@@ -138,9 +137,9 @@ module _ (counted : EdgesAreCounted) (l : LayoutView) (d : Depths) where
   few_candidate : (s : SolidView) → IsLawfulSolid s → (face : ℕ) → face < face_count s
       → length (candidate l d s face) ≤ 102
   few_candidate s lawful face there =
-      let load = m.LoadLinear (plus (plane_of s end face) (2 ^ d.fraction_bits - 1)) (deep_part l l.key_t) in
+      let load = m.LoadLinear (plus (face_plane s end face) (2 ^ d.fraction_bits - 1)) (deep_part l l.key_t) in
       let clear : List Macro = m.LoadConst (fraction_part l l.key_t) 0 ∷ [] in
-      let last : List Macro = m.LoadConst (number_part l l.key_t) (number_of s face) ∷ m.SetBit l.alive true ∷ [] in
+      let last : List Macro = m.LoadConst (number_part l l.key_t) (face_number s face) ∷ m.SetBit l.alive true ∷ [] in
       omega (
         arith,
         length-append (keep_covered end s face) (load ∷ where_fraction d clear ++ last),
@@ -158,7 +157,7 @@ module _ (counted : EdgesAreCounted) (l : LayoutView) (d : Depths) where
   few_drop : (s : SolidView) → IsLawfulSolid s → (face : ℕ) → face < face_count s
       → length (drop_behind l end s face) ≤ 101
   few_drop s lawful face there =
-      let tail : List Macro = m.KeepAtMost (plane_of s end face) (deep_part l l.key_t) ∷ m.SetBit l.alive false ∷ [] in
+      let tail : List Macro = m.KeepAtMost (face_plane s end face) (deep_part l l.key_t) ∷ m.SetBit l.alive false ∷ [] in
       omega (arith, length-append (keep_covered end s face) tail, few_signs s face lawful there)
 
   few_faces : (s : SolidView) (plain : Bool) → IsLawfulSolid s → length (candidate_faces s plain) ≤ 33
@@ -182,7 +181,7 @@ module _ (counted : EdgesAreCounted) (l : LayoutView) (d : Depths) where
       )
 
   few_classify : (s : SolidView) (plain : Bool) → IsLawfulSolid s → length (classify l end s plain) ≤ 6671
-  few_classify s plain lawful = few_turns s lawful (plane_of s end) (not plain) (face_count s) (omega arith)
+  few_classify s plain lawful = few_turns s lawful (face_plane s end) (not plain) (face_count s) (omega arith)
 
   few_confirm : (s : SolidView) (plain : Bool) → IsLawfulSolid s → length (confirm l d s plain) ≤ 6671
   few_confirm s true lawful =
@@ -195,7 +194,7 @@ module _ (counted : EdgesAreCounted) (l : LayoutView) (d : Depths) where
         length-range_with_len (length s.fronts + 1) n,
         lawful.backs.few,
       )
-  few_confirm s false lawful = few_turns s lawful (λ face. plus (plane_of s end face) (2 ^ d.fraction_bits)) false
+  few_confirm s false lawful = few_turns s lawful (λ face. plus (face_plane s end face) (2 ^ d.fraction_bits)) false
       (length s.fronts + 1) (omega arith)
 
 module _ (counted : EdgesAreCounted) (scene : SceneView) (l : LayoutView)
