@@ -1,5 +1,5 @@
 -- Rows by their pixels, and images by their rows, as they are written one after another; images of the same numbers.
-use Rattle.std.proofs.Common.{◌≡◌, ℕ, ◌+◌, ◌-◌, ◌<◌, ◌≤◌, ap, sym, ◌∙◌, arith}
+use Rattle.std.proofs.Common.{◌≡◌, ℕ, ◌+◌, ◌-◌, ◌<◌, ap, sym, ◌∙◌, arith}
 use Rattle.std.proofs.Common.{Bool, List, [], ◌∷◌, ◌++◌, Option, append_assoc}
 use Rattle.std.proofs.lemmas.List.{append-nil}
 use Rattle.std.proofs.lemmas.Grind.{flat_map-append}
@@ -7,7 +7,7 @@ use Rattle.std.specs.List.{flat_map, range_with_len}
 use Rattle.px_num.proofs.RangeLaws.{range_cut, same_parts}
 use Rattle.px_io.specs.Told.{TakesAll, TakesFront}
 use Rattle.px_io.proofs.ToldLaws.{front_after, front_before, takes_both}
-use Rattle.px_frame.specs.Image.{header, image_of, image_of_pixels, row_of_pixels, three_bytes}
+use Rattle.px_frame.specs.Picture.{header, image_of, image_of_pixels, number_pixel, row_of_pixels, three_bytes}
 use Rattle.px_frame.specs.Rows.{row_bytes}
 
 range_join : (n m : ℕ) → range_with_len 0 n ++ range_with_len n m ≡ range_with_len 0 (n + m)
@@ -37,7 +37,7 @@ pixels_grown pixel x y bytes old new filled is grown =
 pub row_grown : (number : (x y : ℕ) → ℕ) (x y n : ℕ) (old new : List ℕ) → old ≡ row_bytes x number y
     → n ≡ number x y → new ≡ old ++ three_bytes n → new ≡ row_bytes (x + 1) number y
 row_grown number x y n old new filled is grown =
-    pixels_grown (λ x y. three_bytes (number x y)) x y (three_bytes n) old new filled (ap three_bytes is) grown
+    pixels_grown (number_pixel number) x y (three_bytes n) old new filled (ap three_bytes is) grown
 
 -- one row more
 pub rows_grown : (a b c : Option (List ℕ)) (f g h : Option Bool) (front : List ℕ) (row : ℕ → List ℕ) (y : ℕ)
@@ -73,5 +73,5 @@ same_pixels width height f g same =
 pub same_image : (width height : ℕ) (f g : (x y : ℕ) → ℕ) → ((x y : ℕ) → x < width → y < height → f x y ≡ g x y)
     → image_of width height f ≡ image_of width height g
 same_image width height f g same =
-    same_pixels width height (λ x y. three_bytes (f x y)) (λ x y. three_bytes (g x y))
+    same_pixels width height (number_pixel f) (number_pixel g)
     (λ x y left above. ap three_bytes (same x y left above))

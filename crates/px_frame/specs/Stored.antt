@@ -7,7 +7,7 @@ use Rattle.px_model.specs.Scenes.{SceneView, colour_in_scene, faces_of}
 use Rattle.px_sched.specs.Layouts.{LayoutView, depth_part, number_part}
 use Rattle.px_frame.specs.declared.plane.Plane.{Plane}
 use Rattle.px_frame.specs.declared.plane.Plane.TheVariants as p
-use Rattle.px_frame.specs.Image.{colour_bytes, image_of_pixels, three_bytes}
+use Rattle.px_frame.specs.Picture.{colour_bytes, image_of_pixels, three_bytes}
 
 abbrev pub stored_depth : LayoutView → State → (x y : ℕ) → ℕ
 stored_depth layout state x y = number_in (depth_part layout layout.key_b) (pixel_of state x y).memory

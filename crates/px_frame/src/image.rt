@@ -4,7 +4,7 @@ ghost use Rattle.px_io.specs.Counts.{HasCause};
 ghost use Rattle.px_io.specs.Told.{TakesAll, TakesFront};
 ghost use Rattle.px_array.specs.Arrays.{IsOpen};
 ghost use Rattle.px_sched.specs.Layouts.{need_of};
-ghost use Rattle.px_frame.specs.Image.{header, row_of_pixels, three_bytes};
+ghost use Rattle.px_frame.specs.Picture.{header, row_of_pixels, three_bytes};
 ghost use Rattle.px_frame.specs.Stored.{HasColumns, HasRows, StoresFaces, stored_image, stored_pixel};
 
 use crate::plane::{Plane, pixel_at};
@@ -50,7 +50,7 @@ pub fn write_picture<A: Array, O: Sink>(
 }
 
 /// The three lines before the pixels of an image.
-#[tactic(auto, unfolding(crate::specs::Image::header))]
+#[tactic(auto, unfolding(crate::specs::Picture::header))]
 pub fn header(width: u32, height: u32) -> ArrayString<128>
     ensures { result.bytes ≡ header width height }
 {
@@ -90,7 +90,7 @@ fn row_bytes<A: Array>(
 }
 
 /// A number as one pixel of an image, its highest byte first.
-#[tactic(auto, unfolding(crate::specs::Image::three_bytes))]
+#[tactic(auto, unfolding(crate::specs::Picture::three_bytes))]
 pub fn three_bytes(number: u32) -> [u8; 3]
     requires { number < 2 ^ 24 }
     ensures { result ≡ three_bytes number }

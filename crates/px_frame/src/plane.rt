@@ -3,7 +3,7 @@ ghost use Rattle.std.specs.Prelude.{◌≡◌, ◌≤◌};
 ghost use Rattle.px_array.specs.Arrays.{HasPixel};
 ghost use Rattle.px_model.specs.Scenes.{faces_of};
 ghost use Rattle.px_sched.specs.Layouts.{need_of};
-ghost use Rattle.px_frame.specs.Image.{colour_bytes};
+ghost use Rattle.px_frame.specs.Picture.{colour_bytes};
 ghost use Rattle.px_frame.specs.Stored.{stored_face, stored_pixel};
 
 use crate::image::three_bytes;

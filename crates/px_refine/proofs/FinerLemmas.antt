@@ -1,11 +1,10 @@
 -- What is seen of the finer scene at a pixel that both scenes have.
-use Rattle.std.proofs.Common.{◌≡◌, ℕ, zero, suc, ◌+◌, ◌*◌, ◌^◌, ◌<◌, ◌≤◌, ℤ, pos, ◌*ℤ◌, List, [], ◌∷◌, map, filter}
+use Rattle.std.proofs.Common.{◌≡◌, ℕ, zero, suc, ◌+◌, ◌*◌, ◌^◌, ◌<◌, ℤ, pos, ◌*ℤ◌, List, [], ◌∷◌, map, filter}
 use Rattle.std.proofs.Common.{nat_le, nat_lt, Bool, true, false, Option, Some, None, refl, ap, sym, ◌∙◌, arith}
 use Rattle.std.proofs.Common.{slice_get, if◌then◌else◌}
 use Rattle.std.proofs.Math.Path.{fun_ext}
 use Rattle.std.proofs.lemmas.Nat.{pow-add, pow_pos}
 use Rattle.std.proofs.lemmas.Option.{slice_get-map}
-use Rattle.std.proofs.lemmas.Bool.Decides.{nat_tests}
 use Rattle.std.specs.List.{fold, list_all}
 use Rattle.std.specs.Int.{int_max, int_min}
 use Rattle.std.specs.Option.{option_map, option_map_or}
@@ -13,10 +12,10 @@ use Rattle.std.specs.Ordering.{int_eq}
 use lib.Signed.{lt_z, le_z}
 use Rattle.px_num.specs.declared.linear.Linear.{Linear}
 use Rattle.px_num.specs.Forms.{value_at}
+use Rattle.px_num.proofs.TruthLaws.{le_holds, le_same}
 use Rattle.px_expr.specs.Cells.{Cell, cell}
 use Rattle.px_model.specs.declared.solid.Face.{Face}
-use Rattle.px_model.specs.Solids.{SolidView}
-use Rattle.px_model.specs.Scenes.{SceneView}
+use Rattle.px_model.specs.Scenes.{SolidView, SceneView}
 use Rattle.px_model.specs.Cells.{Depths, backs_at, cell_of, depths, end_of, enters_at, faces_at, far_of, first}
 use Rattle.px_model.specs.Cells.{first_cell, fronts_at, is_inside, is_inside_before, leaf_cell, least, leaves_at}
 use Rattle.px_model.specs.Cells.{no_cell, scene_cell, sight_at, solid_cell, value_of}
@@ -31,12 +30,6 @@ all_map : {A B : Type 0} (p : A → Bool) (q : B → Bool) (g : A → B) → ((a
     → list_all q (map g xs) ≡ list_all p xs
 all_map p q g same [] = refl
 all_map p q g same (x ∷ xs) = rw (same x, all_map p q g same xs) refl
-
-le_same : (n : ℕ) → nat_le n n ≡ true
-le_same n = grind (arith, nat_tests)
-
-le_holds : (m n : ℕ) → nat_le m n ≡ true → m ≤ n
-le_holds m n h = grind (arith, nat_tests)
 
 -- numbers that are at most the same numbers
 same_number : (m n : ℕ) → ((z : ℕ) → nat_le m z ≡ nat_le n z) → m ≡ n

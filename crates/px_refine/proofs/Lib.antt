@@ -1,4 +1,4 @@
 pub mod FinerLemmas
 pub mod MeanLemmas
 pub mod ScaleLemmas
-pub mod SumLemmas
+pub mod SumLaws

@@ -5,14 +5,13 @@ use Rattle.std.proofs.lemmas.Nat.{pow_pos}
 use Rattle.std.specs.List.{range_with_len, sum_by}
 use Rattle.px_model.specs.declared.solid.Colour.{Colour}
 use Rattle.px_model.specs.Scenes.{colour_in_scene}
-use Rattle.px_frame.specs.Image.{image_of_pixels}
-use Rattle.px_frame.specs.Picture.{colour_at}
+use Rattle.px_frame.specs.Picture.{image_of_pixels, colour_at}
 use Rattle.px_frame.specs.Stored.{stored_colour}
 use Rattle.px_frame.proofs.RowLaws.{same_pixels}
 use Rattle.px_refine.specs.Finer.{fine_scene}
 use Rattle.px_refine.specs.Refined.{mean, mean_pixel}
 use Rattle.px_refine.specs.RefinedLaw.{MeansAreRefined}
-use Rattle.px_refine.proofs.SumLemmas.{sum_more}
+use Rattle.px_refine.proofs.SumLaws.{sum_more}
 
 sum_same : (f g : ℕ → ℕ) (count : ℕ) → ((k : ℕ) → k < count → f k ≡ g k)
     → sum_by f (range_with_len 0 count) ≡ sum_by g (range_with_len 0 count)

@@ -5,8 +5,7 @@ use Rattle.px_array.specs.Arrays.{State}
 use Rattle.px_model.specs.declared.solid.Colour.{Colour}
 use Rattle.px_model.specs.Scenes.{SceneView}
 use Rattle.px_sched.specs.Layouts.{LayoutView}
-use Rattle.px_frame.specs.Image.{colour_bytes, image_of_pixels}
-use Rattle.px_frame.specs.Picture.{colour_at}
+use Rattle.px_frame.specs.Picture.{colour_bytes, image_of_pixels, colour_at}
 use Rattle.px_frame.specs.Stored.{stored_colour}
 use Rattle.px_refine.specs.Finer.{fine_scene}
 

@@ -50,13 +50,13 @@ mean_of s sums = record {
   blue = sums.blue / (2 ^ s * 2 ^ s);
 }
 
-pub record IsAtMost (n : ℕ) (sums : Sums) : Type 0 where
+pub record AreSumsAtMost (n : ℕ) (sums : Sums) : Type 0 where
   pub red : sums.red ≤ n
   pub green : sums.green ≤ n
   pub blue : sums.blue ≤ n
 
 -- an open array has room for a layout, has the columns and rows of a scene, and stores its faces
-pub record IsStored (bits : ℕ) (scene : SceneView) (layout : LayoutView) (device : Device) : Type 0 where
+pub record HoldsFaces (bits : ℕ) (scene : SceneView) (layout : LayoutView) (device : Device) : Type 0 where
   pub wide : scene.width ≤ MAX_PICTURE_SIZE
   pub high : scene.height ≤ MAX_PICTURE_SIZE
   pub open_array : IsOpen device

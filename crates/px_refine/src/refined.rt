@@ -4,10 +4,10 @@ ghost use Rattle.px_io.specs.Counts.{HasCause};
 ghost use Rattle.px_io.specs.Told.{TakesAll, TakesFront};
 ghost use Rattle.px_array.specs.Arrays.{IsOpen};
 ghost use Rattle.px_sched.specs.Layouts.{need_of};
-ghost use Rattle.px_frame.specs.Image.{row_of_pixels};
+ghost use Rattle.px_frame.specs.Picture.{row_of_pixels};
 ghost use Rattle.px_frame.specs.Stored.{HasColumns, HasRows, StoresFaces, stored_colour};
 ghost use Rattle.px_refine.specs.Refined.{mean_colour, mean_pixel, stored_means};
-ghost use Rattle.px_refine.specs.Sums.{IsAtMost, IsStored, block_sums, row_sums};
+ghost use Rattle.px_refine.specs.Sums.{AreSumsAtMost, HoldsFaces, block_sums, row_sums};
 
 use crate::finer::parts;
 use crate::sums::Sums;
@@ -71,7 +71,7 @@ fn mean_row<A: Array>(
     requires few { s ≤ 2 }
     requires across { 2 ^ s * width ≤ fine.now.width }
     requires down { 2 ^ s * (y + 1) ≤ fine.now.height }
-    requires stored { IsStored A.BITS fine.now layout.now (A.device array.now) }
+    requires stored { HoldsFaces A.BITS fine.now layout.now (A.device array.now) }
     ensures { result.items ≡ row_of_pixels width
         (mean_pixel s (stored_colour fine.now layout.now (A.device array.now).state)) y }
 {
@@ -88,7 +88,7 @@ fn mean_at<A: Array>(array: &A, layout: &Layout, fine: &Scene, s: u32, x: u32, y
     requires few { s ≤ 2 }
     requires across { 2 ^ s * (x + 1) ≤ fine.now.width }
     requires down { 2 ^ s * (y + 1) ≤ fine.now.height }
-    requires stored { IsStored A.BITS fine.now layout.now (A.device array.now) }
+    requires stored { HoldsFaces A.BITS fine.now layout.now (A.device array.now) }
     ensures { result ≡ mean_colour s
         (stored_colour fine.now layout.now (A.device array.now).state) x y }
 {
@@ -108,11 +108,11 @@ fn block_sums<A: Array>(
     requires few { across ≤ 4 }
     requires across { from + across ≤ fine.now.width }
     requires down { top + across ≤ fine.now.height }
-    requires stored { IsStored A.BITS fine.now layout.now (A.device array.now) }
+    requires stored { HoldsFaces A.BITS fine.now layout.now (A.device array.now) }
     ensures sums { result ≡ block_sums
         (stored_colour fine.now layout.now (A.device array.now).state)
         across from top across }
-    ensures most { IsAtMost (255 * (across * across)) result }
+    ensures most { AreSumsAtMost (255 * (across * across)) result }
 {
     let mut sums = Sums::new();
     for j in 0..across {
@@ -133,10 +133,10 @@ fn row_sums<A: Array>(
     requires few { across ≤ 4 }
     requires across { from + across ≤ fine.now.width }
     requires down { y < fine.now.height }
-    requires stored { IsStored A.BITS fine.now layout.now (A.device array.now) }
+    requires stored { HoldsFaces A.BITS fine.now layout.now (A.device array.now) }
     ensures sums { result ≡ row_sums
         (stored_colour fine.now layout.now (A.device array.now).state) from y across }
-    ensures most { IsAtMost (255 * across) result }
+    ensures most { AreSumsAtMost (255 * across) result }
 {
     let mut sums = Sums::new();
     for i in 0..across {
@@ -149,7 +149,7 @@ fn row_sums<A: Array>(
 fn colour_at<A: Array>(array: &A, layout: &Layout, fine: &Scene, x: u32, y: u32) -> Colour
     requires across { x < fine.now.width }
     requires down { y < fine.now.height }
-    requires stored { IsStored A.BITS fine.now layout.now (A.device array.now) }
+    requires stored { HoldsFaces A.BITS fine.now layout.now (A.device array.now) }
     ensures { result ≡ stored_colour fine.now layout.now (A.device array.now).state x y }
 {
     let face = number_in(array, layout.b_number(), x, y) as u32;

@@ -1,6 +1,6 @@
 //! Sums of the samples of pixels.
 ghost use Rattle.std.specs.Prelude.{◌≡◌, ◌*◌, ◌/◌, ◌^◌, ◌<◌, ◌≤◌};
-ghost use Rattle.px_refine.specs.Sums.{IsAtMost, mean_of, no_sums, together, with_colour};
+ghost use Rattle.px_refine.specs.Sums.{AreSumsAtMost, mean_of, no_sums, together, with_colour};
 
 use crate::finer::parts;
 use px_model::Colour;
@@ -27,7 +27,7 @@ impl Sums {
 
     /// Over one pixel more.
     pub(crate) fn with(&self, colour: Colour) -> Sums
-        requires { IsAtMost 65535 self.now }
+        requires { AreSumsAtMost 65535 self.now }
         ensures { result ≡ with_colour self.now colour }
     {
         Sums {
@@ -39,8 +39,8 @@ impl Sums {
 
     /// Over the pixels of both.
     pub(crate) fn plus(&self, more: &Sums) -> Sums
-        requires first { IsAtMost 65535 self.now }
-        requires second { IsAtMost 65535 more.now }
+        requires first { AreSumsAtMost 65535 self.now }
+        requires second { AreSumsAtMost 65535 more.now }
         ensures { result ≡ together self.now more.now }
     {
         Sums {
@@ -53,7 +53,7 @@ impl Sums {
     /// Each as the mean over `2^s` by `2^s` pixels, rounded down.
     pub(crate) fn mean(&self, s: u32) -> Colour
         requires few { s ≤ 2 }
-        requires most { IsAtMost (255 * (2 ^ s * 2 ^ s)) self.now }
+        requires most { AreSumsAtMost (255 * (2 ^ s * 2 ^ s)) self.now }
         ensures { result ≡ mean_of s self.now }
     {
         Colour {

@@ -1,5 +1,5 @@
 -- What the shadow passes leave in an array that stores the picture, and the image of it.
-use Rattle.std.proofs.Common.{◌≡◌, ◌<◌, ◌≤◌, ◌+◌, ◌-◌, ◌*◌, ◌^◌, ◌∙◌, ℕ, List, ◌++◌, length}
+use Rattle.std.proofs.Common.{◌≡◌, ◌<◌, ◌≤◌, ◌+◌, ◌-◌, ◌*◌, ◌^◌, ◌∙◌, ℕ, List, length}
 use Rattle.std.proofs.Common.{refl, ap, subst, sym, arith}
 use Rattle.std.specs.Prelude.{All}
 use Rattle.std.proofs.lemmas.List.Elements.{All-weaker}
@@ -10,7 +10,7 @@ use Rattle.px_asm.specs.Microprograms.{LeaveTheMeanings, bits_of}
 use Rattle.px_num.specs.Bits.{bit_at}
 use Rattle.px_macro.specs.Macros.{IsLawful, IsLawfulInMore, PixelBits}
 use Rattle.px_normal.specs.declared.set.SolidSet.{SolidSet}
-use Rattle.px_model.specs.Scenes.{IsLawfulScene, SceneView}
+use Rattle.px_model.specs.Scenes.{IsLawfulScene, SceneView, IsLawfulSolid}
 use Rattle.px_sched.specs.Layouts.{layout_of}
 use Rattle.px_control.specs.GridLaw.{GridLaw, SizeLaw}
 use Rattle.px_control.specs.PictureLaw.{PictureLaw}
@@ -25,14 +25,13 @@ use Rattle.px_shadow.specs.Passing.{ShadowPassesAreFew}
 use Rattle.px_control.specs.ClockLaw.{ClockBound}
 use Rattle.px_normal.specs.Sets.{IsBelow}
 use Rattle.px_prune.specs.Kept.{plan_of}
-use Rattle.px_model.specs.Solids.{IsLawfulSolid}
 use Rattle.px_sched.specs.PassesFacts.{LayoutsAreLawful}
 use Rattle.px_shadow.specs.ShadowPasses.{light_bit, need_with, shadow_passes}
 use Rattle.px_shadow.specs.Stored.{stored_mask}
 use Rattle.px_control.proofs.ArrayLaws.{columns_at, rows_at}
 use Rattle.px_array.proofs.ClockLaws.{nx-after_clocks, ny-after_clocks}
 use Rattle.px_tree.proofs.PlaceLaws.{index_below}
-use Rattle.px_shadow.proofs.SolidLemmas.{same_numbers}
+use Rattle.px_macro.proofs.NumberLaws.{number_same}
 use Rattle.px_normal.specs.declared.product.TheConstants.{MAX_PRODUCTS}
 
 -- the array that stores the picture
@@ -101,7 +100,7 @@ shaded_law law passes_lawful more meanings grids sizes pictures bits scene light
 pub mask_law : MaskLaw
 mask_law scene l lights state stores =
     same_image scene.width scene.height (stored_mask l (length lights) state) (mask_at scene lights) (λ x y left up.
-    same_numbers (λ t. bit_at (pixel_of state x y).memory (light_bit l 1 + t))
+    number_same (λ t. bit_at (pixel_of state x y).memory (light_bit l 1 + t))
     (λ place. is_lit scene (light_at lights place) x y) (length lights) (λ t low.
     let e : light_bit l 1 + t ≡ light_bit l (t + 1) = omega arith in
     ap (bit_at (pixel_of state x y).memory) e ∙ stores x y left up t low))

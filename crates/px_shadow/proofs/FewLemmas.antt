@@ -1,24 +1,23 @@
 -- How many operations the shadow passes are.
-use Rattle.std.proofs.Common.{◌≡◌, ◌<◌, ◌≤◌, ◌+◌, ◌*◌, ◌∙◌, ℕ, Bool, true, false, List, [], ◌∷◌, ◌++◌, length, map}
+use Rattle.std.proofs.Common.{◌≡◌, ◌<◌, ◌≤◌, ◌+◌, ◌*◌, ℕ, true, false, List, [], ◌∷◌, length, map}
 use Rattle.std.proofs.Common.{filter, refl, ap, arith, length-append}
-use Prim.Native.Nat.{zero, suc}
 use Rattle.std.specs.Prelude.{All}
 use Rattle.std.specs.List.{flat_map, range_with_len}
 use Rattle.std.proofs.lemmas.List.{length-map}
 use Rattle.std.proofs.lemmas.List.FromFn.{length-map-range_with_len, length-range_with_len}
-use Rattle.std.proofs.lemmas.List.Elements.{All-head, All-tail, All-weaker, filter-append}
+use Rattle.std.proofs.lemmas.List.Elements.{All-head, All-tail, All-weaker}
 use Rattle.px_num.proofs.RangeLaws.{range_all}
 use Rattle.px_macro.specs.declared.operation.Macro.{Macro}
 use Rattle.px_macro.specs.declared.operation.Macro.TheVariants as m
 use Rattle.px_normal.specs.declared.set.SolidSet.{SolidSet}
 use Rattle.px_normal.specs.Sets.{IsBelow, below, has, solids}
-use Rattle.px_model.specs.Scenes.{SceneView}
-use Rattle.px_model.specs.Solids.{IsLawfulSolid, SolidView}
+use Rattle.px_model.specs.Scenes.{SceneView, IsLawfulSolid, SolidView}
 use Rattle.px_model.specs.Cells.{depths_of, end_of}
 use Rattle.px_face.specs.Edges.{edges}
-use Rattle.px_face.specs.Faces.{face_count, plane_of}
+use Rattle.px_face.specs.Faces.{face_count, face_plane}
 use Rattle.px_sched.specs.Layouts.{LayoutView, deep_part, number_part}
 use Rattle.px_sched.specs.Passes.{no_solid, solid_of}
+use Rattle.px_sched.proofs.FewLaws.{few_filtered}
 use Rattle.px_shadow.specs.ShadowPasses.{background_passes, light_bit, light_passes, passes_from, solid_passes}
 use Rattle.px_shadow.specs.ShadowPasses.{stored_turn}
 use Rattle.px_shadow.proofs.FitLemmas.{Ranges}
@@ -35,19 +34,9 @@ flat_few f most (x ∷ xs) each =
       flat_few f most xs (All-tail (λ x. length (f x) ≤ most) x xs each),
     )
 
-one_few : (b : Bool) (x : ℕ) (h : ℕ → Bool) → h x ≡ b → length (filter h (x ∷ [])) ≤ 1
-one_few true x h e = rw e (omega arith)
-one_few false x h e = rw e (omega arith)
-
-below_few : (h : ℕ → Bool) (n : ℕ) → length (filter h (below n)) ≤ n
-below_few h zero = omega arith
-below_few h (suc n) =
-    rw (filter-append h (below n) (n ∷ []))
-    (omega (arith, length-append (filter h (below n)) (filter h (n ∷ [])), below_few h n, one_few (h n) n h refl))
-
 solids_few : (set : SolidSet) (n : ℕ) → n ≡ 256 → length (solids set) ≤ 256
 unfolding solids
-solids_few set n e = omega (arith, ap (λ k. length (filter (has set) (below k))) e, below_few (has set) n)
+solids_few set n e = omega (arith, ap (λ k. length (filter (has set) (below k))) e, few_filtered (has set) n)
 
 module _ (laws : Ranges) (scene : SceneView) (each : All IsLawfulSolid scene.solids) (l : LayoutView)
     (number : l.number_bits ≤ 12) where
@@ -58,7 +47,7 @@ module _ (laws : Ranges) (scene : SceneView) (each : All IsLawfulSolid scene.sol
       → length (stored_turn l end s face) ≤ 100
   turn_few s h face there =
       let signs = map m.KeepSign (edges s end face) in
-      let last = m.KeepAtMost (plane_of s end face) (deep_part l l.key_b) ∷ m.Toggle l.par ∷ [] in
+      let last = m.KeepAtMost (face_plane s end face) (deep_part l l.key_b) ∷ m.Toggle l.par ∷ [] in
       omega (
         arith,
         length-append signs last,

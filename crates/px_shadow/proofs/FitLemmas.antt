@@ -11,14 +11,13 @@ use Rattle.px_macro.specs.Macros.{IsField, IsLawful}
 use Rattle.px_normal.specs.declared.set.SolidSet.{SolidSet}
 use Rattle.px_normal.specs.SetLaws.{LawsOfSets}
 use Rattle.px_normal.specs.Sets.{IsBelow, solids}
-use Rattle.px_model.specs.Scenes.{IsLawfulScene, SceneView}
-use Rattle.px_model.specs.Solids.{IsLawfulSolid, SolidView}
+use Rattle.px_model.specs.Scenes.{IsLawfulScene, SceneView, IsLawfulSolid, SolidView}
 use Rattle.px_model.specs.Cells.{depths_of, end_of}
 use Rattle.px_model.proofs.CellLaws.{end_is_within}
 use Rattle.px_model.proofs.PlaneLaws.{plane_range}
 use Rattle.px_face.specs.EdgeLaws.{EdgesAreCounted, EdgesAreInRange, PlanesAreInRange}
 use Rattle.px_face.specs.Edges.{edges}
-use Rattle.px_face.specs.Faces.{face_count, plane_of}
+use Rattle.px_face.specs.Faces.{face_count, face_plane}
 use Rattle.px_sched.specs.Layouts.{IsLayout, LayoutView, deep_part, layout_with, need_of, number_part}
 use Rattle.px_sched.specs.Passes.{keep_covered, no_solid, solid_of}
 use Rattle.px_shadow.specs.ShadowPasses.{background_passes, light_bit, light_passes, passes_from, solid_passes}
@@ -79,7 +78,7 @@ module _ (laws : Ranges) (scene : SceneView) (lawful : IsLawfulScene scene) (eac
 
   turn_fits : (s : SolidView) → IsLawfulSolid s → (face : ℕ) → face < face_count s → All Fits (stored_turn l end s face)
   turn_fits s h face there =
-      let test = m.KeepAtMost (plane_of s end face) (deep_part l l.key_b) in
+      let test = m.KeepAtMost (face_plane s end face) (deep_part l l.key_b) in
       let toggle = m.Toggle l.par in
       let signs = keep_covered end s face in
       let limits = laws.planes s h end face small there in

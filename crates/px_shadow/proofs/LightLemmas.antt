@@ -9,9 +9,10 @@ use Rattle.std.proofs.lemmas.Bool.Decides.{nat_tests}
 use Rattle.std.proofs.lemmas.List.Folds.{list_all-append}
 use Rattle.px_num.proofs.BitLaws.{pow_above}
 use Rattle.px_macro.specs.declared.operation.Macro.TheVariants as m
-use Rattle.px_macro.specs.Fields.{number_in, number_of}
+use Rattle.px_macro.specs.Fields.{number_in, number_from_bits}
 use Rattle.px_num.specs.Bits.{bit_at}
 use Rattle.px_num.proofs.RangeLaws.{range_more}
+use Rattle.px_num.proofs.TruthLaws.{and_both, and_true}
 use Rattle.px_macro.specs.Macros.{PixelBits, after_macros}
 use Rattle.px_normal.specs.declared.set.SolidSet.{SolidSet}
 use Rattle.px_normal.specs.Sets.{solids}
@@ -24,17 +25,16 @@ use Rattle.px_shadow.specs.ShadowPasses.{background_passes, light_bit, light_pas
 use Rattle.px_shadow.proofs.TurnLemmas.{Below, pixel}
 use Rattle.px_shadow.proofs.SolidLemmas.{GoesOut, Keeps, keeps_all, keeps_bit, keeps_both, keeps_if, number_kept}
 use Rattle.px_shadow.proofs.SolidLemmas.{out_bit, solid_goes_out}
-use Rattle.px_sched.proofs.CoverLaws.{and_true, and_both}
 
 -- a number is 0 where each of its bits is
-is_zero : (bit : ℕ → Bool) (n : ℕ) → list_all (λ t. beq (bit t) false) (range_with_len 0 n) ≡ (number_of bit n == 0)
+is_zero : (bit : ℕ → Bool) (n : ℕ) → list_all (λ t. beq (bit t) false) (range_with_len 0 n) ≡ (number_from_bits bit n == 0)
 is_zero bit zero = refl
 is_zero bit (suc n) =
     let e : 0 + n ≡ n = omega arith in
     ap (list_all (λ t. beq (bit t) false)) (range_more 0 n ∙ ap (λ k. range_with_len 0 n ++ (k ∷ [])) e)
     ∙ list_all-append (λ t. beq (bit t) false) (range_with_len 0 n) (n ∷ [])
     ∙ ap (λ b. b && (beq (bit n) false && true)) (is_zero bit n)
-    ∙ last (bit n) (number_of bit n) (2 ^ n) (pow_above n)
+    ∙ last (bit n) (number_from_bits bit n) (2 ^ n) (pow_above n)
   where
     last : (b : Bool) (low high : ℕ) → 0 < high → ((low == 0) && (beq b false && true))
         ≡ (low + (if b then high else 0) == 0)

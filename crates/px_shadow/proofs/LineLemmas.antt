@@ -6,22 +6,22 @@ use Prim.Native.Nat.{zero, suc}
 use Rattle.std.specs.List.{cons_option, filter_map, fold, list_all}
 use Rattle.std.specs.Option.{option_or}
 use Rattle.std.proofs.lemmas.Bool.{cases_lt}
-use Rattle.std.proofs.lemmas.Bool.Decides.{nat_tests}
 use Rattle.std.proofs.lemmas.List.{take_all, take_more}
 use Rattle.std.proofs.lemmas.List.Elements.{All-append, All-cons, All-nil, filter_map-append}
-use Rattle.px_text.specs.Text.{Words, words_of}
+use Rattle.px_text.specs.Text.{Words, words_of, is_name}
 use Rattle.px_normal.specs.declared.set.SolidSet.{SolidSet}
 use Rattle.px_normal.specs.SetLaws.{LawsOfSets}
-use Rattle.px_normal.specs.Sets.{IsBelow, empty, joined, one, solids}
-use Rattle.px_model.specs.Solids.{SolidView}
+use Rattle.px_normal.specs.Sets.{IsBelow, empty, sets_joined, one, solids}
+use Rattle.px_model.specs.Scenes.{SolidView}
 use Rattle.px_prune.specs.Kept.{set_of}
 use Rattle.px_shadow.specs.declared.light.LightFault.{LightFault}
 use Rattle.std.specs.Prelude.{Ok, Err, OnOk, Result, codes, not}
 use Rattle.std.specs.Str.{bytes_eq}
 use Rattle.std.specs.List.{position_or_len}
-use Rattle.px_text.specs.Word.{is_name}
+use Rattle.px_num.proofs.TruthLaws.{lt_holds, lt_true}
 use Rattle.px_show.specs.declared.fault.Cause.TheVariants.{BadName, Unexpected, UnknownName}
-use Rattle.px_shadow.specs.LightLines.{as_light, fault_at, fault_of, first_fault, is_solid, light_in, light_of}
+use Rattle.px_shadow.specs.LightLines.{as_light, light_fault_at, lights_fault, first_fault, is_solid_name, light_in}
+use Rattle.px_shadow.specs.LightLines.{light_of}
 use Rattle.px_shadow.specs.LightLines.{lights_of, line_fault, named, solid_named}
 use Rattle.px_shadow.specs.Saying.{AreRead}
 
@@ -52,23 +52,17 @@ lights_more ss lines k low =
     ap (lights_of ss) (take_more lines k [] low)
     ∙ filter_map-append (λ line. light_in (light_of ss line)) (take k lines) (get_or lines k [] ∷ [])
 
-lt_true : (i n : ℕ) → i < n → nat_lt i n ≡ true
-lt_true i n h = grind (arith, nat_tests)
-
-lt_holds : (i n : ℕ) → nat_lt i n ≡ true → i < n
-lt_holds i n h = grind (arith, nat_tests)
-
 both_true : (a b : Bool) → a ≡ true → b ≡ true → (a && b) ≡ true
 both_true a b p q = rw (p, q) refl
 
 -- a set of solids that pass a test
 set_passes : LawsOfSets → (test : ℕ → Bool) → ((q : ℕ) → test q ≡ true → q < 256) → (qs : List ℕ) (a : SolidSet) →
     list_all test (solids a) ≡ true → list_all test qs ≡ true
-    → list_all test (solids (fold (λ set q. joined set (one q)) a qs)) ≡ true
+    → list_all test (solids (fold (λ set q. sets_joined set (one q)) a qs)) ≡ true
 set_passes laws test low [] a held each = held
 set_passes laws test low (q ∷ qs) a held each =
     let here : test q ≡ true = both_left (test q) (list_all test qs) each in
-    set_passes laws test low qs (joined a (one q))
+    set_passes laws test low qs (sets_joined a (one q))
     (laws.all_of_joined test a (one q) ∙ both_true _ _ held (laws.all_of_one test q (low q here) ∙ here))
     (both_right (test q) (list_all test qs) each)
   where
@@ -126,7 +120,7 @@ light_known laws ss few (w ∷ ws) set e = by_first (bytes_eq w (codes "light"))
 
     by_names : (ws : Words) → as_light (named ss ws) ≡ Ok (Some set) → IsBelow (length ss) set
     by_names [] h = absurd (cc)
-    by_names (v ∷ vs) h = by_tests (v ∷ vs) (list_all is_name (v ∷ vs)) (list_all (is_solid ss) (v ∷ vs)) h
+    by_names (v ∷ vs) h = by_tests (v ∷ vs) (list_all is_name (v ∷ vs)) (list_all (is_solid_name ss) (v ∷ vs)) h
 
     by_first : (b : Bool) (ws : Words) → (if b then as_light (named ss ws) else Err Unexpected) ≡ Ok (Some set)
         → IsBelow (length ss) set
@@ -147,18 +141,18 @@ line_at pieces k piece low is = get_or-map_at pieces k piece low ∙ ap words_of
 -- a line that is taken
 pub step_good : (ss : List SolidView) (first : ℕ) (lines : List Words) (k line : ℕ) (old : List SolidSet) (ws : Words)
     → get_or lines k [] ≡ ws →
-    line ≡ first + k → old ≡ lights_of ss (take k lines) → first_fault (fault_at ss first lines) k ≡ None →
-    line_fault line (length old) (light_of ss ws) ≡ None → first_fault (fault_at ss first lines) (k + 1) ≡ None
+    line ≡ first + k → old ≡ lights_of ss (take k lines) → first_fault (light_fault_at ss first lines) k ≡ None →
+    line_fault line (length old) (light_of ss ws) ≡ None → first_fault (light_fault_at ss first lines) (k + 1) ≡ None
 step_good ss first lines k line old ws is number each before here =
-    good_more (fault_at ss first lines) k before (rw (is, ← number, ← each) here)
+    good_more (light_fault_at ss first lines) k before (rw (is, ← number, ← each) here)
 
 -- a line that is bad
 pub step_bad : (ss : List SolidView) (first : ℕ) (lines : List Words) (k line : ℕ) (old : List SolidSet) (ws : Words)
     (fault : LightFault) → k < length lines → get_or lines k [] ≡ ws →
-    line ≡ first + k → old ≡ lights_of ss (take k lines) → first_fault (fault_at ss first lines) k ≡ None →
-    line_fault line (length old) (light_of ss ws) ≡ Some fault → fault_of ss first lines ≡ Some fault
+    line ≡ first + k → old ≡ lights_of ss (take k lines) → first_fault (light_fault_at ss first lines) k ≡ None →
+    line_fault line (length old) (light_of ss ws) ≡ Some fault → lights_fault ss first lines ≡ Some fault
 step_bad ss first lines k line old ws fault low is number each before here =
-    bad_stays (fault_at ss first lines) k (length lines) fault low before (rw (is, ← number, ← each) here)
+    bad_stays (light_fault_at ss first lines) k (length lines) fault low before (rw (is, ← number, ← each) here)
 
 pub step_each : (ss : List SolidView) (lines : List Words) (k : ℕ) (old now : List SolidSet) (ws : Words)
     → k < length lines → get_or lines k [] ≡ ws →
@@ -172,10 +166,10 @@ step_each ss lines k old now ws low is each more =
 -- all lines are taken
 pub all_read : (ss : List SolidView) (first : ℕ) (lines : List Words) (k : ℕ) (lights : List SolidSet)
     → k ≡ length lines →
-    first_fault (fault_at ss first lines) k ≡ None → lights ≡ lights_of ss (take k lines)
+    first_fault (light_fault_at ss first lines) k ≡ None → lights ≡ lights_of ss (take k lines)
     → All (IsBelow (length ss)) lights → AreRead ss first lines lights
 all_read ss first lines k lights all good each known = record {
-  good = ap (first_fault (fault_at ss first lines)) (sym all) ∙ good;
+  good = ap (first_fault (light_fault_at ss first lines)) (sym all) ∙ good;
   each = each ∙ ap (lights_of ss) (take_all k lines (omega (arith, all)));
   known = known;
 }

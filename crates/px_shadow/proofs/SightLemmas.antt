@@ -1,7 +1,8 @@
 -- Where a pixel stores what it shows, the stored key says by which lights it is lit.
-use Rattle.std.proofs.Common.{◌≡◌, ◌+◌, ◌==◌, ◌∙◌, ℕ, Bool, true, false, ◌&&◌, not, List, Option, Some, None, refl}
+use Rattle.std.proofs.Common.{◌≡◌, ◌+◌, ◌==◌, ◌∙◌, ℕ, Bool, true, ◌&&◌, not, List, Option, Some, None, refl}
 use Rattle.std.proofs.Common.{ap, sym, arith}
 use Rattle.std.proofs.lemmas.Bool.Decides.{nat_tests}
+use Rattle.px_num.proofs.TruthLaws.{and_false, and_true}
 use Rattle.px_macro.specs.Fields.{number_in}
 use Rattle.px_macro.specs.FieldLaws.{NumberOfParts}
 use Rattle.px_normal.specs.declared.set.SolidSet.{SolidSet}
@@ -17,11 +18,6 @@ use Rattle.px_shadow.specs.ShadowLaws.{ShadowLaw}
 use Rattle.px_shadow.specs.ShadowPasses.{light_bit}
 use Rattle.px_shadow.proofs.TurnLemmas.{Below}
 use Rattle.px_shadow.proofs.LightLemmas.{IsReady, are_lit, lit, outside}
-use Rattle.px_sched.proofs.CoverLaws.{and_true}
-
-and_false : (a : Bool) → (a && false) ≡ false
-and_false true = refl
-and_false false = refl
 
 -- a layout is ready for the lights
 ready : (scene : SceneView) → IsReady (layout_of scene) (end_of (depths_of scene))

@@ -1,16 +1,17 @@
 -- What the passes of a solid, of the background and of a light leave in the memory of a pixel.
-use Rattle.std.proofs.Common.{◌≡◌, ◌≢◌, ◌<◌, ◌≤◌, ◌+◌, ◌^◌, ◌==◌, ◌∙◌, ℕ, Bool, true, false, ◌&&◌, not, List, [], ◌∷◌}
-use Rattle.std.proofs.Common.{◌++◌, length, slice_set, if◌then◌else◌, refl, ap, sym, arith, get_or-set_same}
+use Rattle.std.proofs.Common.{◌≡◌, ◌≢◌, ◌<◌, ◌≤◌, ◌+◌, ◌^◌, ◌∙◌, ℕ, Bool, true, false, ◌&&◌, not, List, [], ◌∷◌}
+use Rattle.std.proofs.Common.{length, slice_set, if◌then◌else◌, refl, ap, sym, arith, get_or-set_same}
 use Rattle.std.proofs.Common.{get_or-set_other, length-set}
-use Prim.Native.Nat.{zero, suc}
 use Rattle.std.specs.Bool.{beq}
 use Rattle.std.specs.List.{flat_map, range_with_len}
 use Rattle.px_macro.specs.declared.field.Field.{Field}
 use Rattle.px_macro.specs.declared.operation.Macro.TheVariants as m
-use Rattle.px_macro.specs.Fields.{number_in, number_of}
+use Rattle.px_macro.specs.Fields.{number_in}
 use Rattle.px_num.specs.Bits.{bit_at}
+use Rattle.px_num.proofs.TruthLaws.{and_false, and_true}
 use Rattle.px_macro.specs.Macros.{PixelBits, after_macros}
-use Rattle.px_model.specs.Solids.{SolidView}
+use Rattle.px_macro.proofs.NumberLaws.{number_same}
+use Rattle.px_model.specs.Scenes.{SolidView}
 use Rattle.px_model.specs.Cells.{is_inside_at}
 use Rattle.px_face.specs.Faces.{face_count}
 use Rattle.px_sched.specs.Layouts.{LayoutView, deep_part}
@@ -48,30 +49,18 @@ pub keeps_if : (par bit : ℕ) (c : Bool) (a b d : List Bool) → Keeps par bit 
 keeps_if par bit true a b d first second = first
 keeps_if par bit false a b d first second = second
 
-pub same_numbers : (f g : ℕ → Bool) (n : ℕ) → ((t : ℕ) → t < n → f t ≡ g t) → number_of f n ≡ number_of g n
-same_numbers f g zero same = refl
-same_numbers f g (suc n) same = rw (same_numbers f g n (λ t h. same t (omega arith)), same n (omega arith)) refl
-
 -- a field before them keeps its number
 pub number_kept : (par bit : ℕ) (field : Field) (before now : List Bool) → field.at + field.len ≤ par → par ≤ bit →
     Keeps par bit before now → number_in field now ≡ number_in field before
 number_kept par bit field before now low above keeps =
-    same_numbers (λ t. bit_at now (field.at + t)) (λ t. bit_at before (field.at + t)) field.len
+    number_same (λ t. bit_at now (field.at + t)) (λ t. bit_at before (field.at + t)) field.len
     (λ t h. keeps.rest (field.at + t) (λ e. omega arith) (λ e. omega arith))
 
 -- a bit that is cleared where a test holds
 pub out_bit : (par bit : ℕ) (c : Bool) (now : List Bool) → bit < length now →
     bit_at (if c then slice_set now bit false else now) bit ≡ (bit_at now bit && not c)
 out_bit par bit true now room = get_or-set_same now bit false false room ∙ sym (and_false (bit_at now bit))
-  where
-    and_false : (a : Bool) → (a && false) ≡ false
-    and_false true = refl
-    and_false false = refl
 out_bit par bit false now room = sym (and_true (bit_at now bit))
-  where
-    and_true : (a : Bool) → (a && true) ≡ a
-    and_true true = refl
-    and_true false = refl
 
 -- what some passes of a light leave of a memory: they write no other bits, and the light goes out where a test holds
 pub record GoesOut (par bit : ℕ) (test : Bool) (before now : List Bool) : Type 0 where

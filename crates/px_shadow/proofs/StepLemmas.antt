@@ -5,7 +5,6 @@ use Rattle.std.specs.List.{flat_map, range_with_len}
 use Rattle.std.proofs.lemmas.List.Concat.{flat_map_single}
 use Rattle.std.proofs.lemmas.List.FromFn.{get_or-range_with_len}
 use Rattle.std.specs.Prelude.{get_or, All, nat_lt, true}
-use Rattle.std.proofs.lemmas.Bool.Decides.{nat_tests}
 use Rattle.std.proofs.lemmas.List.Elements.{All-weaker}
 use Rattle.std.proofs.lemmas.List.Sums.{AllPass-from_list_all}
 use Rattle.px_normal.specs.declared.set.SolidSet.{SolidSet}
@@ -13,10 +12,10 @@ use Rattle.px_normal.specs.SetLaws.{LawsOfSets}
 use Rattle.px_normal.specs.Sets.{IsBelow, solids}
 use Prim.Native.Nat.{suc}
 use Rattle.std.proofs.Math.Seq.{drop-cons}
-use Rattle.px_model.specs.Scenes.{SceneView}
-use Rattle.px_model.specs.Solids.{SolidView}
+use Rattle.px_model.specs.Scenes.{SceneView, SolidView}
 use Rattle.px_shadow.specs.ShadowPasses.{light_passes, passes_from, solid_passes}
 use Rattle.px_num.specs.declared.linear.Linear.{Linear}
+use Rattle.px_num.proofs.TruthLaws.{lt_holds, lt_true}
 use Rattle.px_macro.specs.declared.operation.Macro.{Macro}
 use Rattle.px_macro.specs.declared.operation.Macro.TheVariants as m
 use Rattle.px_sched.specs.Layouts.{LayoutView, number_part}
@@ -35,12 +34,6 @@ tests_are f xs tail = ap (λ ms. ms ++ tail) (sym (flat_map_single f xs))
 
 pub number_at : (n t : ℕ) → t < n → get_or (range_with_len 0 n) t 0 ≡ t
 number_at n t low = get_or-range_with_len 0 n t 0 low ∙ omega arith
-
-lt_true : (i n : ℕ) → i < n → nat_lt i n ≡ true
-lt_true i n h = grind (arith, nat_tests)
-
-lt_holds : (i n : ℕ) → nat_lt i n ≡ true → i < n
-lt_holds i n h = grind (arith, nat_tests)
 
 -- each solid of a set that has none but these is one of them
 pub all_known : LawsOfSets → (count : ℕ) (set : SolidSet) → IsBelow count set → All (λ q. q < count) (solids set)

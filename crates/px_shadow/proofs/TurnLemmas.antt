@@ -8,20 +8,21 @@ use Rattle.std.proofs.lemmas.List.{set-set}
 use Rattle.px_num.specs.declared.linear.Linear.{Linear}
 use Rattle.px_num.specs.Bits.{bit_at, modulo}
 use Rattle.px_num.specs.Forms.{value_at}
+use Rattle.px_num.proofs.TruthLaws.{and_both, and_true, turned_from_false}
 use Rattle.px_macro.specs.declared.operation.Macro.TheVariants as m
 use Rattle.px_macro.specs.FieldLaws.{NumberBesideIsKept}
 use Rattle.px_macro.specs.Fields.{number_in}
 use Rattle.px_macro.specs.Macros.{MeaningsJoin, PixelBits, after_macros}
-use Rattle.px_model.specs.Solids.{SolidView}
+use Rattle.px_model.specs.Scenes.{SolidView}
 use Rattle.px_model.specs.Cells.{is_inside_at}
 use Rattle.px_face.specs.Covering.{CoveringLaw, ValueParityLaw, is_passed_at}
 use Rattle.px_face.specs.Edges.{covers, edges, hold_at}
-use Rattle.px_face.specs.Faces.{face_count, plane_of}
+use Rattle.px_face.specs.Faces.{face_count, face_plane}
 use Rattle.px_face.proofs.ParityLaws.{turned_is_odd, turned_where}
 use Rattle.px_sched.specs.Layouts.{LayoutView, deep_part}
 use Rattle.px_sched.specs.Passes.{keep_covered}
 use Rattle.px_shadow.specs.ShadowPasses.{stored_turn}
-use Rattle.px_sched.proofs.CoverLaws.{and_true, and_both, and_same, not_negative, at_most_is, covering_value}
+use Rattle.px_sched.proofs.CoverLaws.{and_same, not_negative, at_most_is, covering_value}
 
 -- a pixel, as operations see it
 abbrev pub pixel : List Bool → Bool → PixelBits
@@ -70,8 +71,8 @@ module _ (laws : Below) (s : SolidView) (end x y : ℕ) where
         ≡ with_parity (turned_where passed odd i)
     one_turned i there odd e =
         let c = covers s end i x y in
-        let v = value_at (plane_of s end i) x y in
-        let last = m.KeepAtMost (plane_of s end i) (deep_part l l.key_b) ∷ m.Toggle l.par ∷ [] in
+        let v = value_at (face_plane s end i) x y in
+        let last = m.KeepAtMost (face_plane s end i) (deep_part l l.key_b) ∷ m.Toggle l.par ∷ [] in
         let test : (c && nat_le (modulo v (deep_part l l.key_b).len)
         (number_in (deep_part l l.key_b) (with_parity odd))) ≡ passed i =
         ap (λ n. c && nat_le (modulo v (deep_part l l.key_b).len) n) (apart odd)
@@ -95,10 +96,6 @@ module _ (laws : Below) (s : SolidView) (end x y : ℕ) where
         ∙ ap (λ memory. (after_macros rest x y (pixel memory next.enable)).memory) (one_turned a (omega arith) odd e)
         ∙ some_turned (a + 1) n (omega arith) (turned_where passed odd a) next.enable
 
-    itself : (b : Bool) → (if b then not false else false) ≡ b
-    itself true = refl
-    itself false = refl
-
     -- an odd number of faces is passed where the stored cell is inside
     pub all_turned : (e : Bool) →
         (after_macros (flat_map (stored_turn l end s) (range_with_len 0 (face_count s))) x y
@@ -106,5 +103,5 @@ module _ (laws : Below) (s : SolidView) (end x y : ℕ) where
         ≡ with_parity (is_inside_at s end x y stored)
     all_turned e =
         some_turned 0 (face_count s) (omega arith) false e
-        ∙ ap with_parity (turned_is_odd passed false (range_with_len 0 (face_count s)) ∙ itself _
+        ∙ ap with_parity (turned_is_odd passed false (range_with_len 0 (face_count s)) ∙ turned_from_false _
         ∙ sym (laws.parity s end x y stored))

@@ -27,7 +27,7 @@ pub record CarriesOut {A : Type 0} (device_of : A → Device) (slots_of : A → 
   pub work : work_of now ≡ worked ((device_of now).clocks - (device_of before).clocks) (work_of before)
 
 -- of the whole, carried out from a start on, the rest is left
-pub record IsLeft {A : Type 0} (bits : ℕ) (device_of : A → Device) (slots_of : A → List (Option Device)) (work_of : A → ℕ) (whole rest : List Macro) (start now : A) : Type 0 where
+pub record IsRestOf {A : Type 0} (bits : ℕ) (device_of : A → Device) (slots_of : A → List (Option Device)) (work_of : A → ℕ) (whole rest : List Macro) (start now : A) : Type 0 where
   pub can : CanCarryOut bits rest (device_of now)
   pub same : carried_out rest (device_of now) ≡ carried_out whole (device_of start)
   pub clocks : (device_of start).clocks ≤ (device_of now).clocks

@@ -4,10 +4,9 @@ use Prim.Native.Nat.{zero, suc}
 use Rattle.std.specs.List.{filter_map, list_all, position}
 use Rattle.std.specs.Option.{option_or}
 use Rattle.std.specs.Str.{bytes_eq}
-use Rattle.px_text.specs.Text.{Words}
-use Rattle.px_text.specs.Word.{is_name}
+use Rattle.px_text.specs.Text.{Words, is_name}
 use Rattle.px_normal.specs.declared.set.SolidSet.{SolidSet}
-use Rattle.px_model.specs.Solids.{SolidView}
+use Rattle.px_model.specs.Scenes.{SolidView}
 use Rattle.px_prune.specs.Kept.{set_of}
 use Rattle.px_show.specs.declared.fault.Cause.{Cause}
 use Rattle.px_show.specs.declared.fault.Cause.TheVariants.{BadName, Unexpected, UnknownName, WordCount}
@@ -19,15 +18,15 @@ use Rattle.px_shadow.specs.declared.light.LightFault.TheVariants.{Limit, Malform
 abbrev pub solid_named : List SolidView → (name : List ℕ) → Option ℕ
 solid_named ss name = position (λ s. bytes_eq s.name name) ss
 
-abbrev pub is_solid : List SolidView → (name : List ℕ) → Bool
-is_solid ss name = is_some (solid_named ss name)
+abbrev pub is_solid_name : List SolidView → (name : List ℕ) → Bool
+is_solid_name ss name = is_some (solid_named ss name)
 
 -- the solids that these words name: one at least, all of them names, and all of solids
 abbrev pub named : List SolidView → Words → Result SolidSet Cause
 named ss [] = Err WordCount
 named ss (w ∷ ws) =
     if not (list_all is_name (w ∷ ws)) then Err BadName else
-    if not (list_all (is_solid ss) (w ∷ ws)) then Err UnknownName else
+    if not (list_all (is_solid_name ss) (w ∷ ws)) then Err UnknownName else
     Ok (set_of (filter_map (solid_named ss) (w ∷ ws)))
 
 abbrev pub as_light : Result SolidSet Cause → Result (Option SolidSet) Cause
@@ -54,8 +53,8 @@ line_fault number before (Ok None) = None
 line_fault number before (Ok (Some light)) = if before == MAX_LIGHTS then Some (Limit number (MAX_LIGHTS + 1)) else None
 
 -- what is bad of a line by its place, where the first line has this number
-abbrev pub fault_at : List SolidView → (first : ℕ) → List Words → (place : ℕ) → Option LightFault
-fault_at ss first lines place =
+abbrev pub light_fault_at : List SolidView → (first : ℕ) → List Words → (place : ℕ) → Option LightFault
+light_fault_at ss first lines place =
     line_fault (first + place) (length (lights_of ss (take place lines))) (light_of ss (get_or lines place []))
 
 -- the fault of the least place below n that has one
@@ -64,5 +63,5 @@ first_fault f zero = None
 first_fault f (suc n) = option_or (first_fault f n) (f n)
 
 -- the fault of the first bad line, if one is bad
-abbrev pub fault_of : List SolidView → (first : ℕ) → List Words → Option LightFault
-fault_of ss first lines = first_fault (fault_at ss first lines) (length lines)
+abbrev pub lights_fault : List SolidView → (first : ℕ) → List Words → Option LightFault
+lights_fault ss first lines = first_fault (light_fault_at ss first lines) (length lines)

@@ -1,13 +1,13 @@
 -- By which lights each pixel is lit, and the image of that. Clauses of public calls stand on it.
-use Rattle.std.specs.Prelude.{ℕ, Bool, false, not, List, [], length, get_or, Option, Some, None}
+use Rattle.std.specs.Prelude.{ℕ, Bool, false, not, List, length, get_or, Option, Some, None}
 use Rattle.std.specs.List.{list_all}
-use Rattle.px_macro.specs.Fields.{number_of}
+use Rattle.px_macro.specs.Fields.{number_from_bits}
 use Rattle.px_normal.specs.declared.set.SolidSet.{SolidSet}
 use Rattle.px_normal.specs.Sets.{empty, solids}
 use Rattle.px_model.specs.Scenes.{SceneView}
 use Rattle.px_model.specs.Cells.{depths_of, first_cell, is_inside}
 use Rattle.px_sched.specs.Passes.{solid_of}
-use Rattle.px_frame.specs.Image.{image_of}
+use Rattle.px_frame.specs.Picture.{image_of}
 
 -- a cell is outside each of some solids
 abbrev pub is_outside : SceneView → List ℕ → (x y z : ℕ) → Bool
@@ -27,7 +27,7 @@ light_at lights place = get_or lights place empty
 
 -- the number whose lowest bit says whether light 1 lights the pixel, the next one whether light 2 does, and so on
 abbrev pub mask_at : SceneView → List SolidSet → (x y : ℕ) → ℕ
-mask_at scene lights x y = number_of (λ place. is_lit scene (light_at lights place) x y) (length lights)
+mask_at scene lights x y = number_from_bits (λ place. is_lit scene (light_at lights place) x y) (length lights)
 
 -- the image of these numbers
 abbrev pub mask_image : SceneView → List SolidSet → List ℕ

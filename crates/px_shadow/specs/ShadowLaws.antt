@@ -6,8 +6,7 @@ use Rattle.px_num.specs.Bits.{bit_at}
 use Rattle.px_macro.specs.Macros.{IsLawful, PixelBits, after_macros}
 use Rattle.px_normal.specs.declared.set.SolidSet.{SolidSet}
 use Rattle.px_normal.specs.Sets.{IsBelow}
-use Rattle.px_model.specs.Scenes.{IsLawfulScene, SceneView}
-use Rattle.px_model.specs.Solids.{IsLawfulSolid}
+use Rattle.px_model.specs.Scenes.{IsLawfulScene, SceneView, IsLawfulSolid}
 use Rattle.px_model.specs.Cells.{picture}
 use Rattle.px_sched.specs.Layouts.{LayoutView, layout_of}
 use Rattle.px_sched.specs.PassesLaw.{HasSight}

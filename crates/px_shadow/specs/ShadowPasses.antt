@@ -4,10 +4,9 @@ use Rattle.std.specs.Prelude.{ℕ, ◌+◌, true, false, List, [], ◌∷◌, �
 use Rattle.std.specs.List.{flat_map, range_with_len}
 use Rattle.px_macro.specs.declared.operation.Macro.{Macro}
 use Rattle.px_macro.specs.declared.operation.Macro.TheVariants as m
-use Rattle.px_model.specs.Scenes.{SceneView}
-use Rattle.px_model.specs.Solids.{SolidView}
+use Rattle.px_model.specs.Scenes.{SceneView, SolidView}
 use Rattle.px_model.specs.Cells.{depths_of, end_of}
-use Rattle.px_face.specs.Faces.{face_count, plane_of}
+use Rattle.px_face.specs.Faces.{face_count, face_plane}
 use Rattle.px_normal.specs.declared.set.SolidSet.{SolidSet}
 use Rattle.px_normal.specs.Sets.{solids}
 use Rattle.px_sched.specs.Layouts.{LayoutView, deep_part, need_of, number_part}
@@ -25,7 +24,7 @@ need_with l lights = need_of l + lights
 abbrev pub stored_turn : LayoutView → (end : ℕ) → SolidView → (face : ℕ) → List Macro
 stored_turn l end s face =
     m.All ∷ keep_covered end s face
-    ++ m.KeepAtMost (plane_of s end face) (deep_part l l.key_b)
+    ++ m.KeepAtMost (face_plane s end face) (deep_part l l.key_b)
     ∷ m.Toggle l.par ∷ []
 
 -- the light goes out where the stored cell is inside a solid of it

@@ -7,7 +7,7 @@ use Rattle.px_macro.specs.declared.field.Field.{Field}
 use Rattle.px_normal.specs.declared.set.SolidSet.{SolidSet}
 use Rattle.px_model.specs.Scenes.{SceneView}
 use Rattle.px_sched.specs.Layouts.{LayoutView, field}
-use Rattle.px_frame.specs.Image.{image_of}
+use Rattle.px_frame.specs.Picture.{image_of}
 use Rattle.px_shadow.specs.Lights.{is_lit, light_at}
 use Rattle.px_shadow.specs.ShadowPasses.{light_bit}
 

@@ -6,8 +6,6 @@ mod law;
 mod light;
 mod masks;
 mod passes;
-#[cfg(test)]
-mod tests;
 
 pub use law::laws_of_shadows;
 pub use light::{LightFault, read_lights};

@@ -1,16 +1,15 @@
 //! Light lines (docs/SHADOWS.md, "Light lines").
 ghost use Rattle.std.specs.Prelude.{◌≡◌, ◌<◌, ◌≤◌, ◌++◌, ◌∷◌, ◌&&◌, ◌+◌, ◌↔◌, [], All, IfErr, IfOk, IfSome, IsOk, List, None, Ok, OnOk, Some, length, true};
 ghost use Rattle.std.specs.List.{cons_option};
-ghost use Rattle.px_model.specs.Solids.{SolidView};
-ghost use Rattle.px_text.specs.Word.{is_name};
+ghost use Rattle.px_model.specs.Scenes.{SolidView};
+ghost use Rattle.px_text.specs.Text.{is_name, Words, words_of, worded};
 ghost use Rattle.px_normal.specs.Sets.{IsBelow};
 ghost use Rattle.px_text.specs.declared.text.TheConstants.{MAX_TEXT_BYTES};
-ghost use Rattle.px_text.specs.Text.{Words, words_of, worded};
 ghost use Rattle.px_shadow.specs.declared.light.Said.TheVariants as s;
 ghost use Rattle.px_shadow.specs.Saying.{AreRead, pieces_of, said_of, with_solid};
 ghost use Rattle.px_shadow.specs.LightLines.{
-  fault_of,
-  is_solid,
+  lights_fault,
+  is_solid_name,
   light_in,
   light_of,
   lights_of,
@@ -52,9 +51,9 @@ pub fn read_lights(
     ensures lights { IfOk result (λ lights.
         lights.items ≡ lights_of scene.now.solids (worded text.now)) }
     ensures good { IsOk result
-        ↔ (fault_of scene.now.solids first_line (worded text.now) ≡ None) }
+        ↔ (lights_fault scene.now.solids first_line (worded text.now) ≡ None) }
     ensures fault { IfErr result (λ fault.
-        fault_of scene.now.solids first_line (worded text.now) ≡ Some fault) }
+        lights_fault scene.now.solids first_line (worded text.now) ≡ Some fault) }
     ensures known { IfOk result (λ lights.
         All (IsBelow (length scene.now.solids)) lights.items) }
 {
@@ -75,7 +74,7 @@ fn read_pieces(
     ensures ok { IfOk result (λ lights. AreRead scene.now.solids first_line
         (pieces_of text.now) lights.items) }
     ensures fault { IfErr result (λ fault.
-        fault_of scene.now.solids first_line (pieces_of text.now) ≡ Some fault) }
+        lights_fault scene.now.solids first_line (pieces_of text.now) ≡ Some fault) }
 {
     let mut lights = ArrayVec::new();
     let mut line = first_line;
@@ -235,7 +234,7 @@ fn next_word(
     solids: &SolidSet,
 ) -> Said
     ensures { result ≡ s.Light true (are_names && is_name word.now)
-        (are_solids && is_solid scene.now.solids word.now)
+        (are_solids && is_solid_name scene.now.solids word.now)
         (with_solid solids.now (solid_named scene.now.solids word.now)) }
 {
     let solid = solid_named(scene, word);

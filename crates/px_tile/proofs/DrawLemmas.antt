@@ -17,9 +17,9 @@ use Rattle.px_tile.specs.declared.fault.WideFault.{WideFault}
 use Rattle.px_tile.specs.declared.fault.WideFault.TheVariants as wide
 use Rattle.px_model.specs.Planes.{first_past}
 use Rattle.px_tile.specs.Drawn.{HasTiles, IsLeft, tile_at, crowd_of_tile}
-use Rattle.px_tile.specs.Found.{IsFound, IsInTile, PutsTile, number_at, number_of}
+use Rattle.px_tile.specs.Found.{IsFound, IsInTile, PutsTile, number_at, sight_number}
 use Rattle.px_tile.specs.Pictures.{IsLastDrawn, LeavesOnWideRefusal}
-use Rattle.px_tile.specs.Refusals.{bits_short, first_coefficient, first_crowd, many_tiles, refusal_of, wide_refusal}
+use Rattle.px_tile.specs.Refusals.{bits_short, first_coefficient, first_crowd, many_tiles, tile_refusal, wide_refusal}
 use Rattle.px_tile.specs.TilesLaw.{TilesLaw}
 use Rattle.px_tile.specs.Tilings.{IsWideSize, column_of, row_of, scene_of_tile, tile_count, tiles_across}
 use Rattle.px_tile.proofs.FirstLemmas.{none_each}
@@ -71,7 +71,7 @@ module _ (scene : SceneView) (width height : ℕ) (some_w : 1 ≤ scene.width) (
   }
     where
       here : (x y : ℕ) → x < width → y < height → tile_at scene width x y ≡ tile → number_at new width x y
-          ≡ number_of (picture scene x y)
+          ≡ sight_number (picture scene x y)
       here x y left above is =
           let inside = in_its_tile tile x y left above is in
           let x0 = column_of scene width tile in
@@ -82,7 +82,7 @@ module _ (scene : SceneView) (width height : ℕ) (some_w : 1 ≤ scene.width) (
           (omega (arith, inside.from_top, inside.above)) in
           let same = law scene x0 y0 (min scene.width (width - x0)) (min scene.height (height - y0)) width height
           (x - x0) (y - y0) in
-          rw (across, down) at (shown ∙ ap number_of same)
+          rw (across, down) at (shown ∙ ap sight_number same)
 
   -- all tiles are the picture
   pub tiles_all : (found : List ℕ) → HasTiles scene width height (tile_count scene width height) found
@@ -170,7 +170,7 @@ bits_enough need bits other true none = absurd cc
 bits_enough need bits other false none = refl
 
 pub tile_fits : (scene : SceneView) (width height bits tile : ℕ) → wide_refusal scene width height bits ≡ None
-    → tile < tile_count scene width height → refusal_of (scene_of_tile scene width height tile) bits ≡ None
+    → tile < tile_count scene width height → tile_refusal (scene_of_tile scene width height tile) bits ≡ None
 tile_fits scene width height bits tile none low =
     let is = is_drawable scene width height bits none in
     let crowd : crowd_of (scene_of_tile scene width height tile) ≡ None =

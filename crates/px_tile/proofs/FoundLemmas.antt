@@ -6,17 +6,17 @@ use Rattle.std.proofs.lemmas.Bool.{cases_lt}
 use Rattle.std.proofs.lemmas.List.{length-set, get_or-set_other, get_or-set_same}
 use Rattle.px_model.specs.Scenes.{SceneView}
 use Rattle.px_model.specs.Cells.{Sight, picture}
-use Rattle.px_tile.specs.Found.{number_of}
+use Rattle.px_tile.specs.Found.{sight_number}
 use Rattle.px_tile.specs.Stored.{PutsRow, PutsRows}
 
 -- the number of what is stored
-pub number_shown : (depth face n : ℕ) (sight : Sight) → n ≡ number_of (record { depth = depth; face = face })
-    → depth ≡ sight.depth → face ≡ sight.face → n ≡ number_of sight
+pub number_shown : (depth face n : ℕ) (sight : Sight) → n ≡ sight_number (record { depth = depth; face = face })
+    → depth ≡ sight.depth → face ≡ sight.face → n ≡ sight_number sight
 number_shown depth face n sight is p q = rw (is, p, q) refl
 
 -- one pixel more of a row
 pub row_more : (scene : SceneView) (x y start n : ℕ) (old mid new : List ℕ) → PutsRow scene x y start old mid
-    → start + x < length mid → n ≡ number_of (picture scene x y) → new ≡ set mid (start + x) n
+    → start + x < length mid → n ≡ sight_number (picture scene x y) → new ≡ set mid (start + x) n
     → PutsRow scene (x + 1) y start old new
 row_more scene x y start n old mid new put inside is now = record {
   same_count = rw now (length-set mid (start + x) n ∙ put.same_count);
@@ -63,7 +63,7 @@ rows_more scene y x0 y0 width start old mid new before put is fits = record {
     | inr last ↦
         let same : row ≡ y = omega arith in
         let place : (y0 + row) * width + (x0 + x) ≡ start + x = rw same (omega arith) in
-        ap (slice_index new) place ∙ put.row x left ∙ ap (λ r. number_of (picture scene x r)) (sym same)
+        ap (slice_index new) place ∙ put.row x left ∙ ap (λ r. sight_number (picture scene x r)) (sym same)
   ];
   rest = λ x row left out. put.rest _ (outside x row left out) ∙ before.rest x row left (fewer x row out);
 }

@@ -11,15 +11,14 @@ use Rattle.std.proofs.lemmas.Slice.{between_is}
 use Rattle.px_num.proofs.RangeLaws.{range_cut, same_parts}
 use Rattle.px_io.specs.Told.{TakesAll, TakesFront}
 use Rattle.px_io.proofs.ToldLaws.{front_after, takes_both}
-use Rattle.px_frame.specs.Image.{header, three_bytes}
+use Rattle.px_frame.specs.Picture.{header, three_bytes, depth_at, face_at}
 use Rattle.px_frame.specs.Rows.{row_bytes}
-use Rattle.px_frame.specs.Picture.{depth_at, face_at}
 use Rattle.px_face.specs.Surfaces.{FirstCellsAreFirst, IsFirstOf, PicturesShowFaces}
 use Rattle.px_model.specs.Scenes.{IsLawfulScene, SceneView}
 use Rattle.px_model.specs.Cells.{far_of, first_cell, is_member_at, picture, sight_at}
 use Rattle.px_tile.specs.declared.image.Part.{Part}
 use Rattle.px_tile.specs.declared.image.Part.TheVariants as part
-use Rattle.px_tile.specs.Found.{IsFound, number_at, number_of}
+use Rattle.px_tile.specs.Found.{IsFound, number_at, sight_number}
 use Rattle.px_tile.specs.Parts.{IsSmall, bytes_of, part_image, part_of}
 use Rattle.px_tile.specs.Tiles.{wide_scene}
 
@@ -84,7 +83,7 @@ module _ (scene : SceneView) (lawful : IsLawfulScene scene) (faces : PicturesSho
     within None none = far_small
     within (Some z) first = omega (arith, first.below, far_small)
 
-  part_small : (p : Part) (x y : ℕ) → IsSmall p (number_of (picture scene x y))
+  part_small : (p : Part) (x y : ℕ) → IsSmall p (sight_number (picture scene x y))
   part_small part.Depth x y =
       rw (depth_part (picture scene x y).depth (picture scene x y).face (omega (arith, face_small x y)))
       (depth_small x y)
@@ -100,7 +99,7 @@ module _ (scene : SceneView) (lawful : IsLawfulScene scene) (faces : PicturesSho
       omega (arith, is.count, (let t : width * height ≡ height * width = grind arith in t)) in
       let above : y < height = (div-lt_iff_lt-mul {k = width} {x = i} {y = height} some).1 all in
       let left : x < width = omega arith in
-      let here : get_or found i 0 ≡ number_of (picture scene x y) = ap (λ place. get_or found place 0) (sym back)
+      let here : get_or found i 0 ≡ sight_number (picture scene x y) = ap (λ place. get_or found place 0) (sym back)
       ∙ is.each x y left above in
       rw (get_or_default found i d 0 low, here) (part_small p x y)
 

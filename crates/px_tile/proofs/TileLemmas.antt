@@ -1,5 +1,5 @@
 -- A tile's solids have at its pixels the cells and the faces that the scene's have in the wide picture.
-use Rattle.std.proofs.Common.{◌≡◌, ℕ, zero, suc, ◌+◌, ◌*◌, ℤ, pos, negsuc, neg_ℤ, ◌+ℤ◌, ◌*ℤ◌, Bool, List, [], ◌∷◌}
+use Rattle.std.proofs.Common.{◌≡◌, ℕ, zero, suc, ◌+◌, ◌*◌, ℤ, pos, ◌+ℤ◌, ◌*ℤ◌, Bool, List, [], ◌∷◌}
 use Rattle.std.proofs.Common.{Option, Some, None, map, slice_get, true, false, if◌then◌else◌, refl, ap, sym, ◌∙◌}
 use Rattle.std.proofs.Common.{arith}
 use Rattle.std.specs.List.{fold, list_all}
@@ -11,28 +11,17 @@ use Rattle.std.proofs.lemmas.Option.{slice_get-map}
 use lib.Signed.{lt_z, le_z}
 use Rattle.px_num.specs.declared.linear.Linear.{Linear}
 use Rattle.px_num.specs.Forms.{value_at}
+use Rattle.px_num.proofs.FormLaws.{times_sum}
 use Rattle.px_expr.specs.Cells.{Cell, cell}
 use Rattle.px_expr.specs.Tree.{Tree, leaf, join}
 use Rattle.px_model.specs.declared.solid.Face.{Face}
-use Rattle.px_model.specs.Solids.{SolidView}
-use Rattle.px_model.specs.Scenes.{SceneView}
+use Rattle.px_model.specs.Scenes.{SolidView, SceneView}
 use Rattle.px_model.specs.Cells.{Depths, backs_at, depths_of, end_of, enters_at, faces_at, far_of, first, first_cell}
 use Rattle.px_model.specs.Cells.{first_or, fronts_at, is_inside_at, is_inside_before, is_member_at, leaf_cell}
 use Rattle.px_model.specs.Cells.{leaves_at, no_cell, picture, scene_cell, sight_at, solid_cell, value_of}
 use Rattle.px_model.specs.declared.pixels.Pixels.TheVariants.{StartingAt}
 use Rattle.px_model.specs.Pixels.{face_over, plane_over, solid_over}
 use Rattle.px_tile.specs.Tiles.{tile_scene, wide_scene}
-
--- a coefficient times a place that is so much farther
-farther : (a : ℤ) (from x : ℕ) → a *ℤ pos (from + x) ≡ (a *ℤ pos from) +ℤ (a *ℤ pos x)
-farther (pos n) from x =
-    let same : n * (from + x) ≡ n * from + n * x = grind arith in ap pos same
-farther (negsuc n) from x =
-    let same : suc n * (from + x) ≡ suc n * from + suc n * x = grind arith in
-    ap (λ m. neg_ℤ (pos m)) same ∙ apart (suc n * from) (suc n * x)
-  where
-    apart : (p q : ℕ) → neg_ℤ (pos (p + q)) ≡ neg_ℤ (pos p) +ℤ neg_ℤ (pos q)
-    apart p q = omega (arith, ints)
 
 turned : (p q u v c : ℤ) → (u +ℤ v) +ℤ ((p +ℤ q) +ℤ c) ≡ ((p +ℤ u) +ℤ (q +ℤ v)) +ℤ c
 turned p q u v c = omega (arith, ints)
@@ -42,7 +31,7 @@ pub value_moved : (x0 y0 x y : ℕ) (plane : Linear) → value_at (plane_over (S
     (y0 + y)
 value_moved x0 y0 x y plane =
     turned (plane.a *ℤ pos x0) (plane.b *ℤ pos y0) (plane.a *ℤ pos x) (plane.b *ℤ pos y) plane.c
-    ∙ sym (rw (farther plane.a x0 x, farther plane.b y0 y) refl)
+    ∙ sym (rw (times_sum plane.a x0 x, times_sum plane.b y0 y) refl)
 
 -- tests and values of moved things, where each has that of the other before it was moved
 all_moved : {X Y : Type 0} (f : Y → X) (p : X → Bool) (q : Y → Bool) → ((y : Y) → p (f y) ≡ q y)

@@ -16,11 +16,6 @@ begins_inside size pixels k some low =
     let one : (k + 1) * size ≡ k * size + size = grind arith in
     omega arith
 
-pub row_inside : (columns rows tile : ℕ) → 1 ≤ columns → tile < columns * rows → tile / columns < rows
-row_inside columns rows tile some low =
-    let turned : columns * rows ≡ rows * columns = grind arith in
-    (div-lt_iff_lt-mul {k = columns} {x = tile} {y = rows} (omega arith)).1 (omega arith)
-
 -- so many tiles cover the pixels
 pub covers_all : (size pixels x : ℕ) → 1 ≤ size → x < pixels → x / size < tiles_across size pixels
 covers_all size pixels x some inside =

@@ -3,7 +3,7 @@ use Rattle.std.specs.Prelude.{◌≡◌, ℕ, ◌+◌, ◌*◌, ◌/◌, ◌<◌
 use Rattle.px_array.specs.Arrays.{Device}
 use Rattle.px_model.specs.Scenes.{SceneView}
 use Rattle.px_model.specs.Cells.{picture}
-use Rattle.px_tile.specs.Found.{number_at, number_of}
+use Rattle.px_tile.specs.Found.{number_at, sight_number}
 use Rattle.px_tile.specs.Pictures.{IsTileDrawn}
 use Rattle.px_tile.specs.Tilings.{scene_of_tile, tile_count, tiles_across}
 use Rattle.px_prune.specs.Kept.{crowd_of}
@@ -16,7 +16,7 @@ tile_at scene width x y = y / scene.height * tiles_across scene.width width + x 
 pub record HasTiles (scene : SceneView) (width height count : ℕ) (found : List ℕ) : Type 0 where
   pub size : length found ≡ width * height
   pub each : (x y : ℕ) → x < width → y < height → tile_at scene width x y < count →
-      number_at found width x y ≡ number_of (picture scene x y)
+      number_at found width x y ≡ sight_number (picture scene x y)
 
 -- the array is as before, or as the last of the first so many tiles left it
 abbrev pub IsLeft : (bits : ℕ) → SceneView → (width height count : ℕ) → (before now : Device) → Type 0

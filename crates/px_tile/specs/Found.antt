@@ -5,8 +5,8 @@ use Rattle.px_model.specs.Cells.{Sight, picture}
 use Rattle.px_tile.specs.Tiles.{wide_scene}
 
 -- a depth and a face as one number
-abbrev pub number_of : Sight → ℕ
-number_of sight = sight.depth * 2 ^ 32 + sight.face
+abbrev pub sight_number : Sight → ℕ
+sight_number sight = sight.depth * 2 ^ 32 + sight.face
 
 -- the number of the pixel (x, y) of a picture so wide
 abbrev pub number_at : List ℕ → (width x y : ℕ) → ℕ
@@ -23,11 +23,11 @@ pub record IsInTile (tile : SceneView) (x0 y0 x y : ℕ) : Type 0 where
 pub record PutsTile (tile : SceneView) (x0 y0 width : ℕ) (old new : List ℕ) : Type 0 where
   pub count : length new ≡ length old
   pub shown : (x y : ℕ) → x < tile.width → y < tile.height →
-      number_at new width (x0 + x) (y0 + y) ≡ number_of (picture tile x y)
+      number_at new width (x0 + x) (y0 + y) ≡ sight_number (picture tile x y)
   pub rest : (x y : ℕ) → x < width → (IsInTile tile x0 y0 x y → ⊥) → number_at new width x y ≡ number_at old width x y
 
 -- the numbers are those of the wide picture
 pub record IsFound (scene : SceneView) (width height : ℕ) (found : List ℕ) : Type 0 where
   pub count : length found ≡ width * height
   pub each : (x y : ℕ) → x < width → y < height →
-      number_at found width x y ≡ number_of (picture (wide_scene scene width height) x y)
+      number_at found width x y ≡ sight_number (picture (wide_scene scene width height) x y)

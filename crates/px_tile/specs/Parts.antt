@@ -1,8 +1,7 @@
 -- What an image shows of the numbers that are found. Only proofs and private functions stand on it.
 use Rattle.std.specs.Prelude.{ℕ, ◌/◌, ◌%◌, ◌^◌, ◌<◌, List}
 use Rattle.std.specs.List.{flat_map}
-use Rattle.px_frame.specs.Image.{three_bytes}
-use Rattle.px_frame.specs.Picture.{depth_image, face_image}
+use Rattle.px_frame.specs.Picture.{three_bytes, depth_image, face_image}
 use Rattle.px_model.specs.Scenes.{SceneView}
 use Rattle.px_tile.specs.declared.image.Part.{Part}
 use Rattle.px_tile.specs.declared.image.Part.TheVariants as part

@@ -41,8 +41,8 @@ bits_short fault scene bits =
     if nat_lt bits (need_of (layout_of scene)) then Some (fault (need_of (layout_of scene))) else None
 
 -- why a scene is not drawn on an array with pixels of so many bits
-abbrev pub refusal_of : SceneView → (bits : ℕ) → Option JobFault
-refusal_of scene bits = option_or (bits_short job.PixelMemory scene bits) (option_map job.Products (crowd_of scene))
+abbrev pub tile_refusal : SceneView → (bits : ℕ) → Option JobFault
+tile_refusal scene bits = option_or (bits_short job.PixelMemory scene bits) (option_map job.Products (crowd_of scene))
 
 -- why a wide picture is not drawn tile by tile
 abbrev pub wide_refusal : SceneView → (width height bits : ℕ) → Option WideFault

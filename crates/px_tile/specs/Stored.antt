@@ -2,18 +2,18 @@
 use Rattle.std.specs.Prelude.{◌≡◌, ℕ, ◌+◌, ◌<◌, ◌≤◌, ◌⊎◌, List, length, slice_index}
 use Rattle.px_model.specs.Scenes.{SceneView}
 use Rattle.px_model.specs.Cells.{picture}
-use Rattle.px_tile.specs.Found.{number_at, number_of}
+use Rattle.px_tile.specs.Found.{number_at, sight_number}
 
 -- the first so many pixels of row y were put from a place on, and the other numbers stayed
 pub record PutsRow (scene : SceneView) (count y start : ℕ) (old new : List ℕ) : Type 0 where
   pub same_count : length new ≡ length old
-  pub row : (x : ℕ) → x < count → slice_index new (start + x) ≡ number_of (picture scene x y)
+  pub row : (x : ℕ) → x < count → slice_index new (start + x) ≡ sight_number (picture scene x y)
   pub rest : (place : ℕ) → (place < start) ⊎ (start + count ≤ place) → slice_index new place ≡ slice_index old place
 
 -- so many rows of a tile were put, and the other numbers stayed
 pub record PutsRows (scene : SceneView) (count x0 y0 width : ℕ) (old new : List ℕ) : Type 0 where
   pub same_count : length new ≡ length old
   pub rows : (x y : ℕ) → x < scene.width → y < count →
-      number_at new width (x0 + x) (y0 + y) ≡ number_of (picture scene x y)
+      number_at new width (x0 + x) (y0 + y) ≡ sight_number (picture scene x y)
   pub rest : (x y : ℕ) → x < width → (y < y0) ⊎ (y0 + count ≤ y) ⊎ (x < x0) ⊎ (x0 + scene.width ≤ x) →
       number_at new width x y ≡ number_at old width x y

@@ -6,7 +6,7 @@ ghost use Rattle.px_sched.specs.Layouts.{layout_of, need_of};
 ghost use Rattle.px_model.specs.Planes.{first_past};
 ghost use Rattle.px_tile.specs.Found.{IsFound, PutsTile};
 ghost use Rattle.px_tile.specs.Pictures.{IsLastDrawn, IsTileDrawn, LeavesOnWideRefusal};
-ghost use Rattle.px_tile.specs.Refusals.{first_coefficient, first_crowd, refusal_of, wide_refusal};
+ghost use Rattle.px_tile.specs.Refusals.{first_coefficient, first_crowd, tile_refusal, wide_refusal};
 ghost use Rattle.px_tile.specs.Drawn.{crowd_of_tile};
 ghost use Rattle.px_tile.specs.Tilings.{
   IsWideSize,
@@ -33,7 +33,7 @@ use std::alloc::Global;
 /// A picture that is drawn has at most so many tiles.
 pub const MAX_TILES: u32 = 1024;
 
-/// Whether a picture of `width` by `height` pixels, each from 1 to 4096, can be drawn tile by tile
+/// Whether a picture of `width` by `height` pixels, each from 1 to `MAX_SIDE`, can be drawn tile by tile
 /// on an array with pixels of so many memory bits, each tile of the size of the scene's picture, or
 /// why not (docs/PICTURE.md, "Tiles").
 pub fn check_tiles(
@@ -151,7 +151,7 @@ fn scene_of_tile(
     moved_scene(alloc, scene, tile.x0, tile.y0, tile.width, tile.height)
 }
 
-/// Draws a picture of `width` by `height` pixels, each from 1 to 4096, tile by tile on one array,
+/// Draws a picture of `width` by `height` pixels, each from 1 to `MAX_SIDE`, tile by tile on one array,
 /// each tile of the size of the scene's picture (docs/PICTURE.md, "Tiles").
 ///
 /// Ok has a number for each pixel, row by row: `depth * 2^32 + face`. Every refusal but the want of
@@ -226,7 +226,7 @@ fn draw_tile<A: Array>(
     requires size { IsWideSize width height }
     requires tile { tile < tile_count scene.now width height }
     requires within { first_past (scene_of_tile scene.now width height tile).solids ≡ None }
-    requires fits { refusal_of (scene_of_tile scene.now width height tile) A.BITS ≡ None }
+    requires fits { tile_refusal (scene_of_tile scene.now width height tile) A.BITS ≡ None }
     requires room { length found.old ≡ width * height }
     ensures ok { OnOk result (PutsTile (scene_of_tile scene.now width height tile)
         (column_of scene.now width tile) (row_of scene.now width tile) width found.old found.new) }

@@ -15,3 +15,4 @@ pub use image::write_wide;
 pub use law::laws_of_tiles;
 pub use render::render_tile;
 pub use tile::tile_scene;
+pub use tiling::MAX_SIDE;

@@ -7,8 +7,8 @@ ghost use Rattle.px_control.specs.Standing.{LeavesOnRefusal};
 ghost use Rattle.px_model.specs.Cells.{picture};
 ghost use Rattle.px_sched.specs.Layouts.{layout_of, need_of};
 ghost use Rattle.px_sched.specs.PassesLaw.{ShowsThePicture};
-ghost use Rattle.px_tile.specs.Found.{PutsTile, number_of};
-ghost use Rattle.px_tile.specs.Refusals.{refusal_of};
+ghost use Rattle.px_tile.specs.Found.{PutsTile, sight_number};
+ghost use Rattle.px_tile.specs.Refusals.{tile_refusal};
 ghost use Rattle.px_tile.specs.Stored.{PutsRow, PutsRows};
 
 use px_array::Array;
@@ -35,11 +35,11 @@ pub fn render_tile<A: Array>(
 ) -> Result<(), JobFault>
     requires columns { x0 + scene.now.width ≤ width }
     requires rows { (y0 + scene.now.height) * width ≤ length found.old }
-    ensures fits { OnOk result (refusal_of scene.now A.BITS ≡ None) }
+    ensures fits { OnOk result (tile_refusal scene.now A.BITS ≡ None) }
     ensures ok { OnOk result (PutsTile scene.now x0 y0 width found.old found.new) }
     ensures drawn { OnOk result (IsAt A.BITS scene.now (total scene.now) (A.device array.new)) }
     ensures err { IfErr result (λ fault.
-        (refusal_of scene.now A.BITS ≡ Some fault) ⊎ (fault ≡ JobFault.Memory)) }
+        (tile_refusal scene.now A.BITS ≡ Some fault) ⊎ (fault ≡ JobFault.Memory)) }
     ensures found { OnErr result (found.new ≡ found.old) }
     ensures array { IfErr result (λ fault.
         LeavesOnRefusal fault (A.device array.old) (A.device array.new)) }
@@ -102,7 +102,7 @@ fn put_row<A: Array>(
 
 /// A depth and a face number as one number.
 fn number_of(depth: u32, face: u32) -> u64
-    ensures { result ≡ number_of (record { depth = depth; face = face }) }
+    ensures { result ≡ sight_number (record { depth = depth; face = face }) }
 {
     (u64::from(depth) << 32) + u64::from(face)
 }

@@ -1,6 +1,6 @@
 use Rattle.std.proofs.Common.{◌≡◌, ◌<◌, arith, Result, Ok, Err, OnErr}
 use Rattle.px_io.proofs.ToldLaws.{front_before}
-use Rattle.px_frame.specs.Image.{header, row_of_pixels}
+use Rattle.px_frame.specs.Picture.{header, row_of_pixels}
 use Rattle.px_frame.specs.Stored.{stored_pixel}
 use Rattle.px_frame.proofs.RowLaws.{rows_broken, rows_grown}
 use Rattle.px_frame.proofs.image.write_picture.Goals as goal

@@ -1,7 +1,7 @@
 use Rattle.std.proofs.Common.{◌≡◌, ◌++◌}
 use Rattle.std.specs.List.{flat_map, range_with_len}
 use Rattle.px_io.specs.Told.{TakesAll}
-use Rattle.px_frame.specs.Image.{header, row_of_pixels}
+use Rattle.px_frame.specs.Picture.{header, row_of_pixels}
 use Rattle.px_frame.specs.Stored.{stored_pixel}
 use Rattle.px_frame.proofs.image.write_picture.Given as goal
 

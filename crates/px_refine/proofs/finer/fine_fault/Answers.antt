@@ -1,4 +1,4 @@
-use Rattle.std.proofs.Common.{◌≡◌, ◌+◌, ◌*◌, ◌^◌, ◌≤◌, arith, sym}
+use Rattle.std.proofs.Common.{◌+◌, ◌^◌, ◌≤◌, arith, sym}
 use Rattle.std.proofs.Math.Nat.{mul-le-mul}
 use Rattle.std.proofs.lemmas.Nat.{pow_pos}
 use Rattle.px_refine.specs.FineFaults.{most_fraction}

@@ -1,4 +1,4 @@
-use Rattle.std.proofs.Common.{◌^◌, ◌≤◌, ◌%◌, ◌*◌, arith}
+use Rattle.std.proofs.Common.{◌^◌, ◌≤◌, ◌*◌, arith}
 use Rattle.std.proofs.Math.Nat.{mod-le}
 use Rattle.std.proofs.Math.Pow.{pow_mono}
 use Rattle.px_refine.proofs.finer.parts.Goals as goal

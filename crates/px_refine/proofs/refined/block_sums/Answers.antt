@@ -1,7 +1,7 @@
-use Rattle.std.proofs.Common.{◌≡◌, ◌+◌, ◌*◌, ap, ◌∙◌, arith}
+use Rattle.std.proofs.Common.{ap, ◌∙◌, arith}
 use Rattle.px_frame.specs.Stored.{stored_colour}
 use Rattle.px_refine.specs.Sums.{block_sums, together}
-use Rattle.px_refine.proofs.SumLemmas.{block_more, most_together}
+use Rattle.px_refine.proofs.SumLaws.{block_more, most_together}
 use Rattle.px_refine.proofs.refined.block_sums.Goals as goal
 
 pub overflow_add-top : goal.overflow_add-top

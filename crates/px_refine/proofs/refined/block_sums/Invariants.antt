@@ -1,11 +1,11 @@
 use Rattle.std.proofs.Common.{◌≡◌, ◌*◌}
 use Rattle.px_frame.specs.Stored.{stored_colour}
-use Rattle.px_refine.specs.Sums.{IsAtMost, block_sums}
+use Rattle.px_refine.specs.Sums.{AreSumsAtMost, block_sums}
 use Rattle.px_refine.proofs.refined.block_sums.Given as goal
 
 abbrev pub invariant-loop-j : goal.invariant-loop-j
 invariant-loop-j g l = record {
   sums : l.sums ≡ block_sums (stored_colour l.fine l.layout (g.A.Array.device l.array).state) l.across l.from
       l.top l.j;
-  most : IsAtMost (255 * (l.across * l.j)) l.sums;
+  most : AreSumsAtMost (255 * (l.across * l.j)) l.sums;
 }

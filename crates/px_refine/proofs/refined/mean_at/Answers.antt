@@ -1,4 +1,4 @@
-use Rattle.std.proofs.Common.{◌≡◌, ◌+◌, ◌*◌, ◌^◌, ap, ◌∙◌, arith}
+use Rattle.std.proofs.Common.{◌*◌, ap, ◌∙◌, arith}
 use Rattle.px_frame.specs.Stored.{stored_colour}
 use Rattle.px_refine.specs.Sums.{block_sums, mean_of}
 use Rattle.px_refine.proofs.refined.mean_at.Goals as goal

@@ -1,6 +1,6 @@
 use Rattle.std.proofs.Common.{◌≡◌, ◌*◌}
 use Rattle.arrayvec.specs.ArrayVec.{array_vec_len}
-use Rattle.px_frame.specs.Image.{row_of_pixels}
+use Rattle.px_frame.specs.Picture.{row_of_pixels}
 use Rattle.px_frame.specs.Stored.{stored_colour}
 use Rattle.px_refine.specs.Refined.{mean_pixel}
 use Rattle.px_refine.proofs.refined.mean_row.Given as goal

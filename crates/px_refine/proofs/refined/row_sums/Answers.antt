@@ -1,8 +1,8 @@
-use Rattle.std.proofs.Common.{◌≡◌, ◌+◌, ◌*◌, ◌<◌, ap, ◌∙◌, arith, rules}
-use Rattle.px_model.specs.Solids.{IsColour}
+use Rattle.std.proofs.Common.{ap, ◌∙◌, arith, rules}
+use Rattle.px_model.specs.Scenes.{IsColour}
 use Rattle.px_frame.specs.Stored.{stored_colour}
 use Rattle.px_refine.specs.Sums.{row_sums, with_colour}
-use Rattle.px_refine.proofs.SumLemmas.{most_more, row_more}
+use Rattle.px_refine.proofs.SumLaws.{most_more, row_more}
 use Rattle.px_refine.proofs.refined.row_sums.Goals as goal
 
 pub overflow_add-from : goal.overflow_add-from

@@ -1,5 +1,5 @@
-use Rattle.std.proofs.Common.{◌≡◌, ◌+◌, ◌*◌, ◌/◌, ◌^◌, ◌<◌, ◌≤◌, arith, Result, Ok, Err, OnErr, refl}
-use Rattle.px_frame.specs.Image.{header, row_of_pixels}
+use Rattle.std.proofs.Common.{◌≡◌, ◌/◌, ◌^◌, arith, Result, Ok, Err, OnErr, refl}
+use Rattle.px_frame.specs.Picture.{header, row_of_pixels}
 use Rattle.px_frame.proofs.RowLaws.{rows_broken, rows_grown}
 use Rattle.px_frame.specs.Stored.{stored_colour}
 use Rattle.px_refine.specs.Refined.{mean_pixel}

@@ -1,7 +1,7 @@
 use Rattle.std.proofs.Common.{◌≡◌, ◌++◌}
 use Rattle.std.specs.List.{flat_map, range_with_len}
 use Rattle.px_io.specs.Told.{TakesAll}
-use Rattle.px_frame.specs.Image.{header, row_of_pixels}
+use Rattle.px_frame.specs.Picture.{header, row_of_pixels}
 use Rattle.px_frame.specs.Stored.{stored_colour}
 use Rattle.px_refine.specs.Refined.{mean_pixel}
 use Rattle.px_refine.proofs.refined.write_refined.Given as goal

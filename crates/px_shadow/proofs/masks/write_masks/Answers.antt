@@ -1,6 +1,6 @@
-use Rattle.std.proofs.Common.{◌≡◌, ◌<◌, ◌++◌, arith, Result, Ok, Err, OnErr}
+use Rattle.std.proofs.Common.{◌≡◌, ◌<◌, arith, Result, Ok, Err, OnErr}
 use Rattle.px_io.proofs.ToldLaws.{front_before}
-use Rattle.px_frame.specs.Image.{header}
+use Rattle.px_frame.specs.Picture.{header}
 use Rattle.px_frame.specs.Rows.{row_bytes}
 use Rattle.px_frame.proofs.RowLaws.{rows_broken, rows_grown}
 use Rattle.px_shadow.specs.Stored.{stored_number}

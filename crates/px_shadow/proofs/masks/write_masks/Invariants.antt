@@ -1,7 +1,7 @@
 use Rattle.std.proofs.Common.{◌≡◌, ◌++◌}
 use Rattle.std.specs.List.{flat_map, range_with_len}
 use Rattle.px_io.specs.Told.{TakesAll}
-use Rattle.px_frame.specs.Image.{header}
+use Rattle.px_frame.specs.Picture.{header}
 use Rattle.px_frame.specs.Rows.{row_bytes}
 use Rattle.px_shadow.specs.Stored.{stored_number}
 use Rattle.px_shadow.proofs.masks.write_masks.Given as goal

@@ -1,4 +1,4 @@
-use Rattle.std.proofs.Common.{◌≡◌, ◌<◌, ◌≤◌, ◌+◌, ◌∙◌, [], ◌∷◌, ◌++◌, length, ap, sym, arith}
+use Rattle.std.proofs.Common.{◌≡◌, ◌<◌, ◌≤◌, [], ◌∷◌, length, ap, sym, arith}
 use Rattle.px_face.specs.Edges.{edges}
 use Rattle.px_face.specs.Faces.{level}
 use Rattle.px_macro.specs.declared.operation.Macro.TheVariants as m

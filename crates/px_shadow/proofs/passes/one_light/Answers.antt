@@ -1,4 +1,4 @@
-use Rattle.std.proofs.Common.{◌≡◌, ◌<◌, ◌≤◌, true, [], ◌∷◌, ◌++◌, ℕ, List, length, get_or, ap, subst, sym, arith, ◌∙◌}
+use Rattle.std.proofs.Common.{◌<◌, ◌≤◌, true, [], ◌∷◌, ℕ, List, length, get_or, ap, subst, sym, arith, ◌∙◌}
 use Rattle.px_macro.specs.declared.operation.Macro.{Macro}
 use Rattle.px_macro.specs.declared.operation.Macro.TheVariants as m
 use Rattle.px_normal.specs.Sets.{solids}

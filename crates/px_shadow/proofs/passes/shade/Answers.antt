@@ -1,4 +1,4 @@
-use Rattle.std.proofs.Common.{◌≡◌, ◌≤◌, List, length, ap, subst, sym, arith, ◌∙◌}
+use Rattle.std.proofs.Common.{◌≤◌, List, length, ap, subst, sym, arith, ◌∙◌}
 use Rattle.px_array.specs.Slots.{worked}
 use Rattle.px_normal.specs.declared.set.SolidSet.{SolidSet}
 use Rattle.px_sched.specs.Layouts.{layout_of}

@@ -1,5 +1,5 @@
 use Rattle.std.proofs.Common.{◌≡◌, arith}
-use Rattle.px_frame.specs.Image.{header}
+use Rattle.px_frame.specs.Picture.{header}
 use Rattle.px_tile.proofs.ImageLemmas.{all_after, all_small, front_then, image_is}
 use Rattle.px_tile.proofs.image.write_part.Goals as goal
 

@@ -1,4 +1,4 @@
-use Rattle.std.proofs.Common.{◌≡◌, ◌∙◌, sym}
+use Rattle.std.proofs.Common.{◌∙◌, sym}
 use Rattle.px_shadow.proofs.SayingLemmas.{light_more, nothing_more}
 use Rattle.px_shadow.proofs.light.Said.with.Goals as goal
 

@@ -1,12 +1,12 @@
 -- Sums of samples grow pixel by pixel and row by row.
-use Rattle.std.proofs.Common.{◌≡◌, ℕ, ◌+◌, ◌*◌, ◌/◌, ◌%◌, ◌<◌, ◌≤◌, List, [], ◌∷◌, map, refl, ap, sym, ◌∙◌, arith}
+use Rattle.std.proofs.Common.{◌≡◌, ℕ, ◌+◌, ◌*◌, List, map, refl, ap, sym, ◌∙◌, arith}
 use Rattle.std.proofs.lemmas.List.Folds.{fold-map}
 use Rattle.std.proofs.lemmas.List.FromFn.{sum_by-map-range_with_len_more}
 use Rattle.std.specs.List.{range_with_len, sum_by}
 use Rattle.px_model.specs.declared.solid.Colour.{Colour}
-use Rattle.px_model.specs.Solids.{IsColour}
+use Rattle.px_model.specs.Scenes.{IsColour}
 use Rattle.px_refine.specs.declared.sums.Sums.{Sums}
-use Rattle.px_refine.specs.Sums.{IsAtMost, block_sums, row_sums, together, with_colour}
+use Rattle.px_refine.specs.Sums.{AreSumsAtMost, block_sums, row_sums, together, with_colour}
 
 plain : (f : ℕ → ℕ) (ns : List ℕ) → sum_by f (map (λ n. n) ns) ≡ sum_by f ns
 plain f ns = fold-map (λ (a n : ℕ). a + f n) (λ (n : ℕ). n) 0 ns
@@ -36,17 +36,17 @@ block_more colour across from top n = rw (
   sum_more (λ j. (row_sums colour from (top + j) across).blue) n,
 ) refl
 
-pub most_more : (sums : Sums) (colour : Colour) (n : ℕ) → IsAtMost (255 * n) sums → IsColour colour
-    → IsAtMost (255 * (n + 1)) (with_colour sums colour)
+pub most_more : (sums : Sums) (colour : Colour) (n : ℕ) → AreSumsAtMost (255 * n) sums → IsColour colour
+    → AreSumsAtMost (255 * (n + 1)) (with_colour sums colour)
 most_more sums colour n most bytes = record {
   red = omega (arith, most.red, bytes.red);
   green = omega (arith, most.green, bytes.green);
   blue = omega (arith, most.blue, bytes.blue);
 }
 
-pub most_together : (sums more : Sums) (across n : ℕ) → IsAtMost (255 * (across * n)) sums
-    → IsAtMost (255 * across) more
-    → IsAtMost (255 * (across * (n + 1))) (together sums more)
+pub most_together : (sums more : Sums) (across n : ℕ) → AreSumsAtMost (255 * (across * n)) sums
+    → AreSumsAtMost (255 * across) more
+    → AreSumsAtMost (255 * (across * (n + 1))) (together sums more)
 most_together sums more across n most next = record {
   red = omega (arith, most.red, next.red);
   green = omega (arith, most.green, next.green);
