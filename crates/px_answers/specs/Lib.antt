@@ -1,4 +1,4 @@
-pub use Rattle.px_model.specs.Solids
+pub use Rattle.px_model.specs.Scenes
 pub mod CostText
 pub mod Plans
 pub mod SampleText

@@ -2,7 +2,7 @@
 ghost use Rattle.std.specs.Prelude.{◌≡◌, ◌++◌, ◌≤◌, codes, length, OnOk, IfOk};
 ghost use Rattle.std.specs.List.{flat_map};
 ghost use Rattle.px_normal.specs.Sets.{solids};
-ghost use Rattle.px_model.specs.Solids.{names_of};
+ghost use Rattle.px_model.specs.Scenes.{names_of};
 ghost use Rattle.px_answers.specs.Plans.{kept_line, name_at, signed, starred, product_line, plan_text};
 
 use arrayvec::ArrayString;

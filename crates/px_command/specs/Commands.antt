@@ -3,11 +3,13 @@ use Rattle.std.specs.Prelude.{ℕ, ◌+◌, ◌-◌, ◌*◌, ◌≤◌, ◌==�
 use Rattle.std.specs.Prelude.{Option, Some, None, if◌then◌else◌, codes}
 use Rattle.std.specs.List.{list_all}
 use Rattle.std.specs.Str.{bytes_eq}
+use Rattle.px_text.specs.Text.{is_digit}
 use Rattle.px_command.specs.declared.command.Command.{Command}
 use Rattle.px_command.specs.declared.command.Command.TheVariants as c
 use Rattle.px_command.specs.declared.command.Fineness.{Fineness}
 use Rattle.px_command.specs.declared.command.Fineness.TheVariants as f
-use Rattle.px_command.specs.declared.command.TheConstants.{MAX_BLOCKS, MAX_SIDE}
+use Rattle.px_scene.specs.declared.sample.TheConstants.{MAX_BLOCKS}
+use Rattle.px_tile.specs.declared.tiling.TheConstants.{MAX_SIDE}
 use Rattle.px_command.specs.declared.command.Work.{Work}
 use Rattle.px_command.specs.declared.command.Work.TheVariants as w
 
@@ -23,9 +25,6 @@ of_one word =
     else if bytes_eq word (codes "list") then Some (c.Make w.List)
     else if bytes_eq word (codes "play") then Some c.Play
     else None
-
-abbrev pub is_digit : ℕ → Bool
-is_digit b = nat_le 48 b && nat_le b 57
 
 -- digits, of which the first is not 0
 abbrev pub is_count : List ℕ → Bool
@@ -71,12 +70,12 @@ of_two word argument =
     else None
 
 -- a side of a wide picture has at least one pixel, and as many as MAX_SIDE at most
-abbrev pub side_of : Option ℕ → Option ℕ
-side_of None = None
-side_of (Some n) = if nat_le 1 n && nat_le n MAX_SIDE then Some n else None
+abbrev pub side_within : Option ℕ → Option ℕ
+side_within None = None
+side_within (Some n) = if nat_le 1 n && nat_le n MAX_SIDE then Some n else None
 
 abbrev pub side_in : List ℕ → Option ℕ
-side_in word = if is_count word then side_of (count_in word) else None
+side_in word = if is_count word then side_within (count_in word) else None
 
 -- the tiling of a picture so wide and high
 abbrev pub tiling : (width height : Option ℕ) → Option Command

@@ -2,12 +2,6 @@
 ghost use Rattle.std.specs.Prelude.{◌≡◌};
 ghost use Rattle.px_command.specs.Commands.{doublings};
 
-/// The most blocks of a sample.
-pub const MAX_BLOCKS: u32 = 200;
-
-/// The most pixels of a side of a wide picture.
-pub const MAX_SIDE: u32 = 4096;
-
 /// What the program is asked to do (docs/SCENES.md, "Commands").
 #[derive(Clone, Copy, Debug, PartialEq, Eq)]
 pub enum Command {
@@ -15,7 +9,7 @@ pub enum Command {
     Make(Work),
     /// Answers command lines in a session over the scene before them.
     Debug,
-    /// Draws the sample of so many blocks, 1 to `MAX_BLOCKS`, and prints four numbers of it.
+    /// Draws the sample of so many blocks, 1 to `px_scene::MAX_BLOCKS`, and prints four numbers of it.
     Sample(u32),
     /// Draws the image of the lights that the lines behind the scene name.
     Shadow,
@@ -53,7 +47,7 @@ pub enum Fineness {
     Four,
 }
 
-/// The size of a wide picture in pixels, each side of 1 to `MAX_SIDE`.
+/// The size of a wide picture in pixels, each side of 1 to `px_tile::MAX_SIDE`.
 #[derive(Clone, Copy, Debug, PartialEq, Eq)]
 pub struct Size {
     /// The pixels of a row.

@@ -4,5 +4,5 @@
 mod command;
 mod words;
 
-pub use command::{Command, Fineness, MAX_BLOCKS, MAX_SIDE, Size, Work};
+pub use command::{Command, Fineness, Size, Work};
 pub use words::{command_of, needs_wide_pixels};

@@ -8,7 +8,6 @@ ghost use Rattle.px_command.specs.Commands.{
   count_in,
   fineness_of,
   is_count,
-  is_digit,
   needs_wide_pixels,
   of_one,
   of_three,
@@ -16,11 +15,15 @@ ghost use Rattle.px_command.specs.Commands.{
   refining,
   sample_of,
   side_in,
-  side_of,
+  side_within,
   tiling,
 };
+ghost use Rattle.px_text.specs.Text.{is_digit};
 
-use crate::command::{Command, Fineness, MAX_BLOCKS, MAX_SIDE, Size, Work};
+use crate::command::{Command, Fineness, Size, Work};
+use px_scene::MAX_BLOCKS;
+use px_text::is_digit;
+use px_tile::MAX_SIDE;
 
 /// Whether what the words ask wants pixels of 80 bits; else 72 are wanted (docs/SHADOWS.md,
 /// "Memory").
@@ -116,12 +119,6 @@ fn are_digits(word: &[u8]) -> bool
     word.iter().all(|b| is_digit(*b))
 }
 
-fn is_digit(b: u8) -> bool
-    ensures { result ≡ is_digit b }
-{
-    b'0' <= b && b <= b'9'
-}
-
 /// The number that one to four digits write.
 fn count_in(digits: &[u8]) -> Option<u32>
     ensures { result ≡ count_in digits.now }
@@ -169,7 +166,7 @@ fn side_in(word: &[u8]) -> Option<u32>
 }
 
 fn side_of(number: Option<u32>) -> Option<u32>
-    ensures side { result ≡ side_of number }
+    ensures side { result ≡ side_within number }
     ensures some { IfSome result IsSide }
 {
     match number {

@@ -19,15 +19,15 @@ use Rattle.px_debug.specs.declared.command.Command.{Command}
 use Rattle.px_debug.specs.declared.command.Command.TheVariants as c
 
 -- a text, a number, and the end of the line
-abbrev pub number_line : List ℕ → ℕ → List ℕ
-number_line text n = text ++ decimal n ++ codes "\n"
+abbrev pub line_with_number : List ℕ → ℕ → List ℕ
+line_with_number text n = text ++ decimal n ++ codes "\n"
 
-abbrev pub at_line : (now : ℕ) → List ℕ
-at_line now = number_line (codes "at ") now
+abbrev pub now_line : (now : ℕ) → List ℕ
+now_line now = line_with_number (codes "at ") now
 
 -- the answer to a line that is none of the commands, or asks for what is not there
 abbrev pub unknown_line : (number : ℕ) → List ℕ
-unknown_line number = number_line (codes "? line ") number
+unknown_line number = line_with_number (codes "? line ") number
 
 -- where the session stands: the operation and the micro of the next broadcast
 abbrev pub place_line : SceneView → (now : ℕ) → List ℕ
@@ -112,11 +112,11 @@ is_node s level index = nat_le 1 level && nat_le level (levels_of s.tree) && nat
 
 -- the answer to a command after its move, where the line has this number
 unfoldable pub answer_in : SceneView → State → (now number : ℕ) → Command → List ℕ
-answer_in scene s now number (c.Step n) = at_line now
-answer_in scene s now number (c.Macro n) = at_line now
-answer_in scene s now number c.Run = at_line now
-answer_in scene s now number (c.Until n) = at_line now
-answer_in scene s now number (c.Back n) = at_line now
+answer_in scene s now number (c.Step n) = now_line now
+answer_in scene s now number (c.Macro n) = now_line now
+answer_in scene s now number c.Run = now_line now
+answer_in scene s now number (c.Until n) = now_line now
+answer_in scene s now number (c.Back n) = now_line now
 answer_in scene s now number c.At = place_line scene now
 answer_in scene s now number (c.Pixel x y) = if is_pixel s x y then pixel_line s x y else unknown_line number
 answer_in scene s now number (c.Field x y) = if is_pixel s x y then field_line (layout_of scene) s x y else unknown_line number

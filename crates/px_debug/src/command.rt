@@ -1,7 +1,7 @@
 //! What a command line asks for.
 ghost use Rattle.std.specs.Prelude.{◌≡◌, map};
 ghost use Rattle.px_debug.specs.Moves.{going};
-ghost use Rattle.px_debug.specs.Commands.{command_in, command_of, of_one, of_three, of_two};
+ghost use Rattle.px_debug.specs.Commands.{command_in, line_command, of_word, of_word_and_numbers, of_word_and_number};
 
 use crate::session::Going;
 use crate::word::{few_words, number_of};
@@ -54,7 +54,7 @@ impl Command {
 
 /// What a command line asks for.
 pub(crate) fn command_of(line: &[u8]) -> Command
-    ensures { result ≡ command_of line.now }
+    ensures { result ≡ line_command line.now }
 {
     if line.len() > MOST_BYTES {
         return Command::Unknown;
@@ -84,7 +84,7 @@ fn command_in(words: &[&[u8]]) -> Command
 }
 
 fn of_one(word: &[u8]) -> Command
-    ensures { result ≡ of_one word.now }
+    ensures { result ≡ of_word word.now }
 {
     if word == b"run".as_slice() {
         Command::Run
@@ -100,7 +100,7 @@ fn of_one(word: &[u8]) -> Command
 }
 
 fn of_two(word: &[u8], n: u64) -> Command
-    ensures { result ≡ of_two word.now n }
+    ensures { result ≡ of_word_and_number word.now n }
 {
     if word == b"step".as_slice() {
         Command::Step(n)
@@ -116,7 +116,7 @@ fn of_two(word: &[u8], n: u64) -> Command
 }
 
 fn of_three(word: &[u8], a: u64, b: u64) -> Command
-    ensures { result ≡ of_three word.now a b }
+    ensures { result ≡ of_word_and_numbers word.now a b }
 {
     if word == b"pixel".as_slice() {
         Command::Pixel(a, b)

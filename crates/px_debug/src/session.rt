@@ -4,7 +4,7 @@ ghost use Rattle.px_io.specs.Counts.{HasCause};
 ghost use Rattle.px_io.specs.Told.{TakesAll, TakesFront};
 ghost use Rattle.px_control.specs.Program.{IsAt};
 ghost use Rattle.px_debug.specs.Answers.{answer, answer_in};
-ghost use Rattle.px_debug.specs.Commands.{command_of};
+ghost use Rattle.px_debug.specs.Commands.{line_command};
 ghost use Rattle.px_debug.specs.Moves.{Fits, SessionView, going, most_clocks, moved};
 
 use crate::command::{Command, command_of};
@@ -88,20 +88,20 @@ impl<'s> Session<'s> {
         requires counted { self.old.lines < 2 ^ 64 - 1 }
         ensures session { self.new ≡ record {
           scene = self.old.scene;
-          now = moved self.old.scene self.old.now (command_of line.now);
+          now = moved self.old.scene self.old.now (line_command line.now);
           lines = self.old.lines + 1;
         } }
         ensures fits { Fits A.BITS self.new (A.device array.new) (A.slots array.new) }
         ensures ok { OnOk result (TakesAll (O.written out.old) (O.written out.new)
             (O.finished out.old) (O.finished out.new)
-            (answer A.BITS self.new.scene self.new.now self.new.lines (command_of line.now))) }
-        ensures going { IfOk result (λ on. on ≡ going (command_of line.now)) }
+            (answer A.BITS self.new.scene self.new.now self.new.lines (line_command line.now))) }
+        ensures going { IfOk result (λ on. on ≡ going (line_command line.now)) }
         ensures err { OnErr result (TakesFront (O.written out.old) (O.written out.new)
             (O.finished out.old) (O.finished out.new)
-            (answer A.BITS self.new.scene self.new.now self.new.lines (command_of line.now))) }
+            (answer A.BITS self.new.scene self.new.now self.new.lines (line_command line.now))) }
         ensures cause { HasCause (O.faults out.old) (O.faults out.new) result }
         ensures work { A.work array.new ≤ A.work array.old
-            + most_clocks self.old.scene self.old.now (command_of line.now) }
+            + most_clocks self.old.scene self.old.now (line_command line.now) }
     {
         let command = command_of(line);
         self.obey(array, command);

@@ -1,6 +1,6 @@
 //! The answers, in fixed room (docs/DEBUGGER.md, "Answers").
 ghost use Rattle.std.specs.Prelude.{◌≡◌, ◌+◌, ◌<◌, ◌≤◌, ◌^◌, ◌++◌, codes, decimal, length};
-ghost use Rattle.px_debug.specs.Answers.{flag, number_line, place_line, unknown_line};
+ghost use Rattle.px_debug.specs.Answers.{flag, line_with_number, place_line, unknown_line};
 
 use arrayvec::ArrayString;
 use itoa::Buffer;
@@ -12,7 +12,7 @@ pub(crate) type Text = ArrayString<2048>;
 /// A text before a number, and the end of the line.
 pub(crate) fn number_line(text: &str, n: u64) -> Text
     requires { length text.now ≤ 20 }
-    ensures { result.bytes ≡ number_line text.now n }
+    ensures { result.bytes ≡ line_with_number text.now n }
 {
     let mut digits = Buffer::new();
     let mut line = ArrayString::new();

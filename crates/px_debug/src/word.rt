@@ -2,9 +2,11 @@
 ghost use Rattle.std.specs.Prelude.{◌≡◌, ◌-◌, ◌^◌, ◌<◌, ◌≤◌, IfNone, IfSome, length, map, true};
 ghost use Rattle.std.specs.Int.Digits.{number_from_digits};
 ghost use Rattle.std.specs.List.{list_all};
-ghost use Rattle.px_debug.specs.Words.{is_blank, is_digit, is_some_byte, number_of, words_in};
+ghost use Rattle.px_debug.specs.Words.{plain_number, words_in};
+ghost use Rattle.px_text.specs.Text.{is_digit};
 
 use arrayvec::ArrayVec;
+use px_text::{is_blank, is_digit, is_word};
 
 /// A number has at most so many digits.
 const MOST_DIGITS: usize = 18;
@@ -15,7 +17,7 @@ pub(crate) fn few_words(line: &[u8]) -> Option<ArrayVec<&[u8], 3>>
     ensures many { IfNone result (3 < length (words_in line.now)) }
 {
     let mut words = ArrayVec::new();
-    for word in line.split(|b| is_blank(*b)).filter(|w| is_some_byte(*w)) {
+    for word in line.split(|b| is_blank(*b)).filter(|w| is_word(*w)) {
         if words.is_full() {
             return None;
         }
@@ -24,27 +26,12 @@ pub(crate) fn few_words(line: &[u8]) -> Option<ArrayVec<&[u8], 3>>
     Some(words)
 }
 
-fn is_blank(b: u8) -> bool
-    ensures { result ≡ is_blank b }
-{
-    b == b' ' || b == b'\t' || b == b'\r'
-}
-
-fn is_some_byte(bytes: &[u8]) -> bool
-    ensures { result ≡ is_some_byte bytes.now }
-{
-    match bytes {
-        [] => false,
-        [_, ..] => true,
-    }
-}
-
 /// The number that a word writes: 1 to 18 digits.
 pub(crate) fn number_of(word: &[u8]) -> Option<u64>
-    ensures value { result ≡ number_of word.now }
+    ensures value { result ≡ plain_number word.now }
     ensures small { IfSome result (λ n. n < 10 ^ 18) }
 {
-    if is_some_byte(word) && word.len() <= MOST_DIGITS && are_digits(word) {
+    if is_word(word) && word.len() <= MOST_DIGITS && are_digits(word) {
         Some(magnitude(word))
     } else {
         None
@@ -55,12 +42,6 @@ fn are_digits(bytes: &[u8]) -> bool
     ensures { result ≡ list_all is_digit bytes.now }
 {
     bytes.iter().all(|b| is_digit(*b))
-}
-
-fn is_digit(b: u8) -> bool
-    ensures { result ≡ is_digit b }
-{
-    b'0' <= b && b <= b'9'
 }
 
 /// The value of decimal digits.

@@ -1,25 +1,24 @@
 -- The grid and the passes of a scene, as a listing.
-use Rattle.std.proofs.Common.{◌≡◌, ℕ, zero, suc, ◌+◌, ◌-◌, ◌*◌, ◌^◌, ◌<◌, ◌≤◌, All, List, [], ◌∷◌, ◌++◌, Bool}
+use Rattle.std.proofs.Common.{◌≡◌, ℕ, zero, suc, ◌+◌, ◌-◌, ◌^◌, ◌<◌, ◌≤◌, All, List, [], ◌++◌, Bool}
 use Rattle.std.proofs.Common.{false, Option, Some, length, take, drop, slice_get, nat_lt, inl, inr}
 use Rattle.std.proofs.Common.{refl, ap, sym, ◌∙◌, arith, subst, append_assoc, Result, OnOk, OnErr, count_by}
 use Rattle.std.proofs.Math.Pow.{pow_mono}
 use Rattle.std.proofs.lemmas.Bool.{cases_lt}
 use Rattle.std.proofs.lemmas.Bool.Decides.{nat_tests}
 use Rattle.std.proofs.lemmas.List.{append-nil, length-replicate}
-use Rattle.std.proofs.lemmas.List.Elements.{All-weaker}
 use Rattle.std.proofs.lemmas.Option.{get_or_from_slice_get, slice_get_within}
 use Rattle.px_io.specs.Told.{TakesAll, TakesFront}
 use Rattle.px_io.proofs.ToldLaws.{front_before}
 use Rattle.std.specs.List.{flat_map, range_with_len}
 use Rattle.px_macro.specs.Macros.{IsLawful, IsLawfulInMore, PixelBits}
 use Rattle.px_macro.specs.declared.operation.Macro.{Macro}
-use Rattle.px_model.specs.Scenes.{IsGridExponent, IsLawfulScene, SceneView}
+use Rattle.px_model.specs.Scenes.{IsGridExponent, IsLawfulScene, SceneView, IsLawfulSolid}
 use Rattle.px_model.specs.Cells.{picture}
-use Rattle.px_model.specs.Solids.{IsLawfulSolid}
 use Rattle.px_sched.specs.Layouts.{layout_of, need_of}
 use Rattle.px_sched.specs.Passes.{passes}
 use Rattle.px_sched.specs.PassesFacts.{LayoutsAreLawful, PassesAreLawful}
 use Rattle.px_sched.specs.PassesLaw.{HasSight, PassesLaw}
+use Rattle.px_sched.proofs.LawfulLaws.{passes_lawful}
 use Rattle.px_listing.specs.Listings.{macro_line}
 use Rattle.px_listing.specs.Pieces.{Puts}
 use Rattle.px_listing.proofs.PieceLemmas.{err_cut, ok_all, puts_both, puts_cut, puts_none}
@@ -138,13 +137,6 @@ err_to_last r a b c d f g h i piece v w first middle last empty one two front =
 -- no scene needs more than 74 bits
 few_bits : LayoutsAreLawful → (scene : SceneView) → IsLawfulScene scene → need_of (layout_of scene) ≤ 256
 few_bits layouts scene lawful = let is = layouts scene lawful in omega (arith, is.depth, is.number)
-
-pub passes_lawful : IsLawfulInMore → PassesAreLawful → (bits : ℕ) (scene : SceneView) → IsLawfulScene scene
-    → All IsLawfulSolid scene.solids
-    → need_of (layout_of scene) ≤ bits → All (λ m. IsLawful m bits) (passes scene)
-passes_lawful more lawful bits scene h solids enough =
-    All-weaker (λ m. IsLawful m (need_of (layout_of scene))) (λ m. IsLawful m bits)
-    (λ m small. more m (need_of (layout_of scene)) bits enough small) (passes scene) (lawful scene h solids)
 
 pub passes_lawful_in_all : IsLawfulInMore → LayoutsAreLawful → PassesAreLawful → (scene : SceneView)
     → IsLawfulScene scene → All IsLawfulSolid scene.solids

@@ -1,28 +1,29 @@
 -- Lines read one after another, until one is bad.
 use Rattle.std.proofs.Common.{◌≡◌, ℕ, ℤ, pos, ◌+◌, ◌<◌, ◌≤◌, All, List, [], ◌∷◌, ◌++◌, length, take, drop, get_or}
-use Rattle.std.proofs.Common.{map, Option, Some, None, IfSome, Bool, true, false, ◌==◌, if◌then◌else◌, ◌&&◌}
-use Rattle.std.proofs.Common.{codes, refl, ap, sym, subst, ◌∙◌, arith, length-take, length-append, Bor}
+use Rattle.std.proofs.Common.{Option, Some, None, IfSome, Bool, true, false, if◌then◌else◌, ◌&&◌}
+use Rattle.std.proofs.Common.{codes, refl, ap, sym, subst, ◌∙◌, arith, length-take, length-append}
 use lib.IntN.{negsuc}
 use Rattle.std.specs.Str.{bytes_eq}
 use Rattle.std.proofs.lemmas.Int.{ints}
-use Rattle.std.proofs.lemmas.List.{take_more, drop_more, drop_all, take_all, get_or-map, length-map, append-nil}
+use Rattle.std.proofs.lemmas.List.{take_more, drop_more, drop_all, take_all, append-nil}
 use Rattle.std.proofs.lemmas.List.Elements.{All-push, filter_map-append}
-use Rattle.std.proofs.lemmas.Simd.{map-map}
 use Rattle.std.specs.List.{filter_map, cons_option}
+use Rattle.px_num.proofs.TruthLaws.{none_first, none_second}
 use Rattle.px_macro.specs.Macros.{IsLawful}
 use Rattle.px_macro.specs.declared.operation.Macro.{Macro}
 use Rattle.px_show.specs.declared.fault.Cause.TheVariants as cause
-use Rattle.px_text.specs.Text.{Words, lines_of, words_of, worded}
+use Rattle.px_text.specs.Text.{Words, lines_of, worded}
 use Rattle.px_tree.specs.Nodes.{IsGrid}
 use Rattle.px_listing.specs.Listings.{ListingView}
+use Rattle.px_scene.specs.Lines.{numbers_of, size_of}
 use Rattle.px_listing.specs.Drafts.{DraftView, IsDraft, IsDraftOf, IsFirstBad, draft_of, head_of, or_else, taken}
 use Rattle.px_listing.specs.Drafts.{with_line, with_operation}
 use Rattle.px_listing.specs.Keywords.{due_after, is_header, is_one, keyword_of}
 use Rattle.px_listing.specs.Limits.{grid_past, limit_of, past}
-use Rattle.px_listing.specs.Lines.{cause_of, numbers_of}
-use Rattle.px_listing.specs.Operations.{operation_of, size_of}
+use Rattle.px_listing.specs.Lines.{cause_of}
+use Rattle.px_listing.specs.Operations.{operation_of}
 use Rattle.px_listing.specs.Reading.{Exponents, at_line, due_behind, due_behind_line, exponents_of, fault_of}
-use Rattle.px_listing.specs.Reading.{first_bad, grid_in, is_nothing, judged, last_or, least_grid, listing_of}
+use Rattle.px_listing.specs.Reading.{first_bad, grid_in, is_nothing, last_or, least_grid, listing_of}
 use Rattle.px_listing.specs.Reading.{operation_in, refusal_of}
 use Rattle.px_listing.specs.declared.keyword.Due.{Due}
 use Rattle.px_listing.specs.declared.keyword.Due.TheVariants as d
@@ -32,7 +33,7 @@ use Rattle.px_listing.specs.declared.limit.LineFault.{LineFault}
 use Rattle.px_listing.specs.declared.limit.ListKind.TheVariants as kind
 use Rattle.px_listing.specs.declared.read.ListFault.{ListFault}
 use Rattle.px_listing.specs.declared.read.ListFault.TheVariants as fault
-use Rattle.px_listing.proofs.LimitLemmas.{none_first, none_second, within}
+use Rattle.px_listing.proofs.LimitLemmas.{within}
 
 last_of : {A : Type 0} (a x : A) (xs : List A) → last_or a (xs ++ x ∷ []) ≡ x
 last_of a x [] = refl
@@ -245,18 +246,6 @@ read_all bits draft lines i so past within =
       says = rw whole at so.says;
       keeps = subst (λ n. IsDraft bits n draft) count so.keeps;
     }
-
--- the words of a line that is read
-pub words_here : (lines : List (Bor (List ℕ))) (i : ℕ) (any : Bor (List ℕ)) → i < length lines
-    → get_or (map (λ m. words_of m.now) lines) i [] ≡ words_of (get_or lines i any).now
-words_here lines i any lt = get_or-map (λ (m : Bor (List ℕ)). words_of m.now) lines i any [] lt
-
-pub among : (lines : List (Bor (List ℕ))) (i : ℕ) → i < length lines → i < length (map (λ m. words_of m.now) lines)
-among lines i lt = omega (arith, length-map lines (λ (m : Bor (List ℕ)). words_of m.now))
-
-pub worded_is : (lines : List (Bor (List ℕ))) (text : List ℕ) → map (λ l. l.now) lines ≡ lines_of text
-    → map (λ l. words_of l.now) lines ≡ worded text
-worded_is lines text e = sym (map-map words_of (λ (l : Bor (List ℕ)). l.now) lines) ∙ ap (map words_of) e
 
 pub refused_bad : (bits : ℕ) (text : List ℕ) (lines : List Words) (f : ListFault) → lines ≡ worded text
     → IsFirstBad bits f lines → refusal_of bits text ≡ Some f

@@ -1,7 +1,7 @@
 -- What is read of the canonical text of a listing.
-use Rattle.std.proofs.Common.{◌≡◌, ℕ, ℤ, pos, ◌+◌, ◌-◌, ◌^◌, ◌<◌, ◌≤◌, ◌≤ℤ◌, ◌==◌, All, [], ◌∷◌, ◌++◌, Bool}
-use Rattle.std.proofs.Common.{true, false, ◌&&◌, ◌||◌, if◌then◌else◌, Some, None, length, map}
-use Rattle.std.proofs.Common.{inl, inr, ◌⊎◌, refl, ap, ◌∙◌, arith}
+use Rattle.std.proofs.Common.{◌≡◌, ℕ, ℤ, pos, ◌+◌, ◌-◌, ◌^◌, ◌<◌, ◌≤◌, ◌≤ℤ◌, ◌∷◌, Bool}
+use Rattle.std.proofs.Common.{true, false, Some, None, map}
+use Rattle.std.proofs.Common.{inl, inr, ◌⊎◌, refl, ap, arith}
 use Rattle.std.proofs.Math.Pow.{pow_mono}
 use Rattle.std.proofs.lemmas.Int.{ints}
 use Rattle.std.specs.Fmt.{signed_decimal}
@@ -9,18 +9,17 @@ use Rattle.px_macro.specs.Macros.{IsLawful}
 use Rattle.px_macro.specs.declared.operation.Macro.{Macro}
 use Rattle.px_macro.specs.declared.operation.Macro.TheVariants as m
 use Rattle.px_num.specs.Forms.{IsWithin}
-use Rattle.px_text.specs.Text.{Words}
-use Rattle.px_text.specs.Word.{number_of}
+use Rattle.px_text.specs.Text.{Words, number_of}
 use Rattle.px_text.specs.Written.{are_plain, is_plain}
+use Rattle.px_text.proofs.LineLaws.{small_size}
 use Rattle.px_listing.specs.Limits.{end_past, field_past, form_past, overlap, past}
-use Rattle.px_listing.specs.Operations.{bit_number, bit_of, operands_of, word_of}
+use Rattle.px_listing.specs.Operations.{bit_number, is_set, operands_of, word_of}
 use Rattle.px_listing.specs.Reading.{due_behind_line, fault_of, grid_in}
 use Rattle.px_listing.specs.Reading.{operation_in}
 use Rattle.px_listing.specs.declared.keyword.Due.TheVariants as d
 use Rattle.px_listing.specs.declared.limit.ListKind.{ListKind}
 use Rattle.px_listing.specs.declared.limit.ListKind.TheVariants as kind
 use Rattle.px_listing.proofs.PlainLemmas.{number_plain}
-use lib.IntN.{negsuc}
 use lib.Signed.{mag}
 
 -- written numbers are read as they were
@@ -30,10 +29,6 @@ NumbersAreRead = (z : ℤ) → mag z < 10 ^ 18 → number_of (signed_decimal z) 
 -- a number within its range
 pub past_none : (k : ListKind) (low high z : ℤ) → low ≤ℤ z → z ≤ℤ high → past k low high z ≡ None
 past_none k low high z above below = grind (arith, ints)
-
-small_size : (most : ℕ) (z : ℤ) → most < 10 ^ 18 → IsWithin most z → mag z < 10 ^ 18
-small_size most (pos n) few is = omega (arith, ints, is.0, is.1)
-small_size most (negsuc n) few is = omega (arith, ints, is.0, is.1)
 
 pub small_place : (n : ℕ) → n < 10 ^ 18 → mag (pos n) < 10 ^ 18
 small_place n few = omega (arith, ints)
@@ -60,7 +55,7 @@ bit_none : (v : Bool) → past kind.Value (pos 0) (pos 1) (bit_number v) ≡ Non
 bit_none true = refl
 bit_none false = refl
 
-bit_read : (v : Bool) → bit_of (bit_number v) ≡ v
+bit_read : (v : Bool) → is_set (bit_number v) ≡ v
 bit_read true = refl
 bit_read false = refl
 

@@ -1,6 +1,6 @@
 -- The lines and the words of the canonical text of a listing, and what is read of them.
 use Prim.Native.Nat.{suc}
-use Rattle.std.proofs.Common.{◌≡◌, ℕ, pos, ◌+◌, ◌^◌, ◌<◌, ◌≤◌, ◌≤ℤ◌, All, List, [], ◌∷◌, ◌++◌, true, ◌&&◌}
+use Rattle.std.proofs.Common.{◌≡◌, ℕ, pos, ◌+◌, ◌≤◌, All, List, [], ◌∷◌, ◌++◌, true}
 use Rattle.std.proofs.Common.{Some, None, length, map, codes, refl, ap, sym, ◌∙◌, arith, append_assoc}
 use Rattle.std.proofs.lemmas.Int.{ints}
 use Rattle.std.proofs.lemmas.List.{append-nil}

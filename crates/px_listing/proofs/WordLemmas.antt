@@ -8,10 +8,9 @@ use Rattle.std.specs.List.{list_all}
 use Rattle.std.proofs.lemmas.Int.{ints}
 use Rattle.std.proofs.lemmas.List.{get_or-map, length-map, take_more}
 use Rattle.px_num.specs.Forms.{IsWithin}
-use Rattle.px_text.specs.Text.{Words, is_some_byte}
+use Rattle.px_text.specs.Text.{Words, is_some_byte, is_digit, negative, number_of, positive, size_of_digits}
 use Rattle.px_text.specs.LentWords.{now_of}
-use Rattle.px_text.specs.Word.{is_digit, negative, number_of, positive, size_of}
-use Rattle.px_listing.specs.Lines.{are_numbers, numbers_of}
+use Rattle.px_scene.specs.Lines.{are_numbers, numbers_of}
 
 list_all-map : {X Y : Type 0} (p : Y → Bool) (f : X → Y) (xs : List X) → list_all p (map f xs)
     ≡ list_all (λ x. p (f x)) xs
@@ -54,7 +53,7 @@ by_sign false x y p q = q
 
 is_small : (w : List ℕ) → IsSmall (unwrap_or (number_of w) (pos 0))
 is_small [] = (omega (arith, ints), omega (arith, ints))
-is_small (b ∷ bs) = by_sign (b == 45) (negative (size_of bs)) (positive (size_of (b ∷ bs)))
+is_small (b ∷ bs) = by_sign (b == 45) (negative (size_of_digits bs)) (positive (size_of_digits (b ∷ bs)))
     (of_negative (is_some_byte bs && list_all is_digit bs) (number_from_digits 10 (map (λ b. b - 48) bs)))
     (of_digits (is_some_byte (b ∷ bs) && list_all is_digit (b ∷ bs))
     (number_from_digits 10 (map (λ b. b - 48) (b ∷ bs))))

@@ -56,22 +56,22 @@ is_due d.Operation keyword = is_operation keyword
 is_due due keyword = false
 
 -- how many numbers stand behind the first word
-abbrev pub count_of : Keyword → ℕ
-count_of k.Pxlist = 1
-count_of k.Grid = 2
-count_of k.All = 0
-count_of k.KeepSign = 3
-count_of k.KeepBit = 2
-count_of k.LoadLinear = 5
-count_of k.KeepAtMost = 5
-count_of k.AddLinear = 5
-count_of k.LoadConst = 3
-count_of k.SetBit = 2
-count_of k.Toggle = 1
-count_of k.Copy = 3
-count_of k.KeepLess = 3
-count_of k.End = 0
-count_of k.Other = 0
+abbrev pub operand_count : Keyword → ℕ
+operand_count k.Pxlist = 1
+operand_count k.Grid = 2
+operand_count k.All = 0
+operand_count k.KeepSign = 3
+operand_count k.KeepBit = 2
+operand_count k.LoadLinear = 5
+operand_count k.KeepAtMost = 5
+operand_count k.AddLinear = 5
+operand_count k.LoadConst = 3
+operand_count k.SetBit = 2
+operand_count k.Toggle = 1
+operand_count k.Copy = 3
+operand_count k.KeepLess = 3
+operand_count k.End = 0
+operand_count k.Other = 0
 
 abbrev pub is_one : Words → Bool
 is_one (w ∷ []) = bytes_eq w (codes "1")

@@ -2,7 +2,7 @@
 use Rattle.std.specs.Prelude.{ℕ, ◌-◌, ◌^◌, ℤ, pos, ◌+ℤ◌, ◌-ℤ◌, List, [], ◌∷◌, ◌&&◌, ◌||◌, not, if◌then◌else◌, Option, Some, None}
 use lib.Signed.{le_z}
 use Rattle.std.specs.Option.{option_or}
-use Rattle.px_listing.specs.Operations.{size_of}
+use Rattle.px_scene.specs.Lines.{size_of}
 use Rattle.px_listing.specs.declared.keyword.Keyword.{Keyword}
 use Rattle.px_listing.specs.declared.keyword.Keyword.TheVariants as k
 use Rattle.px_listing.specs.declared.limit.LineFault.{LineFault}

@@ -8,22 +8,22 @@ use Rattle.px_macro.specs.Macros.{PixelBits}
 use Rattle.px_listing.specs.Listings.{ListingView}
 use Rattle.px_listing.specs.Played.{played}
 
-abbrev pub digit : Bool → List ℕ
-digit b = (if b then 49 else 48) ∷ []
+abbrev pub bit_digit : Bool → List ℕ
+bit_digit b = (if b then 49 else 48) ∷ []
 
 -- so many bits of a memory, from bit 0 on
 abbrev pub digits_of : (bits : ℕ) → List Bool → List ℕ
-digits_of bits memory = flat_map (λ at. digit (bit_at memory at)) (range_with_len 0 bits)
+digits_of bits memory = flat_map (λ at. bit_digit (bit_at memory at)) (range_with_len 0 bits)
 
 -- the line of pixel (x, y)
-unfoldable pub pixel_line : (bits : ℕ) → (x y : ℕ) → PixelBits → List ℕ
-pixel_line bits x y p =
+unfoldable pub line_of_pixel : (bits : ℕ) → (x y : ℕ) → PixelBits → List ℕ
+line_of_pixel bits x y p =
     codes "pixel " ++ decimal x ++ codes " " ++ decimal y ++ codes " m " ++ digits_of bits p.memory
-    ++ codes " e " ++ digit p.enable ++ codes "\n"
+    ++ codes " e " ++ bit_digit p.enable ++ codes "\n"
 
 -- a line for each pixel of a row, from the left
 abbrev pub row_lines : (bits columns : ℕ) → (bits_at : (x y : ℕ) → PixelBits) → (y : ℕ) → List ℕ
-row_lines bits columns bits_at y = flat_map (λ x. pixel_line bits x y (bits_at x y)) (range_with_len 0 columns)
+row_lines bits columns bits_at y = flat_map (λ x. line_of_pixel bits x y (bits_at x y)) (range_with_len 0 columns)
 
 -- the rows of a grid of 2^nx by 2^ny pixels, from the top
 abbrev pub memory_lines : (bits nx ny : ℕ) → (bits_at : (x y : ℕ) → PixelBits) → List ℕ

@@ -1,9 +1,8 @@
 -- The word of each operation and its numbers, as they are written and as they are read. Clauses of public calls stand on it.
 use Rattle.std.specs.Prelude.{ℕ, ℤ, pos, Bool, if◌then◌else◌, List, [], ◌∷◌, Option, Some, None, codes}
-use lib.IntN.{negsuc}
 use lib.Signed.{le_z}
 use Rattle.px_macro.specs.declared.field.Field.{Field}
-use Rattle.px_num.specs.declared.linear.Linear.{Linear}
+use Rattle.px_scene.specs.Lines.{plane_of, size_of}
 use Rattle.px_listing.specs.declared.keyword.Keyword.{Keyword}
 use Rattle.px_listing.specs.declared.keyword.Keyword.TheVariants as k
 use Rattle.px_macro.specs.declared.operation.Macro.{Macro}
@@ -39,16 +38,8 @@ operands_of (m.Toggle at) = pos at ∷ []
 operands_of (m.Copy f g) = pos f.at ∷ pos f.len ∷ pos g.at ∷ []
 operands_of (m.KeepLess f g) = pos f.at ∷ pos f.len ∷ pos g.at ∷ []
 
--- a number that is not negative
-abbrev pub size_of : ℤ → ℕ
-size_of (pos n) = n
-size_of (negsuc n) = 0
-
-abbrev pub bit_of : ℤ → Bool
-bit_of z = le_z (pos 1) z
-
-abbrev pub form_of : (a b c : ℤ) → Linear
-form_of a b c = record { a = a; b = b; c = c }
+abbrev pub is_set : ℤ → Bool
+is_set z = le_z (pos 1) z
 
 abbrev pub field_of : (at len : ℤ) → Field
 field_of at len = record { at = size_of at; len = size_of len }
@@ -56,13 +47,13 @@ field_of at len = record { at = size_of at; len = size_of len }
 -- the operation of a line, by its first word and its numbers
 abbrev pub operation_of : Keyword → List ℤ → Option Macro
 operation_of k.All [] = Some m.All
-operation_of k.KeepSign (a ∷ b ∷ c ∷ []) = Some (m.KeepSign (form_of a b c))
-operation_of k.KeepBit (at ∷ v ∷ []) = Some (m.KeepBit (size_of at) (bit_of v))
-operation_of k.LoadLinear (a ∷ b ∷ c ∷ at ∷ len ∷ []) = Some (m.LoadLinear (form_of a b c) (field_of at len))
-operation_of k.KeepAtMost (a ∷ b ∷ c ∷ at ∷ len ∷ []) = Some (m.KeepAtMost (form_of a b c) (field_of at len))
-operation_of k.AddLinear (a ∷ b ∷ c ∷ at ∷ len ∷ []) = Some (m.AddLinear (form_of a b c) (field_of at len))
+operation_of k.KeepSign (a ∷ b ∷ c ∷ []) = Some (m.KeepSign (plane_of a b c))
+operation_of k.KeepBit (at ∷ v ∷ []) = Some (m.KeepBit (size_of at) (is_set v))
+operation_of k.LoadLinear (a ∷ b ∷ c ∷ at ∷ len ∷ []) = Some (m.LoadLinear (plane_of a b c) (field_of at len))
+operation_of k.KeepAtMost (a ∷ b ∷ c ∷ at ∷ len ∷ []) = Some (m.KeepAtMost (plane_of a b c) (field_of at len))
+operation_of k.AddLinear (a ∷ b ∷ c ∷ at ∷ len ∷ []) = Some (m.AddLinear (plane_of a b c) (field_of at len))
 operation_of k.LoadConst (at ∷ len ∷ number ∷ []) = Some (m.LoadConst (field_of at len) (size_of number))
-operation_of k.SetBit (at ∷ v ∷ []) = Some (m.SetBit (size_of at) (bit_of v))
+operation_of k.SetBit (at ∷ v ∷ []) = Some (m.SetBit (size_of at) (is_set v))
 operation_of k.Toggle (at ∷ []) = Some (m.Toggle (size_of at))
 operation_of k.Copy (at ∷ len ∷ to ∷ []) = Some (m.Copy (field_of at len) (field_of to len))
 operation_of k.KeepLess (at ∷ len ∷ to ∷ []) = Some (m.KeepLess (field_of at len) (field_of to len))

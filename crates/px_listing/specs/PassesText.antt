@@ -2,8 +2,7 @@
 use Rattle.std.specs.Prelude.{ℕ, ◌+◌, ◌^◌, ◌≤◌, All, count_by, nat_lt}
 use Rattle.std.specs.List.{range_with_len}
 use Rattle.px_array.specs.Arrays.{State, pixel_of}
-use Rattle.px_model.specs.Scenes.{IsLawfulScene, SceneView}
-use Rattle.px_model.specs.Solids.{IsLawfulSolid}
+use Rattle.px_model.specs.Scenes.{IsLawfulScene, SceneView, IsLawfulSolid}
 use Rattle.px_sched.specs.Layouts.{layout_of, need_of}
 use Rattle.px_sched.specs.Passes.{passes}
 use Rattle.px_sched.specs.PassesLaw.{ShowsThePicture}

@@ -7,10 +7,11 @@ use Rattle.px_show.specs.declared.fault.Cause.{Cause}
 use Rattle.px_show.specs.declared.fault.Cause.TheVariants as c
 use Rattle.px_text.specs.Text.{Words, lines_of, worded}
 use Rattle.px_listing.specs.Keywords.{due_after, keyword_of}
+use Rattle.px_scene.specs.Lines.{numbers_of, size_of}
 use Rattle.px_listing.specs.Limits.{limit_of}
-use Rattle.px_listing.specs.Lines.{cause_of, numbers_of}
+use Rattle.px_listing.specs.Lines.{cause_of}
 use Rattle.px_listing.specs.Listings.{ListingView}
-use Rattle.px_listing.specs.Operations.{operation_of, size_of}
+use Rattle.px_listing.specs.Operations.{operation_of}
 use Rattle.px_listing.specs.declared.keyword.Keyword.{Keyword}
 use Rattle.px_listing.specs.declared.keyword.Keyword.TheVariants as k
 use Rattle.px_listing.specs.declared.keyword.Due.{Due}
@@ -34,14 +35,14 @@ due_behind_line (w ∷ ws) = Some (due_after (keyword_of w))
 abbrev pub due_behind : List Words → Due
 due_behind lines = last_or d.Header (filter_map due_behind_line lines)
 
-abbrev pub judged : Option Cause → Option LineFault → Option LineFault
-judged (Some cause) limit = Some (f.Malformed cause)
-judged None limit = limit
+abbrev pub line_judged : Option Cause → Option LineFault → Option LineFault
+line_judged (Some cause) limit = Some (f.Malformed cause)
+line_judged None limit = limit
 
 -- why a line is bad, where it is: its form first, and then its limits in pixels of so many memory bits
 abbrev pub fault_of : (bits : ℕ) → Due → Words → Option LineFault
 fault_of bits due [] = None
-fault_of bits due (w ∷ ws) = judged (cause_of due w ws) (limit_of bits (keyword_of w) (numbers_of ws))
+fault_of bits due (w ∷ ws) = line_judged (cause_of due w ws) (limit_of bits (keyword_of w) (numbers_of ws))
 
 abbrev pub at_line : ℕ → Option LineFault → Option (ℕ × LineFault) → Option (ℕ × LineFault)
 at_line number (Some fault) later = Some (number, fault)

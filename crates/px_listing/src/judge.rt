@@ -3,9 +3,10 @@ ghost use Rattle.std.specs.Prelude.{◌≡◌, ◌≤◌, ◌^◌, All, is_some,
 ghost use Rattle.std.specs.List.{list_all};
 ghost use Rattle.px_num.specs.Forms.{IsWithin};
 ghost use Rattle.px_text.specs.LentWords.{now_of};
-ghost use Rattle.px_text.specs.Word.{number_of};
+ghost use Rattle.px_text.specs.Text.{number_of};
 ghost use Rattle.px_listing.specs.Keywords.{keyword_of};
-ghost use Rattle.px_listing.specs.Lines.{are_numbers, cause_of, form_of, numbers_of};
+ghost use Rattle.px_scene.specs.Lines.{are_numbers, numbers_of};
+ghost use Rattle.px_listing.specs.Lines.{cause_of, form_of};
 
 use crate::keyword::{Due, Keyword, count_of, is_due, is_header};
 use crate::operation::Numbers;

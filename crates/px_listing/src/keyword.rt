@@ -1,7 +1,7 @@
 //! The first word of a line, and which lines are due.
 ghost use Rattle.std.specs.Prelude.{◌≡◌, ◌≤◌};
 ghost use Rattle.px_text.specs.LentWords.{now_of};
-ghost use Rattle.px_listing.specs.Keywords.{count_of, due_after, is_due, is_header, is_one, keyword_of};
+ghost use Rattle.px_listing.specs.Keywords.{operand_count, due_after, is_due, is_header, is_one, keyword_of};
 
 /// What the first word of a line begins.
 #[derive(Clone, Copy, Debug, PartialEq, Eq)]
@@ -114,7 +114,7 @@ pub(crate) fn is_due(due: Due, keyword: Keyword) -> bool
 
 /// How many numbers stand behind the first word.
 pub(crate) fn count_of(keyword: Keyword) -> usize
-    ensures count { result ≡ count_of keyword }
+    ensures count { result ≡ operand_count keyword }
     ensures few { result ≤ 5 }
 {
     match keyword {

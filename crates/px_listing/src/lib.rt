@@ -15,8 +15,6 @@ mod piece;
 mod playing;
 mod read;
 mod reading;
-#[cfg(test)]
-mod tests;
 mod write;
 
 pub use law::laws_of_listings;

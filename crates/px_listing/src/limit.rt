@@ -1,7 +1,7 @@
 //! The limits of a line's numbers.
 ghost use Rattle.std.specs.Prelude.{◌≡◌, ◌≤◌, ◌^◌, ◌-◌, ◌+ℤ◌, ◌≤ℤ◌, pos, All, None};
 ghost use lib.Signed.{le_z};
-ghost use Rattle.px_listing.specs.Operations.{size_of};
+ghost use Rattle.px_scene.specs.Lines.{size_of};
 ghost use Rattle.px_num.specs.Forms.{IsWithin};
 ghost use Rattle.px_listing.specs.declared.limit.ListKind.TheVariants as Kind;
 ghost use Rattle.px_listing.specs.Limits.{

@@ -4,7 +4,7 @@ ghost use Rattle.px_array.specs.Arrays.{HasPixel, IsOpen, pixel_of};
 ghost use Rattle.px_asm.specs.Microprograms.{bits_of};
 ghost use Rattle.px_io.specs.Counts.{HasCause};
 ghost use Rattle.px_io.specs.Told.{TakesAll, TakesFront};
-ghost use Rattle.px_listing.specs.Memories.{digit as digit_of, digits_of, memory_text, pixel_line, row_lines};
+ghost use Rattle.px_listing.specs.Memories.{bit_digit as digit_of, digits_of, memory_text, line_of_pixel, row_lines};
 ghost use Rattle.px_listing.specs.Pieces.{Puts};
 
 use crate::piece::{Piece, flush, put};
@@ -65,11 +65,11 @@ fn put_row<A: Array, O: Sink>(
 }
 
 /// The line of a pixel.
-#[tactic(auto, unfolding(crate::specs::Memories::pixel_line))]
+#[tactic(auto, unfolding(crate::specs::Memories::line_of_pixel))]
 fn pixel_line<A: Array>(array: &A, x: u32, y: u32) -> ArrayString<320>
     requires pixel { HasPixel (A.device array.now) x y }
     requires few { A.BITS ≤ 256 }
-    ensures { result.bytes ≡ pixel_line A.BITS x y (bits_of (pixel_of (A.device array.now).state x y)) }
+    ensures { result.bytes ≡ line_of_pixel A.BITS x y (bits_of (pixel_of (A.device array.now).state x y)) }
 {
     let mut digits = Buffer::new();
     let mut line = ArrayString::new();

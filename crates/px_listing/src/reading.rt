@@ -3,7 +3,8 @@ ghost use Rattle.std.specs.Prelude.{◌≡◌, ◌<◌, ◌≤◌, ◌^◌, ◌�
 ghost use Rattle.px_macro.specs.Macros.{IsField, IsLawful};
 ghost use Rattle.px_num.specs.Forms.{IsInTreeRange};
 ghost use Rattle.px_listing.specs.Limits.{end_past, field_past, form_past, limit_of, value_past};
-ghost use Rattle.px_listing.specs.Operations.{bit_of, field_of, form_of, operation_of, size_of};
+ghost use Rattle.px_scene.specs.Lines.{plane_of, size_of};
+ghost use Rattle.px_listing.specs.Operations.{is_set, field_of, operation_of};
 
 use crate::keyword::Keyword;
 use px_macro::{Field, Macro};
@@ -18,18 +19,18 @@ pub(crate) fn operation_of(bits: u32, keyword: Keyword, numbers: &[i64]) -> Opti
 {
     match (keyword, numbers) {
         (Keyword::All, []) => Some(Macro::All),
-        (Keyword::KeepSign, [a, b, c]) => Some(Macro::KeepSign(form_of(a, b, c))),
+        (Keyword::KeepSign, [a, b, c]) => Some(Macro::KeepSign(plane_of(a, b, c))),
         (Keyword::KeepBit, [at, v]) => Some(Macro::KeepBit(place_of(bits, at), bit_of(v))),
         (Keyword::LoadLinear, [a, b, c, at, len]) => Some(Macro::LoadLinear(
-            form_of(a, b, c),
+            plane_of(a, b, c),
             field_of(bits, at, len),
         )),
         (Keyword::KeepAtMost, [a, b, c, at, len]) => Some(Macro::KeepAtMost(
-            form_of(a, b, c),
+            plane_of(a, b, c),
             field_of(bits, at, len),
         )),
         (Keyword::AddLinear, [a, b, c, at, len]) => Some(Macro::AddLinear(
-            form_of(a, b, c),
+            plane_of(a, b, c),
             field_of(bits, at, len),
         )),
         (Keyword::LoadConst, [at, len, number]) => Some(Macro::LoadConst(
@@ -50,9 +51,9 @@ pub(crate) fn operation_of(bits: u32, keyword: Keyword, numbers: &[i64]) -> Opti
     }
 }
 
-fn form_of(a: &i64, b: &i64, c: &i64) -> Linear
+fn plane_of(a: &i64, b: &i64, c: &i64) -> Linear
     requires good { form_past a.now b.now c.now ≡ None }
-    ensures value { result ≡ form_of a.now b.now c.now }
+    ensures value { result ≡ plane_of a.now b.now c.now }
     ensures range { IsInTreeRange result }
 {
     Linear {
@@ -92,7 +93,7 @@ fn constant_of(len: &i64, number: &i64) -> u64
 }
 
 fn bit_of(v: &i64) -> bool
-    ensures { result ≡ bit_of v.now }
+    ensures { result ≡ is_set v.now }
 {
     1 <= *v
 }

@@ -6,14 +6,15 @@ use Rattle.std.proofs.Common.{if◌then◌else◌}
 use Rattle.std.proofs.Math.Seq.{take-append-add}
 use Rattle.std.proofs.lemmas.List.{take_more, take-append-drop, take-append-le as take_within}
 use Rattle.std.specs.Io.KnownBytes.{Appends}
+use Rattle.px_num.proofs.TruthLaws.{neither_left, neither_right}
 use Rattle.px_io.specs.Told.{Reopens, TakesAll, TakesFirst, TakesFront}
 use Rattle.px_io.proofs.ToldLaws.{appends_both, takes_both}
 use Rattle.px_debug.specs.Answers.{answer}
-use Rattle.px_debug.specs.Commands.{command_of}
+use Rattle.px_debug.specs.Commands.{line_command}
 use Rattle.px_debug.specs.Moves.{SessionView, going, moved}
 use Rattle.px_debug.specs.declared.session.Going.{Going}
 use Rattle.px_debug.specs.declared.session.Going.TheVariants as g
-use Rattle.px_session.specs.Buffers.{kept, short_ended, short_left}
+use Rattle.px_session.specs.Buffers.{held_with, short_ended, short_left}
 use Rattle.px_session.specs.Servings.{Answered}
 use Rattle.px_session.specs.Turns.{Broke}
 use Rattle.px_session.specs.Sessions.{after, after_line, answer_line, answers, has_quit, is_last, is_quit, until_quit}
@@ -22,25 +23,17 @@ pub ended-append : (held bs cs : List ℕ) → short_ended held (bs ++ cs) ≡ s
     ++ short_ended (short_left held bs) cs
 ended-append held [] cs = refl
 ended-append held (b ∷ bs) cs =
-    elim (b == 10) as (λ t. (if t then held ∷ short_ended [] (bs ++ cs) else short_ended (kept held b) (bs ++ cs))
-    ≡ (if t then held ∷ short_ended [] bs else short_ended (kept held b) bs)
-    ++ short_ended (if t then short_left [] bs else short_left (kept held b) bs) cs)
-    [ true ↦ ap (λ ls. held ∷ ls) (ended-append [] bs cs) | false ↦ ended-append (kept held b) bs cs ]
+    elim (b == 10) as (λ t. (if t then held ∷ short_ended [] (bs ++ cs) else short_ended (held_with held b) (bs ++ cs))
+    ≡ (if t then held ∷ short_ended [] bs else short_ended (held_with held b) bs)
+    ++ short_ended (if t then short_left [] bs else short_left (held_with held b) bs) cs)
+    [ true ↦ ap (λ ls. held ∷ ls) (ended-append [] bs cs) | false ↦ ended-append (held_with held b) bs cs ]
 
 pub left-append : (held bs cs : List ℕ) → short_left held (bs ++ cs) ≡ short_left (short_left held bs) cs
 left-append held [] cs = refl
 left-append held (b ∷ bs) cs =
-    elim (b == 10) as (λ t. (if t then short_left [] (bs ++ cs) else short_left (kept held b) (bs ++ cs))
-    ≡ short_left (if t then short_left [] bs else short_left (kept held b) bs) cs)
-    [ true ↦ left-append [] bs cs | false ↦ left-append (kept held b) bs cs ]
-
-or_left : (a b : Bool) → a || b ≡ false → a ≡ false
-or_left false b e = refl
-or_left true b e = e
-
-or_right : (a b : Bool) → a || b ≡ false → b ≡ false
-or_right false b e = e
-or_right true b e = cc
+    elim (b == 10) as (λ t. (if t then short_left [] (bs ++ cs) else short_left (held_with held b) (bs ++ cs))
+    ≡ short_left (if t then short_left [] bs else short_left (held_with held b) bs) cs)
+    [ true ↦ left-append [] bs cs | false ↦ left-append (held_with held b) bs cs ]
 
 pub quit-append : (ls ms : List (List ℕ)) → has_quit (ls ++ ms) ≡ has_quit ls || has_quit ms
 quit-append [] ms = refl
@@ -63,7 +56,10 @@ until-append (l ∷ ls) ms =
 pub until_quiet : (ls : List (List ℕ)) → has_quit ls ≡ false → until_quit ls ≡ ls
 until_quiet [] quiet = refl
 until_quiet (l ∷ ls) quiet =
-    rw (or_left (is_quit l) (has_quit ls) quiet, until_quiet ls (or_right (is_quit l) (has_quit ls) quiet)) refl
+    rw (
+      neither_left (is_quit l) (has_quit ls) quiet,
+      until_quiet ls (neither_right (is_quit l) (has_quit ls) quiet),
+    ) refl
 
 pub until_then : (ls ms : List (List ℕ)) → has_quit ls ≡ false → until_quit (ls ++ ms) ≡ ls ++ until_quit ms
 until_then ls ms quiet = until-append ls ms ∙ rw (quiet, until_quiet ls quiet) refl
@@ -229,34 +225,34 @@ ended_rest h bs i = rw (← ended-append h (take i bs) (drop i bs), take-append-
 
 -- what is said of a line by the session that was given it
 pub state_is : (s t : SessionView) (l : List ℕ)
-    → t ≡ record { scene = s.scene; now = moved s.scene s.now (command_of l); lines = s.lines + 1 } → t ≡ after_line s l
+    → t ≡ record { scene = s.scene; now = moved s.scene s.now (line_command l); lines = s.lines + 1 } → t ≡ after_line s l
 unfolding after_line
 state_is s t l is = is
 
 pub answer_is : (bits : ℕ) (s t : SessionView) (l : List ℕ)
-    → t ≡ record { scene = s.scene; now = moved s.scene s.now (command_of l); lines = s.lines + 1 }
-    → answer bits t.scene t.now t.lines (command_of l) ≡ answer_line bits s l
+    → t ≡ record { scene = s.scene; now = moved s.scene s.now (line_command l); lines = s.lines + 1 }
+    → answer bits t.scene t.now t.lines (line_command l) ≡ answer_line bits s l
 unfolding answer_line
 answer_is bits s t l is = rw is refl
 
-quit_of : (l : List ℕ) → is_quit l ≡ is_last (going (command_of l))
+quit_of : (l : List ℕ) → is_quit l ≡ is_last (going (line_command l))
 unfolding is_quit
 quit_of l = refl
 
-pub quit_is : (on : Going) (l : List ℕ) → on ≡ going (command_of l) → is_last on ≡ has_quit (l ∷ [])
+pub quit_is : (on : Going) (l : List ℕ) → on ≡ going (line_command l) → is_last on ≡ has_quit (l ∷ [])
 quit_is on l is = rw is (sym (quit_one l ∙ quit_of l))
 
 -- a line given, whose answer was written or not
 pub given_answered : (bits : ℕ) (s t : SessionView) (a b : Option (List ℕ)) (p q : Option Bool) (l : List ℕ)
-    → t ≡ record { scene = s.scene; now = moved s.scene s.now (command_of l); lines = s.lines + 1 }
-    → TakesAll a b p q (answer bits t.scene t.now t.lines (command_of l))
+    → t ≡ record { scene = s.scene; now = moved s.scene s.now (line_command l); lines = s.lines + 1 }
+    → TakesAll a b p q (answer bits t.scene t.now t.lines (line_command l))
     → Answered bits s t a b p q (until_quit (l ∷ []))
 given_answered bits s t a b p q l is wrote =
     answered_line bits s t a b p q l (state_is s t l is) (rw (answer_is bits s t l is) at wrote)
 
 pub given_broke : (bits : ℕ) (s t : SessionView) (a b : Option (List ℕ)) (p q : Option Bool) (l : List ℕ)
-    → t ≡ record { scene = s.scene; now = moved s.scene s.now (command_of l); lines = s.lines + 1 }
-    → TakesFront a b p q (answer bits t.scene t.now t.lines (command_of l))
+    → t ≡ record { scene = s.scene; now = moved s.scene s.now (line_command l); lines = s.lines + 1 }
+    → TakesFront a b p q (answer bits t.scene t.now t.lines (line_command l))
     → Broke bits s t a b p q (until_quit (l ∷ []))
 given_broke bits s t a b p q l is wrote =
     broke_line bits s t a b p q l (state_is s t l is) (rw (answer_is bits s t l is) at wrote)
@@ -270,7 +266,7 @@ pub on_err_by : {T E : Type 0} {P Q : Type 0} (r : Result T E) → OnErr r P →
 on_err_by (Ok x) p f = tt
 on_err_by (Err e) p f = f p
 
-pub going_is : {E : Type 0} (r : Result Going E) (l : List ℕ) → IfOk r (λ on. on ≡ going (command_of l))
+pub going_is : {E : Type 0} (r : Result Going E) (l : List ℕ) → IfOk r (λ on. on ≡ going (line_command l))
     → IfOk r (λ on. is_last on ≡ has_quit (l ∷ []))
 going_is (Ok on) l is = quit_is on l is
 going_is (Err e) l is = tt

@@ -1,14 +1,14 @@
 -- A line's first 256 bytes say what the line says.
-use Rattle.std.proofs.Common.{◌≡◌, ℕ, ◌+◌, ◌<◌, ◌≤◌, Bool, true, false, ◌==◌, List, [], ◌∷◌, ◌++◌, Option, length}
+use Rattle.std.proofs.Common.{◌≡◌, ℕ, ◌+◌, Bool, true, false, ◌==◌, List, [], ◌∷◌, ◌++◌, Option, length}
 use Rattle.std.proofs.Common.{take, map, refl, sym, ap, ◌∙◌, inl, inr, length-append, length-take, arith}
-use Rattle.std.proofs.Common.{if◌then◌else◌, nat_lt}
+use Rattle.std.proofs.Common.{if◌then◌else◌}
 use Rattle.std.proofs.lemmas.Bool.{cases_lt}
-use Rattle.std.proofs.lemmas.Bool.Decides.{nat_tests}
 use Rattle.std.proofs.lemmas.List.{length-map, take_all, take-append-le, take-map}
-use Rattle.px_debug.specs.Commands.{command_of}
+use Rattle.px_num.proofs.TruthLaws.{lt_true}
+use Rattle.px_debug.specs.Commands.{line_command}
 use Rattle.px_debug.specs.Moves.{SessionView}
 use Rattle.px_lines.specs.Lines.{ended, last_of, left}
-use Rattle.px_session.specs.Buffers.{kept, short_ended, short_left}
+use Rattle.px_session.specs.Buffers.{held_with, short_ended, short_left}
 use Rattle.px_session.specs.Servings.{Answered}
 use Rattle.px_session.specs.Turns.{Broke}
 use Rattle.px_session.specs.Sessions.{after, after_line, answer_line, answers, has_quit, is_quit, until_quit}
@@ -16,13 +16,7 @@ use Rattle.px_session.specs.Sessions.{after, after_line, answer_line, answers, h
 abbrev pub short : List ℕ → List ℕ
 short line = take 256 line
 
-lt_true : (a b : ℕ) → a < b → nat_lt a b ≡ true
-lt_true a b less = grind (arith, nat_tests)
-
-lt_false : (a b : ℕ) → b ≤ a → nat_lt a b ≡ false
-lt_false a b more = grind (arith, nat_tests)
-
-kept_short : (h : List ℕ) (b : ℕ) → kept (short h) b ≡ short (h ++ b ∷ [])
+kept_short : (h : List ℕ) (b : ℕ) → held_with (short h) b ≡ short (h ++ b ∷ [])
 kept_short h b = elim (cases_lt (length h) 256) [
   | inl less ↦ rw (take_all 256 h (omega arith), lt_true (length h) 256 less)
       (sym (take_all 256 (h ++ b ∷ []) (omega (arith, length-append h (b ∷ [])))))
@@ -34,14 +28,14 @@ kept_short h b = elim (cases_lt (length h) 256) [
 pub ended_short : (h bs : List ℕ) → short_ended (short h) bs ≡ map short (ended h bs)
 ended_short h [] = refl
 ended_short h (b ∷ bs) =
-    elim (b == 10) as (λ t. (if t then short h ∷ short_ended [] bs else short_ended (kept (short h) b) bs)
+    elim (b == 10) as (λ t. (if t then short h ∷ short_ended [] bs else short_ended (held_with (short h) b) bs)
     ≡ map short (if t then h ∷ ended [] bs else ended (h ++ b ∷ []) bs))
     [ true ↦ ap (λ ls. short h ∷ ls) (ended_short [] bs) | false ↦ rw (kept_short h b) (ended_short (h ++ b ∷ []) bs) ]
 
 pub left_short : (h bs : List ℕ) → short_left (short h) bs ≡ short (left h bs)
 left_short h [] = refl
 left_short h (b ∷ bs) =
-    elim (b == 10) as (λ t. (if t then short_left [] bs else short_left (kept (short h) b) bs)
+    elim (b == 10) as (λ t. (if t then short_left [] bs else short_left (held_with (short h) b) bs)
     ≡ short (if t then left [] bs else left (h ++ b ∷ []) bs))
     [ true ↦ left_short [] bs | false ↦ rw (kept_short h b) (left_short (h ++ b ∷ []) bs) ]
 
@@ -49,9 +43,9 @@ pub last_short : (l : List ℕ) → last_of (short l) ≡ map short (last_of l)
 last_short [] = refl
 last_short (b ∷ bs) = refl
 
-command_short : (l : List ℕ) → command_of (short l) ≡ command_of l
+command_short : (l : List ℕ) → line_command (short l) ≡ line_command l
 command_short l = elim (cases_lt (length l) 257) [
-  | inl less ↦ ap (λ line. command_of line) (take_all 256 l (omega arith))
+  | inl less ↦ ap (λ line. line_command line) (take_all 256 l (omega arith))
   | inr more ↦ rw (
     lt_true 255 (length (take 256 l)) (omega (arith, length-take 256 l)),
     lt_true 255 (length l) (omega arith),

@@ -2,22 +2,22 @@
 use Rattle.std.specs.Prelude.{ℕ, ◌+◌, List, [], ◌∷◌, ◌++◌, Bool, true, false, ◌||◌, if◌then◌else◌}
 use Rattle.px_model.specs.Scenes.{SceneView}
 use Rattle.px_debug.specs.Answers.{answer}
-use Rattle.px_debug.specs.Commands.{command_of}
+use Rattle.px_debug.specs.Commands.{line_command}
 use Rattle.px_debug.specs.Moves.{SessionView, going, moved}
 use Rattle.px_debug.specs.declared.session.Going.{Going}
 use Rattle.px_debug.specs.declared.session.Going.TheVariants as g
 
 -- a session before the first broadcast, to which no line was given
-abbrev pub opened : SceneView → SessionView
-opened scene = record { scene = scene; now = 0; lines = 0 }
+abbrev pub session_opened : SceneView → SessionView
+session_opened scene = record { scene = scene; now = 0; lines = 0 }
 
 -- where a session stands after a line
 unfoldable pub after_line : SessionView → (line : List ℕ) → SessionView
-after_line s line = record { scene = s.scene; now = moved s.scene s.now (command_of line); lines = s.lines + 1 }
+after_line s line = record { scene = s.scene; now = moved s.scene s.now (line_command line); lines = s.lines + 1 }
 
 -- its answer to the line
 unfoldable pub answer_line : (bits : ℕ) → SessionView → (line : List ℕ) → List ℕ
-answer_line bits s line = answer bits s.scene (moved s.scene s.now (command_of line)) (s.lines + 1) (command_of line)
+answer_line bits s line = answer bits s.scene (moved s.scene s.now (line_command line)) (s.lines + 1) (line_command line)
 
 abbrev pub is_last : Going → Bool
 is_last g.Quit = true
@@ -25,7 +25,7 @@ is_last g.More = false
 
 -- whether a line is a `quit`
 unfoldable pub is_quit : List ℕ → Bool
-is_quit line = is_last (going (command_of line))
+is_quit line = is_last (going (line_command line))
 
 -- whether one of the lines is a `quit`
 abbrev pub has_quit : List (List ℕ) → Bool

@@ -3,7 +3,7 @@ ghost use Rattle.std.specs.Prelude.{◌≡◌, ◌<◌, ◌≤◌, ◌+◌, ◌-
 ghost use Rattle.px_io.specs.Counts.{HasCause};
 ghost use Rattle.px_debug.specs.Moves.{Fits};
 ghost use Rattle.px_lines.specs.Lines.{last_of};
-ghost use Rattle.px_session.specs.Buffers.{kept, short_ended, short_left};
+ghost use Rattle.px_session.specs.Buffers.{held_with, short_ended, short_left};
 ghost use Rattle.px_session.specs.Servings.{Answered};
 ghost use Rattle.px_session.specs.Sessions.{has_quit, is_last, until_quit};
 ghost use Rattle.px_session.specs.Turns.{Broke};
@@ -18,7 +18,7 @@ pub(crate) type Line = ArrayVec<u8, 256>;
 
 /// Keeps a byte of a line, as long as there is room.
 fn keep(held: &mut Line, byte: u8)
-    ensures { held.new.items ≡ kept held.old.items byte }
+    ensures { held.new.items ≡ held_with held.old.items byte }
 {
     if held.len() < 256 {
         held.push(byte);

@@ -2,7 +2,7 @@ use Rattle.std.proofs.Common.{rules, ◌≡◌, arith, length, ap}
 use Rattle.std.proofs.lemmas.Bool.Decides.{nat_tests}
 use Rattle.std.proofs.lemmas.Iterator.Consumers.{YieldsList-at, YieldsList-end, YieldsList-turn, YieldsList-from_filter}
 use Rattle.std.proofs.lemmas.Iterator.Splits.{YieldsList-from_slice_split}
-use Rattle.px_debug.specs.Words.{is_blank, is_some_byte}
+use Rattle.px_text.specs.Text.{is_blank, is_some_byte}
 use Rattle.px_debug.proofs.word.few_words.Goals as goal
 
 pub returns-then-is_full-clause-many : goal.returns-then-is_full-clause-many

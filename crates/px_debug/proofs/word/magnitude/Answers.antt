@@ -8,7 +8,7 @@ use Rattle.std.proofs.lemmas.Int.Digits.{number_more}
 use Rattle.std.proofs.lemmas.Nat.{pow-add}
 use Rattle.std.proofs.lemmas.List.{get_or-map, length-map}
 use Rattle.std.proofs.lemmas.List.Folds.{list_all_at}
-use Rattle.px_debug.specs.Words.{is_digit}
+use Rattle.px_text.specs.Text.{is_digit}
 use Rattle.px_debug.proofs.word.magnitude.Goals as goal
 
 digit_value : (b : ℕ) → is_digit b ≡ true → b - 48 ≤ 9

@@ -4,8 +4,8 @@ use Rattle.std.proofs.lemmas.Int.{ints}
 use Rattle.std.proofs.lemmas.List.{take_all, length-map}
 use Rattle.px_num.specs.Forms.{IsWithin}
 use Rattle.px_text.specs.LentWords.{now_of}
-use Rattle.px_text.specs.Word.{number_of}
-use Rattle.px_listing.specs.Lines.{numbers_of}
+use Rattle.px_text.specs.Text.{number_of}
+use Rattle.px_scene.specs.Lines.{numbers_of}
 use Rattle.px_listing.proofs.WordLemmas.{are_small, one_more}
 use Rattle.px_listing.proofs.judge.numbers_of.Goals as goal
 

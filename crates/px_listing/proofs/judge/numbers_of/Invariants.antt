@@ -1,6 +1,6 @@
 use Rattle.std.proofs.Common.{◌≡◌, take}
 use Rattle.px_text.specs.LentWords.{now_of}
-use Rattle.px_listing.specs.Lines.{numbers_of}
+use Rattle.px_scene.specs.Lines.{numbers_of}
 use Rattle.px_listing.proofs.judge.numbers_of.Given as goal
 
 abbrev pub invariant-loop-word : goal.invariant-loop-word

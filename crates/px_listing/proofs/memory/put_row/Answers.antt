@@ -2,7 +2,7 @@ use Rattle.std.proofs.Common.{◌+◌, ◌-◌, ◌<◌, ℕ, List, ◌∙◌, a
 use Rattle.std.specs.List.{flat_map, range_with_len}
 use Rattle.px_array.specs.Arrays.{pixel_of}
 use Rattle.px_asm.specs.Microprograms.{bits_of}
-use Rattle.px_listing.specs.Memories.{pixel_line}
+use Rattle.px_listing.specs.Memories.{line_of_pixel}
 use Rattle.px_listing.proofs.PieceLemmas.{if_err, puts_both, puts_cut}
 use Rattle.px_listing.proofs.RowLemmas.{made_cut, made_more}
 use Rattle.px_listing.proofs.memory.put_row.Goals as goal
@@ -10,7 +10,7 @@ use Rattle.px_listing.proofs.memory.put_row.Goals as goal
 pub returns-in_err-put-clause-err : goal.returns-in_err-put-clause-err
 returns-in_err-put-clause-err g c =
     let state = (g.A.Array.device c.args.array.now).state in
-    let f : ℕ → List ℕ = λ x. pixel_line g.A.Array.BITS x c.args.y (bits_of (pixel_of state x c.args.y)) in
+    let f : ℕ → List ℕ = λ x. line_of_pixel g.A.Array.BITS x c.args.y (bits_of (pixel_of state x c.args.y)) in
     let x = c.loop-x.x in
     let within : x < c.args.columns = omega arith in
     let line = c.as_str.ensures.value ∙ c.pixel_line.ensures in
@@ -20,7 +20,7 @@ returns-in_err-put-clause-err g c =
 pub loop-x-preserved : goal.loop-x-preserved
 loop-x-preserved g c =
     let state = (g.A.Array.device c.args.array.now).state in
-    let f : ℕ → List ℕ = λ x. pixel_line g.A.Array.BITS x c.args.y (bits_of (pixel_of state x c.args.y)) in
+    let f : ℕ → List ℕ = λ x. line_of_pixel g.A.Array.BITS x c.args.y (bits_of (pixel_of state x c.args.y)) in
     let line = c.as_str.ensures.value ∙ c.pixel_line.ensures in
     record {
       put = rw (made_more f c.loop-x.x) at (puts_both _ _ _ _ _ _ _ _ _ _ _ c.loop-x.invariant.put

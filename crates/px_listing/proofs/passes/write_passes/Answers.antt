@@ -1,4 +1,4 @@
-use Rattle.std.proofs.Common.{◌∙◌, arith}
+use Rattle.std.proofs.Common.{arith}
 use Rattle.std.specs.List.{flat_map}
 use Rattle.px_sched.specs.Passes.{passes}
 use Rattle.px_listing.specs.Listings.{end_line, first_lines, macro_line}

@@ -1,4 +1,4 @@
-use Rattle.std.proofs.Common.{◌≡◌, ◌+◌, ◌*◌, ◌≤◌, ◌<◌, ◌^◌, ◌∙◌, ℕ, List, sym, subst, ap, arith, take, length, get_or}
+use Rattle.std.proofs.Common.{◌≡◌, ◌<◌, ◌∙◌, ℕ, List, sym, subst, ap, arith, take, length, get_or}
 use Rattle.std.proofs.lemmas.List.{take_all}
 use Rattle.px_array.specs.Arrays.{Device, HasGrid, opened, pixel_of, zero_state}
 use Rattle.px_array.proofs.ClockLaws.{grid_of_zero_state}

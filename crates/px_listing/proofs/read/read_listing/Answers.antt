@@ -1,9 +1,10 @@
 use Rattle.std.proofs.Common.{◌≡◌, ◌∙◌, sym, ap, arith, inl, inr, length, map}
 use Rattle.std.proofs.lemmas.List.{length-map}
 use Rattle.px_text.specs.Text.{lines_of, words_of, worded}
+use Rattle.px_text.proofs.LineLaws.{worded_is}
 use Rattle.px_listing.specs.Drafts.{view_of}
 use Rattle.px_listing.specs.Reading.{listing_of}
-use Rattle.px_listing.proofs.ReadLemmas.{accepted, listing_is, refused_bad, refused_end, worded_is}
+use Rattle.px_listing.proofs.ReadLemmas.{accepted, listing_is, refused_bad, refused_end}
 use Rattle.px_listing.proofs.read.read_listing.Goals as goal
 
 pub returns-in-Some-clause-ok : goal.returns-in-Some-clause-ok
