@@ -16,7 +16,7 @@ use Rattle.px_lines.specs.PartLaws.{PartIsKept, PartIsWithin}
 use Rattle.px_lines.specs.Parts.{behind_part, holds_part, part_end, scene_part}
 use Rattle.px_session.specs.Servings.{Answered, Broken, Finished, HasServed, seen}
 use Rattle.px_session.specs.SessionLaws.{QuitEnds, SceneStays}
-use Rattle.px_session.specs.Sessions.{after, answers, has_quit, opened, until_quit}
+use Rattle.px_session.specs.Sessions.{after, answers, has_quit, session_opened, until_quit}
 use Rattle.px_session.specs.declared.serving.Ending.{Ending}
 use Rattle.px_session.specs.declared.serving.Ending.TheVariants as e
 use Rattle.px_show.specs.declared.fault.LimitKind.TheVariants as kind
@@ -24,7 +24,7 @@ use Rattle.px_command.specs.declared.command.Command.TheVariants as c
 use Rattle.px_draw.specs.declared.refusal.Kind.TheVariants as k
 use Rattle.px_draw.specs.declared.stop.Stop.{Stop}
 use Rattle.px_draw.specs.Debugs.{IsAfter, IsAnswered, IsBroken, IsOver, admitted, all_commands, answered}
-use Rattle.px_draw.specs.Debugs.{command_text, debugged, has_part, is_long, part_of, part_scene, scene_written}
+use Rattle.px_draw.specs.Debugs.{command_text, debugged, has_part, is_long, scene_part_of, part_scene, scene_written}
 use Rattle.px_draw.specs.Debugs.{session_of, whole_commands, within_limit}
 use Rattle.px_draw.specs.Outcomes.{Outcome, cut, done, drawable, unless_refused}
 use Rattle.px_draw.specs.Refusals.{text_refusal, too_long}
@@ -55,7 +55,7 @@ within_both text z =
 
 -- a text whose scene part is whole, with more behind it
 pub record Grown (text z : List ℕ) : Type 0 where
-  pub part : part_of (text ++ z) ≡ part_of text
+  pub part : scene_part_of (text ++ z) ≡ scene_part_of text
   pub behind : command_text (text ++ z) ≡ command_text text ++ seen (more_than text) z
   pub holds : has_part (text ++ z) ≡ true
 
@@ -68,7 +68,7 @@ behind_grown : (w x : List ℕ) (n : ℕ) → n ≤ length w → part_end w ≡ 
 behind_grown w x n less is end = rw (end, is) (drop-append-le n w x less)
 
 pub grown : PartIsKept → PartIsWithin → (text z : List ℕ) (n : ℕ) → part_end (within_limit text) ≡ Some n → Grown text z
-unfolding part_of has_part command_text
+unfolding scene_part_of has_part command_text
 grown kept within text z n is =
     let w = within_limit text in
     let x = seen (more_than text) z in
@@ -99,7 +99,7 @@ extends (Some bytes) (Some rest) taken consumed =
 -- a scene part that is a scene's, which the array can draw
 pub record Seated (bits n : ℕ) (text : List ℕ) (found : SceneView) : Type 0 where
   pub part : part_end (within_limit text) ≡ Some n
-  pub good : text_refusal (part_of text) ≡ None
+  pub good : text_refusal (scene_part_of text) ≡ None
   pub scene : found ≡ part_scene text
   pub draws : (o : Outcome) → drawable bits found o ≡ o
 
@@ -112,7 +112,7 @@ pub record Laws : Type 0 where
 -- what is known of the bytes, where there are more of them
 record Holds (bits : ℕ) (found : SceneView) (bytes : List ℕ) : Type 0 where
   pub scene : part_scene bytes ≡ found
-  pub admits : (o : Outcome) → admitted (part_of bytes) bits o ≡ o
+  pub admits : (o : Outcome) → admitted (scene_part_of bytes) bits o ≡ o
   pub part : has_part bytes ≡ true
 
 pub admits_is : (part : List ℕ) (bits : ℕ) (scene : SceneView) → text_refusal part ≡ None → scene ≡ scene_written part
@@ -129,13 +129,13 @@ holds laws bits n text scene seated z =
     record {
       scene = ap scene_written more.part ∙ sym seated.scene;
       admits = λ o. ap (λ part. admitted part bits o) more.part
-          ∙ admits_is (part_of text) bits scene seated.good seated.scene seated.draws o;
+          ∙ admits_is (scene_part_of text) bits scene seated.good seated.scene seated.draws o;
       part = more.holds;
     }
 
 -- the outcome of bytes whose part is whole, or that are not past the limit
 pub debugged_is : (bytes : List ℕ) (bits : ℕ) → (is_long bytes && not (has_part bytes)) ≡ false → debugged bytes bits
-    ≡ admitted (part_of bytes) bits (answered bytes bits)
+    ≡ admitted (scene_part_of bytes) bits (answered bytes bits)
 unfolding debugged
 debugged_is bytes bits whole = rw whole refl
 
@@ -207,7 +207,7 @@ pub record Sat (bits n : ℕ) (text z : List ℕ) (scene : SceneView) (known res
   pub seated : Seated bits n text scene
   pub few : length text ≤ 1048577
   pub consumed : Consumes known rest (text ++ z)
-  pub start : from ≡ opened scene
+  pub start : from ≡ session_opened scene
   pub fits : Fits bits now device slots
 
 -- and of all bytes of the input
@@ -220,7 +220,7 @@ record Sees (bits : ℕ) (text z more bytes : List ℕ) (scene : SceneView) (fro
 
 sees : (laws : Laws) (bits n : ℕ) (text z more bytes : List ℕ) (scene : SceneView) (from : SessionView)
     → Seated bits n text scene
-    → from ≡ opened scene → bytes ≡ text ++ (z ++ more) → Sees bits text z more bytes scene from
+    → from ≡ session_opened scene → bytes ≡ text ++ (z ++ more) → Sees bits text z more bytes scene from
 sees laws bits n text z more bytes scene from seated start whole =
     let taken = holds laws bits n text scene seated z in
     let all : Holds bits scene bytes =
@@ -234,8 +234,8 @@ sees laws bits n text z more bytes scene from seated start whole =
       all = all;
       behind = ap command_text whole ∙ there ∙ ap (λ t. front ++ t) (cut_both (more_than text - 1) z more)
           ∙ sym (append_assoc front (seen (more_than text) z) rest) ∙ ap (λ t. t ++ rest) (sym here);
-      start_taken = start ∙ ap opened (sym taken.scene);
-      start_all = start ∙ ap opened (sym all.scene);
+      start_taken = start ∙ ap session_opened (sym taken.scene);
+      start_all = start ∙ ap session_opened (sym all.scene);
     }
 
 pub long_is : (bytes : List ℕ) → 1048577 ≤ length bytes → is_long bytes ≡ true
@@ -381,7 +381,7 @@ pub performs_sat : (laws : Laws) (result : Result (Unit {0}) Stop) (bits n : ℕ
     (scene : SceneView)
     (known rest rest' a b : Option (List ℕ)) (p q : Option Bool) (from now : SessionView) (before device : Device)
     (slots : List (Option Device))
-    → Seated bits n text scene → length text ≤ 1048577 → Consumes known rest text → from ≡ opened scene
+    → Seated bits n text scene → length text ≤ 1048577 → Consumes known rest text → from ≡ session_opened scene
     → Fits bits now device slots
     → read ≡ command_text text → more ≡ more_than text → Sits result bits read more from now rest rest' a b p q
     → Performs result (Some c.Debug) bits known rest' a b p q before device

@@ -1,7 +1,7 @@
 -- The text of a scene's passes, played.
 use Rattle.std.proofs.Common.{ℕ, ◌≡◌, ◌≤◌, List, length, Bool, true, false, nat_lt, if◌then◌else◌, Option, Some}
-use Rattle.std.proofs.Common.{None, refl, ap, subst, ◌∙◌, arith}
-use Rattle.std.proofs.lemmas.Bool.Decides.{nat_tests}
+use Rattle.std.proofs.Common.{None, refl, ap, subst, ◌∙◌}
+use Rattle.px_num.proofs.TruthLaws.{lt_fails}
 use Rattle.px_text.specs.declared.text.TheConstants.{MAX_TEXT_BYTES}
 use Rattle.px_prune.specs.Kept.{crowd_of}
 use Rattle.px_scene.specs.Scenes.{SceneView}
@@ -33,14 +33,11 @@ same_bytes true reason crowd bytes text is = cc
 same_bytes false reason (Some count) bytes text is = cc
 same_bytes false reason None bytes text is = cc
 
-fits : (bits need : ℕ) → nat_lt bits need ≡ false → need ≤ bits
-fits bits need not = grind (arith, nat_tests)
-
 can_play : (bits : ℕ) (scene : SceneView) (text : List ℕ) → IsListed bits scene text → CanPlay bits scene
 can_play bits scene text is = record {
   scene_is = is.scene_is;
   solids = is.solids;
-  enough = fits bits (need_of (layout_of scene)) (not_short (nat_lt bits (need_of (layout_of scene)))
+  enough = lt_fails bits (need_of (layout_of scene)) (not_short (nat_lt bits (need_of (layout_of scene)))
       (short_of_bits (need_of (layout_of scene)))
       (crowd_of scene) (canonical_text (passes_listing scene)) text is.answer);
 }

@@ -11,7 +11,7 @@ use Rattle.px_draw.specs.declared.refusal.Refusal.{Refusal}
 use Rattle.px_draw.specs.declared.stop.Stop.{Stop}
 use Rattle.px_draw.specs.Outcomes.{done, drawable, unless_refused}
 use Rattle.px_draw.specs.Refining.{fine_refusal, refined}
-use Rattle.px_draw.specs.Stops.{Serves}
+use Rattle.px_draw.specs.Stops.{DoesWork}
 
 pub means_drawn : MeansAreRefined → (s : ℕ) (scene fine : SceneView) (layout drawn : LayoutView) (state : State)
     → fine ≡ fine_scene s scene → layout ≡ drawn → ShowsThePicture fine drawn (λ x y. (pixel_of state x y).memory)
@@ -27,10 +27,10 @@ means_drawn law s scene fine layout drawn state is same shows =
 pub serves_refined : (result : Result (Unit {0}) Stop) (s t : ℕ) (scene fine : SceneView) (bits : ℕ)
     (a b : Option (List ℕ)) (p q : Option Bool) (m n : ℕ) → s ≡ t → fine_refusal s scene ≡ None
     → fine ≡ fine_scene s scene
-    → Serves result (drawable bits fine (done (refined_image s scene))) a b p q m n
-    → Serves result (refined t scene bits) a b p q m n
+    → DoesWork result (drawable bits fine (done (refined_image s scene))) a b p q m n
+    → DoesWork result (refined t scene bits) a b p q m n
 serves_refined result s t scene fine bits a b p q m n same none is serves =
-    subst (λ (k : ℕ). Serves result (refined k scene bits) a b p q m n) same
-    (subst (λ (r : Option Refusal). Serves result
+    subst (λ (k : ℕ). DoesWork result (refined k scene bits) a b p q m n) same
+    (subst (λ (r : Option Refusal). DoesWork result
     (unless_refused r (drawable bits (fine_scene s scene) (done (refined_image s scene)))) a b p q m n) (sym none)
-    (subst (λ (f : SceneView). Serves result (drawable bits f (done (refined_image s scene))) a b p q m n) is serves))
+    (subst (λ (f : SceneView). DoesWork result (drawable bits f (done (refined_image s scene))) a b p q m n) is serves))

@@ -12,19 +12,19 @@ use Rattle.px_debug.specs.Moves.{Fits}
 use Rattle.px_lines.specs.Parts.{holds_part, part_end}
 use Rattle.px_lines.specs.declared.reading.Opening.{Opening}
 use Rattle.px_lines.specs.Lines.{all_lines}
-use Rattle.px_session.specs.Sessions.{answers, opened, until_quit}
+use Rattle.px_session.specs.Sessions.{answers, session_opened, until_quit}
 use Rattle.px_command.specs.declared.command.Command.TheVariants as c
 use Rattle.px_draw.specs.declared.refusal.Refusal.{Refusal}
 use Rattle.px_draw.specs.declared.refusal.Refusal.TheVariants as r
 use Rattle.px_draw.specs.declared.stop.Stop.{Stop}
 use Rattle.px_draw.specs.declared.stop.Stop.TheVariants as s
 use Rattle.px_draw.specs.Debugs.{IsKeptOrOpened, IsOver, admitted, all_commands, answered, command_text, debugged}
-use Rattle.px_draw.specs.Debugs.{has_part, is_long, part_of, part_scene, scene_written, session_of, within_limit}
+use Rattle.px_draw.specs.Debugs.{has_part, is_long, scene_part_of, part_scene, scene_written, session_of, within_limit}
 use Rattle.px_draw.specs.Outcomes.{Outcome, done, drawable, output, refused, unless_refused}
 use Rattle.px_draw.specs.Runs.{HasOutput}
 use Rattle.px_draw.specs.Refusals.{text_refusal, too_long}
 use Rattle.px_draw.specs.Sittings.{Finishes, IsOpenStop, IsPartStop, LeavesClosed, Opens, OpensOn}
-use Rattle.px_draw.specs.Stops.{HasCauses, Performs, StopsAt, status_of}
+use Rattle.px_draw.specs.Stops.{HasStopCauses, Performs, StopsAt, status_of}
 use Rattle.px_draw.specs.Untouched.{IsUntouched}
 use Rattle.px_draw.proofs.DebugLemmas.{Extends, Laws, admits_is, and_not, answered_end, debugged_is, extends, grown}
 use Rattle.px_draw.proofs.DebugLemmas.{long_is, short_is, within_both}
@@ -113,7 +113,7 @@ performs_open result bits stop known rest a p device is why most = rw is (by_sto
 
 -- what a part that is whole, or is the whole input, says of all bytes
 record Judged (text bytes : List ℕ) : Type 0 where
-  pub part : part_of bytes ≡ part_of text
+  pub part : scene_part_of bytes ≡ scene_part_of text
   pub whole : (is_long bytes && not (has_part bytes)) ≡ false
 
 not_long : (bytes : List ℕ) → is_long bytes ≡ false → (is_long bytes && not (has_part bytes)) ≡ false
@@ -126,14 +126,14 @@ judged : Laws → (text : List ℕ) (known rest : Option (List ℕ)) (part : Opt
 judged laws text known rest (Some n) ext is short end =
     let more = grown laws.kept laws.within text ext.more n (sym is) in
     record {
-      part = ap part_of ext.whole ∙ more.part;
+      part = ap scene_part_of ext.whole ∙ more.part;
       whole = and_not (is_long ext.bytes) (has_part ext.bytes) (ap has_part ext.whole ∙ more.holds);
     }
 judged laws text known rest None ext is short end =
     let same : ext.bytes ≡ text = ext.whole ∙ ap (λ more. text ++ more) (ext.end (end refl (short refl)))
     ∙ append-nil text in
     record {
-      part = ap part_of same;
+      part = ap scene_part_of same;
       whole = not_long ext.bytes (ap is_long same ∙ short_is text (short refl));
     }
 
@@ -143,12 +143,12 @@ unfolding admitted
 refuses part bits reason o bad = ap (λ why. unless_refused why (drawable bits (scene_written part) o)) bad
 
 -- the part is refused
-refused_part : (text bytes : List ℕ) (bits : ℕ) (reason : Refusal) → Judged text bytes → text_refusal (part_of text)
+refused_part : (text bytes : List ℕ) (bits : ℕ) (reason : Refusal) → Judged text bytes → text_refusal (scene_part_of text)
     ≡ Some reason
     → debugged bytes bits ≡ refused reason
 refused_part text bytes bits reason judged bad =
     debugged_is bytes bits judged.whole ∙ ap (λ part. admitted part bits (answered bytes bits)) judged.part
-    ∙ refuses (part_of text) bits reason (answered bytes bits) bad
+    ∙ refuses (scene_part_of text) bits reason (answered bytes bits) bad
 
 -- or it is not whole within the limit
 refused_long : (text more : List ℕ) (bits : ℕ) → part_end (within_limit text) ≡ None → length text ≡ 1048577
@@ -213,7 +213,7 @@ performs_closed laws result bits stop o scene known rest a p before now is opens
     refusal reason stops =
         let j = judged laws o.text.items known rest o.part ext opens.part on.short opens.end in
         debugged_is bytes bits j.whole ∙ ap (λ part. admitted part bits (answered bytes bits)) j.part
-        ∙ closed_by (part_of o.text.items) bits scene (answered bytes bits) reason on.good on.scene
+        ∙ closed_by (scene_part_of o.text.items) bits scene (answered bytes bits) reason on.good on.scene
         (stops.meets (answered bytes bits))
 
     by_stop : (stop : Stop) → StopsAt (drawable bits scene) stop → LeavesClosed (status_of stop) bits scene before now
@@ -238,7 +238,7 @@ nothing_behind text none = rw none (drop-length (within_limit text))
 pub performs_empty : (laws : Laws) (result : Result (Unit {0}) Stop) (bits : ℕ) (o : Opening) (scene : SceneView)
     (known rest a b : Option (List ℕ)) (p q : Option Bool)
     (before device : Device) (slots : List (Option Device)) → Opens o known rest → OpensOn o scene → o.part ≡ None
-    → ((outcome : Outcome) → drawable bits scene outcome ≡ outcome) → Fits bits (opened scene) device slots
+    → ((outcome : Outcome) → drawable bits scene outcome ≡ outcome) → Fits bits (session_opened scene) device slots
     → Keeps a b → Finishes result p q
     → Performs result (Some c.Debug) bits known rest a b p q before device
 performs_empty laws result bits o scene known rest a b p q before device slots opens on none draws fits kept
@@ -261,7 +261,7 @@ performs_empty laws result bits o scene known rest a b p q before device slots o
 
     is : debugged text bits ≡ done []
     is =
-        debugged_is text bits (not_long text short) ∙ admits_is (part_of text) bits scene on.good on.scene draws
+        debugged_is text bits (not_long text short) ∙ admits_is (scene_part_of text) bits scene on.good on.scene draws
         (answered text bits)
         ∙ answered_end text bits short ∙ ap (λ ls. done (answers bits (session_of text) ls)) lines
 
@@ -314,6 +314,6 @@ performs_empty laws result bits o scene known rest a b p q before device slots o
     by_result (Err s.Memory) end = absurd end
 
 -- a piece that reads nothing, behind reads that left the count of faults
-pub causes_behind : (result : Result (Unit {0}) Stop) (m n k l : ℕ) → n ≡ m → ((i : ℕ) → HasCauses result i i k l)
-    → HasCauses result m n k l
-causes_behind result m n k l calm causes = subst (λ i. HasCauses result m i k l) (sym calm) (causes m)
+pub causes_behind : (result : Result (Unit {0}) Stop) (m n k l : ℕ) → n ≡ m → ((i : ℕ) → HasStopCauses result i i k l)
+    → HasStopCauses result m n k l
+causes_behind result m n k l calm causes = subst (λ i. HasStopCauses result m i k l) (sym calm) (causes m)

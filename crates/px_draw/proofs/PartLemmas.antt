@@ -10,23 +10,23 @@ use Rattle.px_lines.specs.PartLaws.{PartIsWithin}
 use Rattle.px_lines.specs.declared.reading.Opening.{Opening}
 use Rattle.px_draw.specs.declared.stop.Stop.{Stop}
 use Rattle.px_draw.specs.declared.stop.Stop.TheVariants as s
-use Rattle.px_draw.specs.Debugs.{command_text, part_of, scene_written, within_limit}
+use Rattle.px_draw.specs.Debugs.{command_text, scene_part_of, scene_written, within_limit}
 use Rattle.px_draw.specs.Refusals.{text_refusal}
 use Rattle.px_draw.specs.Sittings.{IsPartStop, OpensOn}
 use Rattle.px_draw.specs.Stops.{IsTextStop}
 use Rattle.px_draw.proofs.ErrLemmas.{if_err_by, if_ok_by}
 
 -- the part of a text where it ends
-pub part_is : PartIsWithin → (text : List ℕ) (n : ℕ) → part_end (within_limit text) ≡ Some n → part_of text
+pub part_is : PartIsWithin → (text : List ℕ) (n : ℕ) → part_end (within_limit text) ≡ Some n → scene_part_of text
     ≡ take n text
-unfolding part_of
+unfolding scene_part_of
 part_is within text n is =
     let less : n ≤ length (take 1048576 text) = within (within_limit text) n is in
     rw is (take-take n 1048576 text (omega (arith, less, length-take 1048576 text)))
 
 -- and of one where it does not
-pub part_all : (text : List ℕ) → length text < 1048577 → part_end (within_limit text) ≡ None → part_of text ≡ text
-unfolding part_of
+pub part_all : (text : List ℕ) → length text < 1048577 → part_end (within_limit text) ≡ None → scene_part_of text ≡ text
+unfolding scene_part_of
 part_all text short none =
     let all : within_limit text ≡ text = take_all 1048576 text (omega arith) in
     rw none (take_all (length (within_limit text)) (within_limit text) (omega arith) ∙ all)
@@ -35,7 +35,7 @@ written : (part : List ℕ) → scene_of (worded part) ≡ scene_written part
 unfolding scene_written
 written part = refl
 
-pub scene_is : (r : Result SceneView Stop) (o : Opening) (part : List ℕ) → part_of o.text.items ≡ part
+pub scene_is : (r : Result SceneView Stop) (o : Opening) (part : List ℕ) → scene_part_of o.text.items ≡ part
     → (o.part ≡ None → length o.text.items < 1048577)
     → IfOk r (λ scene. (text_refusal part ≡ None) × (scene ≡ scene_of (worded part)))
     → IfOk r (λ scene. OpensOn o scene)
@@ -45,7 +45,7 @@ scene_is r o part is short ok = if_ok_by r ok (λ scene good. record {
   short = short;
 })
 
-pub stop_is : (r : Result SceneView Stop) (o : Opening) (part : List ℕ) → part_of o.text.items ≡ part
+pub stop_is : (r : Result SceneView Stop) (o : Opening) (part : List ℕ) → scene_part_of o.text.items ≡ part
     → (o.part ≡ None → length o.text.items < 1048577)
     → IfErr r (λ stop. IsTextStop stop part) → IfErr r (λ stop. IsPartStop stop o)
 stop_is r o part is short err = if_err_by r err (λ stop bad. by_stop stop bad)

@@ -17,7 +17,7 @@ use Rattle.px_draw.specs.Listings.{Plays, list_refusal, listing_written, played_
 use Rattle.px_draw.specs.Outcomes.{Outcome, done, refused, unless_refused}
 use Rattle.px_draw.specs.Refusals.{too_long}
 use Rattle.px_draw.specs.Runs.{IsInput}
-use Rattle.px_draw.specs.Stops.{IsListStop, IsReadStop, Meets, Performs, PlaysOn, Serves, Writes, status_in}
+use Rattle.px_draw.specs.Stops.{IsListStop, IsReadStop, Meets, Performs, PlaysOn, DoesWork, WritesOutcome, status_in}
 use Rattle.px_draw.proofs.WorkLemmas.{bytes_of, is_input, keeps_same, line_meets, status_meets, wrote}
 use Rattle.px_draw.proofs.LimitLemmas.{past_limit}
 
@@ -85,7 +85,7 @@ plays_front result bytes bits a b p q before now plays = by_refusal (list_refusa
         let same : played_out (take 1048577 bytes) bits ≡ played_out bytes bits = front ∙ sym whole in
         record {
           meets = subst (λ (o : Outcome). Meets result o) same plays.meets;
-          writes = subst (λ (o : Outcome). Writes result o a b p q) same plays.writes;
+          writes = subst (λ (o : Outcome). WritesOutcome result o a b p q) same plays.writes;
           array = plays_refused result bits (listing_written (take 1048577 bytes)) (listing_written bytes) before
               now reason
               (subst (λ (o : Outcome). Meets result o) front plays.meets) plays.array;
@@ -167,7 +167,7 @@ plays_text result bytes lent told bits stop a p device at width same is =
 pub plays_listing : (result : Result (Unit {0}) Stop) (bytes lent : List ℕ) (told bits : ℕ) (l : ListingView)
     (a b : Option (List ℕ)) (p q : Option Bool) (m n : ℕ) (before now : Device) → told ≡ bits → lent ≡ bytes
     → list_refusal told lent ≡ None
-    → l ≡ listing_written lent → Serves result (done (played_text bits l)) a b p q m n
+    → l ≡ listing_written lent → DoesWork result (done (played_text bits l)) a b p q m n
     → Plays (status_in result) bits l before now → PlaysOn result bytes bits a b p q before now
 plays_listing result bytes lent told bits l a b p q m n before now width same good is serves array =
     let none : list_refusal bits bytes ≡ None =
@@ -179,6 +179,6 @@ plays_listing result bytes lent told bits l a b p q m n before now width same go
     ∙ sym (played_good bits bytes none) in
     record {
       meets = subst (λ (o : Outcome). Meets result o) here serves.meets;
-      writes = subst (λ (o : Outcome). Writes result o a b p q) here serves.writes;
+      writes = subst (λ (o : Outcome). WritesOutcome result o a b p q) here serves.writes;
       array = subst (λ (k : ListingView). Plays (status_in result) bits k before now) from array;
     }

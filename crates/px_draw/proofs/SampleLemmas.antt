@@ -8,7 +8,7 @@ use Rattle.px_scene.specs.Scenes.{SceneView}
 use Rattle.px_scene.specs.Sample.{sample_text}
 use Rattle.px_scene.specs.Text.{worded}
 use Rattle.px_scene.specs.Reading.{scene_of}
-use Rattle.px_refine.proofs.SumLemmas.{sum_more}
+use Rattle.px_refine.proofs.SumLaws.{sum_more}
 use Rattle.px_command.specs.declared.command.Command.{Command}
 use Rattle.px_command.specs.declared.command.Command.TheVariants as c
 use Rattle.px_draw.specs.declared.refusal.Refusal.TheVariants as r
@@ -18,11 +18,12 @@ use Rattle.px_draw.specs.declared.status.Status.TheVariants as status
 use Rattle.px_draw.specs.declared.stop.Stop.{Stop}
 use Rattle.px_draw.specs.declared.stop.Stop.TheVariants as s
 use Rattle.px_draw.specs.Arrays.{Draws}
-use Rattle.px_draw.specs.Countings.{IsAtMost, shown_at, shown_in, shown_in_row, together}
+use Rattle.px_draw.specs.Countings.{IsShownAtMost, shown_at, shown_within, shown_in_row, shown_together}
 use Rattle.px_draw.specs.Outcomes.{Outcome, done, unless_refused}
 use Rattle.px_draw.specs.Refusals.{text_refusal}
 use Rattle.px_draw.specs.Samples.{measured, one_at, row_sum, sample_scene, sampled, shown_depth_at, text_measured}
-use Rattle.px_draw.specs.Stops.{HasCauses, IsSceneStop, IsTextStop, Meets, Performs, Serves, Writes, status_in}
+use Rattle.px_draw.specs.Stops.{HasStopCauses, IsSceneStop, IsTextStop, Meets, Performs, DoesWork, WritesOutcome}
+use Rattle.px_draw.specs.Stops.{status_in}
 use Rattle.px_draw.specs.Stops.{status_of}
 use Rattle.px_draw.proofs.WorkLemmas.{bytes_of, is_input, keeps_same, line_meets, status_meets, wrote}
 
@@ -41,7 +42,7 @@ no_read_fault (Err s.WriteFault) reads = λ e. cc
 no_read_fault (Err s.Memory) reads = λ e. cc
 
 sample_performs : (result : Result (Unit {0}) Stop) (n bits : ℕ) (known : Option (List ℕ))
-    (a b : Option (List ℕ)) (p q : Option Bool) (k l : ℕ) (before now : Device) → Serves result (sampled n bits) a
+    (a b : Option (List ℕ)) (p q : Option Bool) (k l : ℕ) (before now : Device) → DoesWork result (sampled n bits) a
     b p q k l
     → Draws (status_in result) bits (sample_scene n) before now → Performs result (Some (c.Sample n)) bits known known
     a b p q before now
@@ -63,7 +64,7 @@ sample_performs result n bits known a b p q k l before now serves array = record
 pub performs_sample : (result : Result (Unit {0}) Stop) (command : Option Command) (n bits : ℕ)
     (known : Option (List ℕ))
     (a b : Option (List ℕ)) (p q : Option Bool) (k l : ℕ) (before now : Device) → command ≡ Some (c.Sample n)
-    → Serves result (sampled n bits) a b p q k l → Draws (status_in result) bits (sample_scene n) before now
+    → DoesWork result (sampled n bits) a b p q k l → Draws (status_in result) bits (sample_scene n) before now
     → Performs result command bits known known a b p q before now
 performs_sample result command n bits known a b p q k l before now is serves array =
     subst (λ x. Performs result x bits known known a b p q before now) (sym is)
@@ -72,11 +73,11 @@ performs_sample result command n bits known a b p q k l before now is serves arr
 -- what is done for the sample's text is done for the sample
 pub sample_serves : (result : Result (Unit {0}) Stop) (n bits : ℕ) (text : List ℕ) (a b : Option (List ℕ))
     (p q : Option Bool) (k l : ℕ)
-    → text ≡ sample_text n → Serves result (text_measured text bits) a b p q k l → Serves result (sampled n bits) a
+    → text ≡ sample_text n → DoesWork result (text_measured text bits) a b p q k l → DoesWork result (sampled n bits) a
     b p q k l
 unfolding sampled
 sample_serves result n bits text a b p q k l is serves =
-    subst (λ t. Serves result (text_measured t bits) a b p q k l) is serves
+    subst (λ t. DoesWork result (text_measured t bits) a b p q k l) is serves
 
 pub sample_draws : (found : Status) (n bits : ℕ) (text : List ℕ) (before now : Device) → text ≡ sample_text n
     → Draws found bits (scene_of (worded text)) before now → Draws found bits (sample_scene n) before now
@@ -85,7 +86,7 @@ sample_draws found n bits text before now is draws =
     subst (λ t. Draws found bits (scene_of (worded t)) before now) is draws
 
 -- a stop that neither a write nor a read fault made
-pub stop_causes : (stop : Stop) (k m : ℕ) → IsSceneStop stop → HasCauses (Err stop) k k m m
+pub stop_causes : (stop : Stop) (k m : ℕ) → IsSceneStop stop → HasStopCauses (Err stop) k k m m
 stop_causes (s.Refused reason) k m is = record { read = λ e. cc; write = λ e. cc; input = λ e. refl; out = λ e. refl }
 stop_causes s.Memory k m is = record { read = λ e. cc; write = λ e. cc; input = λ e. refl; out = λ e. refl }
 stop_causes s.Usage k m is = absurd is
@@ -93,7 +94,7 @@ stop_causes s.ReadFault k m is = absurd is
 stop_causes s.WriteFault k m is = absurd is
 
 pub stop_writes : (stop : Stop) (o : Outcome) (a : Option (List ℕ)) (p : Option Bool) → IsSceneStop stop
-    → Writes (Err stop) o a a p p
+    → WritesOutcome (Err stop) o a a p p
 stop_writes (s.Refused reason) o a p is = (keeps_same a, refl)
 stop_writes s.Memory o a p is = (keeps_same a, refl)
 stop_writes s.Usage o a p is = absurd is
@@ -154,7 +155,7 @@ text_meets s.WriteFault text o is = absurd is
 
 -- the numbers were written
 pub serves_done : (o : Outcome) (bytes : List ℕ) (a b : Option (List ℕ)) (p q : Option Bool) (m n : ℕ) → o ≡ done bytes
-    → Appends a b bytes → Tells q true → n ≡ m → Serves (Ok tt) o a b p q m n
+    → Appends a b bytes → Tells q true → n ≡ m → DoesWork (Ok tt) o a b p q m n
 serves_done o bytes a b p q m n is wrote end calm = rw is (record {
   meets = refl;
   writes = (wrote, end);
@@ -166,7 +167,7 @@ serves_done o bytes a b p q m n is wrote end calm = rw is (record {
 -- the text is no scene's
 pub text_serves : (result : Result (Unit {0}) Stop) (stop : Stop) (text : List ℕ) (bits : ℕ) (a : Option (List ℕ))
     (p : Option Bool) (m : ℕ)
-    → result ≡ Err stop → IsTextStop stop text → Serves result (text_measured text bits) a a p p m m
+    → result ≡ Err stop → IsTextStop stop text → DoesWork result (text_measured text bits) a a p p m m
 text_serves result stop text bits a p m at is =
     let here = text_scene stop text is in
     rw at (record {
@@ -180,28 +181,28 @@ text_serves result stop text bits a p m at is =
 -- the scene of a text is served
 pub scene_serves : (result : Result (Unit {0}) Stop) (text : List ℕ) (bits : ℕ) (scene : SceneView)
     (a b : Option (List ℕ)) (p q : Option Bool) (m n : ℕ)
-    → text_refusal text ≡ None → scene ≡ scene_of (worded text) → Serves result (measured scene bits) a b p q m n
-    → Serves result (text_measured text bits) a b p q m n
+    → text_refusal text ≡ None → scene ≡ scene_of (worded text) → DoesWork result (measured scene bits) a b p q m n
+    → DoesWork result (text_measured text bits) a b p q m n
 scene_serves result text bits scene a b p q m n good is serves =
     let here : text_measured text bits ≡ measured scene bits = rw (good, is) refl in
     rw here serves
 
 -- one pixel more
-pub row_more : (scene : SceneView) (y n : ℕ) → together (shown_in_row scene n y) (shown_at scene n y)
+pub row_more : (scene : SceneView) (y n : ℕ) → shown_together (shown_in_row scene n y) (shown_at scene n y)
     ≡ shown_in_row scene (n + 1) y
 row_more scene y n = rw (sum_more (λ x. one_at scene x y) n, sum_more (λ x. shown_depth_at scene x y) n) refl
 
 -- one row more
-pub rows_more : (scene : SceneView) (width n : ℕ) → together (shown_in scene width n) (shown_in_row scene width n)
-    ≡ shown_in scene width (n + 1)
+pub rows_more : (scene : SceneView) (width n : ℕ) → shown_together (shown_within scene width n) (shown_in_row scene width n)
+    ≡ shown_within scene width (n + 1)
 rows_more scene width n =
     rw (sum_more (λ y. row_sum (one_at scene) width y) n, sum_more (λ y. row_sum (shown_depth_at scene) width y) n) refl
 
-pub most_grows : (m n : ℕ) (shown : Shown) → m ≤ n → IsAtMost m shown → IsAtMost n shown
+pub most_grows : (m n : ℕ) (shown : Shown) → m ≤ n → IsShownAtMost m shown → IsShownAtMost n shown
 most_grows m n shown less most =
     record { pixels = omega (arith, less, most.pixels); depths = omega (arith, less, most.depths) }
 
-pub most_together : (first more : Shown) (size n : ℕ) → IsAtMost (size * n) first → IsAtMost size more
-    → IsAtMost (size * (n + 1)) (together first more)
+pub most_together : (first more : Shown) (size n : ℕ) → IsShownAtMost (size * n) first → IsShownAtMost size more
+    → IsShownAtMost (size * (n + 1)) (shown_together first more)
 most_together first more size n most next =
     record { pixels = omega (arith, most.pixels, next.pixels); depths = omega (arith, most.depths, next.depths) }

@@ -25,7 +25,7 @@ use Rattle.px_draw.specs.Refusals.{text_refusal, too_long}
 use Rattle.px_draw.specs.Runs.{IsInput}
 use Rattle.px_draw.specs.Shadows.{Shades, lights_in, lights_refusal, line_behind, lit, lit_by_lines, lit_drawable}
 use Rattle.px_draw.specs.Shadows.{parts_lit, shadowed}
-use Rattle.px_draw.specs.Stops.{IsReadStop, IsSceneStop, Meets, Performs, Serves, status_in}
+use Rattle.px_draw.specs.Stops.{IsReadStop, IsSceneStop, Meets, Performs, DoesWork, status_in}
 use Rattle.px_draw.proofs.DebugLemmas.{long_is, short_is}
 use Rattle.px_draw.proofs.SampleLemmas.{not_read, not_usage, stop_causes, stop_writes}
 use Rattle.px_draw.proofs.WorkLemmas.{bytes_of, is_input, keeps_same, line_meets, status_meets, wrote}
@@ -57,7 +57,7 @@ shades_refused (Err s.Memory) bits one other before now reason meets is = is
 pub record ShadesText (result : Result (Unit {0}) Stop) (bits : ℕ) (text : List ℕ) (a b : Option (List ℕ))
     (p q : Option Bool)
     (m n : ℕ) (before now : Device) : Type 0 where
-  pub serves : Serves result (shadowed text bits) a b p q m n
+  pub serves : DoesWork result (shadowed text bits) a b p q m n
   pub array : Shades (status_in result) bits text before now
 
 -- a text's front answers for it
@@ -73,7 +73,7 @@ shades_front result bits bytes a b p q m n before now shades = elim (cases_lt (l
       long_shadowed (take 1048577 bytes) bits (omega (arith, length-take 1048577 bytes)) in
       let there : shadowed bytes bits ≡ refused too_long = long_shadowed bytes bits past in
       record {
-        serves = subst (λ o. Serves result o a b p q m n) (here ∙ sym there) shades.serves;
+        serves = subst (λ o. DoesWork result o a b p q m n) (here ∙ sym there) shades.serves;
         array = shades_refused result bits (take 1048577 bytes) bytes before now too_long
             (subst (λ o. Meets result o) here shades.serves.meets) shades.array;
       }
@@ -113,7 +113,7 @@ performs_text result text bits (Some bytes) rest a b p q m n before now front co
 pub performs_shades : (result : Result (Unit {0}) Stop) (text lent : List ℕ) (bits : ℕ) (known rest : Option (List ℕ))
     (a b : Option (List ℕ)) (p q : Option Bool) (m n : ℕ) (before now : Device) → IsFrontOf known 1048577 text
     → Consumes known rest text
-    → lent ≡ text → Serves result (shadowed lent bits) a b p q m n → Shades (status_in result) bits lent before now
+    → lent ≡ text → DoesWork result (shadowed lent bits) a b p q m n → Shades (status_in result) bits lent before now
     → Performs result (Some c.Shadow) bits known rest a b p q before now
 performs_shades result text lent bits known rest a b p q m n before now front consumed same serves array =
     performs_text result text bits known rest a b p q m n before now front consumed
@@ -158,7 +158,7 @@ performs_unread result stop bits known rest a p device m n at is most =
 -- a stop that comes for want of memory or by what the input is
 pub serves_stop : (result : Result (Unit {0}) Stop) (stop : Stop) (o : Outcome) (a : Option (List ℕ))
     (p : Option Bool) (m : ℕ)
-    → result ≡ Err stop → IsSceneStop stop → Meets (Err stop) o → Serves result o a a p p m m
+    → result ≡ Err stop → IsSceneStop stop → Meets (Err stop) o → DoesWork result o a a p p m m
 serves_stop result stop o a p m at here meets = rw at (record {
   meets = meets;
   writes = stop_writes stop o a p here;
@@ -169,7 +169,7 @@ serves_stop result stop o a p m at here meets = rw at (record {
 
 pub serves_refused : (reason : Refusal) (o : Outcome) (a : Option (List ℕ)) (p : Option Bool) (m : ℕ)
     → o ≡ refused reason
-    → Serves (Err (s.Refused reason)) o a a p p m m
+    → DoesWork (Err (s.Refused reason)) o a a p p m m
 serves_refused reason o a p m is = serves_stop (Err (s.Refused reason)) (s.Refused reason) o a p m refl tt is
 
 -- what comes of the parts of a text within its limit comes of it
@@ -177,13 +177,13 @@ pub parts_serve : (result : Result (Unit {0}) Stop) (text part behind : List ℕ
     (p q : Option Bool)
     (k l : ℕ) → length text < 1048577 → n ≡ unwrap_or (part_end text) (length text) → part ≡ take n text
     → behind ≡ drop n text
-    → Serves result (parts_lit bits part behind) a b p q k l → Serves result (shadowed text bits) a b p q k l
+    → DoesWork result (parts_lit bits part behind) a b p q k l → DoesWork result (shadowed text bits) a b p q k l
 parts_serve result text part behind n bits a b p q k l short count front rest serves =
     let one : part ≡ scene_part text = front ∙ ap (λ i. take i text) count in
     let two : behind ≡ behind_part text = rest ∙ ap (λ i. drop i text) count in
-    subst (λ o. Serves result o a b p q k l) (sym (short_shadowed text bits short))
-    (subst (λ t. Serves result (parts_lit bits t (behind_part text)) a b p q k l) one
-    (subst (λ t. Serves result (parts_lit bits part t) a b p q k l) two serves))
+    subst (λ o. DoesWork result o a b p q k l) (sym (short_shadowed text bits short))
+    (subst (λ t. DoesWork result (parts_lit bits t (behind_part text)) a b p q k l) one
+    (subst (λ t. DoesWork result (parts_lit bits part t) a b p q k l) two serves))
 
 -- an array that can find the shadows does
 pub lit_is : (bits : ℕ) (scene : SceneView) (lights : List SolidSet) (n : ℕ) → n ≡ length lights
@@ -204,11 +204,11 @@ pub lights_serve : (result : Result (Unit {0}) Stop) (bits : ℕ) (part behind :
     (lights : List SolidSet) (a b : Option (List ℕ)) (p q : Option Bool) (m n : ℕ)
     → text_refusal part ≡ None → scene ≡ scene_of (worded part) → first ≡ line_behind part
     → lights_refusal scene first behind ≡ None → lights ≡ lights_in scene behind
-    → Serves result (lit bits scene lights) a b p q m n → Serves result (parts_lit bits part behind) a b p q m n
+    → DoesWork result (lit bits scene lights) a b p q m n → DoesWork result (parts_lit bits part behind) a b p q m n
 lights_serve result bits part behind scene first lights a b p q m n good is begins known named served =
     let same : parts_lit bits part behind ≡ lit bits scene lights =
     ap (λ r. unless_refused r (lit_by_lines bits (scene_of (worded part)) (line_behind part) behind)) good
     ∙ ap (λ s. lit_by_lines bits s (line_behind part) behind) (sym is)
     ∙ ap (λ f. lit_by_lines bits scene f behind) (sym begins)
     ∙ ap (λ r. unless_refused r (lit bits scene (lights_in scene behind))) known ∙ ap (lit bits scene) (sym named) in
-    subst (λ o. Serves result o a b p q m n) (sym same) served
+    subst (λ o. DoesWork result o a b p q m n) (sym same) served

@@ -25,7 +25,8 @@ use Rattle.px_draw.specs.Arrays.{Draws, LeavesArray}
 use Rattle.px_draw.specs.Outcomes.{Outcome, done, output}
 use Rattle.px_draw.specs.Refusals.{text_refusal}
 use Rattle.px_draw.specs.Runs.{IsInput, IsRestBehind, IsStatusOf, Wrote}
-use Rattle.px_draw.specs.Stops.{IsLineOf, IsReadStop, IsTextStop, Meets, Performs, Serves, WorksOn, Writes, status_in}
+use Rattle.px_draw.specs.Stops.{IsLineOf, IsReadStop, IsTextStop, Meets, Performs, DoesWork, WorksOn, WritesOutcome}
+use Rattle.px_draw.specs.Stops.{status_in}
 use Rattle.px_draw.specs.Stops.{status_of}
 use Rattle.px_draw.specs.Tiling.{DrawsTiles}
 use Rattle.px_draw.specs.Works.{made, worked_out}
@@ -99,7 +100,7 @@ line_meets (Err s.WriteFault) o meets = refl
 line_meets (Err s.Memory) o meets = refl
 
 pub wrote : (result : Result (Unit {0}) Stop) (o : Outcome) (a b : Option (List ℕ)) (p q : Option Bool)
-    → Writes result o a b p q → Wrote (status_in result) (output o) a b p q
+    → WritesOutcome result o a b p q → Wrote (status_in result) (output o) a b p q
 wrote (Ok u) o a b p q writes = writes
 wrote (Err s.Usage) o a b p q writes = writes
 wrote (Err (s.Refused (r.Malformed line cause))) o a b p q writes = writes
@@ -223,7 +224,7 @@ text_meets work bytes bits s.WriteFault is = absurd is
 
 text_writes : (stop : Stop) (bytes : List ℕ) (o : Outcome) (a : Option (List ℕ)) (p : Option Bool)
     → IsTextStop stop bytes
-    → Writes (Err stop) o a a p p
+    → WritesOutcome (Err stop) o a a p p
 text_writes (s.Refused reason) bytes o a p is = (keeps_same a, refl)
 text_writes s.Memory bytes o a p is = (keeps_same a, refl)
 text_writes s.Usage bytes o a p is = absurd is
@@ -280,7 +281,7 @@ works_text result work bytes lent bits stop a p device at same is =
 pub works_scene : (result : Result (Unit {0}) Stop) (work : Work) (bytes lent : List ℕ) (bits : ℕ) (scene : SceneView)
     (a b : Option (List ℕ)) (p q : Option Bool) (before now : Device) → lent ≡ bytes → text_refusal lent ≡ None
     → scene ≡ scene_of (worded lent) → Meets result (made work scene bits)
-    → Writes result (made work scene bits) a b p q
+    → WritesOutcome result (made work scene bits) a b p q
     → LeavesArray work (status_in result) bits scene before now → WorksOn result work bytes bits a b p q before now
 works_scene result work bytes lent bits scene a b p q before now same good is meets writes array =
     let here : worked_out work bytes bits ≡ made work scene bits = rw (← same, good, is) refl in
@@ -294,7 +295,7 @@ works_scene result work bytes lent bits scene a b p q before now same good is me
 -- a whole output
 pub serves_whole : (o : Outcome) (bytes : List ℕ) (a b : Option (List ℕ)) (p q : Option Bool) (m n : ℕ) (u : Unit {0})
     → o ≡ done bytes
-    → Appends a b bytes → Tells q true → n ≡ m → Serves (Ok u) o a b p q m n
+    → Appends a b bytes → Tells q true → n ≡ m → DoesWork (Ok u) o a b p q m n
 serves_whole o bytes a b p q m n u is whole finished calm = rw is (record {
   meets = refl;
   writes = (whole, finished);
@@ -305,7 +306,7 @@ serves_whole o bytes a b p q m n u is whole finished calm = rw is (record {
 
 -- images that a write cut short
 pub serves_front : (o : Outcome) (bytes : List ℕ) (a b : Option (List ℕ)) (p q : Option Bool) (m n : ℕ) → o ≡ done bytes
-    → TakesFront a b p q bytes → Rose m n → Serves (Err s.WriteFault) o a b p q m n
+    → TakesFront a b p q bytes → Rose m n → DoesWork (Err s.WriteFault) o a b p q m n
 serves_front o bytes a b p q m n is front rose = rw is (record {
   meets = refl;
   writes = front;

@@ -2,13 +2,13 @@
 use Rattle.std.specs.Prelude.{ℕ, ◌+◌, ◌≤◌}
 use Rattle.px_scene.specs.Scenes.{SceneView}
 use Rattle.px_draw.specs.declared.sample.Shown.{Shown}
-use Rattle.px_draw.specs.Samples.{one_at, row_sum, shown_depth_at, sum_of}
+use Rattle.px_draw.specs.Samples.{one_at, row_sum, shown_depth_at, sum_over}
 
 abbrev pub none_shown : Shown
 none_shown = record { pixels = 0; depths = 0 }
 
-abbrev pub together : Shown → Shown → Shown
-together first more = record { pixels = first.pixels + more.pixels; depths = first.depths + more.depths }
+abbrev pub shown_together : Shown → Shown → Shown
+shown_together first more = record { pixels = first.pixels + more.pixels; depths = first.depths + more.depths }
 
 -- of one pixel, of so many pixels of row y, and of so many rows
 abbrev pub shown_at : SceneView → (x y : ℕ) → Shown
@@ -20,12 +20,12 @@ shown_in_row scene width y = record {
   depths = row_sum (shown_depth_at scene) width y;
 }
 
-abbrev pub shown_in : SceneView → (width height : ℕ) → Shown
-shown_in scene width height = record {
-  pixels = sum_of (one_at scene) width height;
-  depths = sum_of (shown_depth_at scene) width height;
+abbrev pub shown_within : SceneView → (width height : ℕ) → Shown
+shown_within scene width height = record {
+  pixels = sum_over (one_at scene) width height;
+  depths = sum_over (shown_depth_at scene) width height;
 }
 
-pub record IsAtMost (n : ℕ) (shown : Shown) : Type 0 where
+pub record IsShownAtMost (n : ℕ) (shown : Shown) : Type 0 where
   pub pixels : shown.pixels ≤ n
   pub depths : shown.depths ≤ n

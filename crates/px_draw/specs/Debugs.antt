@@ -11,7 +11,7 @@ use Rattle.px_control.specs.Program.{IsAt}
 use Rattle.px_debug.specs.Moves.{SessionView}
 use Rattle.px_lines.specs.Lines.{all_lines, whole_lines}
 use Rattle.px_lines.specs.Parts.{behind_part, holds_part, scene_part}
-use Rattle.px_session.specs.Sessions.{after, answers, has_quit, opened, until_quit}
+use Rattle.px_session.specs.Sessions.{after, answers, has_quit, session_opened, until_quit}
 use Rattle.px_draw.specs.declared.status.Status.{Status}
 use Rattle.px_draw.specs.declared.status.Status.TheVariants as status
 use Rattle.px_draw.specs.Outcomes.{Outcome, cut, done, drawable, refused, unless_refused}
@@ -26,8 +26,8 @@ unfoldable pub is_long : List ℕ → Bool
 is_long bytes = nat_lt MAX_TEXT_BYTES (length bytes)
 
 -- the scene part
-unfoldable pub part_of : List ℕ → List ℕ
-part_of bytes = scene_part (within_limit bytes)
+unfoldable pub scene_part_of : List ℕ → List ℕ
+scene_part_of bytes = scene_part (within_limit bytes)
 
 -- whether it is whole, though the bytes may not be all
 unfoldable pub has_part : List ℕ → Bool
@@ -38,7 +38,7 @@ unfoldable pub scene_written : (part : List ℕ) → SceneView
 scene_written part = scene_of (worded part)
 
 abbrev pub part_scene : List ℕ → SceneView
-part_scene bytes = scene_written (part_of bytes)
+part_scene bytes = scene_written (scene_part_of bytes)
 
 -- the bytes behind it
 unfoldable pub command_text : List ℕ → List ℕ
@@ -53,7 +53,7 @@ all_commands bytes = all_lines (command_text bytes)
 
 -- the session at its start
 abbrev pub session_of : List ℕ → SessionView
-session_of bytes = opened (part_scene bytes)
+session_of bytes = session_opened (part_scene bytes)
 
 -- the outcome, where a scene part is a scene's, and the array can draw it
 unfoldable pub admitted : (part : List ℕ) → (bits : ℕ) → Outcome → Outcome
@@ -70,7 +70,7 @@ answered bytes bits =
 -- a scene part that is not whole within the limit of a text is past it
 unfoldable pub debugged : (bytes : List ℕ) → (bits : ℕ) → Outcome
 debugged bytes bits =
-    if is_long bytes && not (has_part bytes) then refused too_long else admitted (part_of bytes) bits (answered bytes bits)
+    if is_long bytes && not (has_part bytes) then refused too_long else admitted (scene_part_of bytes) bits (answered bytes bits)
 
 -- lines were obeyed, from the start of the session on: the array is as its broadcasts up to there leave it
 abbrev pub IsAfter : (bits : ℕ) → (bytes : List ℕ) → (lines : List (List ℕ)) → Device → Type 0
@@ -105,7 +105,7 @@ pub record IsBroken (bits : ℕ) (bytes : List ℕ) (lines : List (List ℕ)) (w
 -- a read failed behind a whole scene part: it is a scene's that the array can draw, no whole command is a quit, and all are answered
 pub record IsCutOff (bits : ℕ) (taken : List ℕ) (written_old written_new : Option (List ℕ))
     (finished_old finished_new : Option Bool) (device : Device) : Type 0 where
-  pub admits : (outcome : Outcome) → admitted (part_of taken) bits outcome ≡ outcome
+  pub admits : (outcome : Outcome) → admitted (scene_part_of taken) bits outcome ≡ outcome
   pub quiet : has_quit (whole_commands taken) ≡ false
   pub answered : IsAnswered bits taken (whole_commands taken) written_old written_new finished_old finished_new device
 

@@ -3,8 +3,7 @@
 use Rattle.std.specs.Prelude.{◌≡◌, ℕ, ◌≤◌, All, List, length}
 use Rattle.px_text.specs.declared.text.TheConstants.{MAX_TEXT_BYTES}
 use Rattle.px_array.specs.Arrays.{Device, pixel_of}
-use Rattle.px_scene.specs.Scenes.{IsLawfulScene, SceneView}
-use Rattle.px_scene.specs.Solids.{IsLawfulSolid}
+use Rattle.px_scene.specs.Scenes.{IsLawfulScene, SceneView, IsLawfulSolid}
 use Rattle.px_listing.specs.Memories.{played_text}
 use Rattle.px_listing.specs.PassesText.{passes_listing}
 use Rattle.px_sched.specs.Layouts.{layout_of}

@@ -1,9 +1,9 @@
 -- Why a text is refused. Clauses of public calls stand on it.
 use Rattle.std.specs.Prelude.{ℕ, pos, List, Option, Some, None}
 use Rattle.px_show.specs.declared.fault.LimitKind.TheVariants as kind
-use Rattle.px_scene.specs.declared.read.SceneFault.{SceneFault}
-use Rattle.px_scene.specs.declared.read.SceneFault.TheVariants as f
-use Rattle.px_scene.specs.Refusals.{refusal_of}
+use Rattle.px_show.specs.declared.fault.SceneFault.{SceneFault}
+use Rattle.px_show.specs.declared.fault.SceneFault.TheVariants as f
+use Rattle.px_scene.specs.Reading.{refusal_of}
 use Rattle.px_draw.specs.declared.refusal.TheConstants.{READ_LIMIT}
 use Rattle.px_draw.specs.declared.refusal.Kind.TheVariants as k
 use Rattle.px_draw.specs.declared.refusal.Refusal.{Refusal}

@@ -1,5 +1,5 @@
 -- What `sample` answers: four numbers of the scene of so many blocks, and of its picture. Clauses of public calls stand on it.
-use Rattle.std.specs.Prelude.{ℕ, ◌==◌, if◌then◌else◌, List, ◌++◌, length, sum_by}
+use Rattle.std.specs.Prelude.{ℕ, ◌==◌, if◌then◌else◌, List, length, sum_by}
 use Rattle.std.specs.List.{range_with_len}
 use Rattle.px_frame.specs.Picture.{depth_at, face_at}
 use Rattle.px_scene.specs.Sample.{sample_text}
@@ -16,8 +16,8 @@ use Rattle.px_draw.specs.Refusals.{text_refusal}
 abbrev pub row_sum : (number : (x y : ℕ) → ℕ) → (width y : ℕ) → ℕ
 row_sum number width y = sum_by (λ x. number x y) (range_with_len 0 width)
 
-abbrev pub sum_of : (number : (x y : ℕ) → ℕ) → (width height : ℕ) → ℕ
-sum_of number width height = sum_by (λ y. row_sum number width y) (range_with_len 0 height)
+abbrev pub sum_over : (number : (x y : ℕ) → ℕ) → (width height : ℕ) → ℕ
+sum_over number width height = sum_by (λ y. row_sum number width y) (range_with_len 0 height)
 
 -- a number, where a face shows
 abbrev pub where_shown : (face number : ℕ) → ℕ
@@ -31,14 +31,14 @@ shown_depth_at scene x y = where_shown (face_at scene x y) (depth_at scene x y)
 
 -- how many pixels of the picture show a face, and the sum of their depths
 abbrev pub shown : SceneView → ℕ
-shown scene = sum_of (one_at scene) scene.width scene.height
+shown scene = sum_over (one_at scene) scene.width scene.height
 
-abbrev pub depths : SceneView → ℕ
-depths scene = sum_of (shown_depth_at scene) scene.width scene.height
+abbrev pub depth_sum : SceneView → ℕ
+depth_sum scene = sum_over (shown_depth_at scene) scene.width scene.height
 
 -- the numbers of a scene: of its picture, of the products that can show anything, and of its clocks
 abbrev pub measures : SceneView → List ℕ
-measures scene = four_lines (shown scene) (depths scene) (length (plan_of scene)) (total scene)
+measures scene = four_lines (shown scene) (depth_sum scene) (length (plan_of scene)) (total scene)
 
 abbrev pub measured : SceneView → (bits : ℕ) → Outcome
 measured scene bits = drawable bits scene (done (measures scene))

@@ -10,7 +10,7 @@ use Rattle.px_lines.specs.Parts.{behind_part, scene_part}
 use Rattle.px_sched.specs.Layouts.{layout_of}
 use Rattle.px_shadow.specs.declared.light.LightFault.{LightFault}
 use Rattle.px_shadow.specs.declared.light.LightFault.TheVariants as fault
-use Rattle.px_shadow.specs.LightLines.{fault_of, lights_of}
+use Rattle.px_shadow.specs.LightLines.{lights_fault, lights_of}
 use Rattle.px_shadow.specs.Lights.{mask_image}
 use Rattle.px_shadow.specs.Shaded.{IsShaded}
 use Rattle.px_shadow.specs.ShadowPasses.{need_with}
@@ -35,7 +35,7 @@ light_refused (Some found) = Some (light_refusal found)
 
 -- why lines behind the scene part, of which the first has this number, are refused
 abbrev pub lights_refusal : SceneView → (first : ℕ) → (behind : List ℕ) → Option Refusal
-lights_refusal scene first behind = light_refused (fault_of scene.solids first (worded behind))
+lights_refusal scene first behind = light_refused (lights_fault scene.solids first (worded behind))
 
 -- the lights that they name
 abbrev pub lights_in : SceneView → (behind : List ℕ) → List SolidSet

@@ -17,7 +17,7 @@ use Rattle.px_draw.specs.declared.status.Status.{Status}
 use Rattle.px_draw.specs.declared.status.Status.TheVariants as status
 use Rattle.px_draw.specs.declared.stop.Stop.{Stop}
 use Rattle.px_draw.specs.declared.stop.Stop.TheVariants as s
-use Rattle.px_draw.specs.Debugs.{IsKeptOrOpened, part_of, part_scene, within_limit}
+use Rattle.px_draw.specs.Debugs.{IsKeptOrOpened, scene_part_of, part_scene, within_limit}
 use Rattle.px_draw.specs.Refusals.{text_refusal, too_long}
 
 -- an input was read until its scene part was whole, or to its end or its limit
@@ -35,14 +35,14 @@ IsOpenStop stop known_old known_new = ⊥
 
 -- its scene part is a scene's
 pub record OpensOn (o : Opening) (found : SceneView) : Type 0 where
-  pub good : text_refusal (part_of o.text.items) ≡ None
+  pub good : text_refusal (scene_part_of o.text.items) ≡ None
   pub scene : found ≡ part_scene o.text.items
   pub short : o.part ≡ None → length o.text.items < READ_LIMIT
 
 -- why it is none: the part is refused, or it is not whole within the limit
 abbrev pub IsPartRefusal : (o : Opening) → Refusal → Type 0
 IsPartRefusal o reason =
-    ((text_refusal (part_of o.text.items) ≡ Some reason) × (o.part ≡ None → length o.text.items < READ_LIMIT))
+    ((text_refusal (scene_part_of o.text.items) ≡ Some reason) × (o.part ≡ None → length o.text.items < READ_LIMIT))
     ⊎ ((o.part ≡ None) × (length o.text.items ≡ READ_LIMIT) × (reason ≡ too_long))
 
 abbrev pub IsPartStop : Stop → (o : Opening) → Type 0

@@ -75,27 +75,27 @@ Meets (Err s.WriteFault) o = o ≡ done (output o)
 Meets (Err s.Memory) o = ⊤
 
 -- what was written, and whether it is finished
-abbrev pub Writes : Result (Unit {0}) Stop → Outcome → (written_old written_new : Option (List ℕ)) (finished_old finished_new : Option Bool) → Type 0
-Writes (Ok u) o written_old written_new finished_old finished_new =
+abbrev pub WritesOutcome : Result (Unit {0}) Stop → Outcome → (written_old written_new : Option (List ℕ)) (finished_old finished_new : Option Bool) → Type 0
+WritesOutcome (Ok u) o written_old written_new finished_old finished_new =
     Appends written_old written_new (output o) × Tells finished_new true
-Writes (Err s.WriteFault) o written_old written_new finished_old finished_new =
+WritesOutcome (Err s.WriteFault) o written_old written_new finished_old finished_new =
     TakesFront written_old written_new finished_old finished_new (output o)
-Writes (Err stop) o written_old written_new finished_old finished_new =
+WritesOutcome (Err stop) o written_old written_new finished_old finished_new =
     Keeps written_old written_new × (finished_new ≡ finished_old)
 
 -- which counts of faults rose, and which stayed
-pub record HasCauses (result : Result (Unit {0}) Stop) (input_old input_new out_old out_new : ℕ) : Type 0 where
+pub record HasStopCauses (result : Result (Unit {0}) Stop) (input_old input_new out_old out_new : ℕ) : Type 0 where
   pub read : result ≡ Err s.ReadFault → Rose input_old input_new
   pub write : result ≡ Err s.WriteFault → Rose out_old out_new
   pub input : (result ≡ Err s.ReadFault → ⊥) → input_new ≡ input_old
   pub out : (result ≡ Err s.WriteFault → ⊥) → out_new ≡ out_old
 
 -- what a piece of the work that reads nothing does for an outcome
-pub record Serves (result : Result (Unit {0}) Stop) (o : Outcome)
+pub record DoesWork (result : Result (Unit {0}) Stop) (o : Outcome)
     (written_old written_new : Option (List ℕ)) (finished_old finished_new : Option Bool) (faults_old faults_new : ℕ) : Type 0 where
   pub meets : Meets result o
-  pub writes : Writes result o written_old written_new finished_old finished_new
-  pub causes : (n : ℕ) → HasCauses result n n faults_old faults_new
+  pub writes : WritesOutcome result o written_old written_new finished_old finished_new
+  pub causes : (n : ℕ) → HasStopCauses result n n faults_old faults_new
   pub worded : result ≢ Err s.Usage
   pub reads : result ≢ Err s.ReadFault
 
@@ -103,7 +103,7 @@ pub record Serves (result : Result (Unit {0}) Stop) (o : Outcome)
 pub record WorksOn (result : Result (Unit {0}) Stop) (work : Work) (bytes : List ℕ) (bits : ℕ)
     (written_old written_new : Option (List ℕ)) (finished_old finished_new : Option Bool) (before now : Device) : Type 0 where
   pub meets : Meets result (worked_out work bytes bits)
-  pub writes : Writes result (worked_out work bytes bits) written_old written_new finished_old finished_new
+  pub writes : WritesOutcome result (worked_out work bytes bits) written_old written_new finished_old finished_new
   pub array : LeavesArray work (status_in result) bits (scene_of (worded bytes)) before now
   pub refused : (reason : Refusal) → text_refusal bytes ≡ Some reason → (scene : SceneView)
       → LeavesArray work (status_in result) bits scene before now
@@ -141,5 +141,5 @@ IsListStop stop bits text = ⊥
 pub record PlaysOn (result : Result (Unit {0}) Stop) (bytes : List ℕ) (bits : ℕ)
     (written_old written_new : Option (List ℕ)) (finished_old finished_new : Option Bool) (before now : Device) : Type 0 where
   pub meets : Meets result (played_out bytes bits)
-  pub writes : Writes result (played_out bytes bits) written_old written_new finished_old finished_new
+  pub writes : WritesOutcome result (played_out bytes bits) written_old written_new finished_old finished_new
   pub array : Plays (status_in result) bits (listing_written bytes) before now

@@ -4,14 +4,14 @@ ghost use Rattle.std.specs.Io.KnownBytes.{Keeps};
 ghost use Rattle.px_io.specs.Told.{ConsumesAtMost};
 ghost use Rattle.px_debug.specs.Moves.{Fits};
 ghost use Rattle.px_lines.specs.Parts.{part_end};
-ghost use Rattle.px_session.specs.Sessions.{opened};
+ghost use Rattle.px_session.specs.Sessions.{session_opened};
 ghost use Rattle.px_command.specs.declared.command.Command.{Command};
 ghost use Rattle.px_draw.specs.declared.stop.Stop.{Stop};
 ghost use Rattle.px_draw.specs.Debugs.{command_text, within_limit};
 ghost use Rattle.px_draw.specs.Outcomes.{Outcome, drawable};
 ghost use Rattle.px_draw.specs.Runs.{Took};
 ghost use Rattle.px_draw.specs.Sittings.{Finishes, IsOpenStop, IsPartStop, LeavesClosed, Opens, OpensOn, Sits};
-ghost use Rattle.px_draw.specs.Stops.{HasCauses, IsReadStop, Performs, StopsAt, status_in, status_of};
+ghost use Rattle.px_draw.specs.Stops.{HasStopCauses, IsReadStop, Performs, StopsAt, status_in, status_of};
 
 use crate::make::{open_job, scene_in};
 use crate::refusal::{READ_LIMIT, too_long};
@@ -36,7 +36,7 @@ pub(crate) fn debug<S: Source, O: Sink, A: Array>(
     ensures performs { Performs result (Some Command.Debug) A.BITS
         (S.rest input.old) (S.rest input.new) (O.written out.old) (O.written out.new)
         (O.finished out.old) (O.finished out.new) (A.device array.old) (A.device array.new) }
-    ensures causes { HasCauses result (S.faults input.old) (S.faults input.new) (O.faults out.old)
+    ensures causes { HasStopCauses result (S.faults input.old) (S.faults input.new) (O.faults out.old)
         (O.faults out.new) }
     ensures took { Took (Some Command.Debug) (status_in result) (S.rest input.old)
         (S.rest input.new) }
@@ -95,7 +95,7 @@ fn open_session<'s, A: Array>(
     array: &mut A,
 ) -> Result<Session<'s>, Stop>
     requires bits { A.BITS ≤ 256 }
-    ensures session { IfOk result (λ session. session ≡ opened scene.now) }
+    ensures session { IfOk result (λ session. session ≡ session_opened scene.now) }
     ensures fits { IfOk result (λ session. Fits A.BITS session (A.device array.new)
         (A.slots array.new)) }
     ensures draws { OnOk result ((o : Outcome) → drawable A.BITS scene.now o ≡ o) }
@@ -142,7 +142,7 @@ fn sit<S: Source, O: Sink, A: Array>(
     ensures sits { Sits result A.BITS read.now more session.old session.new
         (S.rest input.old) (S.rest input.new) (O.written out.old) (O.written out.new)
         (O.finished out.old) (O.finished out.new) }
-    ensures causes { HasCauses result (S.faults input.old) (S.faults input.new) (O.faults out.old)
+    ensures causes { HasStopCauses result (S.faults input.old) (S.faults input.new) (O.faults out.old)
         (O.faults out.new) }
 {
     match serve(session, array, read, input, more, out) {
@@ -157,7 +157,7 @@ fn sit<S: Source, O: Sink, A: Array>(
 fn finish<O: Sink>(out: &mut O) -> Result<(), Stop>
     ensures bytes { Keeps (O.written out.old) (O.written out.new) }
     ensures end { Finishes result (O.finished out.old) (O.finished out.new) }
-    ensures causes { (n : ℕ) → HasCauses result n n (O.faults out.old) (O.faults out.new) }
+    ensures causes { (n : ℕ) → HasStopCauses result n n (O.faults out.old) (O.faults out.new) }
 {
     match out.finish() {
         Ok(()) => Ok(()),

@@ -15,7 +15,7 @@ ghost use Rattle.px_draw.specs.declared.stop.Stop.{Stop};
 ghost use Rattle.px_draw.specs.Listings.{Plays, list_refusal, listed, listing_written};
 ghost use Rattle.px_draw.specs.Outcomes.{done};
 ghost use Rattle.px_draw.specs.Runs.{Took};
-ghost use Rattle.px_draw.specs.Stops.{HasCauses, IsListStop, Performs, Serves, status_in};
+ghost use Rattle.px_draw.specs.Stops.{HasStopCauses, IsListStop, Performs, DoesWork, status_in};
 
 use crate::make::{drawing_of, read_text};
 use crate::refusal::{Kind, READ_LIMIT, Refusal, too_long};
@@ -37,7 +37,7 @@ pub(crate) fn make_list<O: Sink>(
     bits: u32,
     out: &mut O,
 ) -> Result<(), Stop>
-    ensures serves { Serves result (listed scene.now bits)
+    ensures serves { DoesWork result (listed scene.now bits)
         (O.written out.old) (O.written out.new) (O.finished out.old) (O.finished out.new)
         (O.faults out.old) (O.faults out.new) }
 {
@@ -81,7 +81,7 @@ pub(crate) fn play_input<S: Source, O: Sink, A: Array>(
     ensures performs { Performs result (Some Command.Play) A.BITS
         (S.rest input.old) (S.rest input.new) (O.written out.old) (O.written out.new)
         (O.finished out.old) (O.finished out.new) (A.device array.old) (A.device array.new) }
-    ensures causes { HasCauses result (S.faults input.old) (S.faults input.new) (O.faults out.old)
+    ensures causes { HasStopCauses result (S.faults input.old) (S.faults input.new) (O.faults out.old)
         (O.faults out.new) }
     ensures took { Took (Some Command.Play) (status_in result)
         (S.rest input.old) (S.rest input.new) }
@@ -125,7 +125,7 @@ fn play_listing<O: Sink, A: Array>(
 ) -> Result<(), Stop>
     requires bits { A.BITS ≤ 256 }
     requires lawful { All (λ m. IsLawful m A.BITS) listing.now.macros }
-    ensures serves { Serves result (done (played_text A.BITS listing.now))
+    ensures serves { DoesWork result (done (played_text A.BITS listing.now))
         (O.written out.old) (O.written out.new) (O.finished out.old) (O.finished out.new)
         (O.faults out.old) (O.faults out.new) }
     ensures array { Plays (status_in result) A.BITS listing.now (A.device array.old)

@@ -16,7 +16,7 @@ ghost use Rattle.px_draw.specs.Arrays.{Draws, LeavesArray};
 ghost use Rattle.px_draw.specs.Outcomes.{Outcome, done, drawable, within_products};
 ghost use Rattle.px_draw.specs.Refusals.{text_refusal};
 ghost use Rattle.px_draw.specs.Runs.{IsRestBehind, Took};
-ghost use Rattle.px_draw.specs.Stops.{HasCauses, IsReadStop, IsTextStop, Performs, Serves, StopsAt};
+ghost use Rattle.px_draw.specs.Stops.{HasStopCauses, IsReadStop, IsTextStop, Performs, DoesWork, StopsAt};
 ghost use Rattle.px_draw.specs.Stops.{status_in, status_of};
 ghost use Rattle.px_draw.specs.Works.{images, made, planned, tidied};
 
@@ -52,7 +52,7 @@ pub(crate) fn make_of_input<S: Source, O: Sink, A: Array>(
     ensures performs { Performs result (Some (Command.Make work)) A.BITS
         (S.rest input.old) (S.rest input.new) (O.written out.old) (O.written out.new)
         (O.finished out.old) (O.finished out.new) (A.device array.old) (A.device array.new) }
-    ensures causes { HasCauses result (S.faults input.old) (S.faults input.new) (O.faults out.old)
+    ensures causes { HasStopCauses result (S.faults input.old) (S.faults input.new) (O.faults out.old)
         (O.faults out.new) }
     ensures took { Took (Some (Command.Make work)) (status_in result)
         (S.rest input.old) (S.rest input.new) }
@@ -109,7 +109,7 @@ fn make<O: Sink, A: Array>(
 ) -> Result<(), Stop>
     requires bits { A.BITS ≤ 256 }
     requires size { HasSize work }
-    ensures serves { Serves result (made work scene.now A.BITS)
+    ensures serves { DoesWork result (made work scene.now A.BITS)
         (O.written out.old) (O.written out.new) (O.finished out.old) (O.finished out.new)
         (O.faults out.old) (O.faults out.new) }
     ensures array { LeavesArray work (status_in result) A.BITS scene.now (A.device
@@ -135,7 +135,7 @@ fn draw<O: Sink, A: Array>(
     out: &mut O,
     array: &mut A,
 ) -> Result<(), Stop>
-    ensures serves { Serves result (drawable A.BITS scene.now (done (images scene.now planes.now)))
+    ensures serves { DoesWork result (drawable A.BITS scene.now (done (images scene.now planes.now)))
         (O.written out.old) (O.written out.new) (O.finished out.old) (O.finished out.new)
         (O.faults out.old) (O.faults out.new) }
     ensures array { Draws (status_in result) A.BITS scene.now (A.device array.old)
@@ -149,7 +149,7 @@ fn draw<O: Sink, A: Array>(
 }
 
 fn make_tidy<O: Sink>(alloc: Global, scene: &Scene, out: &mut O) -> Result<(), Stop>
-    ensures serves { Serves result (tidied scene.now)
+    ensures serves { DoesWork result (tidied scene.now)
         (O.written out.old) (O.written out.new) (O.finished out.old) (O.finished out.new)
         (O.faults out.old) (O.faults out.new) }
 {
@@ -160,7 +160,7 @@ fn make_tidy<O: Sink>(alloc: Global, scene: &Scene, out: &mut O) -> Result<(), S
 }
 
 fn make_plan<O: Sink>(alloc: Global, scene: &Scene, out: &mut O) -> Result<(), Stop>
-    ensures serves { Serves result (planned scene.now)
+    ensures serves { DoesWork result (planned scene.now)
         (O.written out.old) (O.written out.new) (O.finished out.old) (O.finished out.new)
         (O.faults out.old) (O.faults out.new) }
 {
@@ -173,7 +173,7 @@ fn make_plan<O: Sink>(alloc: Global, scene: &Scene, out: &mut O) -> Result<(), S
 }
 
 fn make_cost<O: Sink>(alloc: Global, scene: &Scene, bits: u32, out: &mut O) -> Result<(), Stop>
-    ensures serves { Serves result (made Work.Cost scene.now bits)
+    ensures serves { DoesWork result (made Work.Cost scene.now bits)
         (O.written out.old) (O.written out.new) (O.finished out.old) (O.finished out.new)
         (O.faults out.old) (O.faults out.new) }
 {
@@ -245,7 +245,7 @@ fn kept_of(alloc: Global, scene: &Scene) -> Result<Plan, Stop>
 
 /// Writes all of these bytes, and finishes.
 fn write_out<O: Sink>(bytes: &[u8], out: &mut O) -> Result<(), Stop>
-    ensures serves { Serves result (done bytes.now)
+    ensures serves { DoesWork result (done bytes.now)
         (O.written out.old) (O.written out.new) (O.finished out.old) (O.finished out.new)
         (O.faults out.old) (O.faults out.new) }
 {

@@ -11,7 +11,7 @@ ghost use Rattle.px_draw.specs.Arrays.{Draws, IsDrawn, IsFinished};
 ghost use Rattle.px_draw.specs.Outcomes.{done, drawable, unless_refused};
 ghost use Rattle.px_command.specs.Commands.{doublings};
 ghost use Rattle.px_draw.specs.Refining.{fine_refusal, refined, scene_limit};
-ghost use Rattle.px_draw.specs.Stops.{Serves, StopsAt, status_in};
+ghost use Rattle.px_draw.specs.Stops.{DoesWork, StopsAt, status_in};
 
 use crate::make::open_job;
 use crate::refusal::{Kind, Refusal};
@@ -35,7 +35,7 @@ pub(crate) fn make_refined<O: Sink, A: Array>(
     out: &mut O,
     array: &mut A,
 ) -> Result<(), Stop>
-    ensures serves { Serves result (refined (doublings fineness) scene.now A.BITS)
+    ensures serves { DoesWork result (refined (doublings fineness) scene.now A.BITS)
         (O.written out.old) (O.written out.new) (O.finished out.old) (O.finished out.new)
         (O.faults out.old) (O.faults out.new) }
     ensures array { Draws (status_in result) A.BITS (fine_scene (doublings fineness) scene.now)
@@ -86,7 +86,7 @@ fn draw_refined<O: Sink, A: Array>(
 ) -> Result<(), Stop>
     requires few { s ≤ 2 }
     requires fine { fine.now ≡ fine_scene s scene.now }
-    ensures serves { Serves result
+    ensures serves { DoesWork result
         (drawable A.BITS fine.now (done (refined_image s scene.now)))
         (O.written out.old) (O.written out.new) (O.finished out.old) (O.finished out.new)
         (O.faults out.old) (O.faults out.new) }

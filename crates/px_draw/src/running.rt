@@ -5,7 +5,7 @@ ghost use Rattle.px_draw.specs.declared.stop.Stop.{Stop};
 ghost use Rattle.px_draw.specs.declared.status.Status.{Status};
 ghost use Rattle.px_command.specs.Commands.{command_of};
 ghost use Rattle.px_draw.specs.Runs.{HasRisen, IsInput, IsRunOf, Took};
-ghost use Rattle.px_draw.specs.Stops.{HasCauses, Performs, status_in};
+ghost use Rattle.px_draw.specs.Stops.{HasStopCauses, Performs, status_in};
 
 use crate::debug::debug;
 use crate::listing::play_input;
@@ -70,7 +70,7 @@ fn perform<S: Source, O: Sink, A: Array>(
     ensures performs { Performs result (command_of (map string_bytes words.now)) A.BITS
         (S.rest input.old) (S.rest input.new) (O.written out.old) (O.written out.new)
         (O.finished out.old) (O.finished out.new) (A.device array.old) (A.device array.new) }
-    ensures causes { HasCauses result (S.faults input.old) (S.faults input.new) (O.faults out.old)
+    ensures causes { HasStopCauses result (S.faults input.old) (S.faults input.new) (O.faults out.old)
         (O.faults out.new) }
     ensures took { Took (command_of (map string_bytes words.now)) (status_in result)
         (S.rest input.old) (S.rest input.new) }

@@ -10,10 +10,10 @@ ghost use Rattle.px_scene.specs.Sample.{sample_text};
 ghost use Rattle.px_scene.specs.Text.{worded};
 ghost use Rattle.px_control.specs.Program.{IsAt, total};
 ghost use Rattle.px_draw.specs.Arrays.{Draws, IsDrawn};
-ghost use Rattle.px_draw.specs.Countings.{IsAtMost, none_shown, shown_at, shown_in, shown_in_row, together};
+ghost use Rattle.px_draw.specs.Countings.{IsShownAtMost, none_shown, shown_at, shown_within, shown_in_row, shown_together};
 ghost use Rattle.px_draw.specs.Outcomes.{drawable};
 ghost use Rattle.px_draw.specs.Samples.{measured, measures, sample_scene, sampled, text_measured, where_shown};
-ghost use Rattle.px_draw.specs.Stops.{Serves, StopsAt, status_in};
+ghost use Rattle.px_draw.specs.Stops.{DoesWork, StopsAt, status_in};
 
 use crate::make::{drawing_of, open_job, scene_in, write_finished};
 use crate::render::draw;
@@ -21,12 +21,11 @@ use crate::stop::Stop;
 use arrayvec::ArrayString;
 use px_answers::four_lines;
 use px_array::Array;
-use px_command::MAX_BLOCKS;
 use px_control::{Job, law_of_grids};
 use px_frame::stored;
 use px_io::{Failed, Sink};
 use px_model::MAX_PICTURE_SIZE;
-use px_scene::{Scene, laws_of_scenes, sample_text};
+use px_scene::{MAX_BLOCKS, Scene, laws_of_scenes, sample_text};
 use px_sched::Layout;
 use std::alloc::Global;
 
@@ -49,7 +48,7 @@ pub(crate) fn sample<O: Sink, A: Array>(
     requires some { 1 ≤ n }
     requires few { n ≤ MAX_BLOCKS }
     requires bits { A.BITS ≤ 256 }
-    ensures serves { Serves result (sampled n A.BITS)
+    ensures serves { DoesWork result (sampled n A.BITS)
         (O.written out.old) (O.written out.new) (O.finished out.old) (O.finished out.new)
         (O.faults out.old) (O.faults out.new) }
     ensures array { Draws (status_in result) A.BITS (sample_scene n) (A.device array.old)
@@ -69,7 +68,7 @@ fn measure_text<O: Sink, A: Array>(
     array: &mut A,
 ) -> Result<(), Stop>
     requires bits { A.BITS ≤ 256 }
-    ensures serves { Serves result (text_measured text.now A.BITS)
+    ensures serves { DoesWork result (text_measured text.now A.BITS)
         (O.written out.old) (O.written out.new) (O.finished out.old) (O.finished out.new)
         (O.faults out.old) (O.faults out.new) }
     ensures array { Draws (status_in result) A.BITS (scene_of (worded text.now))
@@ -87,7 +86,7 @@ fn measure<O: Sink, A: Array>(
     array: &mut A,
 ) -> Result<(), Stop>
     requires bits { A.BITS ≤ 256 }
-    ensures serves { Serves result (measured scene.now A.BITS)
+    ensures serves { DoesWork result (measured scene.now A.BITS)
         (O.written out.old) (O.written out.new) (O.finished out.old) (O.finished out.new)
         (O.faults out.old) (O.faults out.new) }
     ensures array { Draws (status_in result) A.BITS scene.now (A.device array.old)
@@ -155,7 +154,7 @@ fn measures<A: Array>(
 fn count_shown<A: Array>(array: &A, layout: &Layout, scene: &Scene) -> Shown
     requires layout { layout.now ≡ layout_of scene.now }
     requires drawn { IsDrawn A.BITS scene.now (A.device array.now) }
-    ensures { result ≡ shown_in scene.now scene.now.width scene.now.height }
+    ensures { result ≡ shown_within scene.now scene.now.width scene.now.height }
 {
     laws_of_scenes(scene);
     let mut shown = Shown::none();
@@ -171,7 +170,7 @@ fn shown_in_row<A: Array>(array: &A, layout: &Layout, scene: &Scene, y: u32) -> 
     requires drawn { IsDrawn A.BITS scene.now (A.device array.now) }
     requires y { y < scene.now.height }
     ensures shown { result ≡ shown_in_row scene.now scene.now.width y }
-    ensures most { IsAtMost (MAX_PICTURE_SIZE * 2 ^ 24) result }
+    ensures most { IsShownAtMost (MAX_PICTURE_SIZE * 2 ^ 24) result }
 {
     laws_of_scenes(scene);
     let mut shown = Shown::none();
@@ -188,7 +187,7 @@ fn shown_at<A: Array>(array: &A, layout: &Layout, scene: &Scene, x: u32, y: u32)
     requires x { x < scene.now.width }
     requires y { y < scene.now.height }
     ensures shown { result ≡ shown_at scene.now x y }
-    ensures most { IsAtMost (2 ^ 24) result }
+    ensures most { IsShownAtMost (2 ^ 24) result }
 {
     laws_of_scenes(scene);
     law_of_grids();
@@ -211,7 +210,7 @@ impl Shown {
         requires { depth < 2 ^ 24 }
         ensures pixels { result.pixels ≡ where_shown face 1 }
         ensures depths { result.depths ≡ where_shown face depth }
-        ensures most { IsAtMost (2 ^ 24) result }
+        ensures most { IsShownAtMost (2 ^ 24) result }
     {
         if face == 0 {
             Shown::none()
@@ -224,9 +223,9 @@ impl Shown {
     }
 
     fn plus(&self, more: Shown) -> Shown
-        requires first { IsAtMost (2 ^ 62) self.now }
-        requires second { IsAtMost (2 ^ 62) more }
-        ensures { result ≡ together self.now more }
+        requires first { IsShownAtMost (2 ^ 62) self.now }
+        requires second { IsShownAtMost (2 ^ 62) more }
+        ensures { result ≡ shown_together self.now more }
     {
         Shown {
             pixels: self.pixels + more.pixels,

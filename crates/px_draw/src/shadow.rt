@@ -30,7 +30,7 @@ ghost use Rattle.px_draw.specs.Shadows.{
   parts_lit,
   shadowed,
 };
-ghost use Rattle.px_draw.specs.Stops.{HasCauses, Performs, Serves, StopsAt, status_in, status_of};
+ghost use Rattle.px_draw.specs.Stops.{HasStopCauses, Performs, DoesWork, StopsAt, status_in, status_of};
 
 use crate::debug::behind;
 use crate::make::{open_job, read_text, scene_in};
@@ -61,7 +61,7 @@ pub(crate) fn shadow<S: Source, O: Sink, A: Array>(
     ensures performs { Performs result (Some Command.Shadow) A.BITS
         (S.rest input.old) (S.rest input.new) (O.written out.old) (O.written out.new)
         (O.finished out.old) (O.finished out.new) (A.device array.old) (A.device array.new) }
-    ensures causes { HasCauses result (S.faults input.old) (S.faults input.new) (O.faults out.old)
+    ensures causes { HasStopCauses result (S.faults input.old) (S.faults input.new) (O.faults out.old)
         (O.faults out.new) }
     ensures took { Took (Some Command.Shadow) (status_in result)
         (S.rest input.old) (S.rest input.new) }
@@ -79,7 +79,7 @@ fn shade_text<O: Sink, A: Array>(
     array: &mut A,
 ) -> Result<(), Stop>
     requires bits { A.BITS ≤ 256 }
-    ensures serves { Serves result (shadowed text.now A.BITS)
+    ensures serves { DoesWork result (shadowed text.now A.BITS)
         (O.written out.old) (O.written out.new) (O.finished out.old) (O.finished out.new)
         (O.faults out.old) (O.faults out.new) }
     ensures array { Shades (status_in result) A.BITS text.now (A.device array.old)
@@ -115,7 +115,7 @@ fn shade_parts<O: Sink, A: Array>(
     requires bits { A.BITS ≤ 256 }
     requires part { length part.now ≤ MAX_TEXT_BYTES }
     requires behind { length behind.now ≤ MAX_TEXT_BYTES }
-    ensures serves { Serves result (parts_lit A.BITS part.now behind.now)
+    ensures serves { DoesWork result (parts_lit A.BITS part.now behind.now)
         (O.written out.old) (O.written out.new) (O.finished out.old) (O.finished out.new)
         (O.faults out.old) (O.faults out.new) }
     ensures array { ShadesParts (status_in result) A.BITS part.now behind.now
@@ -176,7 +176,7 @@ fn shade_scene<O: Sink, A: Array>(
 ) -> Result<(), Stop>
     requires bits { A.BITS ≤ 256 }
     requires known { All (IsBelow (length scene.now.solids)) lights.now.items }
-    ensures serves { Serves result (lit A.BITS scene.now lights.now.items)
+    ensures serves { DoesWork result (lit A.BITS scene.now lights.now.items)
         (O.written out.old) (O.written out.new) (O.finished out.old) (O.finished out.new)
         (O.faults out.old) (O.faults out.new) }
     ensures array { ShadesBy (status_in result) A.BITS scene.now lights.now.items

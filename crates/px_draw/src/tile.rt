@@ -7,7 +7,7 @@ ghost use Rattle.px_tile.specs.Found.{IsFound};
 ghost use Rattle.px_tile.specs.Pictures.{IsLastDrawn};
 ghost use Rattle.px_tile.specs.Tilings.{IsWideSize};
 ghost use Rattle.px_draw.specs.Outcomes.{unless_refused};
-ghost use Rattle.px_draw.specs.Stops.{Serves, StopsAt, status_in, status_of, stop_at};
+ghost use Rattle.px_draw.specs.Stops.{DoesWork, StopsAt, status_in, status_of, stop_at};
 ghost use Rattle.px_draw.specs.Tiling.{
   DrawsTiles,
   tiled,
@@ -36,7 +36,7 @@ pub(crate) fn make_tiled<O: Sink, A: Array>(
     array: &mut A,
 ) -> Result<(), Stop>
     requires size { IsWideSize size.width size.height }
-    ensures serves { Serves result (tiled size scene.now A.BITS)
+    ensures serves { DoesWork result (tiled size scene.now A.BITS)
         (O.written out.old) (O.written out.new) (O.finished out.old) (O.finished out.new)
         (O.faults out.old) (O.faults out.new) }
     ensures array { DrawsTiles (status_in result) A.BITS size scene.now (A.device array.old)

@@ -1,6 +1,6 @@
 use Rattle.std.proofs.Common.{◌≡◌, ◌-◌, Err, ap, arith, length, rules, subst, sym, ◌∙◌}
 use Rattle.px_debug.specs.Moves.{Fits}
-use Rattle.px_session.specs.Sessions.{opened}
+use Rattle.px_session.specs.Sessions.{session_opened}
 use Rattle.px_draw.specs.Debugs.{command_text}
 use Rattle.px_draw.proofs.DebugLemmas.{Laws, Seated, performs_sat, took_sat}
 use Rattle.px_draw.proofs.OpenLemmas.{causes_behind, performs_closed, performs_empty, performs_open, performs_part}
@@ -70,7 +70,7 @@ returns-clause-performs g c =
       quit = c.laws_of_sessions.ensures.quit;
       scene = c.laws_of_sessions.ensures.scene;
     } in
-    let fits : Fits g.A.Array.BITS (opened c.in_ok-scene.scene) (g.A.Array.device c.open_session.new.array)
+    let fits : Fits g.A.Array.BITS (session_opened c.in_ok-scene.scene) (g.A.Array.device c.open_session.new.array)
     (g.A.Array.slots c.open_session.new.array) =
     subst (λ s. Fits g.A.Array.BITS s (g.A.Array.device c.open_session.new.array)
     (g.A.Array.slots c.open_session.new.array)) c.in_ok-session.ensures.session c.in_ok-session.ensures.fits in

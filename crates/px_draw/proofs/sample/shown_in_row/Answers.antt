@@ -1,5 +1,5 @@
 use Rattle.std.proofs.Common.{ap, ◌∙◌, arith}
-use Rattle.px_draw.specs.Countings.{shown_in_row, together}
+use Rattle.px_draw.specs.Countings.{shown_in_row, shown_together}
 use Rattle.px_draw.proofs.SampleLemmas.{most_grows, most_together, row_more}
 use Rattle.px_draw.proofs.sample.shown_in_row.Goals as goal
 
@@ -15,8 +15,8 @@ pub loop-x-preserved : goal.loop-x-preserved
 loop-x-preserved g c =
     let scene = c.args.scene.now in
     record {
-      shown = c.plus-shown.ensures ∙ ap (λ shown. together shown c.shown_at.result) c.loop-x.invariant.shown
-          ∙ ap (λ one. together (shown_in_row scene c.loop-x.x c.args.y) one) c.shown_at.ensures.shown
+      shown = c.plus-shown.ensures ∙ ap (λ shown. shown_together shown c.shown_at.result) c.loop-x.invariant.shown
+          ∙ ap (λ one. shown_together (shown_in_row scene c.loop-x.x c.args.y) one) c.shown_at.ensures.shown
           ∙ row_more scene c.args.y c.loop-x.x;
       most = rw c.plus-shown.ensures (most_together c.loop-x.shown c.shown_at.result 16777216 c.loop-x.x
           c.loop-x.invariant.most c.shown_at.ensures.most);
