@@ -6,6 +6,8 @@ mod block;
 #[cfg(test)]
 mod images;
 #[cfg(test)]
+mod masks;
+#[cfg(test)]
 mod refinement;
 #[cfg(test)]
 mod tiles;

@@ -1,0 +1,291 @@
+//! Words worked out by hand, and both arrays side by side.
+ghost use Rattle.std.specs.Prelude.{◌≡◌, ◌<◌, ◌≤◌};
+ghost use Rattle.px_array.specs.Arrays.{IsOpen};
+ghost use Rattle.px_array.specs.Slots.{ArrayView, IsSaved};
+ghost use Rattle.px_pixel.specs.Acts.{HasPlace};
+
+use px_array::{Array, Micro, PixelArray, TreeOp};
+use px_num::{Linear, power};
+use px_pixel::Act;
+use px_planes::{PlaneArray, PlaneTree};
+use px_tree::{Tree, feed_form, value_bit};
+use std::process::Abort;
+use std::test::Fail;
+
+#[test]
+fn the_smallest_tree(rt: HostRuntime) -> Result<(), Fail> {
+    let tree = PlaneTree::new(rt.alloc(), 1, 1)?;
+    assert!(rt; !tree.leaf(1, 1));
+    Ok(())
+}
+
+/// The value of `3 * x - 5 * y + 7` at (3, 2) is 6.
+#[test]
+fn four_by_four(rt: HostRuntime) -> Result<(), Fail> {
+    let form = Linear { a: 3, b: -5, c: 7 };
+    for (t, want) in [(0, false), (1, true), (2, true), (3, false)] {
+        let mut tree = PlaneTree::new(rt.alloc(), 2, 2)?;
+        assert_eq!(rt;
+            value_bit(&mut tree, 2, 2, &form, 3, 2, t),
+            want,
+            "bit {t} of 6"
+        );
+    }
+    Ok(())
+}
+
+/// The value is `2^27 * (2048 + x - y)`, so its bit 35 is bit 8 of `2048 + x - y`.
+#[test]
+fn largest_tree(rt: HostRuntime) -> Result<(), Fail> {
+    let form = Linear {
+        a: 134217728,
+        b: -134217728,
+        c: 274877906944,
+    };
+    let mut tree = PlaneTree::new(rt.alloc(), 9, 9)?;
+    assert!(rt; value_bit(&mut tree, 9, 9, &form, 511, 0, 35));
+    assert!(rt; !value_bit(&mut tree, 9, 9, &form, 255, 0, 35));
+    assert!(rt; value_bit(&mut tree, 9, 9, &form, 0, 1, 35));
+    assert!(rt; !value_bit(&mut tree, 9, 9, &form, 511, 511, 35));
+    Ok(())
+}
+
+/// Bit 0 of `x + 1`: the leaves over even columns, eight to a column.
+#[test]
+fn outputs_of_whole_words(rt: HostRuntime) -> Result<(), Fail> {
+    let form = Linear { a: 1, b: 0, c: 1 };
+    let mut tree = PlaneTree::new(rt.alloc(), 3, 3)?;
+    feed_form(&mut tree, 3, 3, &form, 6);
+    assert_eq!(rt; tree.outputs(6), [0x00ff_00ff_00ff_00ff].as_slice());
+    let mut tree = PlaneTree::new(rt.alloc(), 4, 3)?;
+    feed_form(&mut tree, 4, 3, &form, 7);
+    let word = 0x00ff_00ff_00ff_00ff;
+    assert_eq!(rt; tree.outputs(7), [word, word].as_slice());
+    Ok(())
+}
+
+/// After three feeds level 3 has bit 0 of `x + 1`, level 2 bit 1, and level 1 bit 2 of `2 * i + 1`.
+#[test]
+fn outputs_of_small_levels(rt: HostRuntime) -> Result<(), Fail> {
+    let form = Linear { a: 1, b: 0, c: 1 };
+    let mut tree = PlaneTree::new(rt.alloc(), 2, 1)?;
+    feed_form(&mut tree, 2, 1, &form, 3);
+    assert_eq!(rt; tree.outputs(3), [0b0011_0011].as_slice());
+    assert_eq!(rt; tree.outputs(2), [0b0110].as_slice());
+    assert_eq!(rt; tree.outputs(1), [0b00].as_slice());
+    Ok(())
+}
+
+/// `x + 2 * y + 1` on four pixels is 1, 3, 2 and 4, in the order of their places.
+#[test]
+fn rows_of_a_form(rt: HostRuntime) -> Result<(), Fail> {
+    let mut array = PlaneArray::<5>::new(rt.alloc());
+    assert_eq!(rt; array.size(), (0, 0));
+    array.open(1, 1)?;
+    let micros = [
+        (TreeOp::Clear, Act::EnableAll),
+        (feed(true, false, true), Act::Nop),
+        (feed(false, false, false), Act::Nop),
+        (feed(false, true, false), Act::StoreTree(0)),
+        (feed(false, false, false), Act::StoreTree(1)),
+        (feed(false, false, false), Act::StoreTree(2)),
+        (TreeOp::Hold, Act::Toggle(3)),
+    ];
+    for (tree, act) in micros {
+        assert!(rt; array.size() == (1, 1) && array.clocks() < 9);
+        array.clock(Micro {
+            tree,
+            act: placed(act),
+        });
+    }
+    assert!(rt; array.size() == (1, 1));
+    let rows = [0b0011, 0b0110, 0b1000, 0b1111, 0];
+    for at in 0..5 {
+        assert_eq!(rt; array.row(at as u32), [rows[at]].as_slice(), "row {at}");
+    }
+    Ok(())
+}
+
+/// Random micros on both arrays, with saves and restores, in grids of one word and of many.
+#[test]
+fn both_arrays_agree(rt: HostRuntime) -> Result<(), Fail> {
+    let grids = [(1, 1), (2, 1), (1, 3), (3, 3), (4, 4), (6, 1), (5, 5)];
+    for (nx, ny) in grids {
+        let mut pixels = PixelArray::<5>::new(rt.alloc());
+        let mut planes = PlaneArray::<5>::new(rt.alloc());
+        pixels.open(nx, ny)?;
+        planes.open(nx, ny)?;
+        let mut draw = Draw { state: 7, lines: 0 };
+        for _ in 0..6 {
+            assert!(rt; pixels.size().0 >= 1 && planes.size().0 >= 1);
+            clock_both(&rt, &mut pixels, &mut planes, &mut draw, 40);
+            pixels.save(2);
+            planes.save(2);
+            clock_both(&rt, &mut pixels, &mut planes, &mut draw, 30);
+            pixels.restore(2);
+            planes.restore(2);
+            compare(&rt, &pixels, &planes);
+            assert_eq!(rt; pixels.work(), planes.work());
+        }
+    }
+    Ok(())
+}
+
+/// Numbers that look random, and the lines of the last feed.
+#[derive(Drop)]
+struct Draw {
+    state: u64,
+    lines: u32,
+}
+
+impl Draw {
+    fn number(&mut self) -> u32 {
+        self.state = self
+            .state
+            .wrapping_mul(6364136223846793005)
+            .wrapping_add(1442695040888963407);
+        (self.state >> 33) as u32
+    }
+
+    /// A micro, which mostly feeds the tree, and more often than not by the lines of the feed before.
+    fn micro(&mut self) -> Micro
+        ensures { HasPlace 5 result.act }
+    {
+        if self.number() % 3 == 0 {
+            self.lines = self.number() % 8;
+        }
+        let lines = self.lines;
+        let tree = match self.number() % 24 {
+            0 => TreeOp::Clear,
+            1 | 2 => TreeOp::Hold,
+            _ => feed(lines % 2 == 1, lines / 2 % 2 == 1, lines / 4 == 1),
+        };
+        let act = act_of(
+            self.number() % 14,
+            self.number() % 5,
+            self.number() % 2 == 1,
+        );
+        Micro {
+            tree,
+            act: placed(act),
+        }
+    }
+}
+
+fn feed(a: bool, b: bool, c: bool) -> TreeOp {
+    TreeOp::Feed { a, b, c }
+}
+
+fn act_of(kind: u32, at: u32, v: bool) -> Act {
+    match kind {
+        0 => Act::Nop,
+        1 => Act::EnableAll,
+        2 => Act::EnableCarry(v),
+        3 => Act::EnableTree(v),
+        4 => Act::EnableBit(at, v),
+        5 => Act::SetCarry(v),
+        6 => Act::Fetch(at),
+        7 => Act::StoreTree(at),
+        8 => Act::StoreLatch(at),
+        9 => Act::StoreConst(at, v),
+        10 => Act::Toggle(at),
+        11 => Act::CarryTree(at),
+        12 => Act::CarryLatch(at),
+        _ => Act::AddTree(at),
+    }
+}
+
+/// The act with its place below 5.
+fn placed(act: Act) -> Act
+    ensures { HasPlace 5 result }
+{
+    match act {
+        Act::EnableBit(at, v) => Act::EnableBit(at % 5, v),
+        Act::Fetch(at) => Act::Fetch(at % 5),
+        Act::StoreTree(at) => Act::StoreTree(at % 5),
+        Act::StoreLatch(at) => Act::StoreLatch(at % 5),
+        Act::StoreConst(at, v) => Act::StoreConst(at % 5, v),
+        Act::Toggle(at) => Act::Toggle(at % 5),
+        Act::CarryTree(at) => Act::CarryTree(at % 5),
+        Act::CarryLatch(at) => Act::CarryLatch(at % 5),
+        Act::AddTree(at) => Act::AddTree(at % 5),
+        other => other,
+    }
+}
+
+/// So many random micros on both arrays, which are compared after each.
+fn clock_both(
+    rt: &impl Abort,
+    pixels: &mut PixelArray<5>,
+    planes: &mut PlaneArray<5>,
+    draw: &mut Draw,
+    count: u32,
+)
+    requires pixels { IsOpen pixels.old.device }
+    requires planes { IsOpen planes.old.device }
+    ensures pixels { IsOpen pixels.new.device }
+    ensures planes { IsOpen planes.new.device }
+    ensures pixel_slots { pixels.new.slots ≡ pixels.old.slots }
+    ensures plane_slots { planes.new.slots ≡ planes.old.slots }
+{
+    for _ in 0..count {
+        clock_one(rt, pixels, planes, draw.micro());
+    }
+}
+
+fn clock_one(rt: &impl Abort, pixels: &mut PixelArray<5>, planes: &mut PlaneArray<5>, m: Micro)
+    requires place { HasPlace 5 m.act }
+    requires pixels { IsOpen pixels.old.device }
+    requires planes { IsOpen planes.old.device }
+    ensures pixels { IsOpen pixels.new.device }
+    ensures planes { IsOpen planes.new.device }
+    ensures pixel_slots { pixels.new.slots ≡ pixels.old.slots }
+    ensures plane_slots { planes.new.slots ≡ planes.old.slots }
+{
+    assert!(rt; pixels.clocks() < 10000 && planes.clocks() < 10000);
+    pixels.clock(m);
+    planes.clock(m);
+    compare(rt, pixels, planes);
+    assert!(rt; pixels.size().0 >= 1 && planes.size().0 >= 1);
+}
+
+/// Every bit, register, leaf and node of both arrays is the same, and so are their clocks.
+fn compare(rt: &impl Abort, pixels: &PixelArray<5>, planes: &PlaneArray<5>) {
+    assert_eq!(rt; pixels.clocks(), planes.clocks());
+    let (nx, ny) = pixels.size();
+    assert!(rt; 1 <= nx && nx <= 9 && 1 <= ny && ny <= 9);
+    for x in 0..power(nx) {
+        for y in 0..power(ny) {
+            compare_pixel(rt, pixels, planes, x as u32, y as u32);
+        }
+    }
+    for level in 1..nx + ny + 1 {
+        for index in 0..power(level) {
+            compare_node(rt, pixels, planes, level, index as u32);
+        }
+    }
+}
+
+fn compare_pixel(rt: &impl Abort, pixels: &PixelArray<5>, planes: &PlaneArray<5>, x: u32, y: u32) {
+    let (nx, ny) = pixels.size();
+    assert!(rt; planes.size() == (nx, ny) && 1 <= nx && nx <= 9 && ny <= 9);
+    assert!(rt; (x as usize) < power(nx) && (y as usize) < power(ny));
+    assert_eq!(rt; pixels.registers(x, y), planes.registers(x, y));
+    assert_eq!(rt; pixels.tree_bit(x, y), planes.tree_bit(x, y));
+    for at in 0..5 {
+        assert_eq!(rt; pixels.bit(x, y, at), planes.bit(x, y, at));
+    }
+}
+
+fn compare_node(
+    rt: &impl Abort,
+    pixels: &PixelArray<5>,
+    planes: &PlaneArray<5>,
+    level: u32,
+    index: u32,
+) {
+    let (nx, ny) = pixels.size();
+    assert!(rt; planes.size() == (nx, ny) && 1 <= nx && nx <= 9 && ny <= 9);
+    assert!(rt; 1 <= level && level <= nx + ny && (index as usize) < power(level));
+    assert_eq!(rt; pixels.node(level, index), planes.node(level, index));
+}

@@ -1,0 +1,33 @@
+//! The texts of samples.
+
+use px_scene::{read_scene, sample_text};
+use std::test::Fail;
+
+/// The sample of one block, and the expression of that of seven.
+const ONE: &[u8] = b"pxscene 1\npicture 64 4\ndepth 16\n\
+    solid b0 0 100 200\nside 1 0 0\nside -1 0 2\nside 0 1 0\nside 0 -1 2\n\
+    front 1 2 100\nback 0 0 1000\n\
+    solid cut 255 255 0\nside 1 -1 0\nback 0 0 300\n\
+    show (b0 - cut)\nend\n";
+
+const SEVEN: &[u8] = b"show (((b0 + (b1 + b2)) + ((b3 + b4) + (b5 + b6))) - cut)\nend\n";
+
+#[test]
+fn samples_of_one_and_of_seven(rt: HostRuntime) -> Result<(), Fail> {
+    let one = sample_text(rt.alloc(), 1)?;
+    assert_eq!(rt; one.as_slice(), ONE);
+    let seven = sample_text(rt.alloc(), 7)?;
+    assert!(rt; seven.as_slice().ends_with(SEVEN));
+    Ok(())
+}
+
+#[test]
+fn samples_are_scenes(rt: HostRuntime) -> Result<(), Fail> {
+    for n in [1, 16, 17, 200] {
+        let text = sample_text(rt.alloc(), n)?;
+        let scene = read_scene(rt.alloc(), text.as_slice())?;
+        assert_eq!(rt; scene.solids().len(), n as usize + 1);
+        assert_eq!(rt; scene.width(), 64);
+    }
+    Ok(())
+}
