@@ -13,13 +13,13 @@ use Rattle.px_macro.specs.declared.operation.Macro.TheVariants.{AddLinear, LoadC
 use Rattle.px_array.specs.Arrays.{HasGrid, State, pixel_at, pixel_of}
 use Rattle.px_asm.specs.Micros.{micro_at, tree_at}
 use Rattle.px_asm.specs.Microprograms.{LeaveTheMeaning, bits_of}
-use Rattle.px_asm.proofs.Acting.{after_acts-same}
-use Rattle.px_asm.proofs.FormRuns.{at_most_act, kept_by_sign, kept_if_at_most, not_last, put_by_add, put_by_load}
-use Rattle.px_asm.proofs.Comparing.{kept_if_less}
+use Rattle.px_asm.proofs.ActingLemmas.{after_acts-same}
+use Rattle.px_asm.proofs.FormRunLemmas.{at_most_act, kept_by_sign, kept_if_at_most, not_last, put_by_add, put_by_load}
+use Rattle.px_asm.proofs.ComparingLemmas.{kept_if_less}
 use Rattle.px_asm.proofs.PlaceLemmas.{act_of_choice}
-use Rattle.px_asm.proofs.Storing.{put_by_copy, put_by_stores}
+use Rattle.px_asm.proofs.StoringLemmas.{put_by_copy, put_by_stores}
 use Rattle.px_tree.proofs.PlaceLaws.{index_below}
-use Rattle.px_asm.proofs.Steps.{leaf_while_fed, pixel_after_run, steps}
+use Rattle.px_asm.proofs.StepLemmas.{leaf_while_fed, pixel_after_run, steps}
 
 memory_size : (bits nx ny : ℕ) (s : State) → HasGrid bits nx ny s → (x y : ℕ) → x < 2 ^ nx → y < 2 ^ ny
     → length (pixel_of s x y).memory ≡ bits

@@ -1,11 +1,11 @@
-pub mod Acting
-pub mod Comparing
+pub mod ActingLemmas
+pub mod ComparingLemmas
 pub mod CycleLaws
-pub mod FormRuns
+pub mod FormRunLemmas
 pub mod LawLemmas
 pub mod MakingLemmas
 pub mod PlaceLemmas
 pub mod ProgramLemmas
-pub mod Steps
-pub mod Storing
-pub mod Written
+pub mod StepLemmas
+pub mod StoringLemmas
+pub mod WrittenLemmas

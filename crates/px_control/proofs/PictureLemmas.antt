@@ -1,7 +1,7 @@
 -- What the program leaves in each pixel is what the passes mean there.
-use Rattle.std.proofs.Common.{◌≡◌, ℕ, ◌+◌, ◌*◌, ◌^◌, ◌<◌, false, length, replicate, get_or, refl, ap, ◌∙◌, arith}
+use Rattle.std.proofs.Common.{◌≡◌, ℕ, ◌+◌, ◌*◌, ◌^◌, ◌<◌, false, length, replicate, get_or, ap, ◌∙◌, arith}
 use Rattle.std.proofs.lemmas.List.{get_or-replicate, length-replicate, take_all}
-use Rattle.px_array.specs.Arrays.{HasGrid, no_pixel, pixel_of, zero_state}
+use Rattle.px_array.specs.Arrays.{no_pixel, pixel_of, zero_state}
 use Rattle.px_array.specs.Clocks.{after_clocks}
 use Rattle.px_asm.specs.Micros.{all_micros}
 use Rattle.px_asm.specs.Microprograms.{LeaveTheMeanings, bits_of}
@@ -17,6 +17,7 @@ use Rattle.px_sched.proofs.LawfulLaws.{passes_lawful}
 use Rattle.px_control.specs.PictureLaw.{PictureLaw}
 use Rattle.px_control.specs.Program.{array_after, columns_of, program, rows_of, total}
 use Rattle.px_control.proofs.GridLemmas.{exponent_between, exponent_is}
+use Rattle.px_array.proofs.ClockLaws.{grid_of_zero_state}
 
 pub scene_grid : (scene : SceneView) → IsLawfulScene scene → IsGrid (columns_of scene) (rows_of scene)
 scene_grid scene lawful = (exponent_between scene.width lawful.width, exponent_between scene.height lawful.height)
@@ -24,14 +25,6 @@ scene_grid scene lawful = (exponent_between scene.width lawful.width, exponent_b
 zero_pixel_at : (bits count place : ℕ) → place < count → get_or (replicate count (zero_pixel bits)) place no_pixel
     ≡ zero_pixel bits
 zero_pixel_at bits count place h = get_or-replicate count place (zero_pixel bits) no_pixel h
-
-zero_grid : (bits nx ny : ℕ) → HasGrid bits nx ny (zero_state bits nx ny)
-zero_grid bits nx ny = record {
-  columns = refl;
-  rows = refl;
-  pixels = length-replicate (2 ^ (nx + ny)) (zero_pixel bits);
-  memory = λ place inside. rw (zero_pixel_at bits (2 ^ (nx + ny)) place inside) (length-replicate bits false);
-}
 
 -- the state after the whole program
 whole : (bits : ℕ) (scene : SceneView) → (array_after bits scene (total scene)).state ≡ after_clocks
@@ -50,7 +43,7 @@ picture_law more meanings lawful shown bits scene device law solids at x y left 
     in let pixel : pixel_of start x y ≡ zero_pixel bits =
     zero_pixel_at bits (2 ^ (nx + ny)) (x * 2 ^ ny + y) (index_below nx ny x y column row)
     in let left_there = meanings bits nx ny (scene_grid scene law) (passes scene)
-    (passes_lawful more lawful bits scene law solids at.enough) start (zero_grid bits nx ny) x y column row
+    (passes_lawful more lawful bits scene law solids at.enough) start (grid_of_zero_state bits nx ny) x y column row
     in let state : device.state ≡ after_clocks (all_micros (passes scene) nx ny) start =
     ap (λ d. d.state) at.reached ∙ whole bits scene
     in let memory : (pixel_of device.state x y).memory

@@ -1,6 +1,6 @@
-pub mod Fitting
-pub mod Grids
-pub mod Jumps
-pub mod Marking
-pub mod Traces
-pub mod Tracing
+pub mod FittingLemmas
+pub mod GridLemmas
+pub mod JumpLemmas
+pub mod MarkingLemmas
+pub mod TraceLemmas
+pub mod TracingLemmas

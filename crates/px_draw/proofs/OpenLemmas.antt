@@ -28,10 +28,7 @@ use Rattle.px_draw.specs.Stops.{HasStopCauses, Performs, StopsAt, status_of}
 use Rattle.px_draw.specs.Untouched.{IsUntouched}
 use Rattle.px_draw.proofs.DebugLemmas.{Extends, Laws, admits_is, and_not, answered_end, debugged_is, extends, grown}
 use Rattle.px_draw.proofs.DebugLemmas.{long_is, short_is, within_both}
-
-keeps_same : (a : Option (List ℕ)) → Keeps a a
-keeps_same None = tt
-keeps_same (Some bytes) = refl
+use Rattle.px_draw.proofs.WorkLemmas.{keeps_same}
 
 untouched : (a : Option (List ℕ)) (p : Option Bool) (before now : Device) → now ≡ before
     → IsUntouched a a p p before now

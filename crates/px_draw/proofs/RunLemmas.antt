@@ -1,6 +1,6 @@
 -- What a command does is what a run of its words does.
 use Rattle.std.proofs.Common.{ℕ, ◌≡◌, List, [], Bool, Option, Some, None, Ok, Err, refl, ◌∙◌}
-use Rattle.std.specs.Io.KnownBytes.{Consumes, Keeps}
+use Rattle.std.specs.Io.KnownBytes.{Consumes}
 use Rattle.px_array.specs.Arrays.{Device}
 use Rattle.px_command.specs.declared.command.Command.{Command}
 use Rattle.px_draw.specs.declared.refusal.Refusal.TheVariants as r
@@ -13,6 +13,7 @@ use Rattle.px_draw.specs.Notes.{note}
 use Rattle.px_draw.specs.Outcomes.{Outcome}
 use Rattle.px_draw.specs.Runs.{IsInput, IsNoted, IsRunOf, IsTold, outcome}
 use Rattle.px_draw.specs.Stops.{Performs, note_of, status_of}
+use Rattle.px_draw.proofs.WorkLemmas.{keeps_same}
 
 -- a run of these words, by an input that was so before and is so now
 abbrev pub IsRunBy : (words : List (List ℕ)) (known rest : Option (List ℕ)) (bits : ℕ) (found : Status)
@@ -21,10 +22,6 @@ abbrev pub IsRunBy : (words : List (List ℕ)) (known rest : Option (List ℕ)) 
 IsRunBy words known rest bits found a b p q k l v t m n before now =
     (bytes taken : List ℕ) × IsInput known bytes × Consumes known rest taken × IsRunOf words bytes taken bits found a
     b p q k l v t m n before now
-
-keeps_same : (a : Option (List ℕ)) → Keeps a a
-keeps_same None = tt
-keeps_same (Some bytes) = refl
 
 -- a run that did its work tells nothing
 pub run_done : (words : List (List ℕ)) (known rest : Option (List ℕ)) (bits : ℕ) (u : Unit {0})

@@ -1,7 +1,7 @@
 -- What is made of the sample's text is what the command does, and the shown pixels grow pixel by pixel and row by row.
 use Rattle.std.proofs.Common.{ℕ, ◌≡◌, ◌≢◌, ◌+◌, ◌*◌, ◌≤◌, List, [], true, Bool, Option, Some, None, Result, Ok}
 use Rattle.std.proofs.Common.{Err, inl, refl, sym, subst, arith}
-use Rattle.std.specs.Io.KnownBytes.{Appends, Consumes}
+use Rattle.std.specs.Io.KnownBytes.{Appends}
 use Rattle.px_io.specs.Told.{Tells}
 use Rattle.px_array.specs.Arrays.{Device}
 use Rattle.px_scene.specs.Scenes.{SceneView}
@@ -26,10 +26,7 @@ use Rattle.px_draw.specs.Stops.{HasStopCauses, IsSceneStop, IsTextStop, Meets, P
 use Rattle.px_draw.specs.Stops.{status_in}
 use Rattle.px_draw.specs.Stops.{status_of}
 use Rattle.px_draw.proofs.WorkLemmas.{bytes_of, is_input, keeps_same, line_meets, status_meets, wrote}
-
-consumes_none : (known : Option (List ℕ)) → Consumes known known []
-consumes_none None = tt
-consumes_none (Some bytes) = refl
+use Rattle.px_io.proofs.ToldLaws.{consumes_none}
 
 -- what reads nothing has no status of a read fault
 no_read_fault : (result : Result (Unit {0}) Stop) → result ≢ Err s.ReadFault → status_in result ≢ status.ReadFault

@@ -21,8 +21,8 @@ use Rattle.px_face.specs.Covering.{IsCoveredOnce, covering_back, covering_front,
 use Rattle.px_face.specs.Edges.{above, hold_at, at_least, back_edges, covers, front_edges}
 use Rattle.px_face.specs.Faces.{back_planes, face_count, front_planes, is_front_face, level, face_number}
 use Rattle.px_face.specs.Faces.{numbers_in_faces, face_plane}
-use Rattle.px_face.proofs.DepthLaws.{backs_over, cells_are, depths_are, fronts_below, fronts_under}
-use Rattle.px_face.proofs.DepthLaws.{turned_backs}
+use Rattle.px_face.proofs.DepthLaws.{backs_over, cells_are, depths_are, fronts_below, fronts_under, before_turned}
+use Rattle.px_face.proofs.DepthLaws.{turned_backs, le_same}
 use Rattle.px_face.proofs.PlaceLemmas.{greatest_bounds, greatest_first, greatest_only}
 use Rattle.px_face.proofs.PlaceLemmas.{greatest_there, is_first_greatest}
 use Rattle.px_face.proofs.RangeLemmas.{backs_size, fronts_size}
@@ -39,9 +39,6 @@ lt_turned u v = grind (arith, ints)
 le_turned : (u v : ℤ) → le_z u v ≡ le_z (neg_ℤ v) (neg_ℤ u)
 le_turned u v = grind (arith, ints)
 
-le_same : (v : ℤ) → le_z v v ≡ true
-le_same v = grind (arith, ints)
-
 lt_before : (v : ℤ) → lt_z (v -ℤ pos 1) v ≡ true
 lt_before v = grind (arith, ints)
 
@@ -50,9 +47,6 @@ le_ext a b p q = grind (arith, ints)
 
 lt_ext : (a b : ℤ) → lt_z a a ≡ lt_z a b → lt_z b a ≡ lt_z b b → a ≡ b
 lt_ext a b p q = grind (arith, ints)
-
-before_turned : (z w : ℤ) → le_z (neg_ℤ w) (neg_ℤ z -ℤ pos 1) ≡ lt_z z w
-before_turned z w = grind (arith, ints)
 
 pub moved_place : (n i k : ℕ) → n ≤ i → eqb (i - n) k ≡ eqb i (n + k)
 moved_place n i k h = grind (arith, nat_tests)

@@ -31,8 +31,11 @@ swapped false false = refl
 below_is_most : (u v : ℤ) → lt_z u v ≡ le_z u (v -ℤ pos 1)
 below_is_most u v = grind (arith, ints)
 
-before_turned : (z w : ℤ) → le_z (neg_ℤ w) (neg_ℤ z -ℤ pos 1) ≡ lt_z z w
+pub before_turned : (z w : ℤ) → le_z (neg_ℤ w) (neg_ℤ z -ℤ pos 1) ≡ lt_z z w
 before_turned z w = grind (arith, ints)
+
+pub le_same : (v : ℤ) → le_z v v ≡ true
+le_same v = grind (arith, ints)
 
 -- the tests of a cell, in the order of the depths
 in_order : (near n sides f b : Bool) → near ≡ true → (n && sides) && f && b ≡ (sides && ((near && f) && (n && b)))

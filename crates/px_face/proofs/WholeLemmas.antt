@@ -17,7 +17,7 @@ use Rattle.px_model.specs.Cells.{leaves_at}
 use Rattle.px_model.proofs.CellLaws.{cell_whole, value_whole}
 use Rattle.px_face.specs.Covering.{is_met}
 use Rattle.px_face.specs.WholeLaws.{WholeBacks, WholeFronts}
-use Rattle.px_face.proofs.DepthLaws.{cells_are, depths_are}
+use Rattle.px_face.proofs.DepthLaws.{cells_are, depths_are, le_same}
 
 no_faces : (t : ℤ → Bool) (fs : List Face) (x y : ℕ) (v : ℤ) → list_all (λ f. t (value_at f.plane x y)) fs ≡ true
     → t v ≡ false → faces_at fs x y v ≡ []
@@ -37,9 +37,6 @@ module _ (s : SolidView) (far x y : ℕ) where
 
   pub inside_whole : (z : ℕ) → is_inside s d x y z ≡ is_inside_at s far x y z
   inside_whole z = let e : end_of d ≡ far = value_whole far far in rw (e, value_whole far z) refl
-
-itself : (v : ℤ) → le_z v v ≡ true
-itself v = grind (arith, ints)
 
 same_near : (z : ℕ) → int_eq (pos 0) (pos z) ≡ (z == 0)
 same_near z = grind (arith, nat_tests, ints)
@@ -113,7 +110,7 @@ whole_fronts s far x y z inside =
     fronts_by_value far s.near_number s.fronts x y z e (depths_are s far x y is).0
     (second_of met (le_z e (pos z)) (lt_z (pos z) (leaves_at s far x y)) all)
     (and_right (le_z (pos 0) e) (list_all (λ f. le_z (value_at f.plane x y) e) s.fronts)
-    (sym (all_max (λ f. value_at f.plane x y) s.fronts (pos 0) e) ∙ itself e))
+    (sym (all_max (λ f. value_at f.plane x y) s.fronts (pos 0) e) ∙ le_same e))
 
 pub whole_backs : WholeBacks
 whole_backs s far x y zero = refl

@@ -1,6 +1,6 @@
 -- The laws of told bytes over several calls in a row.
 use Rattle.std.proofs.Common.{◌≡◌, ℕ, ◌+◌, ◌-◌, Bool, List, [], ◌++◌, take, drop, length, Option, Some, None}
-use Rattle.std.proofs.Common.{append_assoc, refl, sym, arith, length-append, length-drop}
+use Rattle.std.proofs.Common.{Result, Ok, Err, OnErr, append_assoc, refl, sym, arith, length-append, length-drop}
 use Prim.Native.Nat.{zero, suc}
 use Rattle.std.proofs.Math.Seq.{take-add, take-append-add}
 use Rattle.std.proofs.lemmas.List.{take_all, take-append-le as take_within}
@@ -23,7 +23,7 @@ appends_kept (Some a) (Some b) None xs p q = absurd q
 appends_kept (Some a) (Some b) (Some c) xs p q = rw q p
 
 -- a sink that took m bytes and then n
-reopens_both : (f g h : Option Bool) (m n : ℕ) → Reopens f g m → Reopens g h n → Reopens f h (m + n)
+pub reopens_both : (f g h : Option Bool) (m n : ℕ) → Reopens f g m → Reopens g h n → Reopens f h (m + n)
 reopens_both f g h m zero first second = record {
   taken = λ some. rw (second.idle refl) (first.taken (omega arith));
   idle = λ none. rw (second.idle refl) (first.idle (omega arith));
@@ -105,3 +105,12 @@ consumes_kept None b c xs p q = tt
 consumes_kept (Some a) None c xs p q = absurd p
 consumes_kept (Some a) (Some b) None xs p q = absurd q
 consumes_kept (Some a) (Some b) (Some c) xs p q = rw q p
+
+-- what holds at an error, and what follows from it
+pub on_err : {T E P : Type 0} (r : Result T E) → P → OnErr r P
+on_err (Ok x) p = tt
+on_err (Err x) p = p
+
+pub on_err_by : {T E : Type 0} {P Q : Type 0} (r : Result T E) → OnErr r P → (P → Q) → OnErr r Q
+on_err_by (Ok x) p f = tt
+on_err_by (Err e) p f = f p

@@ -83,7 +83,3 @@ pub err_cut : {T E : Type 0} (r : Result T E) (a b c : Option (List ℕ)) (f g h
 err_cut (Ok x) a b c f g h u v xs ys rest whole is first second = tt
 err_cut (Err x) a b c f g h u v xs ys rest whole is first second =
     puts_cut a b c f g h u v xs ys rest whole is first second
-
-pub if_err : {T E P : Type 0} (r : Result T E) → P → OnErr r P
-if_err (Ok x) p = tt
-if_err (Err x) p = p

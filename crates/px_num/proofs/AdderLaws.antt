@@ -7,6 +7,7 @@ use Rattle.std.proofs.lemmas.Nat.Bits.{bit_at-suc}
 use Rattle.std.proofs.lemmas.Nat.{pow-add, mod-pow-add}
 use Rattle.px_num.proofs.BitLaws.{modulo_below}
 use Rattle.px_num.specs.Bits.{bit_of, carry_from, majority, modulo, nat_bit, xor}
+use Rattle.px_num.proofs.TruthLaws.{double_pow}
 
 -- a bit as a number
 abbrev pub number : Bool → ℕ
@@ -50,9 +51,6 @@ lowest_number : (n : ℕ) → number (bit_of (pos n) 0) ≡ n % 2
 lowest_number n =
     let all : n / 2 ^ 0 ≡ n = omega arith in
     rw all (number_test (n % 2) (omega arith))
-
-double_pow : (e : ℕ) → 2 ^ suc e ≡ 2 * 2 ^ e
-double_pow e = ap (λ n. 2 ^ n) (omega arith) ∙ pow-add 2 1 e
 
 -- a rest by the rest of the half
 rest_half : (n width : ℕ) → n % 2 ^ suc width ≡ 2 * (n / 2 % 2 ^ width) + n % 2

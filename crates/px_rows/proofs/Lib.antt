@@ -1,4 +1,4 @@
 pub mod BitLaws
-pub mod BlockLaws
-pub mod WordLaws
-pub mod Writes
+pub mod BlockLemmas
+pub mod WordLemmas
+pub mod WriteLemmas

@@ -1,7 +1,6 @@
 -- The lines of the canonical text, one after another, are good and give the scene.
 use Rattle.std.proofs.Common.{◌≡◌, ℕ, ℤ, pos, ◌+◌, ◌-◌, min, ◌<◌, ◌≤◌, ◌^◌, ◌==◌, List, [], ◌∷◌, ◌++◌, length, Option}
 use Rattle.std.proofs.Common.{Some, None, Bool, true, false, ◌||◌, codes, decimal, refl, ap, sym, ◌∙◌, arith}
-use Rattle.std.proofs.Common.{slice_get, length-append}
 use Rattle.std.specs.Option.{option_or}
 use Rattle.std.proofs.lemmas.Int.{ints}
 use Rattle.std.proofs.lemmas.Bool.Decides.{nat_tests}
@@ -31,7 +30,7 @@ use Rattle.px_scene.specs.Drafts.{fresh_solid, new_solid}
 use Rattle.px_scene.specs.Canonical.{depth_words, plane_words, colour_words}
 use Rattle.px_text.proofs.DecimalLaws.{number_read, signed_read}
 use Rattle.px_text.proofs.LineLaws.{small_size}
-use Rattle.px_scene.proofs.TellsLemmas.{blank}
+use Rattle.px_scene.proofs.TellsLemmas.{blank, in_last-push}
 use Rattle.px_scene.proofs.DraftLemmas.{with_last-append}
 use Rattle.px_scene.proofs.WalkLemmas.{Walk, walk_both}
 
@@ -159,15 +158,6 @@ colour_in c is =
     )
     (past_in kind.Colour 0 255 c.blue (omega arith) (omega arith))
 
-last_end : (ss : List SolidView) (s : SolidView) → slice_get (ss ++ s ∷ []) (length ss) ≡ Some s
-last_end [] s = refl
-last_end (q ∷ ss) s = last_end ss s
-
-in_last-end : (count : SolidView → ℕ) (ss : List SolidView) (s : SolidView) → in_last count (ss ++ s ∷ []) ≡ count s
-in_last-end count ss s =
-    let place : length (ss ++ s ∷ []) - 1 ≡ length ss = omega (arith, length-append ss (s ∷ []))
-    in rw (place, last_end ss s) refl
-
 -- what stands while solids are written, behind the draft of the first lines
 abbrev pub written_so_far : DraftView → List SolidView → ℕ → DraftView
 written_so_far start solids n = record start { due = d.Plane; numbered = n; solids = solids }
@@ -240,7 +230,7 @@ front_walk start done s n f is number few more =
     in (
       front_good start.version (names_of (done ++ s ∷ [])) (face_words f) (tally_of (open_solid start done s n))
           (face_numbers f) figures refl
-          (ap (λ m. face_limit kind.Fronts m n (face_numbers f)) (in_last-end (λ q. length q.fronts) done s)
+          (ap (λ m. face_limit kind.Fronts m n (face_numbers f)) (in_last-push (λ q. length q.fronts) done s)
           ∙ limits_in kind.Fronts f (length s.fronts) n is few more),
       ap (λ zs. after (with_last (with_front (n + 1) zs) (done ++ s ∷ []))) figures.is
           ∙ ap after (with_last-append (with_front (n + 1) (face_numbers f)) done s)
@@ -257,7 +247,7 @@ back_walk start done s n f is number few more =
     in (
       back_good start.version (names_of (done ++ s ∷ [])) (face_words f) (tally_of (open_solid start done s n))
           (face_numbers f) figures refl
-          (ap (λ m. face_limit kind.Backs m n (face_numbers f)) (in_last-end (λ q. length q.backs) done s)
+          (ap (λ m. face_limit kind.Backs m n (face_numbers f)) (in_last-push (λ q. length q.backs) done s)
           ∙ limits_in kind.Backs f (length s.backs) n is few more),
       ap (λ zs. after (with_last (with_back (n + 1) zs) (done ++ s ∷ []))) figures.is
           ∙ ap after (with_last-append (with_back (n + 1) (face_numbers f)) done s)
@@ -275,7 +265,7 @@ side_walk start done s n p is few =
       side_good start.version (names_of (done ++ s ∷ [])) (plane_words p) (tally_of (open_solid start done s n))
           (plane_numbers p []) figures refl
           (ap (λ m. option_or (face_past (plane_numbers p [])) (most kind.Sides 32 (m + 1)))
-          (in_last-end (λ q. length q.sides) done s)
+          (in_last-push (λ q. length q.sides) done s)
           ∙ rw (plane_in p is) (past_in kind.Sides 0 32 (length s.sides + 1) (omega arith) (omega arith))),
       ap (λ zs. after (with_last (with_side zs) (done ++ s ∷ []))) figures.is
           ∙ ap after (with_last-append (with_side (plane_numbers p [])) done s),

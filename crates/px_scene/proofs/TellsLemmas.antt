@@ -307,7 +307,7 @@ in_last-with_last count change more grows (s ∷ t ∷ ss) some =
     in let old : length (s ∷ t ∷ ss) - 1 ≡ suc (length (t ∷ ss) - 1) = omega arith
     in rw (new, old) (in_last-with_last count change more grows (t ∷ ss) (omega arith))
 
-in_last-push : (count : SolidView → ℕ) (ss : List SolidView) (s : SolidView) → in_last count (ss ++ s ∷ []) ≡ count s
+pub in_last-push : (count : SolidView → ℕ) (ss : List SolidView) (s : SolidView) → in_last count (ss ++ s ∷ []) ≡ count s
 in_last-push count [] s = refl
 in_last-push count (q ∷ qs) s =
     let place : length (q ∷ (qs ++ s ∷ [])) - 1 ≡ suc (length (qs ++ s ∷ []) - 1) =

@@ -102,7 +102,7 @@ few_literals p =
 few_kept : {X : Type 0} (h : X → Bool) (xs : List X) → length (filter h xs) ≤ length xs
 few_kept h xs = omega (arith, length-filter h xs, count_by-le-length h xs)
 
-anything : {X : Type 0} (xs : List X) → All (λ _. Unit {0}) xs
+pub anything : {X : Type 0} (xs : List X) → All (λ _. Unit {0}) xs
 anything xs k d low = tt
 
 pub candidate_faces_there : (s : SolidView) (plain : Bool) → All (λ face. face < face_count s) (candidate_faces s plain)

@@ -36,17 +36,9 @@ use Rattle.px_sched.specs.Layouts.{number_part}
 use Rattle.px_sched.specs.Passes.{candidate, candidate_faces, classify, confirm, drop_behind, where_fraction}
 use Rattle.px_sched.specs.Passes.{keep_covered, literal_passes, literals, merge, no_solid, others, passes_with}
 use Rattle.px_sched.specs.Passes.{solid_of, turn}
-use Rattle.px_sched.proofs.FewLaws.{any_solid, candidate_faces_there, no_solid_lawful}
+use Rattle.px_sched.proofs.FewLaws.{any_solid, candidate_faces_there, no_solid_lawful, anything}
 use Rattle.px_sched.proofs.LayoutLaws.{counted, passed_over, scene_layout}
-
-all_flat : {X : Type 0} (P : Macro → Type 0) (Q : X → Type 0) (f : X → List Macro) → ((x : X) → Q x → All P (f x))
-    → (xs : List X) → All Q xs → All P (flat_map f xs)
-all_flat P Q f each [] all = All-nil P
-all_flat P Q f each (x ∷ xs) all =
-    All-append P (f x) (flat_map f xs) (each x (All-head Q x xs all)) (all_flat P Q f each xs (All-tail Q x xs all))
-
-anything : {X : Type 0} (xs : List X) → All (λ _. Unit {0}) xs
-anything xs k d low = tt
+use Rattle.px_sched.proofs.LawfulLaws.{all_flat}
 
 -- a depth before the bits of a number
 shifted : (far w i : ℕ) → far < 2 ^ w → far * 2 ^ i < 2 ^ (w + i)

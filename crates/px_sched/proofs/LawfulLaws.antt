@@ -1,8 +1,10 @@
--- The passes are lawful in any memory that has room for them.
-use Rattle.std.proofs.Common.{ℕ, ◌≤◌}
+-- The passes are lawful in any memory that has room for them; what holds of all operations of lists.
+use Rattle.std.proofs.Common.{ℕ, ◌≤◌, List, [], ◌∷◌}
+use Rattle.std.specs.List.{flat_map}
 use Rattle.std.specs.Prelude.{All}
-use Rattle.std.proofs.lemmas.List.Elements.{All-weaker}
+use Rattle.std.proofs.lemmas.List.Elements.{All-append, All-head, All-nil, All-tail, All-weaker}
 use Rattle.px_macro.specs.Macros.{IsLawful, IsLawfulInMore}
+use Rattle.px_macro.specs.declared.operation.Macro.{Macro}
 use Rattle.px_model.specs.Scenes.{IsLawfulScene, SceneView, IsLawfulSolid}
 use Rattle.px_sched.specs.Layouts.{layout_of, need_of}
 use Rattle.px_sched.specs.Passes.{passes}
@@ -14,3 +16,9 @@ pub passes_lawful : IsLawfulInMore → PassesAreLawful → (bits : ℕ) (scene :
 passes_lawful more lawful bits scene h solids enough =
     All-weaker (λ m. IsLawful m (need_of (layout_of scene))) (λ m. IsLawful m bits)
     (λ m small. more m (need_of (layout_of scene)) bits enough small) (passes scene) (lawful scene h solids)
+
+pub all_flat : {X : Type 0} (P : Macro → Type 0) (Q : X → Type 0) (f : X → List Macro) → ((x : X) → Q x → All P (f x))
+    → (xs : List X) → All Q xs → All P (flat_map f xs)
+all_flat P Q f each [] all = All-nil P
+all_flat P Q f each (x ∷ xs) all =
+    All-append P (f x) (flat_map f xs) (each x (All-head Q x xs all)) (all_flat P Q f each xs (All-tail Q x xs all))

@@ -1,5 +1,5 @@
-pub mod Feeding
+pub mod FeedingLemmas
 pub mod ServeLemmas
 pub mod SessionLemmas
-pub mod Shortening
-pub mod Turning
+pub mod ShorteningLemmas
+pub mod TurningLemmas

@@ -15,11 +15,11 @@ use Rattle.px_session.specs.Sessions.{answers, has_quit, until_quit}
 use Rattle.px_session.specs.Turns.{Broke, Ended, HasAnswered, HasStopped, Stopped, lines_at_end, seen_lines}
 use Rattle.px_session.specs.declared.serving.Ending.{Ending}
 use Rattle.px_session.specs.declared.serving.Ending.TheVariants as e
-use Rattle.px_session.proofs.Feeding.{answered_both, answered_until, answers_grow, broke_until, broke_until_more}
-use Rattle.px_session.proofs.Feeding.{ended-append, left-append, quits_then, until_more, until_quiet}
-use Rattle.px_session.proofs.Turning.{seen_none}
-use Rattle.px_session.proofs.Shortening.{answered_short, broke_short, ended_short, last_short, left_short}
-use Rattle.px_session.proofs.Shortening.{quits_short, short, until_short}
+use Rattle.px_session.proofs.FeedingLemmas.{answered_both, answered_until, answers_grow, broke_until, broke_until_more}
+use Rattle.px_session.proofs.FeedingLemmas.{ended-append, left-append, quits_then, until_more, until_quiet}
+use Rattle.px_session.proofs.TurningLemmas.{seen_none}
+use Rattle.px_session.proofs.ShorteningLemmas.{answered_short, broke_short, ended_short, last_short, left_short}
+use Rattle.px_session.proofs.ShorteningLemmas.{quits_short, short, until_short}
 
 -- the whole lines of a text, and all of them, as a buffer has them
 pub whole_short : (text : List ℕ) → short_ended [] text ≡ map short (whole_lines text)

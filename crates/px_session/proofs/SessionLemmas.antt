@@ -5,7 +5,7 @@ use Rattle.px_debug.specs.Moves.{SessionView}
 use Rattle.px_lines.specs.Lines.{ended, last_of, left, whole_lines}
 use Rattle.px_session.specs.SessionLaws.{StaysOver}
 use Rattle.px_session.specs.Sessions.{after, after_line, has_quit}
-use Rattle.px_session.proofs.Feeding.{quits_more, until_more}
+use Rattle.px_session.proofs.FeedingLemmas.{quits_more, until_more}
 
 scene_line : (s : SessionView) (l : List ℕ) → (after_line s l).scene ≡ s.scene
 unfolding after_line

@@ -23,6 +23,7 @@ use Rattle.px_sched.specs.Passes.{keep_covered, no_solid, solid_of}
 use Rattle.px_shadow.specs.ShadowPasses.{background_passes, light_bit, light_passes, passes_from, solid_passes}
 use Rattle.px_shadow.specs.ShadowPasses.{stored_turn}
 use Rattle.px_shadow.proofs.StepLemmas.{all_known}
+use Rattle.px_sched.proofs.LawfulLaws.{all_flat}
 
 -- what the operations need of a layout in so many memory bits
 record HasRoom (l : LayoutView) (bits : ℕ) : Type 0 where
@@ -42,12 +43,6 @@ room_of : (l : LayoutView) (bits : ℕ) → IsLayout l → need_of l ≤ bits �
 room_of l bits h enough =
     subst (λ k. HasRoom k bits) (sym h.fields) (room_with l.depth_bits l.fraction_bits l.number_bits bits h.some_depth
     h.depth enough)
-
-all_flat : {X : Type 0} (P : Macro → Type 0) (Q : X → Type 0) (f : X → List Macro) → ((x : X) → Q x → All P (f x))
-    → (xs : List X) → All Q xs → All P (flat_map f xs)
-all_flat P Q f each [] all = All-nil P
-all_flat P Q f each (x ∷ xs) all =
-    All-append P (f x) (flat_map f xs) (each x (All-head Q x xs all)) (all_flat P Q f each xs (All-tail Q x xs all))
 
 -- the laws of the layers below
 pub record Ranges : Type 0 where

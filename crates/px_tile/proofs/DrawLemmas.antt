@@ -2,7 +2,7 @@
 use Rattle.std.proofs.Common.{◌≡◌, ℕ, ◌+◌, ◌-◌, ◌*◌, ◌/◌, ◌%◌, ◌<◌, ◌≤◌, min, nat_lt, Bool, true, false, inl, inr}
 use Rattle.std.proofs.Common.{List, [], ◌++◌, drop, take, length, Option, Some, None, if◌then◌else◌, refl, ap, ◌∙◌}
 use Rattle.std.proofs.Common.{arith}
-use Rattle.std.specs.Option.{option_map, option_or}
+use Rattle.std.specs.Option.{option_map}
 use Rattle.std.proofs.Math.Nat.{mul-le-mul_right}
 use Rattle.std.proofs.lemmas.Bool.{cases_lt}
 use Rattle.std.proofs.lemmas.List.{append-nil, drop_all, take_all}
@@ -22,7 +22,7 @@ use Rattle.px_tile.specs.Pictures.{IsLastDrawn, LeavesOnWideRefusal}
 use Rattle.px_tile.specs.Refusals.{bits_short, first_coefficient, first_crowd, many_tiles, tile_refusal, wide_refusal}
 use Rattle.px_tile.specs.TilesLaw.{TilesLaw}
 use Rattle.px_tile.specs.Tilings.{IsWideSize, column_of, row_of, scene_of_tile, tile_count, tiles_across}
-use Rattle.px_tile.proofs.FirstLemmas.{none_each}
+use Rattle.px_tile.proofs.FirstLemmas.{none_each, both_none}
 use Rattle.px_model.specs.declared.pixels.Pixels.TheVariants.{StartingAt}
 use Rattle.px_model.proofs.PixelsLaws.{counts_kept}
 use Rattle.px_tile.proofs.TilingLemmas.{column_is, covers_all, in_part, part_of_pixel, place_inside, place_is, row_is}
@@ -131,10 +131,6 @@ pub record IsDrawable (scene : SceneView) (width height bits : ℕ) : Type 0 whe
   pub memory : bits_short wide.PixelMemory scene bits ≡ None
   pub products : first_crowd scene width height ≡ None
 
-first_none : {X : Type 0} (a b : Option X) → option_or a b ≡ None → (a ≡ None) × (b ≡ None)
-first_none None b none = (refl, none)
-first_none (Some x) b none = absurd cc
-
 unmapped : {X Y : Type 0} (g : X → Y) (a : Option X) → option_map g a ≡ None → a ≡ None
 unmapped g None none = refl
 unmapped g (Some x) none = absurd cc
@@ -142,9 +138,9 @@ unmapped g (Some x) none = absurd cc
 pub is_drawable : (scene : SceneView) (width height bits : ℕ) → wide_refusal scene width height bits ≡ None
     → IsDrawable scene width height bits
 is_drawable scene width height bits none =
-    let tiles = first_none (many_tiles (tile_count scene width height)) _ none in
-    let coefficients = first_none (option_map wide.Coefficient (first_coefficient scene width height)) _ tiles.1 in
-    let memory = first_none (bits_short wide.PixelMemory scene bits) _ coefficients.1 in
+    let tiles = both_none (many_tiles (tile_count scene width height)) _ none in
+    let coefficients = both_none (option_map wide.Coefficient (first_coefficient scene width height)) _ tiles.1 in
+    let memory = both_none (bits_short wide.PixelMemory scene bits) _ coefficients.1 in
     record {
       coefficients = unmapped (λ n. wide.Coefficient n) (first_coefficient scene width height) coefficients.0;
       memory = memory.0;

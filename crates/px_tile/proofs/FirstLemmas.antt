@@ -9,9 +9,9 @@ use Rattle.px_tile.specs.Refusals.{first_some}
 abbrev pub found_from : {X : Type 0} → (ℕ → Option X) → (from count : ℕ) → Option X
 found_from f from count = first_some (map f (range_with_len from count))
 
-both : {X : Type 0} (a b : Option X) → option_or a b ≡ None → (a ≡ None) × (b ≡ None)
-both None b e = (refl, e)
-both (Some x) b e = absurd cc
+pub both_none : {X : Type 0} (a b : Option X) → option_or a b ≡ None → (a ≡ None) × (b ≡ None)
+both_none None b e = (refl, e)
+both_none (Some x) b e = absurd cc
 
 -- none before some tile, and so what is found of that one on
 none_before : {X : Type 0} (f : ℕ → Option X) (from i count : ℕ) → found_from f from i ≡ None
@@ -23,7 +23,7 @@ none_before f from zero count none =
 none_before f from (suc i) count none =
     let all : suc i + count ≡ suc (i + count) = omega arith in
     let next : from + 1 + i ≡ from + suc i = omega arith in
-    let parts = both (f from) (found_from f (from + 1) i) none in
+    let parts = both_none (f from) (found_from f (from + 1) i) none in
     ap (found_from f from) all
     ∙ rw parts.0 (none_before f (from + 1) i count parts.1 ∙ ap (λ a. found_from f a count) next)
 
@@ -49,10 +49,10 @@ none_from : {X : Type 0} (f : ℕ → Option X) (from i count : ℕ) → found_f
 none_from f from i zero none low = absurd (omega arith)
 none_from f from zero (suc count) none low =
     let here : from + 0 ≡ from = omega arith in
-    rw here (both (f from) (found_from f (from + 1) count) none).0
+    rw here (both_none (f from) (found_from f (from + 1) count) none).0
 none_from f from (suc i) (suc count) none low =
     let next : from + suc i ≡ from + 1 + i = omega arith in
-    rw next (none_from f (from + 1) i count ((both (f from) (found_from f (from + 1) count) none).1) (omega arith))
+    rw next (none_from f (from + 1) i count ((both_none (f from) (found_from f (from + 1) count) none).1) (omega arith))
 
 -- where no tile has any, each of them has none
 pub none_each : {X : Type 0} (f : ℕ → Option X) (i count : ℕ) → found_from f 0 count ≡ None → i < count → f i ≡ None

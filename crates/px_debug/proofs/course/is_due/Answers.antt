@@ -1,4 +1,4 @@
-use Rattle.px_debug.proofs.Marking.{due}
+use Rattle.px_debug.proofs.MarkingLemmas.{due}
 use Rattle.px_debug.proofs.course.is_due.Goals as goal
 
 pub returns-then-count-lt-CHECKPOINTS : goal.returns-then-count-lt-CHECKPOINTS

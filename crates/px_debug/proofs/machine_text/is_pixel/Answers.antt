@@ -1,6 +1,6 @@
 use Rattle.std.proofs.Common.{◌<◌, ◌^◌, ap, arith}
 use Rattle.std.proofs.lemmas.Bool.Decides.{nat_tests}
-use Rattle.px_debug.proofs.Grids.{below_power}
+use Rattle.px_debug.proofs.GridLemmas.{below_power}
 use Rattle.px_debug.proofs.machine_text.is_pixel.Goals as goal
 
 pub returns-then-x-power-clause-small : goal.returns-then-x-power-clause-small

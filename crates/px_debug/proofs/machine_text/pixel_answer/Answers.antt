@@ -1,4 +1,4 @@
-use Rattle.px_debug.proofs.Grids.{memory_long}
+use Rattle.px_debug.proofs.GridLemmas.{memory_long}
 use Rattle.px_debug.proofs.machine_text.pixel_answer.Goals as goal
 
 pub pixel_line-requires-clause-memory : goal.pixel_line-requires-clause-memory

@@ -1,5 +1,4 @@
-use Rattle.px_io.proofs.ToldLaws.{front_all}
-use Rattle.px_draw.proofs.ErrLemmas.{on_err_by}
+use Rattle.px_io.proofs.ToldLaws.{front_all, on_err_by}
 use Rattle.px_draw.proofs.make.write_finished.Goals as goal
 
 pub returns-clause-err : goal.returns-clause-err

@@ -1,8 +1,7 @@
-use Rattle.px_io.proofs.ToldLaws.{front_after, front_before}
+use Rattle.px_io.proofs.ToldLaws.{front_after, front_before, on_err}
 use Rattle.px_frame.specs.declared.plane.Plane.TheVariants as plane
 use Rattle.px_draw.specs.Works.{images}
 use Rattle.std.proofs.Common.{◌+◌, take, drop}
-use Rattle.px_draw.proofs.ErrLemmas.{on_err}
 use Rattle.px_draw.proofs.ImageLemmas.{images_at}
 use Rattle.px_draw.proofs.render.write_images.Goals as goal
 

@@ -3,8 +3,9 @@ use Rattle.std.specs.List.{flat_map, range_with_len}
 use Rattle.px_array.specs.Arrays.{pixel_of}
 use Rattle.px_asm.specs.Microprograms.{bits_of}
 use Rattle.px_listing.specs.Memories.{line_of_pixel}
-use Rattle.px_listing.proofs.PieceLemmas.{if_err, puts_both, puts_cut}
+use Rattle.px_listing.proofs.PieceLemmas.{puts_both, puts_cut}
 use Rattle.px_listing.proofs.RowLemmas.{made_cut, made_more}
+use Rattle.px_io.proofs.ToldLaws.{on_err}
 use Rattle.px_listing.proofs.memory.put_row.Goals as goal
 
 pub returns-in_err-put-clause-err : goal.returns-in_err-put-clause-err
@@ -14,7 +15,7 @@ returns-in_err-put-clause-err g c =
     let x = c.loop-x.x in
     let within : x < c.args.columns = omega arith in
     let line = c.as_str.ensures.value ∙ c.pixel_line.ensures in
-    if_err _ (puts_cut _ _ _ _ _ _ _ _ _ (f x) (flat_map f (range_with_len (x + 1) (c.args.columns - (x + 1)))) _
+    on_err _ (puts_cut _ _ _ _ _ _ _ _ _ (f x) (flat_map f (range_with_len (x + 1) (c.args.columns - (x + 1)))) _
     (made_cut f x c.args.columns within) c.loop-x.invariant.put (rw line at c.in_err-put.ensures.err))
 
 pub loop-x-preserved : goal.loop-x-preserved

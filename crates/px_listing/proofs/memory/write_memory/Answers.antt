@@ -4,8 +4,9 @@ use Rattle.std.specs.List.{flat_map, range_with_len}
 use Rattle.px_array.specs.Arrays.{pixel_of}
 use Rattle.px_asm.specs.Microprograms.{bits_of}
 use Rattle.px_listing.specs.Memories.{row_lines}
-use Rattle.px_listing.proofs.PieceLemmas.{err_cut, if_err, ok_flushed, puts_both, puts_cut}
+use Rattle.px_listing.proofs.PieceLemmas.{err_cut, ok_flushed, puts_both, puts_cut}
 use Rattle.px_listing.proofs.RowLemmas.{made_cut, made_more}
+use Rattle.px_io.proofs.ToldLaws.{on_err}
 use Rattle.px_listing.proofs.memory.write_memory.Goals as goal
 
 pub returns-in_err-put_row-clause-err : goal.returns-in_err-put_row-clause-err
@@ -18,7 +19,7 @@ returns-in_err-put_row-clause-err g c =
     let end : c.power-y-end.result ≡ 2 ^ state.tree.ny = c.power-y-end.ensures ∙ ap (λ n. 2 ^ n) rows in
     let within : y < 2 ^ state.tree.ny = omega (arith, end, c.loop-y-test.true) in
     let row = rw (c.power.ensures, columns) at c.in_err-put_row.ensures.err in
-    if_err _ (puts_cut _ _ _ _ _ _ [] _ _ (f y) (flat_map f (range_with_len (y + 1) (2 ^ state.tree.ny - (y + 1)))) _
+    on_err _ (puts_cut _ _ _ _ _ _ [] _ _ (f y) (flat_map f (range_with_len (y + 1) (2 ^ state.tree.ny - (y + 1)))) _
     (made_cut f y (2 ^ state.tree.ny) within) (rw columns at c.loop-y.invariant.put) row)
 
 pub loop-y-preserved : goal.loop-y-preserved

@@ -1,7 +1,7 @@
 use Rattle.std.proofs.Common.{◌∙◌, refl, sym}
 use Rattle.px_sched.specs.Passes.{passes}
 use Rattle.px_listing.proofs.PassesLemmas.{lawful_here, puts_next, puts_next_front, puts_start}
-use Rattle.px_listing.proofs.PieceLemmas.{if_err}
+use Rattle.px_io.proofs.ToldLaws.{on_err}
 use Rattle.px_listing.proofs.passes.put_passes.Goals as goal
 
 pub loop-m-init : goal.loop-m-init
@@ -29,6 +29,6 @@ loop-m-preserved g c = record {
 
 pub returns-in_err-put-clause-err : goal.returns-in_err-put-clause-err
 returns-in_err-put-clause-err g c =
-    if_err _ (puts_next_front _ _ _ _ _ _ _ _ _ (passes c.args.scene.now) c.loop-m.cursor.given c.in-Some.m
+    on_err _ (puts_next_front _ _ _ _ _ _ _ _ _ (passes c.args.scene.now) c.loop-m.cursor.given c.in-Some.m
     (sym c.next_macro.ensures.operation ∙ c.in-Some.is)
     (c.as_str.ensures.value ∙ c.macro_line.ensures) c.loop-m.invariant.put c.in_err-put.ensures.err)

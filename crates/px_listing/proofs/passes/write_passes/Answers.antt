@@ -5,7 +5,7 @@ use Rattle.px_listing.specs.Listings.{end_line, first_lines, macro_line}
 use Rattle.px_listing.specs.PassesText.{exponent_of}
 use Rattle.px_listing.proofs.PassesLemmas.{err_to_last, front_of_first, front_of_middle, ok_to_last}
 use Rattle.px_listing.proofs.PassesLemmas.{passes_lawful_in_all}
-use Rattle.px_listing.proofs.PieceLemmas.{if_err}
+use Rattle.px_io.proofs.ToldLaws.{on_err}
 use Rattle.px_listing.proofs.passes.write_passes.Goals as goal
 
 pub put_passes-requires-clause-few : goal.put_passes-requires-clause-few
@@ -23,7 +23,7 @@ pub returns-in_err-put_first_lines-clause-err : goal.returns-in_err-put_first_li
 returns-in_err-put_first_lines-clause-err g c =
     let scene = c.args.scene.now in
     let first = rw (c.grid_of-nx.ensures.columns, c.grid_of-nx.ensures.rows) at c.in_err-put_first_lines.ensures.err in
-    if_err _ (front_of_first _ _ _ _ _ (first_lines (exponent_of scene.width) (exponent_of scene.height))
+    on_err _ (front_of_first _ _ _ _ _ (first_lines (exponent_of scene.width) (exponent_of scene.height))
     (flat_map macro_line (passes scene)) end_line
     c.new-piece.ensures first)
 
@@ -31,7 +31,7 @@ pub returns-in_err-put_passes-clause-err : goal.returns-in_err-put_passes-clause
 returns-in_err-put_passes-clause-err g c =
     let scene = c.args.scene.now in
     let first = rw (c.grid_of-nx.ensures.columns, c.grid_of-nx.ensures.rows) at c.in_ok-put_first_lines.ensures.ok in
-    if_err _ (front_of_middle _ _ _ _ _ _ _ _ (first_lines (exponent_of scene.width) (exponent_of scene.height))
+    on_err _ (front_of_middle _ _ _ _ _ _ _ _ (first_lines (exponent_of scene.width) (exponent_of scene.height))
     (flat_map macro_line (passes scene)) end_line
     c.new-piece.ensures first c.in_err-put_passes.ensures.err)
 

@@ -4,8 +4,9 @@ use Rattle.std.specs.List.{flat_map}
 use Rattle.std.proofs.lemmas.List.{append-nil, take_all}
 use Rattle.px_macro.specs.declared.operation.Macro.TheVariants as m
 use Rattle.px_listing.specs.Listings.{ListingView, canonical_text, end_line, first_lines, macro_line}
-use Rattle.px_listing.proofs.PieceLemmas.{err_cut, if_err, ok_all, puts_both, puts_cut}
+use Rattle.px_listing.proofs.PieceLemmas.{err_cut, ok_all, puts_both, puts_cut}
 use Rattle.px_listing.proofs.RowLemmas.{behind, listed_cut, listed_more}
+use Rattle.px_io.proofs.ToldLaws.{on_err}
 use Rattle.px_listing.proofs.write.write_listing.Goals as goal
 
 pub returns-in_err-put-clause-err : goal.returns-in_err-put-clause-err
@@ -20,7 +21,7 @@ returns-in_err-put-clause-err g c =
     let cut = behind first (flat_map macro_line (take i l.macros)) (macro_line (get_or l.macros i m.All))
     (flat_map macro_line (drop (i + 1) l.macros))
     end_line (flat_map macro_line l.macros) (listed_cut macro_line l.macros i m.All within) in
-    if_err _ (puts_cut _ _ _ _ _ _ [] _ _ _ others (canonical_text l) cut c.loop-m.invariant.put
+    on_err _ (puts_cut _ _ _ _ _ _ [] _ _ _ others (canonical_text l) cut c.loop-m.invariant.put
     (rw line at c.in_err-put.ensures.err))
 
 pub loop-m-preserved : goal.loop-m-preserved

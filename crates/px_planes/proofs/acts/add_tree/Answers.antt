@@ -1,6 +1,6 @@
 use Rattle.std.proofs.Common.{◌≡◌, ◌∙◌, [], get_or, length, ap}
 use Rattle.std.proofs.lemmas.List.{get_or_default}
-use Rattle.px_planes.proofs.Stored.{add_law}
+use Rattle.px_planes.proofs.StoredLemmas.{add_law}
 use Rattle.px_planes.proofs.acts.add_tree.Goals as goal
 
 pub returns : goal.returns

@@ -1,6 +1,6 @@
 use Rattle.std.proofs.Common.{Bool, length, map, refl, ap}
 use Rattle.px_rows.specs.Rows.{row_bit}
-use Rattle.px_planes.proofs.Stored.{filled}
+use Rattle.px_planes.proofs.StoredLemmas.{filled}
 use Rattle.px_planes.proofs.acts.enable_all.Goals as goal
 
 pub returns : goal.returns

@@ -2,7 +2,7 @@ use Rattle.std.proofs.Common.{◌≡◌, ◌∙◌, [], get_or, length, refl, ap
 use Rattle.std.proofs.lemmas.List.{get_or_default}
 use Rattle.px_pixel.specs.declared.act.Act.TheVariants.{StoreLatch}
 use Rattle.px_rows.specs.Rows.{row_bit}
-use Rattle.px_planes.proofs.Stored.{store_law}
+use Rattle.px_planes.proofs.StoredLemmas.{store_law}
 use Rattle.px_planes.proofs.acts.store_latch.Goals as goal
 
 pub returns : goal.returns

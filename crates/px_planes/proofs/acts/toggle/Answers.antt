@@ -2,7 +2,7 @@ use Rattle.std.proofs.Common.{◌≡◌, ◌∙◌, [], get_or, length, not, ref
 use Rattle.std.proofs.lemmas.List.{get_or_default}
 use Rattle.px_pixel.specs.declared.act.Act.TheVariants.{Toggle}
 use Rattle.px_rows.specs.Rows.{row_bit}
-use Rattle.px_planes.proofs.Stored.{bit_of_rows, store_law}
+use Rattle.px_planes.proofs.StoredLemmas.{bit_of_rows, store_law}
 use Rattle.px_planes.proofs.acts.toggle.Goals as goal
 
 pub returns : goal.returns

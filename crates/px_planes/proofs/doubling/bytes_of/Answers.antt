@@ -1,4 +1,4 @@
-use Rattle.px_planes.proofs.Weave.{bytes_law}
+use Rattle.px_planes.proofs.WeaveLemmas.{bytes_law}
 use Rattle.px_planes.proofs.doubling.bytes_of.Goals as goal
 
 pub returns : goal.returns

@@ -1,5 +1,5 @@
 use Rattle.std.proofs.Common.{ℕ, ◌*◌, ◌+◌, get_or, List, [], ◌∷◌, refl, arith}
-use Rattle.px_planes.proofs.Weave.{woven_law, eight_places}
+use Rattle.px_planes.proofs.WeaveLemmas.{woven_law, eight_places}
 use Rattle.px_planes.proofs.doubling.first_woven.Goals as goal
 
 abbrev places : List ℕ

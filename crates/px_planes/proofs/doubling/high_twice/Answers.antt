@@ -1,4 +1,4 @@
-use Rattle.px_planes.proofs.Weave.{high_ok, high_looked_up}
+use Rattle.px_planes.proofs.WeaveLemmas.{high_ok, high_looked_up}
 use Rattle.px_planes.proofs.doubling.high_twice.Goals as goal
 
 pub swizzle : goal.swizzle

@@ -1,4 +1,4 @@
-use Rattle.px_planes.proofs.Weave.{low_ok, low_looked_up}
+use Rattle.px_planes.proofs.WeaveLemmas.{low_ok, low_looked_up}
 use Rattle.px_planes.proofs.doubling.low_twice.Goals as goal
 
 pub swizzle : goal.swizzle

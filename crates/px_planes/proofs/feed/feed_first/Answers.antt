@@ -1,4 +1,4 @@
-use Rattle.px_planes.proofs.Heaps.{first_law}
+use Rattle.px_planes.proofs.HeapLemmas.{first_law}
 use Rattle.px_planes.proofs.feed.feed_first.Goals as goal
 
 pub returns : goal.returns

@@ -1,4 +1,4 @@
-use Rattle.px_planes.proofs.Heaps.{pair_law}
+use Rattle.px_planes.proofs.HeapLemmas.{pair_law}
 use Rattle.px_planes.proofs.feed.feed_pair.Goals as goal
 
 pub returns : goal.returns

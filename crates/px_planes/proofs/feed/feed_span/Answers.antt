@@ -1,5 +1,5 @@
 use Rattle.std.proofs.Common.{◌-◌, arith}
-use Rattle.px_planes.proofs.Heaps.{span_law}
+use Rattle.px_planes.proofs.HeapLemmas.{span_law}
 use Rattle.px_planes.proofs.feed.feed_span.Goals as goal
 
 pub loop-h-preserved : goal.loop-h-preserved

@@ -1,4 +1,4 @@
-use Rattle.px_planes.proofs.Heaps.{rooted_on, rooted_off}
+use Rattle.px_planes.proofs.HeapLemmas.{rooted_on, rooted_off}
 use Rattle.px_planes.proofs.feed.rooted.Goals as goal
 
 pub returns-then-c : goal.returns-then-c

@@ -1,7 +1,7 @@
 use Rattle.std.proofs.Common.{◌≡◌, ◌-◌, length, subst, ◌∙◌, arith}
 use Rattle.px_num.proofs.TruthLaws.{power_grows}
-use Rattle.px_planes.proofs.FedLevels.{IsFedDown, are_still, at_next, fed_heap, fed_more, next_fits, next_odd}
-use Rattle.px_planes.proofs.FedLevels.{next_rest}
+use Rattle.px_planes.proofs.LevelLemmas.{IsFedDown, are_still, at_next, fed_heap, fed_more, next_fits, next_odd}
+use Rattle.px_planes.proofs.LevelLemmas.{next_rest}
 use Rattle.px_planes.proofs.heap.feed_heap.Goals as goal
 
 pub feed_level-requires-clause-from : goal.feed_level-requires-clause-from

@@ -1,5 +1,5 @@
 use Rattle.std.proofs.Common.{◌≤◌}
-use Rattle.px_planes.proofs.FedLevels.{IsFedDown}
+use Rattle.px_planes.proofs.LevelLemmas.{IsFedDown}
 use Rattle.px_planes.proofs.heap.feed_heap.Given as goal
 
 abbrev pub invariant-loop-u : goal.invariant-loop-u

@@ -1,5 +1,5 @@
 use Rattle.std.proofs.Common.{◌≢◌, ◌<◌, sym, ◌∙◌, arith, below_more}
-use Rattle.px_planes.proofs.SetBits.{set_same, set_other}
+use Rattle.px_planes.proofs.SetBitLemmas.{set_same, set_other}
 use Rattle.px_planes.proofs.heap.line_word.Goals as goal
 use Rattle.px_planes.proofs.heap.line_word.Goals.{then-line_here, else-line_here}
 

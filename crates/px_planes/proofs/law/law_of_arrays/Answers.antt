@@ -1,4 +1,4 @@
-use Rattle.px_planes.proofs.Alone.{both_are_one_device, each_pixel_is_alone}
+use Rattle.px_planes.proofs.AloneLemmas.{both_are_one_device, each_pixel_is_alone}
 use Rattle.px_planes.proofs.law.law_of_arrays.Goals as goal
 
 pub returns-clause-same : goal.returns-clause-same

@@ -1,4 +1,4 @@
-use Rattle.px_planes.proofs.NodeTable.{next_by_law}
+use Rattle.px_planes.proofs.NodeTableLemmas.{next_by_law}
 use Rattle.px_planes.proofs.next.next_by.Goals as goal
 
 pub returns : goal.returns

@@ -1,4 +1,4 @@
-use Rattle.px_planes.proofs.NodeTable.{next_with_law}
+use Rattle.px_planes.proofs.NodeTableLemmas.{next_with_law}
 use Rattle.px_planes.proofs.next.next_with.Goals as goal
 
 pub returns : goal.returns

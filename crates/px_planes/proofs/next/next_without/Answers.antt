@@ -1,4 +1,4 @@
-use Rattle.px_planes.proofs.NodeTable.{next_without_law}
+use Rattle.px_planes.proofs.NodeTableLemmas.{next_without_law}
 use Rattle.px_planes.proofs.next.next_without.Goals as goal
 
 pub returns : goal.returns

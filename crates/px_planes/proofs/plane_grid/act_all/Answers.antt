@@ -1,4 +1,4 @@
-use Rattle.px_planes.proofs.Grids.{acted_law, still_pixels}
+use Rattle.px_planes.proofs.GridLemmas.{acted_law, still_pixels}
 use Rattle.px_planes.proofs.plane_grid.act_all.Goals as goal
 
 pub returns-clause-acted : goal.returns-clause-acted

@@ -1,5 +1,5 @@
 use Rattle.std.proofs.Common.{arith}
-use Rattle.px_planes.proofs.Grids.{full_above, full_below}
+use Rattle.px_planes.proofs.GridLemmas.{full_above, full_below}
 use Rattle.px_planes.proofs.plane_grid.full_word.Goals as goal
 
 pub returns-then-pixels-lt64 : goal.returns-then-pixels-lt64

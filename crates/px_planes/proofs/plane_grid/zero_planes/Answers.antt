@@ -1,6 +1,6 @@
 use Rattle.std.proofs.Common.{◌+◌, ◌/◌, ◌^◌, ap}
-use Rattle.px_planes.proofs.FedLevels.{power_some}
-use Rattle.px_planes.proofs.Grids.{whole_words, zero_law, zero_pixels}
+use Rattle.px_planes.proofs.LevelLemmas.{power_some}
+use Rattle.px_planes.proofs.GridLemmas.{whole_words, zero_law, zero_pixels}
 use Rattle.px_planes.proofs.plane_grid.zero_planes.Goals as goal
 
 pub returns-clause-zero : goal.returns-clause-zero

@@ -1,4 +1,4 @@
-use Rattle.px_planes.proofs.Heaps.{pair_law}
+use Rattle.px_planes.proofs.HeapLemmas.{pair_law}
 use Rattle.px_planes.proofs.rest.is_pair_at_rest.Goals as goal
 
 pub returns-then-are_two_at_rest : goal.returns-then-are_two_at_rest

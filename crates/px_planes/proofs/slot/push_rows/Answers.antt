@@ -1,7 +1,7 @@
 use Rattle.std.proofs.Common.{◌≡◌, ◌∙◌, ◌+◌, ◌*◌, ℕ, List, [], ◌++◌, length, get_or, ap, arith}
 use Rattle.std.proofs.lemmas.List.{get_or_default, length-append}
 use Rattle.px_planes.specs.Shelves.{ShelfView}
-use Rattle.px_planes.proofs.ShelfLaws.{pushed_row, rows_fit}
+use Rattle.px_planes.proofs.ShelfLemmas.{pushed_row, rows_fit}
 use Rattle.px_planes.proofs.slot.push_rows.Goals as goal
 
 pub push-requires : goal.push-requires

@@ -1,5 +1,5 @@
 use Rattle.std.proofs.Common.{arith, ◌^◌}
-use Rattle.px_planes.proofs.Trees.{level_law, small_power}
+use Rattle.px_planes.proofs.TreeLemmas.{level_law, small_power}
 use Rattle.px_planes.proofs.small.level_of.Goals as goal
 
 pub power-requires : goal.power-requires

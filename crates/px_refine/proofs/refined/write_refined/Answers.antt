@@ -1,13 +1,10 @@
-use Rattle.std.proofs.Common.{◌≡◌, ◌/◌, ◌^◌, arith, Result, Ok, Err, OnErr, refl}
+use Rattle.std.proofs.Common.{◌≡◌, ◌/◌, ◌^◌, arith, refl}
 use Rattle.px_frame.specs.Picture.{header, row_of_pixels}
 use Rattle.px_frame.proofs.RowLaws.{rows_broken, rows_grown}
 use Rattle.px_frame.specs.Stored.{stored_colour}
 use Rattle.px_refine.specs.Refined.{mean_pixel}
+use Rattle.px_io.proofs.ToldLaws.{on_err}
 use Rattle.px_refine.proofs.refined.write_refined.Goals as goal
-
-on_err : {T E P : Type 0} (r : Result T E) → P → OnErr r P
-on_err (Ok x) p = tt
-on_err (Err x) p = p
 
 pub returns-in_err-write_whole-2-clause-err : goal.returns-in_err-write_whole-2-clause-err
 returns-in_err-write_whole-2-clause-err g c =

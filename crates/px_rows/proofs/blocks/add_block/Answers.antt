@@ -1,5 +1,5 @@
 use Rattle.std.proofs.Common.{◌-◌, arith}
-use Rattle.px_rows.proofs.BlockLaws.{word_read, word_written}
+use Rattle.px_rows.proofs.BlockLemmas.{word_read, word_written}
 use Rattle.px_rows.proofs.blocks.add_block.Goals as goal
 
 pub returns-clause-added : goal.returns-clause-added

@@ -1,4 +1,4 @@
-use Rattle.px_rows.proofs.WordLaws.{added_lane}
+use Rattle.px_rows.proofs.WordLemmas.{added_lane}
 use Rattle.px_rows.proofs.blocks.added_lanes.Goals as goal
 
 pub returns : goal.returns

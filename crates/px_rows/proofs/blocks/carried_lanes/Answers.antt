@@ -1,4 +1,4 @@
-use Rattle.px_rows.proofs.WordLaws.{carried_lane}
+use Rattle.px_rows.proofs.WordLemmas.{carried_lane}
 use Rattle.px_rows.proofs.blocks.carried_lanes.Goals as goal
 
 pub returns : goal.returns

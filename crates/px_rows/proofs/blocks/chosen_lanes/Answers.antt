@@ -1,4 +1,4 @@
-use Rattle.px_rows.proofs.WordLaws.{chosen_lane}
+use Rattle.px_rows.proofs.WordLemmas.{chosen_lane}
 use Rattle.px_rows.proofs.blocks.chosen_lanes.Goals as goal
 
 pub returns : goal.returns

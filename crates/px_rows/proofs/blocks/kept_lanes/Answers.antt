@@ -1,4 +1,4 @@
-use Rattle.px_rows.proofs.WordLaws.{kept_lane}
+use Rattle.px_rows.proofs.WordLemmas.{kept_lane}
 use Rattle.px_rows.proofs.blocks.kept_lanes.Goals as goal
 
 pub returns : goal.returns

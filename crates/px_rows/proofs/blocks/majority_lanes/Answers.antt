@@ -1,4 +1,4 @@
-use Rattle.px_rows.proofs.WordLaws.{majority_lane}
+use Rattle.px_rows.proofs.WordLemmas.{majority_lane}
 use Rattle.px_rows.proofs.blocks.majority_lanes.Goals as goal
 
 pub returns : goal.returns

@@ -1,4 +1,4 @@
-use Rattle.px_rows.proofs.BlockLaws.{written_law}
+use Rattle.px_rows.proofs.BlockLemmas.{written_law}
 use Rattle.px_rows.proofs.blocks.write.Goals as goal
 
 pub returns : goal.returns

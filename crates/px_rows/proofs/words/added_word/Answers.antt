@@ -1,4 +1,4 @@
-use Rattle.px_rows.proofs.WordLaws.{added_law}
+use Rattle.px_rows.proofs.WordLemmas.{added_law}
 use Rattle.px_rows.proofs.words.added_word.Goals as goal
 
 pub returns : goal.returns

@@ -1,4 +1,4 @@
-use Rattle.px_rows.proofs.WordLaws.{all_ones, all_zeros}
+use Rattle.px_rows.proofs.WordLemmas.{all_ones, all_zeros}
 use Rattle.px_rows.proofs.words.all_of.Goals as goal
 
 pub returns-then-v : goal.returns-then-v

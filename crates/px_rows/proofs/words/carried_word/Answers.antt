@@ -1,4 +1,4 @@
-use Rattle.px_rows.proofs.WordLaws.{carried_law}
+use Rattle.px_rows.proofs.WordLemmas.{carried_law}
 use Rattle.px_rows.proofs.words.carried_word.Goals as goal
 
 pub returns : goal.returns

@@ -1,4 +1,4 @@
-use Rattle.px_rows.proofs.WordLaws.{chosen_law}
+use Rattle.px_rows.proofs.WordLemmas.{chosen_law}
 use Rattle.px_rows.proofs.words.chosen_word.Goals as goal
 
 pub returns : goal.returns

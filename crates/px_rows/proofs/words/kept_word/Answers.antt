@@ -1,4 +1,4 @@
-use Rattle.px_rows.proofs.WordLaws.{kept_law}
+use Rattle.px_rows.proofs.WordLemmas.{kept_law}
 use Rattle.px_rows.proofs.words.kept_word.Goals as goal
 
 pub returns : goal.returns

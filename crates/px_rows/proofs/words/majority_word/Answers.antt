@@ -1,4 +1,4 @@
-use Rattle.px_rows.proofs.WordLaws.{majority_law}
+use Rattle.px_rows.proofs.WordLemmas.{majority_law}
 use Rattle.px_rows.proofs.words.majority_word.Goals as goal
 
 pub returns : goal.returns

@@ -1,9 +1,9 @@
 use Rattle.std.proofs.Common.{arith, ◌≡◌, ◌+◌, take, get_or, [], ◌∷◌, true, false, ◌∙◌, refl}
 use Rattle.std.proofs.lemmas.List.{take_all}
 use Rattle.px_session.specs.Buffers.{short_ended}
-use Rattle.px_session.proofs.Feeding.{answered_both, answered_until, broke_until, broke_until_more, ended_more}
-use Rattle.px_session.proofs.Feeding.{ended_rest, last_more, last_quit, left_more, on_err, quits_more, quits_then}
-use Rattle.px_session.proofs.Feeding.{until_more, until_quiet}
+use Rattle.px_session.proofs.FeedingLemmas.{answered_both, answered_until, broke_until, broke_until_more, ended_more}
+use Rattle.px_session.proofs.FeedingLemmas.{ended_rest, last_more, last_quit, left_more, on_err, quits_more, quits_then}
+use Rattle.px_session.proofs.FeedingLemmas.{until_more, until_quiet}
 use Rattle.px_session.proofs.feed.feed.Goals as goal
 
 pub returns-in_err-take_byte-clause-err : goal.returns-in_err-take_byte-clause-err

@@ -1,4 +1,5 @@
-use Rattle.px_session.proofs.Feeding.{given_answered, given_broke, going_is, on_err_by, on_ok_by}
+use Rattle.px_session.proofs.FeedingLemmas.{given_answered, given_broke, going_is, on_ok_by}
+use Rattle.px_io.proofs.ToldLaws.{on_err_by}
 use Rattle.px_session.proofs.feed.give.Goals as goal
 
 pub returns-clause-ok : goal.returns-clause-ok

@@ -1,4 +1,4 @@
-use Rattle.px_session.proofs.Feeding.{last_more, last_quit}
+use Rattle.px_session.proofs.FeedingLemmas.{last_more, last_quit}
 use Rattle.px_session.proofs.ServeLemmas.{begun_both, begun_broke, begun_quit}
 use Rattle.px_session.proofs.serving.answer_all.Goals as goal
 

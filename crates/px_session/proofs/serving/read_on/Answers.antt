@@ -1,5 +1,5 @@
 use Rattle.std.proofs.Common.{◌≡◌, ◌-◌, ◌<◌, refl, ◌∙◌, arith}
-use Rattle.px_session.proofs.Turning.{ended_both, went_both, went_none}
+use Rattle.px_session.proofs.TurningLemmas.{ended_both, went_both, went_none}
 use Rattle.px_session.proofs.serving.read_on.Goals as goal
 
 pub loop-more-preserved : goal.loop-more-preserved

@@ -1,7 +1,7 @@
 use Rattle.std.proofs.Common.{◌≤◌, length, take, drop, arith}
 use Rattle.std.proofs.lemmas.List.{length-take}
-use Rattle.px_session.proofs.Feeding.{last_more, last_quit}
-use Rattle.px_session.proofs.Turning.{ended_broke, ended_fault, ended_quit, seen_read, went_fed}
+use Rattle.px_session.proofs.FeedingLemmas.{last_more, last_quit}
+use Rattle.px_session.proofs.TurningLemmas.{ended_broke, ended_fault, ended_quit, seen_read, went_fed}
 use Rattle.px_session.proofs.serving.turn.Goals as goal
 
 pub returns-in-Err-feed-clause-off : goal.returns-in-Err-feed-clause-off

@@ -1,14 +1,10 @@
-use Rattle.std.proofs.Common.{◌≡◌, ◌<◌, arith, Result, Ok, Err, OnErr}
-use Rattle.px_io.proofs.ToldLaws.{front_before}
+use Rattle.std.proofs.Common.{◌≡◌, ◌<◌, arith}
+use Rattle.px_io.proofs.ToldLaws.{front_before, on_err}
 use Rattle.px_frame.specs.Picture.{header}
 use Rattle.px_frame.specs.Rows.{row_bytes}
 use Rattle.px_frame.proofs.RowLaws.{rows_broken, rows_grown}
 use Rattle.px_shadow.specs.Stored.{stored_number}
 use Rattle.px_shadow.proofs.masks.write_masks.Goals as goal
-
-on_err : {T E P : Type 0} (r : Result T E) → P → OnErr r P
-on_err (Ok x) p = tt
-on_err (Err x) p = p
 
 pub returns-in_err-write_whole-clause-err : goal.returns-in_err-write_whole-clause-err
 returns-in_err-write_whole-clause-err g c =

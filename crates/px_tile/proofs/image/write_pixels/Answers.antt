@@ -1,13 +1,9 @@
-use Rattle.std.proofs.Common.{◌≤◌, ◌∙◌, arith, drop, take, Result, Ok, Err, OnErr}
+use Rattle.std.proofs.Common.{◌≤◌, ◌∙◌, arith, drop, take}
 use Rattle.std.specs.List.{between}
-use Rattle.px_io.proofs.ToldLaws.{front_after, front_before, takes_both}
+use Rattle.px_io.proofs.ToldLaws.{front_after, front_before, takes_both, on_err}
 use Rattle.px_tile.specs.Parts.{bytes_of}
 use Rattle.px_tile.proofs.ImageLemmas.{bytes_all, bytes_on}
 use Rattle.px_tile.proofs.image.write_pixels.Goals as goal
-
-on_err : {T E P : Type 0} (r : Result T E) → P → OnErr r P
-on_err (Ok x) p = tt
-on_err (Err x) p = p
 
 pub loop-start-preserved : goal.loop-start-preserved
 loop-start-preserved g c =

@@ -2,7 +2,7 @@ use Rattle.std.proofs.Common.{◌≡◌, ◌*◌, ◌∙◌, [], ap, arith, inl,
 use Rattle.circular_buffer.specs.Buffer.{Buffer, buffer}
 use Rattle.px_array.specs.declared.micro.Micro.{Micro}
 use Rattle.px_control.specs.Program.{total}
-use Rattle.px_debug.proofs.Traces.{none_before}
+use Rattle.px_debug.proofs.TraceLemmas.{none_before}
 use Rattle.px_debug.proofs.course.Course.back.Goals as goal
 
 pub forward-requires-clause-within : goal.forward-requires-clause-within

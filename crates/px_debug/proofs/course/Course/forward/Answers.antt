@@ -4,7 +4,7 @@ use Rattle.px_array.specs.declared.micro.Micro.{Micro}
 use Rattle.px_control.specs.Program.{program}
 use Rattle.px_debug.specs.Courses.{IsTraced}
 use Rattle.px_debug.specs.Marks.{last_before}
-use Rattle.px_debug.proofs.Traces.{kept_few, last_after, last_refilled}
+use Rattle.px_debug.proofs.TraceLemmas.{kept_few, last_after, last_refilled}
 use Rattle.px_debug.proofs.course.Course.forward.Goals as goal
 
 pub walk-requires-clause-room : goal.walk-requires-clause-room

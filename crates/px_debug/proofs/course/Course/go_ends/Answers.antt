@@ -1,6 +1,6 @@
 use Rattle.std.proofs.Common.{◌≡◌, ◌+◌, ◌-◌, ◌∙◌, ap, arith, sym}
 use Rattle.px_control.specs.Program.{ends_after, total}
-use Rattle.px_debug.proofs.Jumps.{nowhere_to_go, one_end_on}
+use Rattle.px_debug.proofs.JumpLemmas.{nowhere_to_go, one_end_on}
 use Rattle.px_debug.proofs.course.Course.go_ends.Goals as goal
 
 pub returns-then-now-total_clocks-clause-clock : goal.returns-then-now-total_clocks-clause-clock

@@ -1,7 +1,7 @@
 use Rattle.std.proofs.Common.{◌≡◌, ◌*◌, ◌∙◌, ap, arith, subst, sym}
 use Rattle.px_control.specs.Program.{IsAt}
 use Rattle.px_control.specs.declared.place.Place.{Place}
-use Rattle.px_debug.proofs.Marking.{marked_at, marks_more, slots_more}
+use Rattle.px_debug.proofs.MarkingLemmas.{marked_at, marks_more, slots_more}
 use Rattle.px_debug.proofs.course.Course.mark.Goals as goal
 
 pub save-requires-clause-is_open : goal.save-requires-clause-is_open

@@ -1,7 +1,7 @@
 use Rattle.std.proofs.Common.{◌≡◌, ◌+◌, ◌*◌, ap, arith, refl, ◌∙◌}
 use Rattle.px_control.specs.Standing.{JobView}
 use Rattle.px_control.specs.Program.{array_after}
-use Rattle.px_debug.proofs.Marking.{marked_at, marks_front, same_device}
+use Rattle.px_debug.proofs.MarkingLemmas.{marked_at, marks_front, same_device}
 use Rattle.px_debug.proofs.course.Course.return_to.Goals as goal
 
 pub restore-requires-clause-is_open : goal.restore-requires-clause-is_open

@@ -1,8 +1,8 @@
 use Rattle.std.proofs.Common.{◌≡◌, ◌≤◌, ◌∙◌, ap, arith, sym}
 use Rattle.circular_buffer.specs.Buffer.{buffer}
 use Rattle.px_control.specs.declared.place.Place.{Place}
-use Rattle.px_debug.proofs.Marking.{first_mark}
-use Rattle.px_debug.proofs.Traces.{none_before}
+use Rattle.px_debug.proofs.MarkingLemmas.{first_mark}
+use Rattle.px_debug.proofs.TraceLemmas.{none_before}
 use Rattle.px_debug.proofs.course.Course.start.Goals as goal
 
 pub returns-clause-kept : goal.returns-clause-kept

@@ -1,6 +1,6 @@
 use Rattle.std.proofs.Common.{◌∙◌}
 use Rattle.px_control.specs.Program.{program}
-use Rattle.px_debug.proofs.Traces.{one}
+use Rattle.px_debug.proofs.TraceLemmas.{one}
 use Rattle.px_debug.proofs.course.Course.step.Goals as goal
 
 pub returns-clause-trace : goal.returns-clause-trace

@@ -1,7 +1,7 @@
 use Rattle.std.proofs.Common.{◌+◌, ◌<◌, ◌∙◌, ap, arith, length}
 use Rattle.circular_buffer.specs.Buffer.{buffer}
 use Rattle.px_control.specs.Program.{program}
-use Rattle.px_debug.proofs.Traces.{walk_more}
+use Rattle.px_debug.proofs.TraceLemmas.{walk_more}
 use Rattle.px_debug.proofs.course.Course.walk.Goals as goal
 
 pub loop-preserved : goal.loop-preserved

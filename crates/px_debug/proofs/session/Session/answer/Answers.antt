@@ -2,7 +2,7 @@ use Rattle.std.proofs.Common.{◌∙◌, arith, subst, sym}
 use Rattle.px_control.specs.Program.{IsAt}
 use Rattle.px_debug.specs.Answers.{answer_in}
 use Rattle.px_debug.specs.Moves.{SessionView}
-use Rattle.px_debug.proofs.Tracing.{short_trace, traced_text}
+use Rattle.px_debug.proofs.TracingLemmas.{short_trace, traced_text}
 use Rattle.px_debug.proofs.session.Session.answer.Goals as goal
 
 pub pixel_answer-requires-clause-grid : goal.pixel_answer-requires-clause-grid

@@ -2,8 +2,8 @@ use Rattle.std.proofs.Common.{◌≡◌, ◌*◌, ◌∙◌, ap, arith, refl, su
 use Rattle.px_control.specs.Program.{IsAt}
 use Rattle.px_control.specs.Standing.{JobView}
 use Rattle.px_debug.specs.Marks.{HasSlots}
-use Rattle.px_debug.proofs.Fitting.{fits_session}
-use Rattle.px_debug.proofs.Marking.{slots_more}
+use Rattle.px_debug.proofs.FittingLemmas.{fits_session}
+use Rattle.px_debug.proofs.MarkingLemmas.{slots_more}
 use Rattle.px_debug.proofs.session.Session.new.Goals as goal
 
 pub save-requires-clause-is_open : goal.save-requires-clause-is_open

@@ -1,6 +1,6 @@
 use Rattle.std.proofs.Common.{◌∙◌, ap, refl, sym}
 use Rattle.px_debug.specs.Moves.{quarter_of}
-use Rattle.px_debug.proofs.Fitting.{fits_session}
+use Rattle.px_debug.proofs.FittingLemmas.{fits_session}
 use Rattle.px_debug.proofs.session.Session.obey.Goals as goal
 
 pub returns-clause-fits : goal.returns-clause-fits

@@ -4,7 +4,7 @@ use Rattle.px_num.specs.Bits.{bit_at}
 use Rattle.px_array.specs.Arrays.{no_pixel}
 use Rattle.px_planes.specs.Pixels.{pixels_in}
 use Rattle.px_rows.specs.Rows.{row_bit}
-use Rattle.px_planes.proofs.Grids.{bit_law}
+use Rattle.px_planes.proofs.GridLemmas.{bit_law}
 use Rattle.px_planes.proofs.plane_grid.PlaneGrid.bit.Goals as goal
 
 pub returns : goal.returns

@@ -1,7 +1,7 @@
 use Rattle.std.proofs.Common.{◌≡◌, ◌∙◌, ◌+◌, ◌*◌, ◌^◌, ◌<◌, ap, get_or}
 use Rattle.px_array.specs.Arrays.{no_pixel, registers_of}
 use Rattle.px_planes.specs.Pixels.{pixels_in}
-use Rattle.px_planes.proofs.Grids.{registers_law}
+use Rattle.px_planes.proofs.GridLemmas.{registers_law}
 use Rattle.px_planes.proofs.plane_grid.PlaneGrid.registers.Goals as goal
 
 pub returns : goal.returns

@@ -1,7 +1,7 @@
 use Rattle.std.proofs.Common.{◌≡◌, ◌∙◌, ◌<◌, ℕ, List, [], get_or, length, ap, arith}
 use Rattle.std.proofs.lemmas.List.{get_or_default}
 use Rattle.px_rows.specs.Rows.{row_bit}
-use Rattle.px_planes.proofs.Grids.{row_law}
+use Rattle.px_planes.proofs.GridLemmas.{row_law}
 use Rattle.px_planes.proofs.plane_grid.PlaneGrid.row.Goals as goal
 
 pub returns-clause-bits : goal.returns-clause-bits

@@ -1,5 +1,5 @@
 use Rattle.std.proofs.Common.{◌≡◌, ◌+◌, ◌^◌, length, ap, sym, ◌∙◌}
-use Rattle.px_planes.proofs.Trees.{cleared_seen, zero_tree}
+use Rattle.px_planes.proofs.TreeLemmas.{cleared_seen, zero_tree}
 use Rattle.px_planes.proofs.plane_tree.PlaneTree.new.Goals as goal
 
 pub invariant_of-result : goal.invariant_of-result

@@ -1,5 +1,5 @@
 use Rattle.std.proofs.Common.{◌∙◌, arith}
-use Rattle.px_planes.proofs.Outputs.{small_words, small_bits, large_words, large_bits, large_fits}
+use Rattle.px_planes.proofs.OutputLemmas.{small_words, small_bits, large_words, large_bits, large_fits}
 use Rattle.px_planes.proofs.plane_tree.PlaneTree.outputs.Goals as goal
 
 pub part-requires-else-level-lt6-clause-to : goal.part-requires-else-level-lt6-clause-to

@@ -1,7 +1,7 @@
 use Rattle.std.proofs.Common.{◌≡◌, ◌∙◌, true, length, replicate, ap}
 use Rattle.std.proofs.lemmas.List.{length-replicate}
 use Rattle.px_tree.specs.Nodes.{TreeState, cleared}
-use Rattle.px_planes.proofs.Trees.{cleared_seen, cleared_tree}
+use Rattle.px_planes.proofs.TreeLemmas.{cleared_seen, cleared_tree}
 use Rattle.px_planes.proofs.plane_tree.PlaneTreeTree.clear.Goals as goal
 
 pub invariant_of-self : goal.invariant_of-self

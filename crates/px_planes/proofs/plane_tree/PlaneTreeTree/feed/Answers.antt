@@ -1,7 +1,7 @@
 use Rattle.std.proofs.Common.{◌∙◌, ◌≡◌, ℕ, List, length, get_or, ap, arith}
 use Rattle.std.proofs.lemmas.List.{with_items_is, get_or_default}
 use Rattle.px_tree.specs.Nodes.{after_feed}
-use Rattle.px_planes.proofs.Trees.{fed_seen, fed_tree}
+use Rattle.px_planes.proofs.TreeLemmas.{fed_seen, fed_tree}
 use Rattle.px_planes.proofs.plane_tree.PlaneTreeTree.feed.Goals as goal
 
 pub invariant_of-self : goal.invariant_of-self

@@ -1,6 +1,6 @@
 use Rattle.std.proofs.Common.{◌∙◌, ap}
 use Rattle.px_tree.specs.Nodes.{TreeState, leaf_bit}
-use Rattle.px_planes.proofs.Trees.{bit_seen}
+use Rattle.px_planes.proofs.TreeLemmas.{bit_seen}
 use Rattle.px_planes.proofs.plane_tree.PlaneTreeTree.leaf.Goals as goal
 
 pub returns : goal.returns

@@ -1,6 +1,6 @@
 use Rattle.std.proofs.Common.{◌∙◌, ap}
 use Rattle.px_tree.specs.Nodes.{TreeState, node_at}
-use Rattle.px_planes.proofs.Trees.{bit_seen, carry_seen}
+use Rattle.px_planes.proofs.TreeLemmas.{bit_seen, carry_seen}
 use Rattle.px_planes.proofs.plane_tree.PlaneTreeTree.node.Goals as goal
 
 pub returns-clause-output : goal.returns-clause-output

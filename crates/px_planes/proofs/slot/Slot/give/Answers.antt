@@ -1,6 +1,6 @@
 use Rattle.std.proofs.Common.{◌≡◌, ◌∙◌, ◌+◌, ◌^◌, true, refl}
 use Rattle.px_planes.specs.Pixels.{HasPixels}
-use Rattle.px_planes.proofs.ShelfLaws.{pixels_kept, pixels_taken, saved_flag}
+use Rattle.px_planes.proofs.ShelfLemmas.{pixels_kept, pixels_taken, saved_flag}
 use Rattle.px_planes.proofs.slot.Slot.give.Goals as goal
 
 pub invariant_of-grid : goal.invariant_of-grid

@@ -1,6 +1,6 @@
 use Rattle.std.proofs.Common.{◌≡◌, ◌∙◌, ◌+◌, ◌*◌, ◌^◌, refl, ap, arith}
 use Rattle.px_rows.specs.Rows.{words_for}
-use Rattle.px_planes.proofs.ShelfLaws.{filled_by, pixels_kept}
+use Rattle.px_planes.proofs.ShelfLemmas.{filled_by, pixels_kept}
 use Rattle.px_planes.proofs.slot.Slot.keep.Goals as goal
 
 pub invariant_of-self : goal.invariant_of-self

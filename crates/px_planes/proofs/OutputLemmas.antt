@@ -8,7 +8,7 @@ use Rattle.px_num.specs.Bits.{nat_bit}
 use Rattle.px_tree.specs.Nodes.{node_at}
 use Rattle.px_rows.specs.Rows.{row_bit}
 use Rattle.px_planes.specs.Trees.{seen_tree, AreSmallLevels}
-use Rattle.px_planes.proofs.Trees.{bit_seen, small_power}
+use Rattle.px_planes.proofs.TreeLemmas.{bit_seen, small_power}
 
 power_at : (level : ℕ) → 6 ≤ level → 2 ^ level ≡ 64 * 2 ^ (level - 6)
 power_at level h = let e : 6 + (level - 6) ≡ level = omega arith in ap (λ m. 2 ^ m) (sym e) ∙ pow-add 2 6 (level - 6)

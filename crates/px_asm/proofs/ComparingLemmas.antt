@@ -17,8 +17,8 @@ use Rattle.px_macro.specs.Macros.{keep}
 use Rattle.px_macro.specs.declared.field.Field.{Field}
 use Rattle.px_asm.specs.Micros.{less_act}
 use Rattle.px_asm.specs.Microprograms.{bits_of}
-use Rattle.px_asm.proofs.Acting.{after_acts}
-use Rattle.px_asm.proofs.Storing.{two_more}
+use Rattle.px_asm.proofs.ActingLemmas.{after_acts}
+use Rattle.px_asm.proofs.StoringLemmas.{two_more}
 
 rest_of_small : (n w : ℕ) → n < 2 ^ w → n % 2 ^ w ≡ n
 rest_of_small n w below = mod-eq_of_lt below

@@ -12,8 +12,8 @@ use Rattle.px_macro.specs.Macros.{AreApart, with_field}
 use Rattle.px_macro.specs.declared.field.Field.{Field}
 use Rattle.px_asm.specs.Micros.{copy_act}
 use Rattle.px_asm.specs.Microprograms.{bits_of}
-use Rattle.px_asm.proofs.Acting.{after_acts}
-use Rattle.px_asm.proofs.Written.{IsWritten, none_written, one_written, whole_written}
+use Rattle.px_asm.proofs.ActingLemmas.{after_acts}
+use Rattle.px_asm.proofs.WrittenLemmas.{IsWritten, none_written, one_written, whole_written}
 
 -- each act of a run stores a bit of v
 abbrev pub StoreEach : (at n : ℕ) (v : ℕ → Bool) (act : ℕ → Act) (tree : ℕ → Bool) → Type 0

@@ -19,10 +19,10 @@ use Rattle.px_macro.specs.Macros.{keep, with_field}
 use Rattle.px_macro.specs.declared.field.Field.{Field}
 use Rattle.px_asm.specs.Micros.{act_at}
 use Rattle.px_asm.specs.Microprograms.{bits_of}
-use Rattle.px_asm.proofs.Acting.{after_acts, after_acts-parts, after_acts-same, after_nops}
-use Rattle.px_asm.proofs.Comparing.{HasCompared, kept_by_carry}
-use Rattle.px_asm.proofs.Storing.{put_by_stores, same_bits}
-use Rattle.px_asm.proofs.Written.{IsWritten, none_written, one_written, whole_written}
+use Rattle.px_asm.proofs.ActingLemmas.{after_acts, after_acts-parts, after_acts-same, after_nops}
+use Rattle.px_asm.proofs.ComparingLemmas.{HasCompared, kept_by_carry}
+use Rattle.px_asm.proofs.StoringLemmas.{put_by_stores, same_bits}
+use Rattle.px_asm.proofs.WrittenLemmas.{IsWritten, none_written, one_written, whole_written}
 
 waiting_act : (levels : ℕ) (first : Act) (each : ℕ → Act) (i : ℕ) → suc i ≤ levels → act_at levels first each (suc i)
     ≡ act.Nop

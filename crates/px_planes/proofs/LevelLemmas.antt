@@ -10,8 +10,8 @@ use Rattle.px_num.proofs.TruthLaws.{double_pow, power_grows}
 use Rattle.px_tree.specs.declared.lines.Lines.{Lines}
 use Rattle.px_planes.specs.Heap.{AreStill, HasLines, HasOdd, IsAtRest, IsFed, IsFedFirst, IsFedHeap, IsFedWord}
 use Rattle.px_planes.specs.Heap.{IsHeap, level_line, parent_bit}
-use Rattle.px_planes.proofs.FedWords.{WordFed, node_law, place_line, same_line, same_parent, same_word, still_heap}
-use Rattle.px_planes.proofs.Heaps.{moved}
+use Rattle.px_planes.proofs.FedWordLemmas.{WordFed, node_law, place_line, same_line, same_parent, same_word, still_heap}
+use Rattle.px_planes.proofs.HeapLemmas.{moved}
 
 -- powers of a place that is written as a sum
 pub power_of : (k e : ℕ) → k ≡ suc e → 2 ^ k ≡ 2 * 2 ^ e

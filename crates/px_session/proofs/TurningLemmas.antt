@@ -13,8 +13,8 @@ use Rattle.px_session.specs.Sessions.{has_quit, until_quit}
 use Rattle.px_session.specs.Turns.{Broke, Ended, HasAnswered, Went, lines_at_end, seen_left, seen_lines}
 use Rattle.px_session.specs.declared.serving.Ending.{Ending}
 use Rattle.px_session.specs.declared.serving.Ending.TheVariants as e
-use Rattle.px_session.proofs.Feeding.{answered_both, answered_none, answered_until, broke_until, broke_until_more}
-use Rattle.px_session.proofs.Feeding.{ended-append, left-append, quits_then, until_quiet}
+use Rattle.px_session.proofs.FeedingLemmas.{answered_both, answered_none, answered_until, broke_until, broke_until_more}
+use Rattle.px_session.proofs.FeedingLemmas.{ended-append, left-append, quits_then, until_quiet}
 
 seen_both : (limit : ℕ) (xs ys : List ℕ) → length xs < limit → seen limit (xs ++ ys) ≡ xs ++ seen (limit - length xs) ys
 seen_both limit xs ys some =

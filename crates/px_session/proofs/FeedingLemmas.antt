@@ -1,5 +1,5 @@
 -- Bytes in pieces, and lines one after another.
-use Rattle.std.proofs.Common.{◌≡◌, ℕ, zero, suc, ◌+◌, ◌<◌, ◌≤◌, Bool, true, false, ◌||◌, ◌==◌, List, [], ◌∷◌, ◌++◌}
+use Rattle.std.proofs.Common.{◌≡◌, ℕ, ◌+◌, ◌<◌, ◌≤◌, Bool, true, false, ◌||◌, ◌==◌, List, [], ◌∷◌, ◌++◌}
 use Rattle.std.proofs.Common.{length, take, drop, get_or, Option, Some, None, Result, Ok, Err, IfOk, OnErr, OnOk}
 use Rattle.std.proofs.Common.{refl, sym, ap, ◌∙◌, append_assoc, append-nil, add_assoc, length-append, arith}
 use Rattle.std.proofs.Common.{if◌then◌else◌}
@@ -7,8 +7,8 @@ use Rattle.std.proofs.Math.Seq.{take-append-add}
 use Rattle.std.proofs.lemmas.List.{take_more, take-append-drop, take-append-le as take_within}
 use Rattle.std.specs.Io.KnownBytes.{Appends}
 use Rattle.px_num.proofs.TruthLaws.{neither_left, neither_right}
-use Rattle.px_io.specs.Told.{Reopens, TakesAll, TakesFirst, TakesFront}
-use Rattle.px_io.proofs.ToldLaws.{appends_both, takes_both}
+use Rattle.px_io.specs.Told.{TakesAll, TakesFirst, TakesFront}
+use Rattle.px_io.proofs.ToldLaws.{appends_both, takes_both, reopens_both}
 use Rattle.px_debug.specs.Answers.{answer}
 use Rattle.px_debug.specs.Commands.{line_command}
 use Rattle.px_debug.specs.Moves.{SessionView, going, moved}
@@ -90,17 +90,6 @@ answers-append bits s [] ms = refl
 answers-append bits s (l ∷ ls) ms =
     ap (λ x. answer_line bits s l ++ x) (answers-append bits (after_line s l) ls ms)
     ∙ sym (append_assoc (answer_line bits s l) _ _)
-
--- a sink that took m bytes and then n
-reopens_both : (f g h : Option Bool) (m n : ℕ) → Reopens f g m → Reopens g h n → Reopens f h (m + n)
-reopens_both f g h m zero first second = record {
-  taken = λ some. rw (second.idle refl) (first.taken (omega arith));
-  idle = λ none. rw (second.idle refl) (first.idle (omega arith));
-}
-reopens_both f g h m (suc n) first second = record {
-  taken = λ some. second.taken (omega arith);
-  idle = λ none. absurd (omega arith);
-}
 
 -- all of xs, and then the first n of ys
 first_after : (a b c : Option (List ℕ)) (f g h : Option Bool) (xs ys : List ℕ) (n : ℕ)
@@ -261,10 +250,6 @@ given_broke bits s t a b p q l is wrote =
 pub on_ok_by : {T E : Type 0} {P Q : Type 0} (r : Result T E) → OnOk r P → (P → Q) → OnOk r Q
 on_ok_by (Ok x) p f = f p
 on_ok_by (Err e) p f = tt
-
-pub on_err_by : {T E : Type 0} {P Q : Type 0} (r : Result T E) → OnErr r P → (P → Q) → OnErr r Q
-on_err_by (Ok x) p f = tt
-on_err_by (Err e) p f = f p
 
 pub going_is : {E : Type 0} (r : Result Going E) (l : List ℕ) → IfOk r (λ on. on ≡ going (line_command l))
     → IfOk r (λ on. is_last on ≡ has_quit (l ∷ []))

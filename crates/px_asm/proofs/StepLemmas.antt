@@ -17,7 +17,7 @@ use Rattle.px_array.proofs.ClockLaws.{grid_after_clock, pixel_at-after_clock}
 use Rattle.px_array.specs.Clocks.{after_clock, after_clocks}
 use Rattle.px_array.specs.declared.micro.Micro.{Micro}
 use Rattle.px_asm.specs.Micros.{tree_at}
-use Rattle.px_asm.proofs.Acting.{after_acts}
+use Rattle.px_asm.proofs.ActingLemmas.{after_acts}
 
 -- the state after n micros
 abbrev pub steps : (micro : ℕ → Micro) → ℕ → State → State
