@@ -1,11 +1,7 @@
-//! Small scenes worked out by hand: what an array does that is clocked.
+//! Small scenes worked out by hand: what whole runs leave of an array.
 #![tactic(auto)]
 
 #[cfg(test)]
-mod arrays;
-#[cfg(test)]
 mod lights;
-#[cfg(test)]
-mod sessions;
 #[cfg(test)]
 mod wide;

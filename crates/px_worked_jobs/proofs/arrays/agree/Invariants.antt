@@ -1,5 +1,5 @@
 use Rattle.px_control.specs.Program.{IsAt}
-use Rattle.px_worked_runs.proofs.arrays.agree.Given as goal
+use Rattle.px_worked_jobs.proofs.arrays.agree.Given as goal
 
 abbrev pub invariant-loop-clock : goal.invariant-loop-clock
 invariant-loop-clock l = record {

@@ -1,6 +1,6 @@
 use Rattle.std.proofs.Common.{◌≡◌}
 use Rattle.px_debug.specs.Moves.{Fits}
-use Rattle.px_worked_runs.proofs.sessions.answered.Given as goal
+use Rattle.px_worked_jobs.proofs.sessions.answered.Given as goal
 
 abbrev pub invariant-loop-line : goal.invariant-loop-line
 invariant-loop-line l = record {
