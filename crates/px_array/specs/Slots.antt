@@ -1,5 +1,5 @@
 -- What the four slots of an array keep, and how its work grows. Clauses of public calls stand on it.
-use Rattle.std.specs.Prelude.{ℕ, ◌+◌, ◌-◌, ◌^◌, IsSome, List, Option, None, Some, min, replicate, slice_index_or, slice_set}
+use Rattle.std.specs.Prelude.{◌≡◌, ℕ, ◌+◌, ◌-◌, ◌^◌, IsSome, List, Option, None, Some, min, replicate, slice_index_or, slice_set}
 use Rattle.px_array.specs.Arrays.{Device, closed}
 
 -- none of the four slots is saved
@@ -27,6 +27,14 @@ pub record ArrayView : Type 0 where
   pub slots : List (Option Device)
   pub work : ℕ
 
+abbrev pub array_view : Device → List (Option Device) → (work : ℕ) → ArrayView
+array_view device slots work = record { device = device; slots = slots; work = work }
+
 -- before the first `open`, and after one that had too little memory
 abbrev pub none_open : ArrayView
 none_open = record { device = closed; slots = no_slots; work = 0 }
+
+-- since the array was opened each of its clocks was made once, and none was kept: its work is its clocks, and no slot is saved
+pub record IsRunOnce (now : ArrayView) : Type 0 where
+  pub slots : now.slots ≡ no_slots
+  pub work : now.work ≡ now.device.clocks

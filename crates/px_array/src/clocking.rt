@@ -20,3 +20,18 @@ pub fn clock_all<A: Array>(array: &mut A, micros: &[Micro])
         array.clock(*m);
     }
 }
+
+/// The same clocks on two arrays that are one device, however each keeps its pixels: they are one
+/// device again.
+pub fn clock_both<A: Array, B: Array>(one: &mut A, other: &mut B, micros: &[Micro])
+    requires same { B.device other.old ≡ A.device one.old }
+    requires is_open { IsOpen (A.device one.old) }
+    requires places { HavePlaces A.BITS micros.now }
+    requires other_places { HavePlaces B.BITS micros.now }
+    requires counted { (A.device one.old).clocks + length micros.now ≤ 2 ^ 64 - 1 }
+    ensures same { B.device other.new ≡ A.device one.new }
+    ensures device { A.device one.new ≡ all_clocked micros.now (A.device one.old) }
+{
+    clock_all(one, micros);
+    clock_all(other, micros);
+}

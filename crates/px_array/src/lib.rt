@@ -9,6 +9,6 @@ mod open_array;
 mod pixel_array;
 
 pub use array::Array;
-pub use clocking::clock_all;
+pub use clocking::{clock_all, clock_both};
 pub use micro::{Micro, Registers, TreeOp};
 pub use pixel_array::PixelArray;

@@ -1,11 +1,14 @@
 pub mod ActingLemmas
+pub mod AlikeLemmas
 pub mod ComparingLemmas
 pub mod CycleLaws
 pub mod FormRunLemmas
 pub mod LawLemmas
 pub mod MakingLemmas
+pub mod OperatedLemmas
 pub mod PlaceLemmas
 pub mod ProgramLemmas
+pub mod RenewalLemmas
 pub mod StepLemmas
 pub mod StoringLemmas
 pub mod WrittenLemmas

@@ -8,3 +8,4 @@ pub use Rattle.px_tree.specs.Nodes
 pub mod Making
 pub mod Micros
 pub mod Microprograms
+pub mod Operated

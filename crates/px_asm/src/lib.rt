@@ -6,10 +6,12 @@ mod law;
 mod making;
 mod number;
 mod of_forms;
+mod operating;
 mod still;
 mod table;
 
 pub use law::law_of_microprograms;
 pub use making::{make_micros, make_operation};
 pub use number::number_in;
+pub use operating::{Operating, Renewal, law_of_renewal, renewal_of};
 pub use table::{cycles, micro_at};

@@ -39,7 +39,7 @@ use Rattle.px_control.proofs.CostLemmas.{classify_costs, clocked, clocks_on, cou
 use Rattle.px_control.proofs.CostLemmas.{drop_weight, five, flat_weight, layout_of_lengths, no_clearing}
 use Rattle.px_control.proofs.CostLemmas.{not_confirmed, one, ones, own_costs, own_more, plain_costs}
 use Rattle.px_control.proofs.CostLemmas.{some_clearing, turn_costs, turn_more, turn_weight}
-use Rattle.px_control.proofs.GridLemmas.{exponent_between}
+use Rattle.px_model.proofs.GridLaws.{exponent_between}
 use Rattle.px_control.proofs.ProductLemmas.{literal_weight, literals_length, passes_weight, product_costs, solids_range}
 use Rattle.px_normal.specs.declared.product.TheConstants.{MAX_PRODUCTS}
 use Rattle.px_sched.proofs.LayoutLaws.{bit_length_most}

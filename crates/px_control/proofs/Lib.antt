@@ -2,10 +2,10 @@ pub mod ArrayLaws
 pub mod BoundLemmas
 pub mod CostLemmas
 pub mod EndLemmas
-pub mod GridLemmas
 pub mod PictureLemmas
 pub mod PlaceLemmas
 pub mod ProductLemmas
 pub mod ProgramLemmas
 pub mod RunLemmas
 pub mod StepLemmas
+pub mod WholeLemmas

@@ -16,7 +16,7 @@ use Rattle.px_sched.specs.PassesLaw.{PassesLaw}
 use Rattle.px_sched.proofs.LawfulLaws.{passes_lawful}
 use Rattle.px_control.specs.PictureLaw.{PictureLaw}
 use Rattle.px_control.specs.Program.{array_after, columns_of, program, rows_of, total}
-use Rattle.px_control.proofs.GridLemmas.{exponent_between, exponent_is}
+use Rattle.px_model.proofs.GridLaws.{exponent_between, exponent_is}
 use Rattle.px_array.proofs.ClockLaws.{grid_of_zero_state}
 
 pub scene_grid : (scene : SceneView) → IsLawfulScene scene → IsGrid (columns_of scene) (rows_of scene)

@@ -13,4 +13,6 @@ pub mod Jobs
 pub mod PictureLaw
 pub mod Program
 pub mod ProgramLaws
+pub mod Refusals
 pub mod Standing
+pub mod Whole

@@ -1,25 +1,16 @@
 -- The program of a scene: what is broadcast, clock by clock, and the array after so many clocks. Clauses of public calls stand on it.
-use Rattle.std.specs.Prelude.{◌≡◌, All, ℕ, zero, suc, ◌+◌, ◌-◌, ◌^◌, ◌≤◌, if◌then◌else◌, nat_le, nat_lt, List, [], ◌∷◌, filter, length, take}
+use Rattle.std.specs.Prelude.{◌≡◌, All, ℕ, ◌+◌, ◌-◌, ◌≤◌, nat_le, nat_lt, List, [], ◌∷◌, filter, length, take}
 use Rattle.px_array.specs.declared.micro.Micro.{Micro}
 use Rattle.px_array.specs.Arrays.{Device, zero_state}
 use Rattle.px_array.specs.Clocks.{after_clocks}
 use Rattle.px_asm.specs.Micros.{all_micros, cycles}
 use Rattle.px_macro.specs.declared.operation.Macro.{Macro}
 use Rattle.px_prune.specs.Kept.{plan_of}
+use Rattle.px_model.specs.Grids.{exponent_of}
 use Rattle.px_model.specs.Scenes.{IsLawfulScene, SceneView, IsLawfulSolid}
 use Rattle.px_sched.specs.Layouts.{layout_of, need_of}
 use Rattle.px_sched.specs.Passes.{passes}
 use Rattle.px_normal.specs.declared.product.TheConstants.{MAX_PRODUCTS}
-
--- the first exponent from one on, of so many, whose power of 2 is at least the size
-abbrev pub exponent_from : (size from count : ℕ) → ℕ
-exponent_from size from zero = from
-exponent_from size from (suc count) =
-    if nat_le size (2 ^ from) then from else exponent_from size (from + 1) count
-
--- the least exponent of at least 1 whose power of 2 is at least the size, which is at most 2 ^ 9
-unfoldable pub exponent_of : (size : ℕ) → ℕ
-exponent_of size = exponent_from size 1 8
 
 -- the grid of a scene has 2^columns by 2^rows pixels
 abbrev pub columns_of : SceneView → ℕ

@@ -4,7 +4,7 @@ use Rattle.px_macro.specs.declared.operation.Macro.{Macro}
 use Rattle.px_model.specs.Scenes.{SceneView}
 use Rattle.px_sched.specs.Cursors.{Stands}
 use Rattle.px_sched.specs.Passes.{passes}
-use Rattle.px_array.specs.Arrays.{Device, closed}
+use Rattle.px_array.specs.Slots.{ArrayView, none_open}
 use Rattle.px_control.specs.declared.fault.JobFault.{JobFault}
 use Rattle.px_control.specs.declared.fault.JobFault.TheVariants.{PixelMemory, Products, Memory}
 use Rattle.px_control.specs.declared.place.Place.{Place}
@@ -29,8 +29,8 @@ pub record JobView : Type 0 where
   pub scene : SceneView
   pub place : Place
 
--- what a refusal leaves of the array: only for want of memory may it be another one, and then none is open
-abbrev pub LeavesOnRefusal : JobFault → (before now : Device) → Type 0
+-- what a refusal leaves of the array, of its slots and its work too: only for want of memory may it be another one, and then none is open
+abbrev pub LeavesOnRefusal : JobFault → (before now : ArrayView) → Type 0
 LeavesOnRefusal (PixelMemory need) before now = now ≡ before
 LeavesOnRefusal (Products count) before now = now ≡ before
-LeavesOnRefusal Memory before now = (now ≡ before) ⊎ (now ≡ closed)
+LeavesOnRefusal Memory before now = (now ≡ before) ⊎ (now ≡ none_open)

@@ -1,4 +1,5 @@
 //! Why a scene cannot be run on an array.
+use px_normal::NormalFault;
 use thiserror::Error;
 
 /// Why a scene cannot be run on an array.
@@ -19,4 +20,18 @@ pub enum JobFault {
     /// Memory was wanted and not given.
     #[error("out of memory")]
     Memory,
+}
+
+impl From<NormalFault> for JobFault {
+    ghost use Rattle.std.specs.Prelude.{◌≡◌};
+    ghost use Rattle.px_control.specs.Refusals.{job_fault};
+
+    ghost from_gives = { λ cause fault. fault ≡ job_fault cause };
+
+    fn from(cause: NormalFault) -> Self {
+        match cause {
+            NormalFault::TooMany { count } => JobFault::Products { count },
+            NormalFault::Memory => JobFault::Memory,
+        }
+    }
 }

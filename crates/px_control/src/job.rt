@@ -1,7 +1,7 @@
 //! A scene's broadcasts, made on an array.
 ghost use Rattle.std.specs.Prelude.{◌≡◌, [], ◌∷◌, ◌+◌, ◌-◌, ◌^◌, ◌<◌, ◌≤◌, ℕ, Err, IfErr, IfOk, OnOk, Some, length, min, slice_get, None};
-ghost use Rattle.px_array.specs.Arrays.{IsOpen, closed, pixel_of};
-ghost use Rattle.px_array.specs.Slots.{worked};
+ghost use Rattle.px_array.specs.Arrays.{IsOpen, pixel_of};
+ghost use Rattle.px_array.specs.Slots.{IsRunOnce, array_view, no_slots, none_open, worked};
 ghost use Rattle.px_prune.specs.Kept.{crowd_of};
 ghost use Rattle.px_sched.specs.Layouts.{layout_of, need_of};
 ghost use Rattle.px_sched.specs.Passes.{passes};
@@ -23,6 +23,7 @@ use crate::law::{MAX_LAYOUT_BITS, law_of_needs, law_of_pictures};
 use crate::place::Place;
 use crate::program::Program;
 use px_array::{Array, Micro};
+use px_asm::Operating;
 use px_model::Scene;
 use px_sched::Layout;
 use std::alloc::Global;
@@ -55,8 +56,9 @@ impl<'s> Model for Job<'s> {
 impl<'s> Job<'s> {
     /// Opens an array for a scene.
     ///
-    /// The array is opened last: every refusal leaves it as it was, but for want of the memory of
-    /// the array itself, after which none is open.
+    /// The array is opened last: every refusal leaves it as it was, its slots and its work too, but
+    /// for want of the memory of the array itself, after which none is open. A new array has no slot
+    /// saved, and its work is 0.
     pub fn open<A: Array>(
         alloc: Global,
         scene: &'s Scene,
@@ -64,6 +66,10 @@ impl<'s> Job<'s> {
     ) -> Result<Job<'s>, JobFault>
         ensures job { IfOk result (λ job. (job.scene ≡ scene.now) × (job.place.clock ≡ 0)) }
         ensures at { OnOk result (IsAt A.BITS scene.now 0 (A.device array.new)) }
+        ensures slots { OnOk result (A.slots array.new ≡ no_slots) }
+        ensures work { OnOk result (A.work array.new ≡ 0) }
+        ensures once { OnOk result (IsRunOnce
+            (array_view (A.device array.new) (A.slots array.new) (A.work array.new))) }
         ensures short { A.BITS < need_of (layout_of scene.now) →
             result ≡ Err (JobFault.PixelMemory (need_of (layout_of scene.now))) }
         ensures need { (need : ℕ) → result ≡ Err (JobFault.PixelMemory need) →
@@ -74,8 +80,9 @@ impl<'s> Job<'s> {
             × (crowd_of scene.now ≡ Some count) × (count ≤ 2 ^ 21) }
         ensures memory { need_of (layout_of scene.now) ≤ A.BITS → crowd_of scene.now ≡ None →
             IfErr result (λ fault. fault ≡ JobFault.Memory) }
-        ensures array { IfErr result (λ fault.
-            LeavesOnRefusal fault (A.device array.old) (A.device array.new)) }
+        ensures array { IfErr result (λ fault. LeavesOnRefusal fault
+            (array_view (A.device array.old) (A.slots array.old) (A.work array.old))
+            (array_view (A.device array.new) (A.slots array.new) (A.work array.new))) }
     {
         let program = Program::new(alloc, scene, memory_bits::<A>(scene))?;
         program.laws();
@@ -94,7 +101,7 @@ impl<'s> Job<'s> {
     }
 
     /// Makes so many clocks, or as many as are left, and answers how many.
-    pub fn advance<A: Array>(&mut self, array: &mut A, clocks: u64) -> u64
+    pub fn advance<A: Operating>(&mut self, array: &mut A, clocks: u64) -> u64
         requires at { IsAt A.BITS self.old.scene self.old.place.clock (A.device array.old) }
         ensures made { result ≡ min clocks (total self.old.scene - self.old.place.clock) }
         ensures scene { self.new.scene ≡ self.old.scene }
@@ -109,7 +116,7 @@ impl<'s> Job<'s> {
     }
 
     /// Makes the clocks that are left: the keys that the array then stores are the picture.
-    pub fn finish<A: Array>(&mut self, array: &mut A)
+    pub fn finish<A: Operating>(&mut self, array: &mut A)
         requires at { IsAt A.BITS self.old.scene self.old.place.clock (A.device array.old) }
         ensures scene { self.new.scene ≡ self.old.scene }
         ensures clock { self.new.place.clock ≡ total self.new.scene }
@@ -119,6 +126,9 @@ impl<'s> Job<'s> {
         ensures slots { A.slots array.new ≡ A.slots array.old }
         ensures work { A.work array.new
             ≡ worked (total self.new.scene - self.old.place.clock) (A.work array.old) }
+        ensures once { IsRunOnce
+            (array_view (A.device array.old) (A.slots array.old) (A.work array.old))
+            → IsRunOnce (array_view (A.device array.new) (A.slots array.new) (A.work array.new)) }
     {
         let left = self.left();
         self.advance(array, left);
@@ -129,6 +139,7 @@ impl<'s> Job<'s> {
     fn left(&self) -> u64
         ensures left { result ≡ total self.now.scene - self.now.place.clock }
         ensures within { self.now.place.clock ≤ total self.now.scene }
+        ensures bound { total self.now.scene < 2 ^ 43 }
         ensures can_run { CanRun self.now.scene }
     {
         self.program.laws();

@@ -9,6 +9,7 @@ mod literal;
 mod place;
 mod program;
 mod total;
+mod whole;
 
 pub use fault::JobFault;
 pub use job::Job;

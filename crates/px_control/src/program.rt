@@ -22,7 +22,6 @@ use px_array::{Array, Micro, TreeOp};
 use px_asm::{cycles, make_micros, micro_at};
 use px_macro::Macro;
 use px_model::{Scene, laws_of_scenes};
-use px_normal::NormalFault;
 use px_pixel::Act;
 use px_prune::{Plan, plan_of};
 use px_sched::{Cursor, Layout, NeedBits};
@@ -75,11 +74,7 @@ impl<'s> Program<'s> {
             Ok(layout) => layout,
             Err(NeedBits { need }) => return Err(JobFault::PixelMemory { need }),
         };
-        let plan = match plan_of(alloc, scene) {
-            Ok(plan) => plan,
-            Err(NormalFault::TooMany { count }) => return Err(JobFault::Products { count }),
-            Err(NormalFault::Memory) => return Err(JobFault::Memory),
-        };
+        let plan = plan_of(alloc, scene)?;
         let (columns, rows) = scene.grid();
         Ok(Program {
             scene,
@@ -117,7 +112,7 @@ impl<'s> Program<'s> {
     }
 
     /// The place behind the micros of the operation that runs, up to one of them.
-    fn after(&self, place: &Place, m: &Macro, cycles: u32, to: u32) -> Place
+    pub(crate) fn after(&self, place: &Place, m: &Macro, cycles: u32, to: u32) -> Place
         requires stands { StandsFor self.now place.now }
         requires here { place.now.current ≡ Some m.now }
         requires cycles { cycles ≡ cycles_in self.now m.now }
@@ -125,6 +120,8 @@ impl<'s> Program<'s> {
         requires within { to ≤ cycles }
         ensures stands { StandsFor self.now result }
         ensures clock { result.clock ≡ place.now.clock + (to - place.now.micro) }
+        ensures micro { cycles ≤ to → result.micro ≡ 0 }
+        ensures operation { cycles ≤ to → result.operation ≡ place.now.operation + 1 }
     {
         self.laws();
         let clock = place.clock + u64::from(to - place.micro);
@@ -148,7 +145,7 @@ impl<'s> Program<'s> {
     }
 
     /// The next operation of the passes.
-    fn give(&self, cursor: &mut Cursor) -> Option<Macro>
+    pub(crate) fn give(&self, cursor: &mut Cursor) -> Option<Macro>
         requires { Stands self.now cursor.old }
         ensures operation { result ≡ slice_get (passes self.now) cursor.old.given }
         ensures some { OnSome result (cursor.new.given ≡ cursor.old.given + 1) }
@@ -170,19 +167,20 @@ impl<'s> Program<'s> {
         micro_at(m, self.columns, self.rows, place.micro)
     }
 
-    /// Makes so many broadcasts from a place on, and answers the place behind them.
-    pub(crate) fn advance<A: Array>(&self, from: &Place, array: &mut A, clocks: u64) -> Place
+    /// Makes the broadcasts from a place up to a clock, one after another, and answers the place
+    /// there.
+    pub(crate) fn walk<A: Array>(&self, from: &Place, array: &mut A, end: u64) -> Place
         requires stands { StandsFor self.now from.now }
-        requires left { from.now.clock + clocks ≤ total self.now }
+        requires order { from.now.clock ≤ end }
+        requires within { end ≤ total self.now }
         requires at { IsAt A.BITS self.now from.now.clock (A.device array.old) }
         ensures stands { StandsFor self.now result }
-        ensures clock { result.clock ≡ from.now.clock + clocks }
+        ensures clock { result.clock ≡ end }
         ensures at { IsAt A.BITS self.now result.clock (A.device array.new) }
         ensures slots { A.slots array.new ≡ A.slots array.old }
-        ensures work { A.work array.new ≡ worked clocks (A.work array.old) }
+        ensures work { A.work array.new ≡ worked (end - from.now.clock) (A.work array.old) }
     {
         self.laws();
-        let end = from.clock + clocks;
         let mut place = *from;
         while place.clock < end {
             place = self.run_on(&place, array, end);
@@ -192,7 +190,7 @@ impl<'s> Program<'s> {
 
     /// Makes the broadcasts of the operation at a place up to a clock, or all that it has left, and
     /// answers the place behind them.
-    fn run_on<A: Array>(&self, place: &Place, array: &mut A, end: u64) -> Place
+    pub(crate) fn run_on<A: Array>(&self, place: &Place, array: &mut A, end: u64) -> Place
         requires stands { StandsFor self.now place.now }
         requires before { place.now.clock < end }
         requires within { end ≤ total self.now }
@@ -200,6 +198,7 @@ impl<'s> Program<'s> {
         ensures stands { StandsFor self.now result }
         ensures later { place.now.clock < result.clock }
         ensures within { result.clock ≤ end }
+        ensures whole { result.clock < end → result.micro ≡ 0 }
         ensures at { IsAt A.BITS self.now result.clock (A.device array.new) }
         ensures slots { A.slots array.new ≡ A.slots array.old }
         ensures work { A.work array.new

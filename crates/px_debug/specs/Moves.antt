@@ -1,5 +1,5 @@
 -- Where a session stands, and where each command leads. Clauses of public calls stand on it.
-use Rattle.std.specs.Prelude.{◌≡◌, ℕ, zero, suc, ◌+◌, ◌-◌, ◌*◌, ◌/◌, ◌≤◌, min, max, List, [], ◌∷◌, Option, Some}
+use Rattle.std.specs.Prelude.{◌≡◌, ℕ, zero, suc, ◌+◌, ◌-◌, ◌*◌, ◌/◌, ◌≤◌, min, max, nat_lt, if◌then◌else◌, List, [], ◌∷◌, Option, Some}
 use Rattle.px_array.specs.Arrays.{Device}
 use Rattle.px_array.specs.Slots.{slot_of}
 use Rattle.px_model.specs.Scenes.{SceneView}
@@ -57,9 +57,13 @@ going c.Unknown = g.More
 abbrev pub quarter_of : SceneView → ℕ
 quarter_of scene = max 1 (total scene / 4)
 
--- the most clocks that a command makes: on a way back a quarter and 32
+-- the most clocks of a way back to a clock: a quarter and 32, and none where it is the clock of now
+abbrev pub back_clocks : SceneView → (now target : ℕ) → ℕ
+back_clocks scene now target = if nat_lt target now then quarter_of scene + 32 else 0
+
+-- the most clocks that a command makes
 abbrev pub most_clocks : SceneView → (now : ℕ) → Command → ℕ
-most_clocks scene now (c.Back n) = quarter_of scene + 32
+most_clocks scene now (c.Back n) = back_clocks scene now (now - n)
 most_clocks scene now (c.Step n) = moved scene now (c.Step n) - now
 most_clocks scene now (c.Macro n) = moved scene now (c.Macro n) - now
 most_clocks scene now c.Run = total scene - now

@@ -7,6 +7,7 @@ ghost use Rattle.px_debug.specs.Courses.{IsAlmostOnCourse, IsKeptBySession, IsOn
 
 use circular_buffer::HeapCircularBuffer;
 use px_array::{Array, Micro};
+use px_asm::Operating;
 use px_control::{Job, Place, law_of_grids};
 
 /// How many checkpoints there are, and how many slots an array has.
@@ -64,7 +65,7 @@ impl<'s> Course<'s> {
     }
 
     /// Goes on to a clock before which no other quarter is passed.
-    fn go<A: Array>(&mut self, array: &mut A, stop: u64)
+    fn go<A: Operating>(&mut self, array: &mut A, stop: u64)
         requires course { IsOnCourse A.BITS self.old (A.device array.old) (A.slots array.old) }
         requires forth { self.old.job.place.clock ≤ stop }
         requires within { stop ≤ total self.old.job.scene }
@@ -100,7 +101,7 @@ impl<'s> Course<'s> {
     }
 
     /// Goes on to a clock; what is broadcast on the way is not traced.
-    fn run_to<A: Array>(&mut self, array: &mut A, target: u64)
+    fn run_to<A: Operating>(&mut self, array: &mut A, target: u64)
         requires course { IsOnCourse A.BITS self.old (A.device array.old) (A.slots array.old) }
         requires forth { self.old.job.place.clock ≤ target }
         requires within { target ≤ total self.old.job.scene }
@@ -118,7 +119,7 @@ impl<'s> Course<'s> {
     }
 
     /// One broadcast, which the trace takes.
-    fn step<A: Array>(&mut self, array: &mut A)
+    fn step<A: Operating>(&mut self, array: &mut A)
         requires course { IsOnCourse A.BITS self.old (A.device array.old) (A.slots array.old) }
         requires more { self.old.job.place.clock < total self.old.job.scene }
         ensures course { IsOnCourse A.BITS self.new (A.device array.new) (A.slots array.new) }
@@ -135,7 +136,7 @@ impl<'s> Course<'s> {
     }
 
     /// So many broadcasts, which the trace takes.
-    fn walk<A: Array>(&mut self, array: &mut A, clocks: u64)
+    fn walk<A: Operating>(&mut self, array: &mut A, clocks: u64)
         requires course { IsOnCourse A.BITS self.old (A.device array.old) (A.slots array.old) }
         requires left { self.old.job.place.clock + clocks ≤ total self.old.job.scene }
         requires room { length self.old.trace.items ≤ self.old.trace.capacity }
@@ -153,7 +154,7 @@ impl<'s> Course<'s> {
     }
 
     /// Goes on to a clock, so that the trace has the last broadcasts before it.
-    pub(crate) fn forward<A: Array>(&mut self, array: &mut A, target: u64)
+    pub(crate) fn forward<A: Operating>(&mut self, array: &mut A, target: u64)
         requires course { IsOnCourse A.BITS self.old (A.device array.old) (A.slots array.old) }
         requires forth { self.old.job.place.clock ≤ target }
         requires within { target ≤ total self.old.job.scene }
@@ -177,7 +178,7 @@ impl<'s> Course<'s> {
     }
 
     /// Goes back to a clock, from the latest quarter after which the trace fills again.
-    pub(crate) fn back<A: Array>(&mut self, array: &mut A, target: u64)
+    pub(crate) fn back<A: Operating>(&mut self, array: &mut A, target: u64)
         requires course { IsOnCourse A.BITS self.old (A.device array.old) (A.slots array.old) }
         requires before { target ≤ self.old.job.place.clock }
         requires small { self.old.quarter ≤ 2 ^ 43 }

@@ -2,16 +2,16 @@
 ghost use Rattle.std.specs.Prelude.{◌≡◌, ◌+◌, ◌-◌, ◌≤◌, max, min};
 ghost use Rattle.px_control.specs.Program.{total};
 ghost use Rattle.px_debug.specs.Courses.{IsOnCourse, IsSameCourse, IsTraced};
-ghost use Rattle.px_debug.specs.Moves.{after_ends, most_clocks, moved, quarter_of};
+ghost use Rattle.px_debug.specs.Moves.{after_ends, back_clocks, most_clocks, moved, quarter_of};
 ghost use Rattle.px_control.specs.Program.{ends_after};
 
 use crate::command::Command;
 use crate::course::Course;
-use px_array::Array;
+use px_asm::Operating;
 
 impl<'s> Course<'s> {
     /// Goes where a command leads.
-    pub(crate) fn obey<A: Array>(&mut self, array: &mut A, command: Command)
+    pub(crate) fn obey<A: Operating>(&mut self, array: &mut A, command: Command)
         requires course { IsOnCourse A.BITS self.old (A.device array.old) (A.slots array.old) }
         requires quarter { self.old.quarter ≡ quarter_of self.old.job.scene }
         requires trace { IsTraced self.old }
@@ -70,7 +70,7 @@ impl<'s> Course<'s> {
     }
 
     /// Goes on to a clock.
-    fn go_to<A: Array>(&mut self, array: &mut A, target: u64)
+    fn go_to<A: Operating>(&mut self, array: &mut A, target: u64)
         requires course { IsOnCourse A.BITS self.old (A.device array.old) (A.slots array.old) }
         requires quarter { self.old.quarter ≡ quarter_of self.old.job.scene }
         requires trace { IsTraced self.old }
@@ -87,7 +87,7 @@ impl<'s> Course<'s> {
     }
 
     /// Goes so many times to the end of the operation that runs.
-    fn go_ends<A: Array>(&mut self, array: &mut A, count: u64)
+    fn go_ends<A: Operating>(&mut self, array: &mut A, count: u64)
         requires course { IsOnCourse A.BITS self.old (A.device array.old) (A.slots array.old) }
         requires quarter { self.old.quarter ≡ quarter_of self.old.job.scene }
         requires trace { IsTraced self.old }
@@ -110,8 +110,8 @@ impl<'s> Course<'s> {
         }
     }
 
-    /// Goes so many clocks back, at most to the first.
-    fn go_back<A: Array>(&mut self, array: &mut A, clocks: u64)
+    /// Goes so many clocks back, at most to the first; where it stands there already it does nothing.
+    fn go_back<A: Operating>(&mut self, array: &mut A, clocks: u64)
         requires course { IsOnCourse A.BITS self.old (A.device array.old) (A.slots array.old) }
         requires quarter { self.old.quarter ≡ quarter_of self.old.job.scene }
         requires trace { IsTraced self.old }
@@ -119,11 +119,14 @@ impl<'s> Course<'s> {
         ensures same { IsSameCourse self.old self.new }
         ensures clock { self.new.job.place.clock ≡ self.old.job.place.clock - clocks }
         ensures trace { IsTraced self.new }
-        ensures work { A.work array.new ≤ A.work array.old
-            + (quarter_of self.old.job.scene + 32) }
+        ensures work { A.work array.new ≤ A.work array.old + back_clocks self.old.job.scene
+            self.old.job.place.clock (self.old.job.place.clock - clocks) }
     {
         let _total = self.job.total_clocks();
-        let target = self.job.now().saturating_sub(clocks);
-        self.back(array, target);
+        let now = self.job.now();
+        let target = now.saturating_sub(clocks);
+        if target < now {
+            self.back(array, target);
+        }
     }
 }

@@ -2,6 +2,7 @@
 ghost use Rattle.std.specs.Prelude.{◌≡◌, ◌+◌, ◌-◌, ◌^◌, ◌<◌, ◌≤◌, IfOk, OnErr, OnOk};
 ghost use Rattle.px_io.specs.Counts.{HasCause};
 ghost use Rattle.px_io.specs.Told.{TakesAll, TakesFront};
+ghost use Rattle.px_array.specs.Slots.{after_save};
 ghost use Rattle.px_control.specs.Program.{IsAt};
 ghost use Rattle.px_debug.specs.Answers.{answer, answer_in};
 ghost use Rattle.px_debug.specs.Commands.{line_command};
@@ -14,6 +15,7 @@ use crate::text::{Text, number_line, place_line, unknown_line};
 use crate::trace_text::trace_text;
 use circular_buffer::HeapCircularBuffer;
 use px_array::Array;
+use px_asm::Operating;
 use px_control::{Job, law_of_grids, law_of_sizes};
 use px_io::{Failed, Sink, write_whole};
 use px_num::Memory;
@@ -55,6 +57,8 @@ impl<'s> Model for Session<'s> {
 
 impl<'s> Session<'s> {
     /// A session before the first broadcast, to which no line was given.
+    ///
+    /// Slot 0 keeps the array as it is. After `Memory` the slots are as they were.
     pub fn new<A: Array>(alloc: Global, job: Job<'s>, array: &mut A) -> Result<Session<'s>, Memory>
         requires start { job.place.clock ≡ 0 }
         requires at { IsAt A.BITS job.scene 0 (A.device array.old) }
@@ -63,6 +67,9 @@ impl<'s> Session<'s> {
             s ≡ record { scene = job.entry.scene; now = 0; lines = 0 }) }
         ensures fits { IfOk result (λ s. Fits A.BITS s (A.device array.new) (A.slots array.new)) }
         ensures device { A.device array.new ≡ A.device array.old }
+        ensures slots { OnOk result
+            (A.slots array.new ≡ after_save 0 (A.device array.old) (A.slots array.old)) }
+        ensures err { OnErr result (A.slots array.new ≡ A.slots array.old) }
         ensures work { A.work array.new ≡ A.work array.old }
     {
         let Ok(trace) = HeapCircularBuffer::with_capacity(alloc, 32) else {
@@ -78,7 +85,7 @@ impl<'s> Session<'s> {
     /// Obeys a command line, and answers it.
     ///
     /// After `Failed` the move is made, and a front of the answer is written. The sink is not finished.
-    pub fn line<A: Array, O: Sink>(
+    pub fn line<A: Operating, O: Sink>(
         &mut self,
         array: &mut A,
         line: &[u8],
@@ -110,7 +117,7 @@ impl<'s> Session<'s> {
     }
 
     /// Goes where a command leads, and counts its line.
-    fn obey<A: Array>(&mut self, array: &mut A, command: Command)
+    fn obey<A: Operating>(&mut self, array: &mut A, command: Command)
         requires fits { Fits A.BITS self.old (A.device array.old) (A.slots array.old) }
         requires counted { self.old.lines < 2 ^ 64 - 1 }
         ensures session { self.new ≡ record {

@@ -8,7 +8,7 @@ use Rattle.std.proofs.Math.Seq.{take-append-add}
 use Rattle.std.specs.Io.KnownBytes.{Consumes, IsAtEnd}
 use Rattle.px_io.specs.Told.{ConsumesAtMost}
 use Rattle.px_io.proofs.ToldLaws.{consumes_both}
-use Rattle.px_array.specs.Arrays.{Device}
+use Rattle.px_array.specs.Slots.{ArrayView}
 use Rattle.px_scene.specs.Scenes.{SceneView}
 use Rattle.px_debug.specs.Moves.{Fits, SessionView}
 use Rattle.px_lines.specs.Lines.{whole_lines}
@@ -16,7 +16,7 @@ use Rattle.px_lines.specs.PartLaws.{PartIsKept, PartIsWithin}
 use Rattle.px_lines.specs.Parts.{behind_part, holds_part, part_end, scene_part}
 use Rattle.px_session.specs.Servings.{Answered, Broken, Finished, HasServed, seen}
 use Rattle.px_session.specs.SessionLaws.{QuitEnds, SceneStays}
-use Rattle.px_session.specs.Sessions.{after, answers, has_quit, session_opened, until_quit}
+use Rattle.px_session.specs.Sessions.{Obeyed, Stand, after, answers, clocks_over, has_quit, session_opened, until_quit}
 use Rattle.px_session.specs.declared.serving.Ending.{Ending}
 use Rattle.px_session.specs.declared.serving.Ending.TheVariants as e
 use Rattle.px_show.specs.declared.fault.LimitKind.TheVariants as kind
@@ -156,71 +156,80 @@ has_output bytes bits =
     HasOutput (if t then cut (answers bits (session_of bytes) (whole_commands bytes)) too_long
     else done (answers bits (session_of bytes) (until_quit (all_commands bytes))))) [ true ↦ tt | false ↦ tt ]
 
--- the array after lines
-stands : SceneStays → (bits : ℕ) (bytes : List ℕ) (from now : SessionView) (lines : List (List ℕ)) (device : Device)
-    (slots : List (Option Device))
-    → from ≡ session_of bytes → now ≡ after from lines → Fits bits now device slots → IsAfter bits bytes lines device
-stands stays bits bytes from now lines device slots start state fits =
-    let here : now ≡ after (session_of bytes) lines = state ∙ ap (λ x. after x lines) start in
-    let scene : now.scene ≡ part_scene bytes =
-    ap (λ (x : SessionView). x.scene) here ∙ stays (session_of bytes) lines in
-    rw (← here, ← scene) fits.at
+-- the array that a session is lent, whose work was 0 where it began
+pub record IsLent (bits : ℕ) (from now : Stand) (array : ArrayView) : Type 0 where
+  pub fits : Fits bits now.session array.device array.slots
+  pub none : from.work ≡ 0
+  pub same : now.work ≡ array.work
 
-over : SceneStays → (bits : ℕ) (bytes : List ℕ) (from now : SessionView) (lines : List (List ℕ))
-    (a b : Option (List ℕ)) (q : Option Bool) (device : Device) (slots : List (Option Device))
-    → from ≡ session_of bytes → Fits bits now device slots → Finished bits from now a b q lines
-    → IsOver bits bytes lines a b q device
-over stays bits bytes from now lines a b q device slots start fits finished = record {
+-- the array after lines
+stands : SceneStays → (bits : ℕ) (bytes : List ℕ) (from now : Stand) (lines : List (List ℕ)) (array : ArrayView)
+    → from.session ≡ session_of bytes → Obeyed from now lines → IsLent bits from now array → IsAfter bits bytes lines array
+stands stays bits bytes from now lines array start state lent =
+    let here : now.session ≡ after (session_of bytes) lines = state.session ∙ ap (λ x. after x lines) start in
+    let scene : now.session.scene ≡ part_scene bytes =
+    ap (λ (x : SessionView). x.scene) here ∙ stays (session_of bytes) lines in
+    record {
+      at = rw (← here, ← scene) lent.fits.at;
+      fits = rw (← here) lent.fits;
+      work = omega (arith, state.work, lent.none, lent.same, ap (λ x. clocks_over x lines) start);
+    }
+
+over : SceneStays → (bits : ℕ) (bytes : List ℕ) (from now : Stand) (lines : List (List ℕ))
+    (a b : Option (List ℕ)) (q : Option Bool) (array : ArrayView)
+    → from.session ≡ session_of bytes → IsLent bits from now array → Finished bits from now a b q lines
+    → IsOver bits bytes lines a b q array
+over stays bits bytes from now lines a b q array start fits finished = record {
   wrote = rw (← start) finished.wrote;
   end = finished.end;
-  array = stands stays bits bytes from now lines device slots start finished.state fits;
+  array = stands stays bits bytes from now lines array start finished.state fits;
 }
 
-all_answered : SceneStays → (bits : ℕ) (bytes : List ℕ) (from now : SessionView) (lines : List (List ℕ))
-    (a b : Option (List ℕ)) (p q : Option Bool) (device : Device) (slots : List (Option Device))
-    → from ≡ session_of bytes → Fits bits now device slots → Answered bits from now a b p q lines
-    → IsAnswered bits bytes lines a b p q device
-all_answered stays bits bytes from now lines a b p q device slots start fits said = record {
+all_answered : SceneStays → (bits : ℕ) (bytes : List ℕ) (from now : Stand) (lines : List (List ℕ))
+    (a b : Option (List ℕ)) (p q : Option Bool) (array : ArrayView)
+    → from.session ≡ session_of bytes → IsLent bits from now array → Answered bits from now a b p q lines
+    → IsAnswered bits bytes lines a b p q array
+all_answered stays bits bytes from now lines a b p q array start fits said = record {
   wrote = rw (← start) said.wrote;
-  array = stands stays bits bytes from now lines device slots start said.state fits;
+  array = stands stays bits bytes from now lines array start said.state fits;
 }
 
-broken : SceneStays → (bits : ℕ) (bytes : List ℕ) (from now : SessionView) (lines : List (List ℕ))
-    (a b : Option (List ℕ)) (p q : Option Bool) (device : Device) (slots : List (Option Device))
-    → from ≡ session_of bytes → Fits bits now device slots → Broken bits from now a b p q lines
-    → IsBroken bits bytes lines a b p q device
-broken stays bits bytes from now lines a b p q device slots start fits broke = record {
+broken : SceneStays → (bits : ℕ) (bytes : List ℕ) (from now : Stand) (lines : List (List ℕ))
+    (a b : Option (List ℕ)) (p q : Option Bool) (array : ArrayView)
+    → from.session ≡ session_of bytes → IsLent bits from now array → Broken bits from now a b p q lines
+    → IsBroken bits bytes lines a b p q array
+broken stays bits bytes from now lines a b p q array start fits broke = record {
   count = broke.count;
   within = broke.within;
   some = broke.some;
   gained = broke.gained;
   before = rw (← start) broke.before;
   wrote = rw (← start) broke.wrote;
-  array = stands stays bits bytes from now (take broke.count lines) device slots start broke.state fits;
+  array = stands stays bits bytes from now (take broke.count lines) array start broke.state fits;
 }
 
 -- a session over a scene part, and what was read behind it
 pub record Sat (bits n : ℕ) (text z : List ℕ) (scene : SceneView) (known rest : Option (List ℕ))
-    (from now : SessionView)
-    (device : Device) (slots : List (Option Device)) : Type 0 where
+    (from now : Stand)
+    (array : ArrayView) : Type 0 where
   pub laws : Laws
   pub seated : Seated bits n text scene
   pub few : length text ≤ 1048577
   pub consumed : Consumes known rest (text ++ z)
-  pub start : from ≡ session_opened scene
-  pub fits : Fits bits now device slots
+  pub start : from.session ≡ session_opened scene
+  pub fits : IsLent bits from now array
 
 -- and of all bytes of the input
-record Sees (bits : ℕ) (text z more bytes : List ℕ) (scene : SceneView) (from : SessionView) : Type 0 where
+record Sees (bits : ℕ) (text z more bytes : List ℕ) (scene : SceneView) (from : Stand) : Type 0 where
   pub taken : Holds bits scene (text ++ z)
   pub all : Holds bits scene bytes
   pub behind : command_text bytes ≡ command_text (text ++ z) ++ take (more_than text - 1 - length z) more
-  pub start_taken : from ≡ session_of (text ++ z)
-  pub start_all : from ≡ session_of bytes
+  pub start_taken : from.session ≡ session_of (text ++ z)
+  pub start_all : from.session ≡ session_of bytes
 
-sees : (laws : Laws) (bits n : ℕ) (text z more bytes : List ℕ) (scene : SceneView) (from : SessionView)
+sees : (laws : Laws) (bits n : ℕ) (text z more bytes : List ℕ) (scene : SceneView) (from : Stand)
     → Seated bits n text scene
-    → from ≡ session_opened scene → bytes ≡ text ++ (z ++ more) → Sees bits text z more bytes scene from
+    → from.session ≡ session_opened scene → bytes ≡ text ++ (z ++ more) → Sees bits text z more bytes scene from
 sees laws bits n text z more bytes scene from seated start whole =
     let taken = holds laws bits n text scene seated z in
     let all : Holds bits scene bytes =
@@ -266,13 +275,13 @@ answered_long bytes bits long quiet = rw (long, quiet) refl
 abbrev ServedAs : Ending → Type 0
 ServedAs ending =
     (bits n : ℕ) (text z : List ℕ) (scene : SceneView) (known rest a b : Option (List ℕ)) (p q : Option Bool)
-    (from now : SessionView) (before device : Device) (slots : List (Option Device))
-    → Sat bits n text z scene known rest from now device slots
+    (from now : Stand) (before array : ArrayView)
+    → Sat bits n text z scene known rest from now array
     → HasServed ending bits from now a b p q (command_text (text ++ z)) z (more_than text) rest
-    → Performs (result_of ending) (Some c.Debug) bits known rest a b p q before device
+    → Performs (result_of ending) (Some c.Debug) bits known rest a b p q before array
 
 served_as : (ending : Ending) → ServedAs ending
-served_as e.Quit bits n text z scene known rest a b p q from now before device slots sat served =
+served_as e.Quit bits n text z scene known rest a b p q from now before array sat served =
     let ext = extends known rest (text ++ z) sat.consumed in
     let bytes = ext.bytes in
     let see = sees sat.laws bits n text z ext.more bytes scene from sat.seated sat.start (ext.whole
@@ -287,12 +296,13 @@ served_as e.Quit bits n text z scene known rest a b p q from now before device s
       taken = text ++ z;
       input = ext.input;
       consumed = sat.consumed;
+      front = (ext.more, ext.whole);
       status = rw is refl;
       line = tt;
-      leaves = over sat.laws.scene bits bytes from now (until_quit (all_commands bytes)) a b q device slots
+      leaves = over sat.laws.scene bits bytes from now (until_quit (all_commands bytes)) a b q array
           see.start_all sat.fits (rw lines served.0);
     }
-served_as e.End bits n text z scene known rest a b p q from now before device slots sat served =
+served_as e.End bits n text z scene known rest a b p q from now before array sat served =
     let ext = extends known rest (text ++ z) sat.consumed in
     let bytes = ext.bytes in
     let see = sees sat.laws bits n text z ext.more bytes scene from sat.seated sat.start (ext.whole
@@ -306,12 +316,13 @@ served_as e.End bits n text z scene known rest a b p q from now before device sl
       taken = text ++ z;
       input = ext.input;
       consumed = sat.consumed;
+      front = (ext.more, ext.whole);
       status = rw is refl;
       line = tt;
-      leaves = over sat.laws.scene bits bytes from now (until_quit (all_commands bytes)) a b q device slots
+      leaves = over sat.laws.scene bits bytes from now (until_quit (all_commands bytes)) a b q array
           see.start_all sat.fits (rw same served.0);
     }
-served_as e.Long bits n text z scene known rest a b p q from now before device slots sat served =
+served_as e.Long bits n text z scene known rest a b p q from now before array sat served =
     let ext = extends known rest (text ++ z) sat.consumed in
     let bytes = ext.bytes in
     let see = sees sat.laws bits n text z ext.more bytes scene from sat.seated sat.start (ext.whole
@@ -333,12 +344,13 @@ served_as e.Long bits n text z scene known rest a b p q from now before device s
       taken = text ++ z;
       input = ext.input;
       consumed = sat.consumed;
+      front = (ext.more, ext.whole);
       status = (0, k.Scene kind.Text, pos 1048577, rw is refl);
       line = rw is refl;
-      leaves = rw is (all_answered sat.laws.scene bits bytes from now (whole_commands bytes) a b p q device slots
+      leaves = rw is (all_answered sat.laws.scene bits bytes from now (whole_commands bytes) a b p q array
           see.start_all sat.fits (rw behind served.0));
     }
-served_as e.ReadFault bits n text z scene known rest a b p q from now before device slots sat served =
+served_as e.ReadFault bits n text z scene known rest a b p q from now before array sat served =
     let ext = extends known rest (text ++ z) sat.consumed in
     let bytes = ext.bytes in
     let see = sees sat.laws bits n text z ext.more bytes scene from sat.seated sat.start (ext.whole
@@ -348,19 +360,19 @@ served_as e.ReadFault bits n text z scene known rest a b p q from now before dev
       taken = text ++ z;
       input = ext.input;
       consumed = sat.consumed;
+      front = (ext.more, ext.whole);
       status = tt;
       line = refl;
       leaves = record {
         whole = λ part. record {
           admits = see.taken.admits;
           quiet = served.1;
-          answered = all_answered sat.laws.scene bits (text ++ z) from now (whole_commands (text ++ z)) a b p q device
-              slots see.start_taken sat.fits served.0;
+          answered = all_answered sat.laws.scene bits (text ++ z) from now (whole_commands (text ++ z)) a b p q array see.start_taken sat.fits served.0;
         };
         other = λ none. absurd (let two : true ≡ false = sym see.taken.part ∙ none in cc);
       };
     }
-served_as e.WriteFault bits n text z scene known rest a b p q from now before device slots sat served =
+served_as e.WriteFault bits n text z scene known rest a b p q from now before array sat served =
     let ext = extends known rest (text ++ z) sat.consumed in
     let bytes = ext.bytes in
     let see = sees sat.laws bits n text z ext.more bytes scene from sat.seated sat.start (ext.whole
@@ -370,22 +382,25 @@ served_as e.WriteFault bits n text z scene known rest a b p q from now before de
       taken = text ++ z;
       input = ext.input;
       consumed = sat.consumed;
+      front = (ext.more, ext.whole);
       status = rw (outcome_is bits scene bytes see.all) (has_output bytes bits);
       line = refl;
-      leaves = broken sat.laws.scene bits (text ++ z) from now (until_quit (all_commands (text ++ z))) a b p q device
-          slots see.start_taken sat.fits served;
+      leaves = record {
+        admits = see.taken.admits;
+        broken = broken sat.laws.scene bits (text ++ z) from now (until_quit (all_commands (text ++ z))) a b p q array
+            see.start_taken sat.fits served;
+      };
     }
 
 -- command lines were answered behind a scene part
 pub performs_sat : (laws : Laws) (result : Result (Unit {0}) Stop) (bits n : ℕ) (text read : List ℕ) (more : ℕ)
     (scene : SceneView)
-    (known rest rest' a b : Option (List ℕ)) (p q : Option Bool) (from now : SessionView) (before device : Device)
-    (slots : List (Option Device))
-    → Seated bits n text scene → length text ≤ 1048577 → Consumes known rest text → from ≡ session_opened scene
-    → Fits bits now device slots
+    (known rest rest' a b : Option (List ℕ)) (p q : Option Bool) (from now : Stand) (before array : ArrayView)
+    → Seated bits n text scene → length text ≤ 1048577 → Consumes known rest text → from.session ≡ session_opened scene
+    → IsLent bits from now array
     → read ≡ command_text text → more ≡ more_than text → Sits result bits read more from now rest rest' a b p q
-    → Performs result (Some c.Debug) bits known rest' a b p q before device
-performs_sat laws result bits n text read more scene known rest rest' a b p q from now before device slots seated few
+    → Performs result (Some c.Debug) bits known rest' a b p q before array
+performs_sat laws result bits n text read more scene known rest rest' a b p q from now before array seated few
     opens start fits behind left sits =
     let serves = sits.serves in
     let z = serves.bytes in
@@ -394,7 +409,7 @@ performs_sat laws result bits n text read more scene known rest rest' a b p q fr
     let whole : read ++ seen (more_than text) z ≡ command_text (text ++ z) =
     ap (λ t. t ++ seen (more_than text) z) behind ∙ sym (grown laws.kept laws.within text z n seated.part).behind in
     let served = subst (λ t. HasServed sits.ending bits from now a b p q t z (more_than text) rest') whole here in
-    rw sits.result (served_as sits.ending bits n text z scene known rest' a b p q from now before device slots (record {
+    rw sits.result (served_as sits.ending bits n text z scene known rest' a b p q from now before array (record {
       laws = laws;
       seated = seated;
       few = few;
@@ -405,7 +420,7 @@ performs_sat laws result bits n text read more scene known rest rest' a b p q fr
 
 pub took_sat : (result : Result (Unit {0}) Stop) (bits : ℕ) (text read : List ℕ) (more : ℕ)
     (known rest rest' a b : Option (List ℕ)) (p q : Option Bool)
-    (from now : SessionView) → length text ≤ 1048577 → Consumes known rest text → more ≡ more_than text
+    (from now : Stand) → length text ≤ 1048577 → Consumes known rest text → more ≡ more_than text
     → Sits result bits read more from now rest rest' a b p q
     → ConsumesAtMost known rest' 1048577
 took_sat result bits text read more known rest rest' a b p q from now few opens left sits = (

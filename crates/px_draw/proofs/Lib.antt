@@ -2,6 +2,7 @@ pub mod DebugLemmas
 pub mod ErrLemmas
 pub mod ImageLemmas
 pub mod LimitLemmas
+pub mod ListStopLemmas
 pub mod ListedLemmas
 pub mod MeanLemmas
 pub mod OpenLemmas
@@ -10,4 +11,5 @@ pub mod PlayLemmas
 pub mod RunLemmas
 pub mod SampleLemmas
 pub mod ShadowLemmas
+pub mod StopLemmas
 pub mod WorkLemmas

@@ -5,7 +5,7 @@ use Rattle.std.proofs.Common.{append-nil, length-append}
 use Rattle.std.proofs.Math.Seq.{drop-length}
 use Rattle.std.specs.Io.KnownBytes.{Appends, Consumes, IsAtEnd, Keeps}
 use Rattle.px_io.specs.Told.{ConsumesAtMost}
-use Rattle.px_array.specs.Arrays.{Device}
+use Rattle.px_array.specs.Slots.{ArrayView}
 use Rattle.px_scene.specs.Scenes.{SceneView}
 use Rattle.px_control.specs.Program.{IsAt}
 use Rattle.px_debug.specs.Moves.{Fits}
@@ -18,7 +18,7 @@ use Rattle.px_draw.specs.declared.refusal.Refusal.{Refusal}
 use Rattle.px_draw.specs.declared.refusal.Refusal.TheVariants as r
 use Rattle.px_draw.specs.declared.stop.Stop.{Stop}
 use Rattle.px_draw.specs.declared.stop.Stop.TheVariants as s
-use Rattle.px_draw.specs.Debugs.{IsKeptOrOpened, IsOver, admitted, all_commands, answered, command_text, debugged}
+use Rattle.px_draw.specs.Debugs.{IsAfter, IsKeptOrOpened, IsOver, LeavesAtMemory, admitted, all_commands, answered, command_text, debugged}
 use Rattle.px_draw.specs.Debugs.{has_part, is_long, scene_part_of, part_scene, scene_written, session_of, within_limit}
 use Rattle.px_draw.specs.Outcomes.{Outcome, done, drawable, output, refused, unless_refused}
 use Rattle.px_draw.specs.Runs.{HasOutput}
@@ -30,13 +30,13 @@ use Rattle.px_draw.proofs.DebugLemmas.{Extends, Laws, admits_is, and_not, answer
 use Rattle.px_draw.proofs.DebugLemmas.{long_is, short_is, within_both}
 use Rattle.px_draw.proofs.WorkLemmas.{keeps_same}
 
-untouched : (a : Option (List ℕ)) (p : Option Bool) (before now : Device) → now ≡ before
+untouched : (a : Option (List ℕ)) (p : Option Bool) (before now : ArrayView) → now ≡ before
     → IsUntouched a a p p before now
 untouched a p before now same = record { wrote = keeps_same a; finished = refl; array = same }
 
 -- a refusal before any output
 refused_by : (reason : Refusal) (bits : ℕ) (taken : List ℕ) (known rest a : Option (List ℕ)) (p : Option Bool)
-    (before now : Device)
+    (before now : ArrayView)
     → (ext : Extends known rest taken) → Consumes known rest taken → now ≡ before → debugged ext.bytes bits
     ≡ refused reason
     → Performs (Err (s.Refused reason)) (Some c.Debug) bits known rest a a p p before now
@@ -45,6 +45,7 @@ refused_by (r.Malformed line cause) bits taken known rest a p before now ext con
   taken = taken;
   input = ext.input;
   consumed = consumed;
+  front = (ext.more, ext.whole);
   status = (line, cause, rw is refl);
   line = rw is refl;
   leaves = untouched a p before now same;
@@ -54,15 +55,16 @@ refused_by (r.Limit line kind found) bits taken known rest a p before now ext co
   taken = taken;
   input = ext.input;
   consumed = consumed;
+  front = (ext.more, ext.whole);
   status = (line, kind, found, rw is refl);
   line = rw is refl;
   leaves = rw is (untouched a p before now same);
 }
 
 -- want of memory
-no_memory : (bits : ℕ) (taken : List ℕ) (known rest a : Option (List ℕ)) (p : Option Bool) (before now : Device)
+no_memory : (bits : ℕ) (taken : List ℕ) (known rest a : Option (List ℕ)) (p : Option Bool) (before now : ArrayView)
     → Consumes known rest taken
-    → IsKeptOrOpened bits (part_scene taken) before now → Performs (Err s.Memory) (Some c.Debug) bits known rest a a
+    → LeavesAtMemory bits taken before now → Performs (Err s.Memory) (Some c.Debug) bits known rest a a
     p p before now
 no_memory bits taken known rest a p before now consumed kept =
     let ext = extends known rest taken consumed in
@@ -71,6 +73,7 @@ no_memory bits taken known rest a p before now consumed kept =
       taken = taken;
       input = ext.input;
       consumed = consumed;
+      front = (ext.more, ext.whole);
       status = tt;
       line = refl;
       leaves = (keeps_same a, refl, kept);
@@ -82,7 +85,7 @@ no_part bytes none part = (let two : false ≡ true = sym (ap is_some none) ∙ 
 
 -- the input was not read as far as the scene part
 pub performs_open : (result : Result (Unit {0}) Stop) (bits : ℕ) (stop : Stop) (known rest a : Option (List ℕ))
-    (p : Option Bool) (device : Device)
+    (p : Option Bool) (device : ArrayView)
     → result ≡ Err stop → IsOpenStop stop known rest → ConsumesAtMost known rest 1048577
     → Performs result (Some c.Debug) bits known rest a a p p device device
 performs_open result bits stop known rest a p device is why most = rw is (by_stop stop why)
@@ -96,6 +99,7 @@ performs_open result bits stop known rest a p device is why most = rw is (by_sto
           taken = taken;
           input = ext.input;
           consumed = consumed;
+          front = (ext.more, ext.whole);
           status = tt;
           line = refl;
           leaves = record {
@@ -159,7 +163,7 @@ refused_long text more bits none full =
     rw (long_is (text ++ more) (omega (arith, length-append text more)), part) refl
 
 pub performs_part : (laws : Laws) (result : Result (Unit {0}) Stop) (bits : ℕ) (stop : Stop) (o : Opening)
-    (known rest a : Option (List ℕ)) (p : Option Bool) (device : Device)
+    (known rest a : Option (List ℕ)) (p : Option Bool) (device : ArrayView)
     → result ≡ Err stop → Opens o known rest → IsPartStop stop o → Performs result (Some c.Debug) bits known rest a a
     p p device device
 performs_part laws result bits stop o known rest a p device is opens part = rw is (by_stop stop part)
@@ -192,7 +196,7 @@ closed_by part bits scene o reason good same meets =
 -- no session began
 pub performs_closed : (laws : Laws) (result : Result (Unit {0}) Stop) (bits : ℕ) (stop : Stop) (o : Opening)
     (scene : SceneView)
-    (known rest a : Option (List ℕ)) (p : Option Bool) (before now : Device) → result ≡ Err stop → Opens o known rest
+    (known rest a : Option (List ℕ)) (p : Option Bool) (before now : ArrayView) → result ≡ Err stop → Opens o known rest
     → OpensOn o scene
     → StopsAt (drawable bits scene) stop → LeavesClosed (status_of stop) bits scene before now
     → Performs result (Some c.Debug) bits known rest a a p p before now
@@ -222,7 +226,7 @@ performs_closed laws result bits stop o scene known rest a p before now is opens
         refused_by (r.Limit line kind found) bits o.text.items known rest a p before now ext opens.taken same
         (refusal (r.Limit line kind found) stops)
     by_stop s.Memory stops kept = no_memory bits o.text.items known rest a p before now opens.taken
-        (subst (λ s. IsKeptOrOpened bits s before now) on.scene kept)
+        (inr (on.good, subst (λ s. IsKeptOrOpened bits s before now) on.scene kept))
     by_stop s.Usage stops leaves = absurd stops.scene
     by_stop s.ReadFault stops leaves = absurd stops.scene
     by_stop s.WriteFault stops leaves = absurd stops.scene
@@ -234,11 +238,11 @@ nothing_behind text none = rw none (drop-length (within_limit text))
 -- the scene part is the whole input
 pub performs_empty : (laws : Laws) (result : Result (Unit {0}) Stop) (bits : ℕ) (o : Opening) (scene : SceneView)
     (known rest a b : Option (List ℕ)) (p q : Option Bool)
-    (before device : Device) (slots : List (Option Device)) → Opens o known rest → OpensOn o scene → o.part ≡ None
-    → ((outcome : Outcome) → drawable bits scene outcome ≡ outcome) → Fits bits (session_opened scene) device slots
-    → Keeps a b → Finishes result p q
-    → Performs result (Some c.Debug) bits known rest a b p q before device
-performs_empty laws result bits o scene known rest a b p q before device slots opens on none draws fits kept
+    (before array : ArrayView) → Opens o known rest → OpensOn o scene → o.part ≡ None
+    → ((outcome : Outcome) → drawable bits scene outcome ≡ outcome) → Fits bits (session_opened scene) array.device array.slots
+    → array.work ≡ 0 → Keeps a b → Finishes result p q
+    → Performs result (Some c.Debug) bits known rest a b p q before array
+performs_empty laws result bits o scene known rest a b p q before array opens on none draws fits none_made kept
     finishes = by_result result finishes
   where
     text : List ℕ
@@ -262,26 +266,33 @@ performs_empty laws result bits o scene known rest a b p q before device slots o
         (answered text bits)
         ∙ answered_end text bits short ∙ ap (λ ls. done (answers bits (session_of text) ls)) lines
 
+    began : IsAfter bits text [] array
+    began = record {
+      at = subst (λ s. IsAt bits s 0 array.device) on.scene fits.at;
+      fits = subst (λ s. Fits bits (session_opened s) array.device array.slots) on.scene fits;
+      work = omega (arith, none_made);
+    }
+
     appended : (a b : Option (List ℕ)) → Keeps a b → Appends a b []
     appended None b kept = tt
     appended (Some xs) None kept = absurd kept
     appended (Some xs) (Some ys) kept = rw kept (sym (append-nil xs))
 
     by_result : (result : Result (Unit {0}) Stop) → Finishes result p q → Performs result (Some c.Debug) bits known
-        rest a b p q before device
+        rest a b p q before array
     by_result (Ok u) end = record {
       bytes = ext.bytes;
       taken = text;
       input = ext.input;
       consumed = opens.taken;
+      front = (ext.more, ext.whole);
       status = subst (λ t. debugged t bits ≡ done (output (debugged t bits))) (sym same) (rw is refl);
       line = tt;
-      leaves = subst (λ t. IsOver bits t (until_quit (all_commands t)) a b q device) (sym same)
+      leaves = subst (λ t. IsOver bits t (until_quit (all_commands t)) a b q array) (sym same)
           (rw lines (record {
             wrote = appended a b kept;
             end = end;
-            array = subst (λ s. IsAt bits s 0 device) on.scene
-                fits.at;
+            array = began;
           }));
     }
     by_result (Err s.WriteFault) idle = record {
@@ -289,21 +300,25 @@ performs_empty laws result bits o scene known rest a b p q before device slots o
       taken = text;
       input = ext.input;
       consumed = opens.taken;
+      front = (ext.more, ext.whole);
       status = subst (λ t. HasOutput (debugged t bits)) (sym same) (rw is tt);
       line = refl;
-      leaves = rw lines (record {
-        count = 0;
-        within = omega arith;
-        some = λ e. refl;
-        gained = 0;
-        before = omega arith;
-        wrote = record {
+      leaves = record {
+        admits = admits_is (scene_part_of text) bits scene on.good on.scene draws;
+        broken = rw lines (record {
+          count = 0;
           within = omega arith;
-          front = appended a b kept;
-          end = record { taken = λ some. absurd (omega arith); idle = λ e. idle };
-        };
-        array = subst (λ s. IsAt bits s 0 device) on.scene fits.at;
-      });
+          some = λ e. refl;
+          gained = 0;
+          before = omega arith;
+          wrote = record {
+            within = omega arith;
+            front = appended a b kept;
+            end = record { taken = λ some. absurd (omega arith); idle = λ e. idle };
+          };
+          array = began;
+        });
+      };
     }
     by_result (Err s.Usage) end = absurd end
     by_result (Err (s.Refused reason)) end = absurd end

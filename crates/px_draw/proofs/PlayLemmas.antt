@@ -5,7 +5,7 @@ use Rattle.std.proofs.lemmas.Bool.{cases_lt}
 use Rattle.std.proofs.lemmas.List.{take_all}
 use Rattle.std.specs.Io.KnownBytes.{Consumes}
 use Rattle.px_io.specs.Told.{ConsumesAtMost, IsFrontOf}
-use Rattle.px_array.specs.Arrays.{Device}
+use Rattle.px_array.specs.Slots.{ArrayView}
 use Rattle.px_listing.specs.Listings.{ListingView}
 use Rattle.px_listing.specs.Memories.{played_text}
 use Rattle.px_command.specs.declared.command.Command.TheVariants as c
@@ -16,9 +16,9 @@ use Rattle.px_draw.specs.declared.stop.Stop.TheVariants as s
 use Rattle.px_draw.specs.Listings.{Plays, list_refusal, listing_written, played_out}
 use Rattle.px_draw.specs.Outcomes.{Outcome, done, refused, unless_refused}
 use Rattle.px_draw.specs.Refusals.{too_long}
-use Rattle.px_draw.specs.Runs.{IsInput}
+use Rattle.px_draw.specs.Runs.{BeginsWith, IsInput}
 use Rattle.px_draw.specs.Stops.{IsListStop, IsReadStop, Meets, Performs, PlaysOn, DoesWork, WritesOutcome, status_in}
-use Rattle.px_draw.proofs.WorkLemmas.{bytes_of, is_input, keeps_same, line_meets, status_meets, wrote}
+use Rattle.px_draw.proofs.WorkLemmas.{begins, bytes_of, is_input, keeps_same, line_meets, status_meets, wrote}
 use Rattle.px_draw.proofs.LimitLemmas.{past_limit}
 
 -- a text past the limit is refused for it
@@ -55,7 +55,7 @@ played_good bits text good =
     ap (λ (found : Option Refusal). unless_refused found (done (played_text bits (listing_written text)))) good
 
 -- what a refusal leaves of the array does not speak of the listing
-plays_refused : (result : Result (Unit {0}) Stop) (bits : ℕ) (one other : ListingView) (before now : Device)
+plays_refused : (result : Result (Unit {0}) Stop) (bits : ℕ) (one other : ListingView) (before now : ArrayView)
     (reason : Refusal)
     → Meets result (refused reason) → Plays (status_in result) bits one before now
     → Plays (status_in result) bits other before now
@@ -69,7 +69,7 @@ plays_refused (Err s.Memory) bits one other before now reason meets is = is
 
 -- what was played of the front of a text was played of the text
 plays_front : (result : Result (Unit {0}) Stop) (bytes : List ℕ) (bits : ℕ)
-    (a b : Option (List ℕ)) (p q : Option Bool) (before now : Device)
+    (a b : Option (List ℕ)) (p q : Option Bool) (before now : ArrayView)
     → PlaysOn result (take 1048577 bytes) bits a b p q before now → PlaysOn result bytes bits a b p q before now
 plays_front result bytes bits a b p q before now plays = by_refusal (list_refusal bits (take 1048577 bytes)) refl
   where
@@ -93,13 +93,15 @@ plays_front result bytes bits a b p q before now plays = by_refusal (list_refusa
 
 -- what is played of the whole input is what the command does
 performs : (result : Result (Unit {0}) Stop) (bytes taken : List ℕ) (bits : ℕ) (known rest : Option (List ℕ))
-    (a b : Option (List ℕ)) (p q : Option Bool) (before now : Device) → IsInput known bytes → Consumes known rest taken
+    (a b : Option (List ℕ)) (p q : Option Bool) (before now : ArrayView) → IsInput known bytes → Consumes known rest taken
+    → BeginsWith bytes taken
     → PlaysOn result bytes bits a b p q before now → Performs result (Some c.Play) bits known rest a b p q before now
-performs result bytes taken bits known rest a b p q before now input consumed plays = record {
+performs result bytes taken bits known rest a b p q before now input consumed begins plays = record {
   bytes = bytes;
   taken = taken;
   input = input;
   consumed = consumed;
+  front = begins;
   status = status_meets result (played_out bytes bits) plays.meets;
   line = line_meets result (played_out bytes bits) plays.meets;
   leaves = record {
@@ -110,18 +112,19 @@ performs result bytes taken bits known rest a b p q before now input consumed pl
 
 -- a text that was read answers for the input
 pub performs_played : (result : Result (Unit {0}) Stop) (text : List ℕ) (bits : ℕ) (known rest : Option (List ℕ))
-    (a b : Option (List ℕ)) (p q : Option Bool) (before now : Device) → IsFrontOf known 1048577 text
+    (a b : Option (List ℕ)) (p q : Option Bool) (before now : ArrayView) → IsFrontOf known 1048577 text
     → Consumes known rest text
     → PlaysOn result text bits a b p q before now → Performs result (Some c.Play) bits known rest a b p q before now
 performs_played result text bits None rest a b p q before now front consumed plays =
-    performs result text text bits None rest a b p q before now tt consumed plays
+    performs result text text bits None rest a b p q before now tt consumed (begins None rest text consumed) plays
 performs_played result text bits (Some bytes) rest a b p q before now front consumed plays =
     performs result bytes text bits (Some bytes) rest a b p q before now refl consumed
+    (begins (Some bytes) rest text consumed)
     (plays_front result bytes bits a b p q before now
     (subst (λ (t : List ℕ). PlaysOn result t bits a b p q before now) front plays))
 
 -- a stop at a read is one for all texts
-read_plays : (bytes : List ℕ) (bits : ℕ) (stop : Stop) (a : Option (List ℕ)) (p : Option Bool) (device : Device)
+read_plays : (bytes : List ℕ) (bits : ℕ) (stop : Stop) (a : Option (List ℕ)) (p : Option Bool) (device : ArrayView)
     (m n : ℕ)
     → IsReadStop stop m n → PlaysOn (Err stop) bytes bits a a p p device device
 read_plays bytes bits s.ReadFault a p device m n read =
@@ -134,15 +137,17 @@ read_plays bytes bits s.WriteFault a p device m n read = absurd read
 
 -- the work stops at a read
 pub performs_unread : (result : Result (Unit {0}) Stop) (bits : ℕ) (stop : Stop) (known rest : Option (List ℕ))
-    (a : Option (List ℕ)) (p : Option Bool) (device : Device) (m n : ℕ) → result ≡ Err stop → IsReadStop stop m n
+    (a : Option (List ℕ)) (p : Option Bool) (device : ArrayView) (m n : ℕ) → result ≡ Err stop → IsReadStop stop m n
     → ConsumesAtMost known rest 1048577 → Performs result (Some c.Play) bits known rest a a p p device device
 performs_unread result bits stop known rest a p device m n is read (taken, consumed, few) =
-    performs result (bytes_of known) taken bits known rest a a p p device device (is_input known) consumed
-    (subst (λ (x : Result (Unit {0}) Stop). PlaysOn x (bytes_of known) bits a a p p device device) (sym is)
-    (read_plays (bytes_of known) bits stop a p device m n read))
+    let bytes = bytes_of known taken in
+    performs result bytes taken bits known rest a a p p device device (is_input known taken) consumed
+    (begins known rest taken consumed)
+    (subst (λ (x : Result (Unit {0}) Stop). PlaysOn x bytes bits a a p p device device) (sym is)
+    (read_plays bytes bits stop a p device m n read))
 
 -- a stop at a text that is no listing
-text_plays : (bytes : List ℕ) (bits : ℕ) (stop : Stop) (a : Option (List ℕ)) (p : Option Bool) (device : Device)
+text_plays : (bytes : List ℕ) (bits : ℕ) (stop : Stop) (a : Option (List ℕ)) (p : Option Bool) (device : ArrayView)
     → IsListStop stop bits bytes → PlaysOn (Err stop) bytes bits a a p p device device
 text_plays bytes bits (s.Refused (r.Malformed line cause)) a p device is =
     record { meets = refused_out bits bytes (r.Malformed line cause) is; writes = (keeps_same a, refl); array = refl }
@@ -156,7 +161,7 @@ text_plays bytes bits s.WriteFault a p device is = absurd is
 -- the work stops at its text
 pub plays_text : (result : Result (Unit {0}) Stop) (bytes lent : List ℕ) (told bits : ℕ) (stop : Stop)
     (a : Option (List ℕ)) (p : Option Bool)
-    (device : Device) → result ≡ Err stop → told ≡ bits → lent ≡ bytes → IsListStop stop told lent
+    (device : ArrayView) → result ≡ Err stop → told ≡ bits → lent ≡ bytes → IsListStop stop told lent
     → PlaysOn result bytes bits a a p p device device
 plays_text result bytes lent told bits stop a p device at width same is =
     subst (λ (x : Result (Unit {0}) Stop). PlaysOn x bytes bits a a p p device device) (sym at)
@@ -165,7 +170,7 @@ plays_text result bytes lent told bits stop a p device at width same is =
 
 -- the listing of a text is played
 pub plays_listing : (result : Result (Unit {0}) Stop) (bytes lent : List ℕ) (told bits : ℕ) (l : ListingView)
-    (a b : Option (List ℕ)) (p q : Option Bool) (m n : ℕ) (before now : Device) → told ≡ bits → lent ≡ bytes
+    (a b : Option (List ℕ)) (p q : Option Bool) (m n : ℕ) (before now : ArrayView) → told ≡ bits → lent ≡ bytes
     → list_refusal told lent ≡ None
     → l ≡ listing_written lent → DoesWork result (done (played_text bits l)) a b p q m n
     → Plays (status_in result) bits l before now → PlaysOn result bytes bits a b p q before now

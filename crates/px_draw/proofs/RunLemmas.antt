@@ -1,7 +1,7 @@
 -- What a command does is what a run of its words does.
 use Rattle.std.proofs.Common.{ℕ, ◌≡◌, List, [], Bool, Option, Some, None, Ok, Err, refl, ◌∙◌}
 use Rattle.std.specs.Io.KnownBytes.{Consumes}
-use Rattle.px_array.specs.Arrays.{Device}
+use Rattle.px_array.specs.Slots.{ArrayView}
 use Rattle.px_command.specs.declared.command.Command.{Command}
 use Rattle.px_draw.specs.declared.refusal.Refusal.TheVariants as r
 use Rattle.px_draw.specs.declared.stop.Stop.{Stop}
@@ -18,14 +18,14 @@ use Rattle.px_draw.proofs.WorkLemmas.{keeps_same}
 -- a run of these words, by an input that was so before and is so now
 abbrev pub IsRunBy : (words : List (List ℕ)) (known rest : Option (List ℕ)) (bits : ℕ) (found : Status)
     (a b : Option (List ℕ)) (p q : Option Bool) (k l : Option (List ℕ)) (v t : Option Bool) (m n : ℕ)
-    (before now : Device) → Type 0
+    (before now : ArrayView) → Type 0
 IsRunBy words known rest bits found a b p q k l v t m n before now =
     (bytes taken : List ℕ) × IsInput known bytes × Consumes known rest taken × IsRunOf words bytes taken bits found a
     b p q k l v t m n before now
 
 -- a run that did its work tells nothing
 pub run_done : (words : List (List ℕ)) (known rest : Option (List ℕ)) (bits : ℕ) (u : Unit {0})
-    (a b : Option (List ℕ)) (p q : Option Bool) (k : Option (List ℕ)) (v : Option Bool) (m : ℕ) (before now : Device)
+    (a b : Option (List ℕ)) (p q : Option Bool) (k : Option (List ℕ)) (v : Option Bool) (m : ℕ) (before now : ArrayView)
     → Performs (Ok u) (command_of words) bits known rest a b p q before now
     → IsRunBy words known rest bits status.Done a b p q k k v v m m before now
 run_done words known rest bits u a b p q k v m before now performs = (
@@ -33,7 +33,12 @@ run_done words known rest bits u a b p q k v m before now performs = (
   performs.taken,
   performs.input,
   performs.consumed,
-  record { status = performs.status; leaves = performs.leaves; noted = (keeps_same k, refl) },
+  record {
+    front = performs.front;
+    status = performs.status;
+    leaves = performs.leaves;
+    noted = (keeps_same k, refl);
+  },
 )
 
 -- a stop tells its line
@@ -51,7 +56,7 @@ noted_by s.Memory o line a b p q m n same told = rw (← same) told
 pub run_stopped : (words : List (List ℕ)) (known rest : Option (List ℕ)) (bits : ℕ) (stop : Stop) (found : Status)
     (line : List ℕ)
     (a b : Option (List ℕ)) (p q : Option Bool) (k l : Option (List ℕ)) (v t : Option Bool) (m n : ℕ)
-    (before now : Device)
+    (before now : ArrayView)
     → Performs (Err stop) (command_of words) bits known rest a b p q before now → found ≡ status_of stop
     → line ≡ note_of stop
     → IsTold line k l v t m n → IsRunBy words known rest bits found a b p q k l v t m n before now
@@ -61,6 +66,7 @@ run_stopped words known rest bits stop found line a b p q k l v t m n before now
   performs.input,
   performs.consumed,
   record {
+    front = performs.front;
     status = performs.status;
     leaves = performs.leaves;
     noted = noted_by stop (outcome words performs.bytes bits) line k l v t m n (same ∙ performs.line) told;
@@ -69,7 +75,7 @@ run_stopped words known rest bits stop found line a b p q k l v t m n before now
 
 -- words that name no command
 pub performs_usage : (command : Option Command) (bits : ℕ) (known : Option (List ℕ)) (a : Option (List ℕ))
-    (p : Option Bool) (device : Device)
+    (p : Option Bool) (device : ArrayView)
     → command ≡ None → Performs (Err s.Usage) command bits known known a a p p device device
 performs_usage (Some command) bits known a p device none = cc
 performs_usage None bits None a p device none = record {
@@ -77,6 +83,7 @@ performs_usage None bits None a p device none = record {
   taken = [];
   input = tt;
   consumed = tt;
+  front = ([], refl);
   status = refl;
   line = refl;
   leaves = record { wrote = keeps_same a; finished = refl; array = refl };
@@ -86,6 +93,7 @@ performs_usage None bits (Some bytes) a p device none = record {
   taken = [];
   input = refl;
   consumed = refl;
+  front = (bytes, refl);
   status = refl;
   line = refl;
   leaves = record { wrote = keeps_same a; finished = refl; array = refl };

@@ -3,7 +3,7 @@ use Rattle.std.proofs.Common.{ℕ, ◌≡◌, ◌≢◌, ◌+◌, ◌*◌, ◌�
 use Rattle.std.proofs.Common.{Err, inl, refl, sym, subst, arith}
 use Rattle.std.specs.Io.KnownBytes.{Appends}
 use Rattle.px_io.specs.Told.{Tells}
-use Rattle.px_array.specs.Arrays.{Device}
+use Rattle.px_array.specs.Slots.{ArrayView}
 use Rattle.px_scene.specs.Scenes.{SceneView}
 use Rattle.px_scene.specs.Sample.{sample_text}
 use Rattle.px_scene.specs.Text.{worded}
@@ -25,7 +25,7 @@ use Rattle.px_draw.specs.Samples.{measured, one_at, row_sum, sample_scene, sampl
 use Rattle.px_draw.specs.Stops.{HasStopCauses, IsSceneStop, IsTextStop, Meets, Performs, DoesWork, WritesOutcome}
 use Rattle.px_draw.specs.Stops.{status_in}
 use Rattle.px_draw.specs.Stops.{status_of}
-use Rattle.px_draw.proofs.WorkLemmas.{bytes_of, is_input, keeps_same, line_meets, status_meets, wrote}
+use Rattle.px_draw.proofs.WorkLemmas.{begins, bytes_of, is_input, keeps_same, line_meets, status_meets, wrote}
 use Rattle.px_io.proofs.ToldLaws.{consumes_none}
 
 -- what reads nothing has no status of a read fault
@@ -39,15 +39,16 @@ no_read_fault (Err s.WriteFault) reads = λ e. cc
 no_read_fault (Err s.Memory) reads = λ e. cc
 
 sample_performs : (result : Result (Unit {0}) Stop) (n bits : ℕ) (known : Option (List ℕ))
-    (a b : Option (List ℕ)) (p q : Option Bool) (k l : ℕ) (before now : Device) → DoesWork result (sampled n bits) a
+    (a b : Option (List ℕ)) (p q : Option Bool) (k l : ℕ) (before now : ArrayView) → DoesWork result (sampled n bits) a
     b p q k l
     → Draws (status_in result) bits (sample_scene n) before now → Performs result (Some (c.Sample n)) bits known known
     a b p q before now
 sample_performs result n bits known a b p q k l before now serves array = record {
-  bytes = bytes_of known;
+  bytes = bytes_of known [];
   taken = [];
-  input = is_input known;
+  input = is_input known [];
   consumed = consumes_none known;
+  front = begins known known [] (consumes_none known);
   status = status_meets result (sampled n bits) serves.meets;
   line = line_meets result (sampled n bits) serves.meets;
   leaves = record {
@@ -60,7 +61,7 @@ sample_performs result n bits known a b p q k l before now serves array = record
 -- what is done for the outcome of the sample is what the command does
 pub performs_sample : (result : Result (Unit {0}) Stop) (command : Option Command) (n bits : ℕ)
     (known : Option (List ℕ))
-    (a b : Option (List ℕ)) (p q : Option Bool) (k l : ℕ) (before now : Device) → command ≡ Some (c.Sample n)
+    (a b : Option (List ℕ)) (p q : Option Bool) (k l : ℕ) (before now : ArrayView) → command ≡ Some (c.Sample n)
     → DoesWork result (sampled n bits) a b p q k l → Draws (status_in result) bits (sample_scene n) before now
     → Performs result command bits known known a b p q before now
 performs_sample result command n bits known a b p q k l before now is serves array =
@@ -76,7 +77,7 @@ unfolding sampled
 sample_serves result n bits text a b p q k l is serves =
     subst (λ t. DoesWork result (text_measured t bits) a b p q k l) is serves
 
-pub sample_draws : (found : Status) (n bits : ℕ) (text : List ℕ) (before now : Device) → text ≡ sample_text n
+pub sample_draws : (found : Status) (n bits : ℕ) (text : List ℕ) (before now : ArrayView) → text ≡ sample_text n
     → Draws found bits (scene_of (worded text)) before now → Draws found bits (sample_scene n) before now
 unfolding sample_scene
 sample_draws found n bits text before now is draws =
@@ -114,7 +115,7 @@ not_read result s.Memory at is = λ e. cc
 not_read result s.Usage at is = absurd is
 not_read result s.WriteFault at is = absurd is
 
-stop_draws : (stop : Stop) (bits : ℕ) (scene : SceneView) (device : Device) → IsSceneStop stop
+stop_draws : (stop : Stop) (bits : ℕ) (scene : SceneView) (device : ArrayView) → IsSceneStop stop
     → Draws (status_of stop) bits scene device device
 stop_draws (s.Refused (r.Malformed line cause)) bits scene device is = refl
 stop_draws (s.Refused (r.Limit line kind found)) bits scene device is = refl
@@ -124,7 +125,7 @@ stop_draws s.ReadFault bits scene device is = absurd is
 stop_draws s.WriteFault bits scene device is = absurd is
 
 -- a stop before the array is opened leaves it
-pub stop_array : (result : Result (Unit {0}) Stop) (stop : Stop) (bits : ℕ) (scene : SceneView) (device : Device)
+pub stop_array : (result : Result (Unit {0}) Stop) (stop : Stop) (bits : ℕ) (scene : SceneView) (device : ArrayView)
     → result ≡ Err stop
     → IsSceneStop stop → Draws (status_in result) bits scene device device
 stop_array result stop bits scene device at is = rw at (stop_draws stop bits scene device is)
@@ -137,7 +138,7 @@ text_scene s.ReadFault text is = absurd is
 text_scene s.WriteFault text is = absurd is
 
 pub text_leaves : (result : Result (Unit {0}) Stop) (stop : Stop) (text : List ℕ) (bits : ℕ) (scene : SceneView)
-    (device : Device)
+    (device : ArrayView)
     → result ≡ Err stop → IsTextStop stop text → Draws (status_in result) bits scene device device
 text_leaves result stop text bits scene device at is =
     stop_array result stop bits scene device at (text_scene stop text is)

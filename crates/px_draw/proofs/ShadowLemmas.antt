@@ -5,7 +5,8 @@ use Rattle.std.proofs.lemmas.Bool.{cases_lt}
 use Rattle.std.proofs.lemmas.List.{take_all}
 use Rattle.std.specs.Io.KnownBytes.{Consumes}
 use Rattle.px_io.specs.Told.{ConsumesAtMost, IsFrontOf}
-use Rattle.px_array.specs.Arrays.{Device, State}
+use Rattle.px_array.specs.Arrays.{State}
+use Rattle.px_array.specs.Slots.{ArrayView}
 use Rattle.px_scene.specs.Scenes.{SceneView}
 use Rattle.px_scene.specs.Text.{worded}
 use Rattle.px_scene.specs.Reading.{scene_of}
@@ -22,13 +23,13 @@ use Rattle.px_draw.specs.declared.stop.Stop.{Stop}
 use Rattle.px_draw.specs.declared.stop.Stop.TheVariants as s
 use Rattle.px_draw.specs.Outcomes.{Outcome, done, refused, unless_refused}
 use Rattle.px_draw.specs.Refusals.{text_refusal, too_long}
-use Rattle.px_draw.specs.Runs.{IsInput}
+use Rattle.px_draw.specs.Runs.{BeginsWith, IsInput}
 use Rattle.px_draw.specs.Shadows.{Shades, lights_in, lights_refusal, line_behind, lit, lit_by_lines, lit_drawable}
 use Rattle.px_draw.specs.Shadows.{parts_lit, shadowed}
 use Rattle.px_draw.specs.Stops.{IsReadStop, IsSceneStop, Meets, Performs, DoesWork, status_in}
 use Rattle.px_draw.proofs.DebugLemmas.{long_is, short_is}
 use Rattle.px_draw.proofs.SampleLemmas.{not_read, not_usage, stop_causes, stop_writes}
-use Rattle.px_draw.proofs.WorkLemmas.{bytes_of, is_input, keeps_same, line_meets, status_meets, wrote}
+use Rattle.px_draw.proofs.WorkLemmas.{begins, bytes_of, is_input, keeps_same, line_meets, status_meets, wrote}
 
 -- a text past its limit, and one within it
 pub long_shadowed : (bytes : List ℕ) (bits : ℕ) → 1048577 ≤ length bytes → shadowed bytes bits ≡ refused too_long
@@ -41,7 +42,7 @@ unfolding shadowed
 short_shadowed bytes bits short = rw (short_is bytes short) refl
 
 -- what is left where a refusal is due does not speak of the scene
-shades_refused : (result : Result (Unit {0}) Stop) (bits : ℕ) (one other : List ℕ) (before now : Device)
+shades_refused : (result : Result (Unit {0}) Stop) (bits : ℕ) (one other : List ℕ) (before now : ArrayView)
     (reason : Refusal)
     → Meets result (refused reason) → Shades (status_in result) bits one before now
     → Shades (status_in result) bits other before now
@@ -56,14 +57,14 @@ shades_refused (Err s.Memory) bits one other before now reason meets is = is
 -- the shadows of a text are found
 pub record ShadesText (result : Result (Unit {0}) Stop) (bits : ℕ) (text : List ℕ) (a b : Option (List ℕ))
     (p q : Option Bool)
-    (m n : ℕ) (before now : Device) : Type 0 where
+    (m n : ℕ) (before now : ArrayView) : Type 0 where
   pub serves : DoesWork result (shadowed text bits) a b p q m n
   pub array : Shades (status_in result) bits text before now
 
 -- a text's front answers for it
 shades_front : (result : Result (Unit {0}) Stop) (bits : ℕ) (bytes : List ℕ) (a b : Option (List ℕ))
     (p q : Option Bool) (m n : ℕ)
-    (before now : Device) → ShadesText result bits (take 1048577 bytes) a b p q m n before now
+    (before now : ArrayView) → ShadesText result bits (take 1048577 bytes) a b p q m n before now
     → ShadesText result bits bytes a b p q m n before now
 shades_front result bits bytes a b p q m n before now shades = elim (cases_lt (length bytes) 1048577) [
   | inl short ↦ subst (λ text. ShadesText result bits text a b p q m n before now)
@@ -80,15 +81,17 @@ shades_front result bits bytes a b p q m n before now shades = elim (cases_lt (l
 ]
 
 performs : (result : Result (Unit {0}) Stop) (bytes taken : List ℕ) (bits : ℕ) (known rest : Option (List ℕ))
-    (a b : Option (List ℕ)) (p q : Option Bool) (m n : ℕ) (before now : Device) → IsInput known bytes
+    (a b : Option (List ℕ)) (p q : Option Bool) (m n : ℕ) (before now : ArrayView) → IsInput known bytes
     → Consumes known rest taken
+    → BeginsWith bytes taken
     → ShadesText result bits bytes a b p q m n before now → Performs result (Some c.Shadow) bits known rest a b p q
     before now
-performs result bytes taken bits known rest a b p q m n before now input consumed shades = record {
+performs result bytes taken bits known rest a b p q m n before now input consumed begins shades = record {
   bytes = bytes;
   taken = taken;
   input = input;
   consumed = consumed;
+  front = begins;
   status = status_meets result (shadowed bytes bits) shades.serves.meets;
   line = line_meets result (shadowed bytes bits) shades.serves.meets;
   leaves = record {
@@ -99,19 +102,20 @@ performs result bytes taken bits known rest a b p q m n before now input consume
 
 -- a text that was read answers for the input
 performs_text : (result : Result (Unit {0}) Stop) (text : List ℕ) (bits : ℕ) (known rest : Option (List ℕ))
-    (a b : Option (List ℕ)) (p q : Option Bool) (m n : ℕ) (before now : Device) → IsFrontOf known 1048577 text
+    (a b : Option (List ℕ)) (p q : Option Bool) (m n : ℕ) (before now : ArrayView) → IsFrontOf known 1048577 text
     → Consumes known rest text
     → ShadesText result bits text a b p q m n before now → Performs result (Some c.Shadow) bits known rest a b p q
     before now
 performs_text result text bits None rest a b p q m n before now front consumed shades =
-    performs result text text bits None rest a b p q m n before now tt consumed shades
+    performs result text text bits None rest a b p q m n before now tt consumed (begins None rest text consumed) shades
 performs_text result text bits (Some bytes) rest a b p q m n before now front consumed shades =
     performs result bytes text bits (Some bytes) rest a b p q m n before now refl consumed
+    (begins (Some bytes) rest text consumed)
     (shades_front result bits bytes a b p q m n before now
     (subst (λ t. ShadesText result bits t a b p q m n before now) front shades))
 
 pub performs_shades : (result : Result (Unit {0}) Stop) (text lent : List ℕ) (bits : ℕ) (known rest : Option (List ℕ))
-    (a b : Option (List ℕ)) (p q : Option Bool) (m n : ℕ) (before now : Device) → IsFrontOf known 1048577 text
+    (a b : Option (List ℕ)) (p q : Option Bool) (m n : ℕ) (before now : ArrayView) → IsFrontOf known 1048577 text
     → Consumes known rest text
     → lent ≡ text → DoesWork result (shadowed lent bits) a b p q m n → Shades (status_in result) bits lent before now
     → Performs result (Some c.Shadow) bits known rest a b p q before now
@@ -120,23 +124,25 @@ performs_shades result text lent bits known rest a b p q m n before now front co
     (subst (λ t. ShadesText result bits t a b p q m n before now) same (record { serves = serves; array = array }))
 
 read_performs : (stop : Stop) (bits : ℕ) (known rest : Option (List ℕ)) (a : Option (List ℕ)) (p : Option Bool)
-    (device : Device) (m n : ℕ)
+    (device : ArrayView) (m n : ℕ)
     → IsReadStop stop m n → ConsumesAtMost known rest 1048577 → Performs (Err stop) (Some c.Shadow) bits known rest a
     a p p device device
 read_performs s.ReadFault bits known rest a p device m n is (taken, consumed, few) = record {
-  bytes = bytes_of known;
+  bytes = bytes_of known taken;
   taken = taken;
-  input = is_input known;
+  input = is_input known taken;
   consumed = consumed;
+  front = begins known rest taken consumed;
   status = tt;
   line = refl;
   leaves = record { wrote = (keeps_same a, refl); array = refl };
 }
 read_performs s.Memory bits known rest a p device m n is (taken, consumed, few) = record {
-  bytes = bytes_of known;
+  bytes = bytes_of known taken;
   taken = taken;
-  input = is_input known;
+  input = is_input known taken;
   consumed = consumed;
+  front = begins known rest taken consumed;
   status = tt;
   line = refl;
   leaves = record { wrote = (keeps_same a, refl); array = inl refl };
@@ -148,7 +154,7 @@ read_performs s.WriteFault bits known rest a p device m n is consumed = absurd i
 -- the work stops at a read
 pub performs_unread : (result : Result (Unit {0}) Stop) (stop : Stop) (bits : ℕ) (known rest : Option (List ℕ))
     (a : Option (List ℕ))
-    (p : Option Bool) (device : Device) (m n : ℕ) → result ≡ Err stop → IsReadStop stop m n
+    (p : Option Bool) (device : ArrayView) (m n : ℕ) → result ≡ Err stop → IsReadStop stop m n
     → ConsumesAtMost known rest 1048577
     → Performs result (Some c.Shadow) bits known rest a a p p device device
 performs_unread result stop bits known rest a p device m n at is most =

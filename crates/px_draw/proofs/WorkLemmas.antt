@@ -3,11 +3,11 @@ use Rattle.std.proofs.Common.{ℕ, ◌≡◌, ◌≤◌, ◌^◌, ◌++◌, inl,
 use Rattle.std.proofs.Common.{Option, Some, None, Result, Ok, Err, refl, ap, sym, ◌∙◌, arith, length-take}
 use Rattle.std.proofs.lemmas.Bool.{cases_lt}
 use Rattle.std.proofs.lemmas.Bool.Decides.{nat_tests}
-use Rattle.std.proofs.lemmas.List.{take_all, take-append-drop, append_cancel_left}
+use Rattle.std.proofs.lemmas.List.{append-nil, take_all, take-append-drop, append_cancel_left}
 use Rattle.std.specs.Io.KnownBytes.{Appends, Consumes, Keeps}
 use Rattle.px_io.specs.Counts.{Rose}
 use Rattle.px_io.specs.Told.{ConsumesAtMost, IsFrontOf, TakesFront, Tells}
-use Rattle.px_array.specs.Arrays.{Device}
+use Rattle.px_array.specs.Slots.{ArrayView}
 use Rattle.px_scene.specs.Scenes.{SceneView}
 use Rattle.px_scene.specs.Text.{worded}
 use Rattle.px_scene.specs.Reading.{scene_of}
@@ -24,7 +24,7 @@ use Rattle.px_draw.specs.declared.stop.Stop.TheVariants as s
 use Rattle.px_draw.specs.Arrays.{Draws, LeavesArray}
 use Rattle.px_draw.specs.Outcomes.{Outcome, done, output}
 use Rattle.px_draw.specs.Refusals.{text_refusal}
-use Rattle.px_draw.specs.Runs.{IsInput, IsRestBehind, IsStatusOf, Wrote}
+use Rattle.px_draw.specs.Runs.{BeginsWith, IsInput, IsRestBehind, IsStatusOf, Wrote}
 use Rattle.px_draw.specs.Stops.{IsLineOf, IsReadStop, IsTextStop, Meets, Performs, DoesWork, WorksOn, WritesOutcome}
 use Rattle.px_draw.specs.Stops.{status_in}
 use Rattle.px_draw.specs.Stops.{status_of}
@@ -59,7 +59,7 @@ work_front work bytes bits = by_refusal (text_refusal (take 1048577 bytes)) refl
     by_refusal (Some reason) bad = rw (bad, sym (refusal_front bytes) ∙ bad) refl
 
 array_front : (work : Work) (result : Result (Unit {0}) Stop) (bytes : List ℕ) (bits : ℕ)
-    (a b : Option (List ℕ)) (p q : Option Bool) (before now : Device)
+    (a b : Option (List ℕ)) (p q : Option Bool) (before now : ArrayView)
     → WorksOn result work (take 1048577 bytes) bits a b p q before now
     → LeavesArray work (status_in result) bits (scene_of (worded bytes)) before now
 array_front work result bytes bits a b p q before now works = by_refusal (text_refusal (take 1048577 bytes)) refl
@@ -71,7 +71,7 @@ array_front work result bytes bits a b p q before now works = by_refusal (text_r
 
 -- what is made of the front of a text is made of the text
 works_front : (result : Result (Unit {0}) Stop) (work : Work) (bytes : List ℕ) (bits : ℕ)
-    (a b : Option (List ℕ)) (p q : Option Bool) (before now : Device)
+    (a b : Option (List ℕ)) (p q : Option Bool) (before now : ArrayView)
     → WorksOn result work (take 1048577 bytes) bits a b p q before now → WorksOn result work bytes bits a b p q
     before now
 works_front result work bytes bits a b p q before now works = record {
@@ -109,17 +109,34 @@ wrote (Err s.ReadFault) o a b p q writes = writes
 wrote (Err s.WriteFault) o a b p q writes = writes
 wrote (Err s.Memory) o a b p q writes = writes
 
+-- the bytes of an input that tells them, and those taken of another
+abbrev pub bytes_of : Option (List ℕ) → (taken : List ℕ) → List ℕ
+bytes_of None taken = taken
+bytes_of (Some bytes) taken = bytes
+
+pub is_input : (known : Option (List ℕ)) (taken : List ℕ) → IsInput known (bytes_of known taken)
+is_input None taken = tt
+is_input (Some bytes) taken = refl
+
+pub begins : (known rest : Option (List ℕ)) (taken : List ℕ) → Consumes known rest taken
+    → BeginsWith (bytes_of known taken) taken
+begins None rest taken consumed = ([], sym (append-nil taken))
+begins (Some bytes) None taken consumed = absurd consumed
+begins (Some bytes) (Some rest) taken consumed = (rest, consumed)
+
 -- what is made of the whole input is what the command does
 performs : (result : Result (Unit {0}) Stop) (work : Work) (bytes taken : List ℕ) (bits : ℕ)
     (known rest : Option (List ℕ))
-    (a b : Option (List ℕ)) (p q : Option Bool) (before now : Device) → IsInput known bytes → Consumes known rest taken
+    (a b : Option (List ℕ)) (p q : Option Bool) (before now : ArrayView) → IsInput known bytes → Consumes known rest taken
+    → BeginsWith bytes taken
     → WorksOn result work bytes bits a b p q before now → Performs result (Some (c.Make work)) bits known rest a b p
     q before now
-performs result work bytes taken bits known rest a b p q before now input consumed works = record {
+performs result work bytes taken bits known rest a b p q before now input consumed begins works = record {
   bytes = bytes;
   taken = taken;
   input = input;
   consumed = consumed;
+  front = begins;
   status = status_meets result (worked_out work bytes bits) works.meets;
   line = line_meets result (worked_out work bytes bits) works.meets;
   leaves = record {
@@ -131,14 +148,15 @@ performs result work bytes taken bits known rest a b p q before now input consum
 -- a text that was read answers for the input
 pub performs_text : (result : Result (Unit {0}) Stop) (work : Work) (text : List ℕ) (bits : ℕ)
     (known rest : Option (List ℕ))
-    (a b : Option (List ℕ)) (p q : Option Bool) (before now : Device) → IsFrontOf known 1048577 text
+    (a b : Option (List ℕ)) (p q : Option Bool) (before now : ArrayView) → IsFrontOf known 1048577 text
     → Consumes known rest text
     → WorksOn result work text bits a b p q before now → Performs result (Some (c.Make work)) bits known rest a b p q
     before now
 performs_text result work text bits None rest a b p q before now front consumed works =
-    performs result work text text bits None rest a b p q before now tt consumed works
+    performs result work text text bits None rest a b p q before now tt consumed (begins None rest text consumed) works
 performs_text result work text bits (Some bytes) rest a b p q before now front consumed works =
     performs result work bytes text bits (Some bytes) rest a b p q before now refl consumed
+    (begins (Some bytes) rest text consumed)
     (works_front result work bytes bits a b p q before now (rw (← front) works))
 
 pub keeps_same : (a : Option (List ℕ)) → Keeps a a
@@ -146,7 +164,7 @@ keeps_same None = tt
 keeps_same (Some bytes) = refl
 
 -- an array that is as before is what a stop at a read leaves
-read_array : (work : Work) (bits : ℕ) (scene : SceneView) (device : Device) (stop : Stop) (m n : ℕ)
+read_array : (work : Work) (bits : ℕ) (scene : SceneView) (device : ArrayView) (stop : Stop) (m n : ℕ)
     → IsReadStop stop m n
     → LeavesArray work (status_of stop) bits scene device device
 read_array w.Render bits scene device s.ReadFault m n is = refl
@@ -176,7 +194,7 @@ read_array (w.Tile size) bits scene device s.WriteFault m n is = absurd is
 
 -- a stop at a read is one for all texts
 read_works : (work : Work) (bytes : List ℕ) (bits : ℕ) (stop : Stop) (a : Option (List ℕ)) (p : Option Bool)
-    (device : Device) (m n : ℕ)
+    (device : ArrayView) (m n : ℕ)
     → IsReadStop stop m n → WorksOn (Err stop) work bytes bits a a p p device device
 read_works work bytes bits s.ReadFault a p device m n read =
     record {
@@ -196,23 +214,15 @@ read_works work bytes bits s.Usage a p device m n read = absurd read
 read_works work bytes bits (s.Refused reason) a p device m n read = absurd read
 read_works work bytes bits s.WriteFault a p device m n read = absurd read
 
--- the bytes of an input that tells them, and no bytes of another
-abbrev pub bytes_of : Option (List ℕ) → List ℕ
-bytes_of None = []
-bytes_of (Some bytes) = bytes
-
-pub is_input : (known : Option (List ℕ)) → IsInput known (bytes_of known)
-is_input None = tt
-is_input (Some bytes) = refl
-
 -- the work stops at a read
 pub performs_read : (result : Result (Unit {0}) Stop) (work : Work) (bits : ℕ) (stop : Stop)
     (known rest : Option (List ℕ))
-    (a : Option (List ℕ)) (p : Option Bool) (device : Device) (m n : ℕ) → result ≡ Err stop → IsReadStop stop m n
+    (a : Option (List ℕ)) (p : Option Bool) (device : ArrayView) (m n : ℕ) → result ≡ Err stop → IsReadStop stop m n
     → ConsumesAtMost known rest 1048577 → Performs result (Some (c.Make work)) bits known rest a a p p device device
 performs_read result work bits stop known rest a p device m n is read (taken, consumed, few) =
-    performs result work (bytes_of known) taken bits known rest a a p p device device (is_input known) consumed
-    (rw is (read_works work (bytes_of known) bits stop a p device m n read))
+    performs result work (bytes_of known taken) taken bits known rest a a p p device device (is_input known taken)
+    consumed (begins known rest taken consumed) (rw is (read_works work (bytes_of known taken) bits stop a p device m n
+    read))
 
 text_meets : (work : Work) (bytes : List ℕ) (bits : ℕ) (stop : Stop) → IsTextStop stop bytes
     → Meets (Err stop) (worked_out work bytes bits)
@@ -232,7 +242,7 @@ text_writes s.ReadFault bytes o a p is = absurd is
 text_writes s.WriteFault bytes o a p is = absurd is
 
 -- an array that is as before is what a stop at the text leaves
-text_draws : (bytes : List ℕ) (bits : ℕ) (scene : SceneView) (device : Device) (stop : Stop) → IsTextStop stop bytes
+text_draws : (bytes : List ℕ) (bits : ℕ) (scene : SceneView) (device : ArrayView) (stop : Stop) → IsTextStop stop bytes
     → Draws (status_of stop) bits scene device device
 text_draws bytes bits scene device (s.Refused (r.Malformed line cause)) is = refl
 text_draws bytes bits scene device (s.Refused (r.Limit line kind found)) is = refl
@@ -241,7 +251,7 @@ text_draws bytes bits scene device s.Usage is = absurd is
 text_draws bytes bits scene device s.ReadFault is = absurd is
 text_draws bytes bits scene device s.WriteFault is = absurd is
 
-text_tiles : (bytes : List ℕ) (bits : ℕ) (size : Size) (scene : SceneView) (device : Device) (stop : Stop)
+text_tiles : (bytes : List ℕ) (bits : ℕ) (size : Size) (scene : SceneView) (device : ArrayView) (stop : Stop)
     → IsTextStop stop bytes
     → DrawsTiles (status_of stop) bits size scene device device
 text_tiles bytes bits size scene device (s.Refused (r.Malformed line cause)) is = refl
@@ -251,7 +261,7 @@ text_tiles bytes bits size scene device s.Usage is = absurd is
 text_tiles bytes bits size scene device s.ReadFault is = absurd is
 text_tiles bytes bits size scene device s.WriteFault is = absurd is
 
-text_array : (work : Work) (bytes : List ℕ) (bits : ℕ) (scene : SceneView) (device : Device) (stop : Stop)
+text_array : (work : Work) (bytes : List ℕ) (bits : ℕ) (scene : SceneView) (device : ArrayView) (stop : Stop)
     → IsTextStop stop bytes
     → LeavesArray work (status_of stop) bits scene device device
 text_array w.Render bytes bits scene device stop is = text_draws bytes bits scene device stop is
@@ -266,7 +276,7 @@ text_array w.List bytes bits scene device stop is = refl
 
 -- the work stops at its text
 pub works_text : (result : Result (Unit {0}) Stop) (work : Work) (bytes lent : List ℕ) (bits : ℕ) (stop : Stop)
-    (a : Option (List ℕ)) (p : Option Bool) (device : Device)
+    (a : Option (List ℕ)) (p : Option Bool) (device : ArrayView)
     → result ≡ Err stop → lent ≡ bytes → IsTextStop stop lent → WorksOn result work bytes bits a a p p device device
 works_text result work bytes lent bits stop a p device at same is =
     let here : IsTextStop stop bytes = rw (← same) is in
@@ -279,7 +289,7 @@ works_text result work bytes lent bits stop a p device at same is =
 
 -- something is made of the scene of a text
 pub works_scene : (result : Result (Unit {0}) Stop) (work : Work) (bytes lent : List ℕ) (bits : ℕ) (scene : SceneView)
-    (a b : Option (List ℕ)) (p q : Option Bool) (before now : Device) → lent ≡ bytes → text_refusal lent ≡ None
+    (a b : Option (List ℕ)) (p q : Option Bool) (before now : ArrayView) → lent ≡ bytes → text_refusal lent ≡ None
     → scene ≡ scene_of (worded lent) → Meets result (made work scene bits)
     → WritesOutcome result (made work scene bits) a b p q
     → LeavesArray work (status_in result) bits scene before now → WorksOn result work bytes bits a b p q before now

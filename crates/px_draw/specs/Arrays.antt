@@ -1,6 +1,7 @@
 -- What a run leaves of the array. Clauses of public calls stand on it.
 use Rattle.std.specs.Prelude.{◌≡◌, ℕ, ◌⊎◌}
-use Rattle.px_array.specs.Arrays.{Device, closed, pixel_of}
+use Rattle.px_array.specs.Arrays.{Device, pixel_of}
+use Rattle.px_array.specs.Slots.{ArrayView, IsRunOnce, none_open}
 use Rattle.px_scene.specs.Scenes.{SceneView}
 use Rattle.px_face.specs.Surfaces.{ShowsBackground}
 use Rattle.px_control.specs.Program.{IsAt, total}
@@ -28,18 +29,19 @@ pub record IsFinished (before now : JobView) : Type 0 where
   pub clock : now.place.clock ≡ total before.scene
 
 -- for want of memory the array is as before, or none is open
-abbrev pub IsKeptOrClosed : (before now : Device) → Type 0
-IsKeptOrClosed before now = (now ≡ before) ⊎ (now ≡ closed)
+abbrev pub IsKeptOrClosed : (before now : ArrayView) → Type 0
+IsKeptOrClosed before now = (now ≡ before) ⊎ (now ≡ none_open)
 
--- what is left of the array where a scene is drawn: the drawn scene, also where it could not be written, and else the array as before
-abbrev pub Draws : Status → (bits : ℕ) → SceneView → (before now : Device) → Type 0
-Draws status.Done bits scene before now = IsDrawn bits scene now
-Draws status.WriteFault bits scene before now = IsDrawn bits scene now
+-- what is left of the array, of its slots and its work too, where a scene is drawn: a new array with the drawn scene, also where it
+-- could not be written, and else the array as before
+abbrev pub Draws : Status → (bits : ℕ) → SceneView → (before now : ArrayView) → Type 0
+Draws status.Done bits scene before now = IsDrawn bits scene now.device × IsRunOnce now
+Draws status.WriteFault bits scene before now = IsDrawn bits scene now.device × IsRunOnce now
 Draws status.Memory bits scene before now = IsKeptOrClosed before now
 Draws status bits scene before now = now ≡ before
 
 -- what is left of the array: all but what draws leaves it as before, whatever the status
-abbrev pub LeavesArray : Work → Status → (bits : ℕ) → SceneView → (before now : Device) → Type 0
+abbrev pub LeavesArray : Work → Status → (bits : ℕ) → SceneView → (before now : ArrayView) → Type 0
 LeavesArray w.Render status bits scene before now = Draws status bits scene before now
 LeavesArray w.Colour status bits scene before now = Draws status bits scene before now
 LeavesArray (w.Refine fineness) status bits scene before now = Draws status bits (fine_scene (doublings fineness) scene) before now

@@ -1,17 +1,17 @@
 -- What `debug` answers and leaves: a session over the bytes of an input. Clauses of public calls stand on it.
-use Rattle.std.specs.Prelude.{◌≡◌, ◌⊎◌, ℕ, ◌-◌, ◌≤◌, List, [], Bool, true, false, ◌&&◌, not, if◌then◌else◌, length, nat_lt, take, Option}
+use Rattle.std.specs.Prelude.{◌≡◌, ◌⊎◌, ℕ, ◌-◌, ◌≤◌, List, [], Bool, true, false, ◌&&◌, not, if◌then◌else◌, length, nat_lt, take, Option, None}
 use Rattle.std.specs.Io.KnownBytes.{Appends, Keeps}
 use Rattle.px_io.specs.Told.{TakesAll, TakesFirst, Tells}
 use Rattle.px_text.specs.declared.text.TheConstants.{MAX_TEXT_BYTES}
-use Rattle.px_array.specs.Arrays.{Device, closed}
+use Rattle.px_array.specs.Slots.{ArrayView, IsRunOnce, none_open}
 use Rattle.px_scene.specs.Scenes.{SceneView}
 use Rattle.px_scene.specs.Text.{worded}
 use Rattle.px_scene.specs.Reading.{scene_of}
 use Rattle.px_control.specs.Program.{IsAt}
-use Rattle.px_debug.specs.Moves.{SessionView}
+use Rattle.px_debug.specs.Moves.{Fits, SessionView}
 use Rattle.px_lines.specs.Lines.{all_lines, whole_lines}
 use Rattle.px_lines.specs.Parts.{behind_part, holds_part, scene_part}
-use Rattle.px_session.specs.Sessions.{after, answers, has_quit, session_opened, until_quit}
+use Rattle.px_session.specs.Sessions.{after, answers, clocks_over, has_quit, session_opened, until_quit}
 use Rattle.px_draw.specs.declared.status.Status.{Status}
 use Rattle.px_draw.specs.declared.status.Status.TheVariants as status
 use Rattle.px_draw.specs.Outcomes.{Outcome, cut, done, drawable, refused, unless_refused}
@@ -72,27 +72,30 @@ unfoldable pub debugged : (bytes : List ℕ) → (bits : ℕ) → Outcome
 debugged bytes bits =
     if is_long bytes && not (has_part bytes) then refused too_long else admitted (scene_part_of bytes) bits (answered bytes bits)
 
--- lines were obeyed, from the start of the session on: the array is as its broadcasts up to there leave it
-abbrev pub IsAfter : (bits : ℕ) → (bytes : List ℕ) → (lines : List (List ℕ)) → Device → Type 0
-IsAfter bits bytes lines device = IsAt bits (part_scene bytes) (after (session_of bytes) lines).now device
+-- lines were obeyed, from the start of the session on: the array is as its broadcasts up to there leave it, its slots keep what
+-- each quarter of them left, and its work is at most the clocks that the lines may make
+pub record IsAfter (bits : ℕ) (bytes : List ℕ) (lines : List (List ℕ)) (now : ArrayView) : Type 0 where
+  pub at : IsAt bits (part_scene bytes) (after (session_of bytes) lines).now now.device
+  pub fits : Fits bits (after (session_of bytes) lines) now.device now.slots
+  pub work : now.work ≤ clocks_over (session_of bytes) lines
 
 -- all of the lines were answered, and the output was finished
 pub record IsOver (bits : ℕ) (bytes : List ℕ) (lines : List (List ℕ)) (written_old written_new : Option (List ℕ))
-    (finished_new : Option Bool) (device : Device) : Type 0 where
+    (finished_new : Option Bool) (now : ArrayView) : Type 0 where
   pub wrote : Appends written_old written_new (answers bits (session_of bytes) lines)
   pub end : Tells finished_new true
-  pub array : IsAfter bits bytes lines device
+  pub array : IsAfter bits bytes lines now
 
 -- all of the lines were answered
 pub record IsAnswered (bits : ℕ) (bytes : List ℕ) (lines : List (List ℕ)) (written_old written_new : Option (List ℕ))
-    (finished_old finished_new : Option Bool) (device : Device) : Type 0 where
+    (finished_old finished_new : Option Bool) (now : ArrayView) : Type 0 where
   pub wrote : TakesAll written_old written_new finished_old finished_new (answers bits (session_of bytes) lines)
-  pub array : IsAfter bits bytes lines device
+  pub array : IsAfter bits bytes lines now
 
 -- a write failed in the answer to one of the lines, or in finishing behind the last: so many lines were obeyed, of whose
 -- answers a front was written, with all answers but the last in it
 pub record IsBroken (bits : ℕ) (bytes : List ℕ) (lines : List (List ℕ)) (written_old written_new : Option (List ℕ))
-    (finished_old finished_new : Option Bool) (device : Device) : Type 0 where
+    (finished_old finished_new : Option Bool) (now : ArrayView) : Type 0 where
   pub count : ℕ
   pub within : count ≤ length lines
   pub some : count ≡ 0 → lines ≡ []
@@ -100,36 +103,51 @@ pub record IsBroken (bits : ℕ) (bytes : List ℕ) (lines : List (List ℕ)) (w
   pub before : length (answers bits (session_of bytes) (take (count - 1) lines)) ≤ gained
   pub wrote : TakesFirst gained written_old written_new finished_old finished_new
       (answers bits (session_of bytes) (take count lines))
-  pub array : IsAfter bits bytes (take count lines) device
+  pub array : IsAfter bits bytes (take count lines) now
+
+-- the scene part of some bytes is a scene's that an array with pixels of so many bits can draw
+abbrev pub Admits : (bits : ℕ) → (bytes : List ℕ) → Type 0
+Admits bits bytes = (outcome : Outcome) → admitted (scene_part_of bytes) bits outcome ≡ outcome
+
+-- a write failed behind a scene part that is a scene's that the array can draw
+pub record IsBrokenOff (bits : ℕ) (taken : List ℕ) (written_old written_new : Option (List ℕ))
+    (finished_old finished_new : Option Bool) (now : ArrayView) : Type 0 where
+  pub admits : Admits bits taken
+  pub broken : IsBroken bits taken (until_quit (all_commands taken)) written_old written_new finished_old finished_new now
 
 -- a read failed behind a whole scene part: it is a scene's that the array can draw, no whole command is a quit, and all are answered
 pub record IsCutOff (bits : ℕ) (taken : List ℕ) (written_old written_new : Option (List ℕ))
-    (finished_old finished_new : Option Bool) (device : Device) : Type 0 where
-  pub admits : (outcome : Outcome) → admitted (scene_part_of taken) bits outcome ≡ outcome
+    (finished_old finished_new : Option Bool) (now : ArrayView) : Type 0 where
+  pub admits : Admits bits taken
   pub quiet : has_quit (whole_commands taken) ≡ false
-  pub answered : IsAnswered bits taken (whole_commands taken) written_old written_new finished_old finished_new device
+  pub answered : IsAnswered bits taken (whole_commands taken) written_old written_new finished_old finished_new now
 
 -- and where the scene part was not whole, nothing is done
 pub record LeavesAtReadFault (bits : ℕ) (taken : List ℕ) (written_old written_new : Option (List ℕ))
-    (finished_old finished_new : Option Bool) (before now : Device) : Type 0 where
+    (finished_old finished_new : Option Bool) (before now : ArrayView) : Type 0 where
   pub whole : has_part taken ≡ true → IsCutOff bits taken written_old written_new finished_old finished_new now
   pub other : has_part taken ≡ false → IsUntouched written_old written_new finished_old finished_new before now
 
 -- at a limit: that of the text behind a scene part, or another
 abbrev pub LeavesAtLimit : Outcome → (bits : ℕ) → (bytes : List ℕ) → (written_old written_new : Option (List ℕ))
-    → (finished_old finished_new : Option Bool) → (before now : Device) → Type 0
+    → (finished_old finished_new : Option Bool) → (before now : ArrayView) → Type 0
 LeavesAtLimit (cut text reason) bits bytes written_old written_new finished_old finished_new before now =
     IsAnswered bits bytes (whole_commands bytes) written_old written_new finished_old finished_new now
 LeavesAtLimit outcome bits bytes written_old written_new finished_old finished_new before now =
     IsUntouched written_old written_new finished_old finished_new before now
 
 -- for want of memory the array is as before, or none is open, or it is opened for the scene
-abbrev pub IsKeptOrOpened : (bits : ℕ) → SceneView → (before now : Device) → Type 0
-IsKeptOrOpened bits scene before now = (now ≡ before) ⊎ (now ≡ closed) ⊎ IsAt bits scene 0 now
+abbrev pub IsKeptOrOpened : (bits : ℕ) → SceneView → (before now : ArrayView) → Type 0
+IsKeptOrOpened bits scene before now = (now ≡ before) ⊎ (now ≡ none_open) ⊎ (IsAt bits scene 0 now.device × IsRunOnce now)
+
+-- and only behind a scene part that is accepted is it not as before
+abbrev pub LeavesAtMemory : (bits : ℕ) → (taken : List ℕ) → (before now : ArrayView) → Type 0
+LeavesAtMemory bits taken before now =
+    (now ≡ before) ⊎ ((text_refusal (scene_part_of taken) ≡ None) × IsKeptOrOpened bits (part_scene taken) before now)
 
 -- what is written, and what is left of the array, where these are the bytes of the input, and of them those taken
 abbrev pub LeavesSession : (found : Status) → (bits : ℕ) → (bytes taken : List ℕ) → (written_old written_new : Option (List ℕ))
-    → (finished_old finished_new : Option Bool) → (before now : Device) → Type 0
+    → (finished_old finished_new : Option Bool) → (before now : ArrayView) → Type 0
 LeavesSession status.Done bits bytes taken written_old written_new finished_old finished_new before now =
     IsOver bits bytes (until_quit (all_commands bytes)) written_old written_new finished_new now
 LeavesSession status.Limit bits bytes taken written_old written_new finished_old finished_new before now =
@@ -137,8 +155,8 @@ LeavesSession status.Limit bits bytes taken written_old written_new finished_old
 LeavesSession status.ReadFault bits bytes taken written_old written_new finished_old finished_new before now =
     LeavesAtReadFault bits taken written_old written_new finished_old finished_new before now
 LeavesSession status.WriteFault bits bytes taken written_old written_new finished_old finished_new before now =
-    IsBroken bits taken (until_quit (all_commands taken)) written_old written_new finished_old finished_new now
+    IsBrokenOff bits taken written_old written_new finished_old finished_new now
 LeavesSession status.Memory bits bytes taken written_old written_new finished_old finished_new before now =
-    Keeps written_old written_new × (finished_new ≡ finished_old) × IsKeptOrOpened bits (part_scene taken) before now
+    Keeps written_old written_new × (finished_new ≡ finished_old) × LeavesAtMemory bits taken before now
 LeavesSession found bits bytes taken written_old written_new finished_old finished_new before now =
     IsUntouched written_old written_new finished_old finished_new before now

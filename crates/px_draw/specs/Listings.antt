@@ -3,6 +3,7 @@ use Rattle.std.specs.Prelude.{◌≡◌, ℕ, List, length, nat_lt, if◌then◌
 use Rattle.std.specs.List.{sum_by}
 use Rattle.px_text.specs.declared.text.TheConstants.{MAX_TEXT_BYTES}
 use Rattle.px_array.specs.Arrays.{Device}
+use Rattle.px_array.specs.Slots.{ArrayView, IsRunOnce}
 use Rattle.px_asm.specs.Micros.{cycles}
 use Rattle.px_text.specs.Text.{worded}
 use Rattle.px_scene.specs.Scenes.{SceneView}
@@ -55,10 +56,10 @@ pub record IsPlayed (bits : ℕ) (l : ListingView) (device : Device) : Type 0 wh
   pub clocks : device.clocks ≡ sum_by (λ m. cycles m l.nx l.ny) l.macros
   pub pixels : HasPlayed bits l device.state
 
--- what is left of the array where a listing is played: the listing played, also where its memory could not be written, and
--- else the array as before
-abbrev pub Plays : Status → (bits : ℕ) → ListingView → (before now : Device) → Type 0
-Plays status.Done bits l before now = IsPlayed bits l now
-Plays status.WriteFault bits l before now = IsPlayed bits l now
+-- what is left of the array, of its slots and its work too, where a listing is played: the listing played on a new array, also
+-- where its memory could not be written, and else the array as before
+abbrev pub Plays : Status → (bits : ℕ) → ListingView → (before now : ArrayView) → Type 0
+Plays status.Done bits l before now = IsPlayed bits l now.device × IsRunOnce now
+Plays status.WriteFault bits l before now = IsPlayed bits l now.device × IsRunOnce now
 Plays status.Memory bits l before now = IsKeptOrClosed before now
 Plays status bits l before now = now ≡ before

@@ -1,9 +1,9 @@
 -- What a run answers, writes and leaves. Clauses of public calls stand on it.
-use Rattle.std.specs.Prelude.{ℕ, ℤ, ◌≡◌, ◌≢◌, ◌⊎◌, List, Bool, true, ⊤, Option, Some, None, drop}
+use Rattle.std.specs.Prelude.{ℕ, ℤ, ◌≡◌, ◌≢◌, ◌⊎◌, ◌++◌, List, Bool, true, ⊤, Option, Some, None, drop}
 use Rattle.std.specs.Io.KnownBytes.{Appends, Keeps}
 use Rattle.px_io.specs.Counts.{Rose, Still}
 use Rattle.px_io.specs.Told.{ConsumesAtMost, TakesFront, Tells}
-use Rattle.px_array.specs.Arrays.{Device}
+use Rattle.px_array.specs.Slots.{ArrayView}
 use Rattle.px_scene.specs.Text.{worded}
 use Rattle.px_scene.specs.Reading.{scene_of}
 use Rattle.px_show.specs.declared.fault.Cause.{Cause}
@@ -75,32 +75,32 @@ Wrote status bytes written_old written_new finished_old finished_new =
 
 -- what is written, and what is left of the array, where something is made of a scene
 pub record LeavesWork (work : Work) (found : Status) (bits : ℕ) (bytes : List ℕ)
-    (written_old written_new : Option (List ℕ)) (finished_old finished_new : Option Bool) (before now : Device) : Type 0 where
+    (written_old written_new : Option (List ℕ)) (finished_old finished_new : Option Bool) (before now : ArrayView) : Type 0 where
   pub wrote : Wrote found (output (worked_out work bytes bits)) written_old written_new finished_old finished_new
   pub array : LeavesArray work found bits (scene_of (worded bytes)) before now
 
 -- what is written, and what is left of the array, where the sample of so many blocks is drawn; no read fault can end it
 pub record LeavesSample (n : ℕ) (found : Status) (bits : ℕ)
-    (written_old written_new : Option (List ℕ)) (finished_old finished_new : Option Bool) (before now : Device) : Type 0 where
+    (written_old written_new : Option (List ℕ)) (finished_old finished_new : Option Bool) (before now : ArrayView) : Type 0 where
   pub reads : found ≢ status.ReadFault
   pub wrote : Wrote found (output (sampled n bits)) written_old written_new finished_old finished_new
   pub array : Draws found bits (sample_scene n) before now
 
 -- what is written, and what is left of the array, where shadows are found
 pub record LeavesShadows (found : Status) (bits : ℕ) (bytes : List ℕ)
-    (written_old written_new : Option (List ℕ)) (finished_old finished_new : Option Bool) (before now : Device) : Type 0 where
+    (written_old written_new : Option (List ℕ)) (finished_old finished_new : Option Bool) (before now : ArrayView) : Type 0 where
   pub wrote : Wrote found (output (shadowed bytes bits)) written_old written_new finished_old finished_new
   pub array : Shades found bits bytes before now
 
 -- what is written, and what is left of the array, where the listing that these bytes write is played
 pub record LeavesPlay (found : Status) (bits : ℕ) (bytes : List ℕ)
-    (written_old written_new : Option (List ℕ)) (finished_old finished_new : Option Bool) (before now : Device) : Type 0 where
+    (written_old written_new : Option (List ℕ)) (finished_old finished_new : Option Bool) (before now : ArrayView) : Type 0 where
   pub wrote : Wrote found (output (played_out bytes bits)) written_old written_new finished_old finished_new
   pub array : Plays found bits (listing_written bytes) before now
 
 -- what is written, and what is left of the array, by the command, where these are the bytes of the input, and of them those taken
 abbrev pub Leaves : Option Command → (found : Status) → (bits : ℕ) → (bytes taken : List ℕ)
-    → (written_old written_new : Option (List ℕ)) → (finished_old finished_new : Option Bool) → (before now : Device) → Type 0
+    → (written_old written_new : Option (List ℕ)) → (finished_old finished_new : Option Bool) → (before now : ArrayView) → Type 0
 Leaves None found bits bytes taken written_old written_new finished_old finished_new before now =
     IsUntouched written_old written_new finished_old finished_new before now
 Leaves (Some (c.Make work)) found bits bytes taken written_old written_new finished_old finished_new before now =
@@ -138,12 +138,17 @@ abbrev pub IsInput : Option (List ℕ) → List ℕ → Type 0
 IsInput None bytes = ⊤
 IsInput (Some known) bytes = bytes ≡ known
 
--- a run of these words over an input of these bytes, of which some were taken, on an array with pixels of so many bits: its
+-- some bytes begin with others
+abbrev pub BeginsWith : (bytes first : List ℕ) → Type 0
+BeginsWith bytes first = (more : List ℕ) × (bytes ≡ first ++ more)
+
+-- a run of these words over an input of these bytes, of which the first were taken, on an array with pixels of so many bits: its
 -- status, what it wrote to the output and to the notes, and what it left of the array
 pub record IsRunOf (words : List (List ℕ)) (bytes taken : List ℕ) (bits : ℕ) (found : Status)
     (written_old written_new : Option (List ℕ)) (finished_old finished_new : Option Bool)
     (noted_old noted_new : Option (List ℕ)) (closed_old closed_new : Option Bool) (faults_old faults_new : ℕ)
-    (before now : Device) : Type 0 where
+    (before now : ArrayView) : Type 0 where
+  pub front : BeginsWith bytes taken
   pub status : IsStatusOf found (outcome words bytes bits)
   pub leaves : Leaves (command_of words) found bits bytes taken written_old written_new finished_old finished_new before now
   pub noted : IsNoted found (note found (outcome words bytes bits)) noted_old noted_new closed_old closed_new

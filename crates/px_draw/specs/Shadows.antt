@@ -1,7 +1,7 @@
 -- What `shadow` answers and leaves: by which lights each pixel is lit, where the lines behind the scene part name the lights.
 -- Clauses of public calls stand on it.
 use Rattle.std.specs.Prelude.{◌≡◌, ℕ, ◌+◌, ◌==◌, pos, List, length, nat_lt, count_by, if◌then◌else◌, Option, Some, None}
-use Rattle.px_array.specs.Arrays.{Device}
+use Rattle.px_array.specs.Slots.{ArrayView, IsRunOnce}
 use Rattle.px_scene.specs.Scenes.{SceneView}
 use Rattle.px_scene.specs.Text.{worded}
 use Rattle.px_scene.specs.Reading.{scene_of}
@@ -74,17 +74,17 @@ unfoldable pub shadowed : (bytes : List ℕ) → (bits : ℕ) → Outcome
 shadowed bytes bits =
     if is_long bytes then refused too_long else parts_lit bits (scene_part bytes) (behind_part bytes)
 
--- what is left of the array: the shadow passes were made on the drawn scene, also where the image could not be written, and else
--- the array is as before, or closed for want of memory
-abbrev pub ShadesBy : Status → (bits : ℕ) → SceneView → List SolidSet → (before now : Device) → Type 0
-ShadesBy status.Done bits scene lights before now = IsShaded bits scene lights now
-ShadesBy status.WriteFault bits scene lights before now = IsShaded bits scene lights now
+-- what is left of the array, of its slots and its work too: the shadow passes were made on the drawn scene, also where the image
+-- could not be written, and else the array is as before, or closed for want of memory
+abbrev pub ShadesBy : Status → (bits : ℕ) → SceneView → List SolidSet → (before now : ArrayView) → Type 0
+ShadesBy status.Done bits scene lights before now = IsShaded bits scene lights now.device × IsRunOnce now
+ShadesBy status.WriteFault bits scene lights before now = IsShaded bits scene lights now.device × IsRunOnce now
 ShadesBy status.Memory bits scene lights before now = IsKeptOrClosed before now
 ShadesBy found bits scene lights before now = now ≡ before
 
-abbrev pub ShadesParts : Status → (bits : ℕ) → (part behind : List ℕ) → (before now : Device) → Type 0
+abbrev pub ShadesParts : Status → (bits : ℕ) → (part behind : List ℕ) → (before now : ArrayView) → Type 0
 ShadesParts found bits part behind before now =
     ShadesBy found bits (scene_of (worded part)) (lights_in (scene_of (worded part)) behind) before now
 
-abbrev pub Shades : Status → (bits : ℕ) → (bytes : List ℕ) → (before now : Device) → Type 0
+abbrev pub Shades : Status → (bits : ℕ) → (bytes : List ℕ) → (before now : ArrayView) → Type 0
 Shades found bits bytes before now = ShadesParts found bits (scene_part bytes) (behind_part bytes) before now

@@ -2,13 +2,13 @@
 use Rattle.std.specs.Prelude.{◌≡◌, ◌⊎◌, ℕ, ◌<◌, ◌≤◌, List, Bool, true, ⊤, Option, Some, None, Result, Ok, Err, length}
 use Rattle.std.specs.Io.KnownBytes.{Consumes, IsAtEnd}
 use Rattle.px_io.specs.Told.{Tells}
-use Rattle.px_array.specs.Arrays.{Device}
+use Rattle.px_array.specs.Slots.{ArrayView}
 use Rattle.px_scene.specs.Scenes.{SceneView}
-use Rattle.px_debug.specs.Moves.{SessionView}
 use Rattle.px_lines.specs.Parts.{part_end}
 use Rattle.px_lines.specs.Readings.{TookNoPart}
 use Rattle.px_lines.specs.declared.reading.Opening.{Opening}
 use Rattle.px_session.specs.Servings.{Serves}
+use Rattle.px_session.specs.Sessions.{Stand}
 use Rattle.px_session.specs.declared.serving.Ending.{Ending}
 use Rattle.px_session.specs.declared.serving.Ending.TheVariants as e
 use Rattle.px_draw.specs.declared.refusal.TheConstants.{READ_LIMIT}
@@ -51,7 +51,7 @@ IsPartStop s.Memory o = ⊤
 IsPartStop stop o = ⊥
 
 -- what is left of the array where no session began
-abbrev pub LeavesClosed : Status → (bits : ℕ) → SceneView → (before now : Device) → Type 0
+abbrev pub LeavesClosed : Status → (bits : ℕ) → SceneView → (before now : ArrayView) → Type 0
 LeavesClosed status.Memory bits scene before now = IsKeptOrOpened bits scene before now
 LeavesClosed found bits scene before now = now ≡ before
 
@@ -64,7 +64,7 @@ result_of e.ReadFault = Err s.ReadFault
 result_of e.WriteFault = Err s.WriteFault
 
 -- command lines were answered
-pub record Sits (answer : Result (Unit {0}) Stop) (bits : ℕ) (read : List ℕ) (more : ℕ) (from now : SessionView)
+pub record Sits (answer : Result (Unit {0}) Stop) (bits : ℕ) (read : List ℕ) (more : ℕ) (from now : Stand)
     (rest_old rest_new : Option (List ℕ)) (written_old written_new : Option (List ℕ))
     (finished_old finished_new : Option Bool) : Type 0 where
   pub ending : Ending

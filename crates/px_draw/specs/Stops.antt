@@ -3,10 +3,19 @@ use Rattle.std.specs.Prelude.{ℕ, ◌≡◌, ◌≢◌, List, Bool, true, ⊤, 
 use Rattle.std.specs.Io.KnownBytes.{Appends, Consumes, Keeps}
 use Rattle.px_io.specs.Counts.{Rose}
 use Rattle.px_io.specs.Told.{TakesFront, Tells}
-use Rattle.px_array.specs.Arrays.{Device}
+use Rattle.px_io.specs.declared.reading.ReadError.{ReadError}
+use Rattle.px_io.specs.declared.reading.ReadError.TheVariants as read
+use Rattle.px_array.specs.Slots.{ArrayView}
 use Rattle.px_scene.specs.Text.{worded}
 use Rattle.px_scene.specs.Reading.{scene_of}
 use Rattle.px_scene.specs.Scenes.{SceneView}
+use Rattle.px_show.specs.declared.fault.SceneFault.{SceneFault}
+use Rattle.px_normal.specs.declared.fault.NormalFault.{NormalFault}
+use Rattle.px_normal.specs.declared.fault.NormalFault.TheVariants as normal
+use Rattle.px_control.specs.declared.fault.JobFault.{JobFault}
+use Rattle.px_control.specs.declared.fault.JobFault.TheVariants as job
+use Rattle.px_refine.specs.declared.fault.FineFault.{FineFault}
+use Rattle.px_listing.specs.declared.read.ListFault.{ListFault}
 use Rattle.px_command.specs.declared.command.Command.{Command}
 use Rattle.px_command.specs.declared.command.Work.{Work}
 use Rattle.px_draw.specs.declared.refusal.Refusal.{Refusal}
@@ -16,11 +25,12 @@ use Rattle.px_draw.specs.declared.stop.Stop.TheVariants as s
 use Rattle.px_draw.specs.declared.status.Status.{Status}
 use Rattle.px_draw.specs.declared.status.Status.TheVariants as status
 use Rattle.px_draw.specs.Arrays.{LeavesArray}
-use Rattle.px_draw.specs.Listings.{Plays, list_refusal, listing_written, played_out}
+use Rattle.px_draw.specs.Listings.{Plays, list_refusal, list_refusal_in, listing_written, played_out}
 use Rattle.px_draw.specs.Notes.{memory_line, note, read_fault_line, refusal_line, usage_line, write_fault_line}
 use Rattle.px_draw.specs.Outcomes.{Outcome, usage, refused, done, output}
-use Rattle.px_draw.specs.Refusals.{text_refusal}
-use Rattle.px_draw.specs.Runs.{IsInput, IsStatusOf, Leaves, commanded}
+use Rattle.px_draw.specs.Refining.{fault_refusal}
+use Rattle.px_draw.specs.Refusals.{refusal_in, short_of_bits, text_refusal, too_many}
+use Rattle.px_draw.specs.Runs.{BeginsWith, IsInput, IsStatusOf, Leaves, commanded}
 use Rattle.px_draw.specs.Works.{worked_out}
 
 abbrev pub status_of : Stop → Status
@@ -35,6 +45,29 @@ status_of s.Memory = status.Memory
 abbrev pub stop_at : Option Refusal → Stop
 stop_at (Some reason) = s.Refused reason
 stop_at None = s.Memory
+
+-- the stop of a fault, where it has one of another type
+abbrev pub read_stop : ReadError → Stop
+read_stop read.Failed = s.ReadFault
+read_stop read.Memory = s.Memory
+
+abbrev pub scene_stop : SceneFault → Stop
+scene_stop fault = stop_at (refusal_in fault)
+
+abbrev pub list_stop : ListFault → Stop
+list_stop fault = stop_at (list_refusal_in fault)
+
+abbrev pub fine_stop : FineFault → Stop
+fine_stop fault = stop_at (fault_refusal fault)
+
+abbrev pub products_stop : NormalFault → Stop
+products_stop (normal.TooMany count) = s.Refused (too_many count)
+products_stop normal.Memory = s.Memory
+
+abbrev pub job_stop : JobFault → Stop
+job_stop (job.PixelMemory need) = s.Refused (short_of_bits need)
+job_stop (job.Products count) = s.Refused (too_many count)
+job_stop job.Memory = s.Memory
 
 -- the status of a result
 abbrev pub status_in : Result (Unit {0}) Stop → Status
@@ -56,11 +89,12 @@ IsLineOf (Err stop) o = note_of stop ≡ note (status_of stop) o
 
 -- what a command does, where these are the bytes of its input, and of them those taken
 pub record Performs (result : Result (Unit {0}) Stop) (command : Option Command) (bits : ℕ) (known_old known_new : Option (List ℕ))
-    (written_old written_new : Option (List ℕ)) (finished_old finished_new : Option Bool) (before now : Device) : Type 0 where
+    (written_old written_new : Option (List ℕ)) (finished_old finished_new : Option Bool) (before now : ArrayView) : Type 0 where
   pub bytes : List ℕ
   pub taken : List ℕ
   pub input : IsInput known_old bytes
   pub consumed : Consumes known_old known_new taken
+  pub front : BeginsWith bytes taken
   pub status : IsStatusOf (status_in result) (commanded command bytes bits)
   pub line : IsLineOf result (commanded command bytes bits)
   pub leaves : Leaves command (status_in result) bits bytes taken written_old written_new finished_old finished_new before now
@@ -101,7 +135,7 @@ pub record DoesWork (result : Result (Unit {0}) Stop) (o : Outcome)
 
 -- what is made of a scene, where these bytes were read; a refused text leaves what it would of any scene
 pub record WorksOn (result : Result (Unit {0}) Stop) (work : Work) (bytes : List ℕ) (bits : ℕ)
-    (written_old written_new : Option (List ℕ)) (finished_old finished_new : Option Bool) (before now : Device) : Type 0 where
+    (written_old written_new : Option (List ℕ)) (finished_old finished_new : Option Bool) (before now : ArrayView) : Type 0 where
   pub meets : Meets result (worked_out work bytes bits)
   pub writes : WritesOutcome result (worked_out work bytes bits) written_old written_new finished_old finished_new
   pub array : LeavesArray work (status_in result) bits (scene_of (worded bytes)) before now
@@ -139,7 +173,7 @@ IsListStop stop bits text = ⊥
 
 -- a listing is played, where these bytes were read
 pub record PlaysOn (result : Result (Unit {0}) Stop) (bytes : List ℕ) (bits : ℕ)
-    (written_old written_new : Option (List ℕ)) (finished_old finished_new : Option Bool) (before now : Device) : Type 0 where
+    (written_old written_new : Option (List ℕ)) (finished_old finished_new : Option Bool) (before now : ArrayView) : Type 0 where
   pub meets : Meets result (played_out bytes bits)
   pub writes : WritesOutcome result (played_out bytes bits) written_old written_new finished_old finished_new
   pub array : Plays (status_in result) bits (listing_written bytes) before now

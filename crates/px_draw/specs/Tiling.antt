@@ -1,6 +1,6 @@
 -- What is made of a scene tile by tile. Clauses of public calls stand on it.
 use Rattle.std.specs.Prelude.{◌≡◌, ℕ, ◌++◌, pos, List, Option, Some, None}
-use Rattle.px_array.specs.Arrays.{Device}
+use Rattle.px_array.specs.Slots.{ArrayView}
 use Rattle.px_scene.specs.Scenes.{SceneView}
 use Rattle.px_show.specs.declared.fault.LimitKind.TheVariants as kind
 use Rattle.px_frame.specs.Picture.{depth_image, face_image}
@@ -42,9 +42,9 @@ wide_images size scene =
 abbrev pub tiled : Size → SceneView → (bits : ℕ) → Outcome
 tiled size scene bits = unless_refused (tiles_refusal size scene bits) (done (wide_images size scene))
 
--- what is left of the array: the last tile is drawn, also where the images could not be written; for want of memory the array is
+-- what is left of the array, of its slots and its work too: the last tile is drawn, also where the images could not be written; for want of memory the array is
 -- as before, or closed, or a tile is drawn; and else it is as before
-abbrev pub DrawsTiles : Status → (bits : ℕ) → Size → SceneView → (before now : Device) → Type 0
+abbrev pub DrawsTiles : Status → (bits : ℕ) → Size → SceneView → (before now : ArrayView) → Type 0
 DrawsTiles status.Done bits size scene before now = IsLastDrawn bits scene size.width size.height now
 DrawsTiles status.WriteFault bits size scene before now = IsLastDrawn bits scene size.width size.height now
 DrawsTiles status.Memory bits size scene before now = LeavesOnWideRefusal fault.Memory bits scene size.width size.height before now

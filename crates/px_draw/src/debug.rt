@@ -2,9 +2,10 @@
 ghost use Rattle.std.specs.Prelude.{◌≡◌, ◌≢◌, ◌+◌, ◌-◌, ◌^◌, ◌<◌, ◌≤◌, ℕ, IfErr, IfOk, OnOk, Err, Some, drop, length};
 ghost use Rattle.std.specs.Io.KnownBytes.{Keeps};
 ghost use Rattle.px_io.specs.Told.{ConsumesAtMost};
+ghost use Rattle.px_array.specs.Slots.{array_view};
 ghost use Rattle.px_debug.specs.Moves.{Fits};
 ghost use Rattle.px_lines.specs.Parts.{part_end};
-ghost use Rattle.px_session.specs.Sessions.{session_opened};
+ghost use Rattle.px_session.specs.Sessions.{session_opened, stand};
 ghost use Rattle.px_command.specs.declared.command.Command.{Command};
 ghost use Rattle.px_draw.specs.declared.stop.Stop.{Stop};
 ghost use Rattle.px_draw.specs.Debugs.{command_text, within_limit};
@@ -17,8 +18,9 @@ use crate::make::{open_job, scene_in};
 use crate::refusal::{READ_LIMIT, too_long};
 use crate::stop::Stop;
 use px_array::Array;
+use px_asm::Operating;
 use px_debug::Session;
-use px_io::{ReadError, Sink, Source};
+use px_io::{Sink, Source};
 use px_lines::{Opening, laws_of_parts, read_part};
 use px_scene::Scene;
 use px_session::{Ending, laws_of_sessions, serve};
@@ -26,7 +28,7 @@ use std::alloc::Global;
 
 /// Reads the scene part and judges it as soon as it is whole, and then answers each command line
 /// before more is read.
-pub(crate) fn debug<S: Source, O: Sink, A: Array>(
+pub(crate) fn debug<S: Source, O: Sink, A: Operating>(
     alloc: Global,
     input: &mut S,
     out: &mut O,
@@ -35,7 +37,9 @@ pub(crate) fn debug<S: Source, O: Sink, A: Array>(
     requires bits { A.BITS ≤ 256 }
     ensures performs { Performs result (Some Command.Debug) A.BITS
         (S.rest input.old) (S.rest input.new) (O.written out.old) (O.written out.new)
-        (O.finished out.old) (O.finished out.new) (A.device array.old) (A.device array.new) }
+        (O.finished out.old) (O.finished out.new)
+        (array_view (A.device array.old) (A.slots array.old) (A.work array.old))
+        (array_view (A.device array.new) (A.slots array.new) (A.work array.new)) }
     ensures causes { HasStopCauses result (S.faults input.old) (S.faults input.new) (O.faults out.old)
         (O.faults out.new) }
     ensures took { Took (Some Command.Debug) (status_in result) (S.rest input.old)
@@ -68,8 +72,7 @@ fn open_input<S: Source>(alloc: Global, input: &mut S) -> Result<Opening, Stop>
 {
     match read_part(alloc, input, READ_LIMIT) {
         Ok(opening) => Ok(opening),
-        Err(ReadError::Failed) => Err(Stop::ReadFault),
-        Err(ReadError::Memory) => Err(Stop::Memory),
+        Err(fault) => Err(Stop::from(fault)),
     }
 }
 
@@ -98,10 +101,12 @@ fn open_session<'s, A: Array>(
     ensures session { IfOk result (λ session. session ≡ session_opened scene.now) }
     ensures fits { IfOk result (λ session. Fits A.BITS session (A.device array.new)
         (A.slots array.new)) }
+    ensures work { OnOk result (A.work array.new ≡ 0) }
     ensures draws { OnOk result ((o : Outcome) → drawable A.BITS scene.now o ≡ o) }
     ensures err { IfErr result (λ stop. StopsAt (drawable A.BITS scene.now) stop) }
     ensures array { IfErr result (λ stop. LeavesClosed (status_of stop) A.BITS scene.now
-        (A.device array.old) (A.device array.new)) }
+        (array_view (A.device array.old) (A.slots array.old) (A.work array.old))
+        (array_view (A.device array.new) (A.slots array.new) (A.work array.new))) }
 {
     let job = open_job(alloc, scene, array)?;
     match Session::new(alloc, job, array) {
@@ -127,7 +132,7 @@ pub(crate) fn behind(bytes: &[u8], count: usize) -> &[u8]
 }
 
 /// Answers command lines up to a quit, the end of the input or its limit.
-fn sit<S: Source, O: Sink, A: Array>(
+fn sit<S: Source, O: Sink, A: Operating>(
     session: &mut Session<'_>,
     array: &mut A,
     read: &[u8],
@@ -139,7 +144,8 @@ fn sit<S: Source, O: Sink, A: Array>(
     requires counted { session.old.lines + length read.now + more < 2 ^ 64 - 1 }
     ensures fits { Fits A.BITS session.new (A.device array.new) (A.slots array.new) }
     ensures worded { result ≢ Err Stop.Usage }
-    ensures sits { Sits result A.BITS read.now more session.old session.new
+    ensures sits { Sits result A.BITS read.now more
+        (stand session.old (A.work array.old)) (stand session.new (A.work array.new))
         (S.rest input.old) (S.rest input.new) (O.written out.old) (O.written out.new)
         (O.finished out.old) (O.finished out.new) }
     ensures causes { HasStopCauses result (S.faults input.old) (S.faults input.new) (O.faults out.old)

@@ -4,6 +4,7 @@ ghost use Rattle.std.specs.Io.KnownBytes.{Appends};
 ghost use Rattle.px_array.specs.Arrays.{IsOpen};
 ghost use Rattle.px_io.specs.Counts.{HasCause};
 ghost use Rattle.px_io.specs.Told.{TakesFront, Tells};
+ghost use Rattle.px_array.specs.Slots.{array_view};
 ghost use Rattle.px_macro.specs.Macros.{IsLawful};
 ghost use Rattle.px_prune.specs.Kept.{plan_of};
 ghost use Rattle.px_sched.specs.Layouts.{layout_of};
@@ -18,13 +19,12 @@ ghost use Rattle.px_draw.specs.Runs.{Took};
 ghost use Rattle.px_draw.specs.Stops.{HasStopCauses, IsListStop, Performs, DoesWork, status_in};
 
 use crate::make::{drawing_of, read_text};
-use crate::refusal::{Kind, READ_LIMIT, Refusal, too_long};
+use crate::refusal::{READ_LIMIT, too_long};
 use crate::stop::Stop;
 use px_array::Array;
+use px_asm::Operating;
 use px_io::{Failed, Sink, Source};
-use px_listing::{
-    ListFault, Listing, laws_of_listings, play, read_listing, write_memory, write_passes,
-};
+use px_listing::{Listing, laws_of_listings, play, read_listing, write_memory, write_passes};
 use px_prune::{MAX_PRODUCTS, Plan};
 use px_scene::Scene;
 use px_sched::Layout;
@@ -71,7 +71,7 @@ fn deliver_passes<O: Sink>(
 
 /// Reads the input to its end, plays the listing that it writes, and prints every pixel's memory
 /// (docs/LISTINGS.md, "Playing").
-pub(crate) fn play_input<S: Source, O: Sink, A: Array>(
+pub(crate) fn play_input<S: Source, O: Sink, A: Operating>(
     alloc: Global,
     input: &mut S,
     out: &mut O,
@@ -80,7 +80,9 @@ pub(crate) fn play_input<S: Source, O: Sink, A: Array>(
     requires bits { A.BITS ≤ 256 }
     ensures performs { Performs result (Some Command.Play) A.BITS
         (S.rest input.old) (S.rest input.new) (O.written out.old) (O.written out.new)
-        (O.finished out.old) (O.finished out.new) (A.device array.old) (A.device array.new) }
+        (O.finished out.old) (O.finished out.new)
+        (array_view (A.device array.old) (A.slots array.old) (A.work array.old))
+        (array_view (A.device array.new) (A.slots array.new) (A.work array.new)) }
     ensures causes { HasStopCauses result (S.faults input.old) (S.faults input.new) (O.faults out.old)
         (O.faults out.new) }
     ensures took { Took (Some Command.Play) (status_in result)
@@ -106,19 +108,12 @@ fn listing_in(alloc: Global, text: &[u8], bits: u32) -> Result<Listing, Stop>
     }
     match read_listing(alloc, text, bits) {
         Ok(listing) => Ok(listing),
-        Err(ListFault::Malformed { line, cause }) => {
-            Err(Stop::Refused(Refusal::Malformed { line, cause }))
-        }
-        Err(ListFault::Limit { line, kind, found }) => {
-            let kind = Kind::List(kind);
-            Err(Stop::Refused(Refusal::Limit { line, kind, found }))
-        }
-        Err(ListFault::Memory) => Err(Stop::Memory),
+        Err(fault) => Err(Stop::from(fault)),
     }
 }
 
 /// Plays a listing on the array, and prints every pixel's memory.
-fn play_listing<O: Sink, A: Array>(
+fn play_listing<O: Sink, A: Operating>(
     listing: &Listing,
     out: &mut O,
     array: &mut A,
@@ -128,8 +123,9 @@ fn play_listing<O: Sink, A: Array>(
     ensures serves { DoesWork result (done (played_text A.BITS listing.now))
         (O.written out.old) (O.written out.new) (O.finished out.old) (O.finished out.new)
         (O.faults out.old) (O.faults out.new) }
-    ensures array { Plays (status_in result) A.BITS listing.now (A.device array.old)
-        (A.device array.new) }
+    ensures array { Plays (status_in result) A.BITS listing.now
+        (array_view (A.device array.old) (A.slots array.old) (A.work array.old))
+        (array_view (A.device array.new) (A.slots array.new) (A.work array.new)) }
 {
     let Ok(()) = play(listing, array) else {
         return Err(Stop::Memory);

@@ -3,6 +3,7 @@ ghost use Rattle.std.specs.Prelude.{◌≡◌, ◌≢◌, ◌≤◌, IfErr, IfOk
 ghost use Rattle.std.specs.Io.KnownBytes.{Appends, Consumes};
 ghost use Rattle.px_io.specs.Counts.{HasCause};
 ghost use Rattle.px_io.specs.Told.{ConsumesAtMost, IsFrontOf, TakesFront, Tells};
+ghost use Rattle.px_array.specs.Slots.{IsRunOnce, array_view};
 ghost use Rattle.px_scene.specs.Reading.{scene_of};
 ghost use Rattle.px_scene.specs.Text.{worded};
 ghost use Rattle.px_prune.specs.Kept.{crowd_of, plan_of};
@@ -22,25 +23,26 @@ ghost use Rattle.px_draw.specs.Works.{images, made, planned, tidied};
 
 use crate::listing::make_list;
 use crate::refine::make_refined;
-use crate::refusal::{Kind, READ_LIMIT, Refusal, short_of_bits, too_many};
+use crate::refusal::{READ_LIMIT, short_of_bits};
 use crate::render::deliver_images;
-use crate::stop::Stop;
+use crate::stop::{Stop, job_stop, products_stop};
 use crate::tile::make_tiled;
 use arrayvec::ArrayString;
 use px_answers::{cost_text, plan_text};
 use px_array::Array;
+use px_asm::Operating;
 use px_command::Work;
-use px_control::{Job, JobFault, cost};
+use px_control::{Job, cost};
 use px_frame::Plane;
-use px_io::{Failed, ReadError, Sink, Source, read_whole, write_whole};
-use px_normal::{MAX_PRODUCTS, NormalFault, count_products};
+use px_io::{Failed, Sink, Source, read_whole, write_whole};
+use px_normal::{MAX_PRODUCTS, count_products};
 use px_prune::{Plan, plan_of};
-use px_scene::{Scene, SceneFault, read_scene, write_scene};
+use px_scene::{Scene, read_scene, write_scene};
 use px_sched::{Layout, NeedBits};
 use std::alloc::Global;
 
 /// Reads the input to its end, and makes of its scene what is wanted.
-pub(crate) fn make_of_input<S: Source, O: Sink, A: Array>(
+pub(crate) fn make_of_input<S: Source, O: Sink, A: Operating>(
     work: Work,
     alloc: Global,
     input: &mut S,
@@ -51,7 +53,9 @@ pub(crate) fn make_of_input<S: Source, O: Sink, A: Array>(
     requires size { HasSize work }
     ensures performs { Performs result (Some (Command.Make work)) A.BITS
         (S.rest input.old) (S.rest input.new) (O.written out.old) (O.written out.new)
-        (O.finished out.old) (O.finished out.new) (A.device array.old) (A.device array.new) }
+        (O.finished out.old) (O.finished out.new)
+        (array_view (A.device array.old) (A.slots array.old) (A.work array.old))
+        (array_view (A.device array.new) (A.slots array.new) (A.work array.new)) }
     ensures causes { HasStopCauses result (S.faults input.old) (S.faults input.new) (O.faults out.old)
         (O.faults out.new) }
     ensures took { Took (Some (Command.Make work)) (status_in result)
@@ -75,8 +79,7 @@ pub(crate) fn read_text<S: Source>(alloc: Global, input: &mut S) -> Result<Vec<u
 {
     match read_whole(alloc, input, READ_LIMIT) {
         Ok(text) => Ok(text),
-        Err(ReadError::Failed) => Err(Stop::ReadFault),
-        Err(ReadError::Memory) => Err(Stop::Memory),
+        Err(fault) => Err(Stop::from(fault)),
     }
 }
 
@@ -88,19 +91,12 @@ pub(crate) fn scene_in(alloc: Global, text: &[u8]) -> Result<Scene, Stop>
 {
     match read_scene(alloc, text) {
         Ok(scene) => Ok(scene),
-        Err(SceneFault::Malformed { line, cause }) => {
-            Err(Stop::Refused(Refusal::Malformed { line, cause }))
-        }
-        Err(SceneFault::Limit { line, kind, found }) => {
-            let kind = Kind::Scene(kind);
-            Err(Stop::Refused(Refusal::Limit { line, kind, found }))
-        }
-        Err(SceneFault::Memory) => Err(Stop::Memory),
+        Err(fault) => Err(Stop::from(fault)),
     }
 }
 
 /// Makes of a scene what is wanted.
-fn make<O: Sink, A: Array>(
+fn make<O: Sink, A: Operating>(
     work: Work,
     alloc: Global,
     scene: &Scene,
@@ -112,8 +108,9 @@ fn make<O: Sink, A: Array>(
     ensures serves { DoesWork result (made work scene.now A.BITS)
         (O.written out.old) (O.written out.new) (O.finished out.old) (O.finished out.new)
         (O.faults out.old) (O.faults out.new) }
-    ensures array { LeavesArray work (status_in result) A.BITS scene.now (A.device
-        array.old) (A.device array.new) }
+    ensures array { LeavesArray work (status_in result) A.BITS scene.now
+        (array_view (A.device array.old) (A.slots array.old) (A.work array.old))
+        (array_view (A.device array.new) (A.slots array.new) (A.work array.new)) }
 {
     match work {
         Work::Render => draw(alloc, scene, &[Plane::Depth, Plane::Face], out, array),
@@ -128,7 +125,7 @@ fn make<O: Sink, A: Array>(
 }
 
 /// Draws a scene on the array, and writes images of it.
-fn draw<O: Sink, A: Array>(
+fn draw<O: Sink, A: Operating>(
     alloc: Global,
     scene: &Scene,
     planes: &[Plane],
@@ -138,8 +135,9 @@ fn draw<O: Sink, A: Array>(
     ensures serves { DoesWork result (drawable A.BITS scene.now (done (images scene.now planes.now)))
         (O.written out.old) (O.written out.new) (O.finished out.old) (O.finished out.new)
         (O.faults out.old) (O.faults out.new) }
-    ensures array { Draws (status_in result) A.BITS scene.now (A.device array.old)
-        (A.device array.new) }
+    ensures array { Draws (status_in result) A.BITS scene.now
+        (array_view (A.device array.old) (A.slots array.old) (A.work array.old))
+        (array_view (A.device array.new) (A.slots array.new) (A.work array.new)) }
 {
     let mut job = open_job(alloc, scene, array)?;
     match deliver_images(&mut job, scene, array, planes, out) {
@@ -189,16 +187,18 @@ pub(crate) fn open_job<'s, A: Array>(
 ) -> Result<Job<'s>, Stop>
     ensures job { IfOk result (λ job. (job.scene ≡ scene.now) × (job.place.clock ≡ 0)) }
     ensures at { OnOk result (IsAt A.BITS scene.now 0 (A.device array.new)) }
+    ensures work { OnOk result (A.work array.new ≡ 0) }
+    ensures once { OnOk result (IsRunOnce
+        (array_view (A.device array.new) (A.slots array.new) (A.work array.new))) }
     ensures fits { OnOk result ((o : Outcome) → drawable A.BITS scene.now o ≡ o) }
     ensures err { IfErr result (λ stop. StopsAt (drawable A.BITS scene.now) stop) }
-    ensures array { IfErr result (λ stop. Draws (status_of stop) A.BITS scene.now (A.device
-        array.old) (A.device array.new)) }
+    ensures array { IfErr result (λ stop. Draws (status_of stop) A.BITS scene.now
+        (array_view (A.device array.old) (A.slots array.old) (A.work array.old))
+        (array_view (A.device array.new) (A.slots array.new) (A.work array.new))) }
 {
     match Job::open(alloc, scene, array) {
         Ok(job) => Ok(job),
-        Err(JobFault::PixelMemory { need }) => Err(Stop::Refused(short_of_bits(need))),
-        Err(JobFault::Products { count }) => Err(Stop::Refused(too_many(count))),
-        Err(JobFault::Memory) => Err(Stop::Memory),
+        Err(fault) => Err(job_stop(fault)),
     }
 }
 
@@ -238,8 +238,7 @@ fn kept_of(alloc: Global, scene: &Scene) -> Result<Plan, Stop>
 {
     match plan_of(alloc, scene) {
         Ok(plan) => Ok(plan),
-        Err(NormalFault::TooMany { count }) => Err(Stop::Refused(too_many(count))),
-        Err(NormalFault::Memory) => Err(Stop::Memory),
+        Err(fault) => Err(products_stop(fault)),
     }
 }
 

@@ -3,6 +3,7 @@ ghost use Rattle.std.specs.Prelude.{◌≡◌, ◌≤◌, IfErr, IfOk, OnErr, On
 ghost use Rattle.std.specs.Io.KnownBytes.{Appends};
 ghost use Rattle.px_io.specs.Counts.{HasCause};
 ghost use Rattle.px_io.specs.Told.{TakesAll, TakesFront, Tells};
+ghost use Rattle.px_array.specs.Slots.{IsRunOnce, array_view};
 ghost use Rattle.px_sched.specs.Layouts.{layout_of};
 ghost use Rattle.px_control.specs.Program.{IsAt};
 ghost use Rattle.px_refine.specs.Finer.{fine_scene};
@@ -10,25 +11,25 @@ ghost use Rattle.px_refine.specs.Refined.{refined_image};
 ghost use Rattle.px_draw.specs.Arrays.{Draws, IsDrawn, IsFinished};
 ghost use Rattle.px_draw.specs.Outcomes.{done, drawable, unless_refused};
 ghost use Rattle.px_command.specs.Commands.{doublings};
-ghost use Rattle.px_draw.specs.Refining.{fine_refusal, refined, scene_limit};
+ghost use Rattle.px_draw.specs.Refining.{fine_refusal, refined};
 ghost use Rattle.px_draw.specs.Stops.{DoesWork, StopsAt, status_in};
 
 use crate::make::open_job;
-use crate::refusal::{Kind, Refusal};
 use crate::render::draw;
 use crate::stop::Stop;
 use px_array::Array;
+use px_asm::Operating;
 use px_command::Fineness;
 use px_control::{Job, law_of_grids};
 use px_frame::laws_of_images;
 use px_io::{Failed, Sink};
-use px_refine::{FineFault, fine_scene, laws_of_refinement, write_refined};
-use px_scene::{LimitKind, Scene, laws_of_scenes};
+use px_refine::{fine_scene, laws_of_refinement, write_refined};
+use px_scene::{Scene, laws_of_scenes};
 use px_sched::Layout;
 use std::alloc::Global;
 
 /// Draws the finer scene on the array, and writes one image of means over it.
-pub(crate) fn make_refined<O: Sink, A: Array>(
+pub(crate) fn make_refined<O: Sink, A: Operating>(
     alloc: Global,
     scene: &Scene,
     fineness: Fineness,
@@ -39,7 +40,8 @@ pub(crate) fn make_refined<O: Sink, A: Array>(
         (O.written out.old) (O.written out.new) (O.finished out.old) (O.finished out.new)
         (O.faults out.old) (O.faults out.new) }
     ensures array { Draws (status_in result) A.BITS (fine_scene (doublings fineness) scene.now)
-        (A.device array.old) (A.device array.new) }
+        (array_view (A.device array.old) (A.slots array.old) (A.work array.old))
+        (array_view (A.device array.new) (A.slots array.new) (A.work array.new)) }
 {
     let s = fineness.doublings();
     let fine = finer(alloc, scene, s)?;
@@ -55,28 +57,12 @@ fn finer(alloc: Global, scene: &Scene, s: u32) -> Result<Scene, Stop>
 {
     match fine_scene(alloc, scene, s) {
         Ok(fine) => Ok(fine),
-        Err(FineFault::Fraction { found }) => {
-            Err(past_limit(LimitKind::Fraction, i64::from(found)))
-        }
-        Err(FineFault::Picture { found }) => Err(past_limit(LimitKind::Picture, i64::from(found))),
-        Err(FineFault::Coefficient { found }) => Err(past_limit(LimitKind::Coefficient, found)),
-        Err(FineFault::Memory) => Err(Stop::Memory),
+        Err(fault) => Err(Stop::from(fault)),
     }
 }
 
-/// The finer scene is past a limit.
-fn past_limit(kind: LimitKind, found: i64) -> Stop
-    ensures { result ≡ Stop.Refused (scene_limit kind found) }
-{
-    Stop::Refused(Refusal::Limit {
-        line: 0,
-        kind: Kind::Scene(kind),
-        found,
-    })
-}
-
 /// Draws a finer scene, and writes the image of means over it.
-fn draw_refined<O: Sink, A: Array>(
+fn draw_refined<O: Sink, A: Operating>(
     alloc: Global,
     scene: &Scene,
     fine: &Scene,
@@ -90,8 +76,9 @@ fn draw_refined<O: Sink, A: Array>(
         (drawable A.BITS fine.now (done (refined_image s scene.now)))
         (O.written out.old) (O.written out.new) (O.finished out.old) (O.finished out.new)
         (O.faults out.old) (O.faults out.new) }
-    ensures array { Draws (status_in result) A.BITS fine.now (A.device array.old)
-        (A.device array.new) }
+    ensures array { Draws (status_in result) A.BITS fine.now
+        (array_view (A.device array.old) (A.slots array.old) (A.work array.old))
+        (array_view (A.device array.new) (A.slots array.new) (A.work array.new)) }
 {
     let mut job = open_job(alloc, fine, array)?;
     match deliver_refined(&mut job, scene, fine, s, array, out) {
@@ -101,7 +88,7 @@ fn draw_refined<O: Sink, A: Array>(
 }
 
 /// Makes the clocks that are left of the finer scene's job, writes the image of means, and finishes.
-fn deliver_refined<A: Array, O: Sink>(
+fn deliver_refined<A: Operating, O: Sink>(
     job: &mut Job<'_>,
     scene: &Scene,
     fine: &Scene,
@@ -120,6 +107,9 @@ fn deliver_refined<A: Array, O: Sink>(
         (O.finished out.old) (O.finished out.new) (refined_image s scene.now)) }
     ensures cause { HasCause (O.faults out.old) (O.faults out.new) result }
     ensures drawn { IsDrawn A.BITS fine.now (A.device array.new) }
+    ensures once { IsRunOnce
+        (array_view (A.device array.old) (A.slots array.old) (A.work array.old))
+        → IsRunOnce (array_view (A.device array.new) (A.slots array.new) (A.work array.new)) }
 {
     let layout = draw(job, fine, array);
     write_means(array, &layout, scene, fine, s, out)?;

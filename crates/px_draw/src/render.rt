@@ -1,15 +1,17 @@
 //! The commands `render` and `colour`: the images that an array draws of a scene.
-ghost use Rattle.std.specs.Prelude.{◌≡◌, ◌++◌, ◌≤◌, ℕ, Err, true, IfErr, IfOk, OnOk, OnErr};
+ghost use Rattle.std.specs.Prelude.{◌≡◌, ◌++◌, ◌-◌, ◌≤◌, ℕ, Err, true, IfErr, IfOk, OnOk, OnErr};
 ghost use Rattle.std.specs.Io.KnownBytes.{Appends};
 ghost use Rattle.px_io.specs.Counts.{HasCause};
 ghost use Rattle.px_io.specs.Told.{TakesAll, TakesFront, Tells};
+ghost use Rattle.px_array.specs.Slots.{IsRunOnce, array_view, worked};
 ghost use Rattle.px_sched.specs.Layouts.{layout_of};
-ghost use Rattle.px_control.specs.Program.{IsAt};
+ghost use Rattle.px_control.specs.Program.{IsAt, total};
 ghost use Rattle.px_frame.specs.Picture.{depth_image, face_image, picture_image};
 ghost use Rattle.px_draw.specs.Arrays.{IsDrawn, IsFinished};
 ghost use Rattle.px_draw.specs.Works.{images};
 
 use px_array::Array;
+use px_asm::Operating;
 use px_control::{Job, law_of_grids};
 use px_face::laws_of_surfaces;
 use px_frame::{Plane, laws_of_images, write_picture};
@@ -20,9 +22,9 @@ use px_sched::Layout;
 /// Makes the clocks that are left of a job, writes the depth image and the face image that the
 /// array then stores, and finishes.
 ///
-/// The scene is the job's. However writing ends, the array is drawn, and the job has made all its
-/// clocks. Takes no memory.
-pub fn deliver<A: Array, O: Sink>(
+/// The scene is the job's. However writing ends, the array is drawn, its slots are as before and its
+/// work has grown by the clocks that were left, and the job has made all its clocks. Takes no memory.
+pub fn deliver<A: Operating, O: Sink>(
     job: &mut Job<'_>,
     scene: &Scene,
     array: &mut A,
@@ -38,13 +40,19 @@ pub fn deliver<A: Array, O: Sink>(
         (depth_image scene.now ++ face_image scene.now)) }
     ensures cause { HasCause (O.faults out.old) (O.faults out.new) result }
     ensures drawn { IsDrawn A.BITS scene.now (A.device array.new) }
+    ensures slots { A.slots array.new ≡ A.slots array.old }
+    ensures work { A.work array.new
+        ≡ worked (total scene.now - job.old.place.clock) (A.work array.old) }
+    ensures once { IsRunOnce
+        (array_view (A.device array.old) (A.slots array.old) (A.work array.old))
+        → IsRunOnce (array_view (A.device array.new) (A.slots array.new) (A.work array.new)) }
     ensures job { IsFinished job.old job.new }
 {
     deliver_images(job, scene, array, &[Plane::Depth, Plane::Face], out)
 }
 
 /// The same with other images.
-pub(crate) fn deliver_images<A: Array, O: Sink>(
+pub(crate) fn deliver_images<A: Operating, O: Sink>(
     job: &mut Job<'_>,
     scene: &Scene,
     array: &mut A,
@@ -60,6 +68,12 @@ pub(crate) fn deliver_images<A: Array, O: Sink>(
         (O.finished out.old) (O.finished out.new) (images scene.now planes.now)) }
     ensures cause { HasCause (O.faults out.old) (O.faults out.new) result }
     ensures drawn { IsDrawn A.BITS scene.now (A.device array.new) }
+    ensures slots { A.slots array.new ≡ A.slots array.old }
+    ensures work { A.work array.new
+        ≡ worked (total scene.now - job.old.place.clock) (A.work array.old) }
+    ensures once { IsRunOnce
+        (array_view (A.device array.old) (A.slots array.old) (A.work array.old))
+        → IsRunOnce (array_view (A.device array.new) (A.slots array.new) (A.work array.new)) }
     ensures job { IsFinished job.old job.new }
 {
     let layout = draw(job, scene, array);
@@ -68,11 +82,17 @@ pub(crate) fn deliver_images<A: Array, O: Sink>(
 }
 
 /// Makes the clocks that are left, and answers where the picture then stands in a pixel's memory.
-pub(crate) fn draw<A: Array>(job: &mut Job<'_>, scene: &Scene, array: &mut A) -> Layout
+pub(crate) fn draw<A: Operating>(job: &mut Job<'_>, scene: &Scene, array: &mut A) -> Layout
     requires scene { scene.now ≡ job.old.scene }
     requires at { IsAt A.BITS scene.now job.old.place.clock (A.device array.old) }
     ensures layout { result ≡ layout_of scene.now }
     ensures drawn { IsDrawn A.BITS scene.now (A.device array.new) }
+    ensures slots { A.slots array.new ≡ A.slots array.old }
+    ensures work { A.work array.new
+        ≡ worked (total scene.now - job.old.place.clock) (A.work array.old) }
+    ensures once { IsRunOnce
+        (array_view (A.device array.old) (A.slots array.old) (A.work array.old))
+        → IsRunOnce (array_view (A.device array.new) (A.slots array.new) (A.work array.new)) }
     ensures job { IsFinished job.old job.new }
 {
     job.finish(array);

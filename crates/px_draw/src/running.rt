@@ -1,6 +1,7 @@
 //! The program as a function of its words, its input and its outputs.
 ghost use Rattle.std.specs.Prelude.{◌≡◌, ◌↔◌, ◌≤◌, List, ℕ, Err, map, string_bytes, None};
 ghost use Rattle.std.specs.Io.KnownBytes.{Consumes};
+ghost use Rattle.px_array.specs.Slots.{array_view};
 ghost use Rattle.px_draw.specs.declared.stop.Stop.{Stop};
 ghost use Rattle.px_draw.specs.declared.status.Status.{Status};
 ghost use Rattle.px_command.specs.Commands.{command_of};
@@ -15,7 +16,7 @@ use crate::sample::sample;
 use crate::shadow::shadow;
 use crate::status::Status;
 use crate::stop::Stop;
-use px_array::Array;
+use px_asm::Operating;
 use px_command::{Command, command_of};
 use px_io::{Sink, Source};
 use std::alloc::Global;
@@ -25,9 +26,13 @@ use std::alloc::Global;
 /// The status and the output are those of the words, of the bytes of the input and of the memory
 /// bits of a pixel. A fault of the input or the output is answered only where its count rose in
 /// this call, and `Memory` may be answered anywhere. Every status but `Done` writes its line to the
-/// notes, whose own faults change neither status nor output. `render`, `colour` and `sample` draw on
-/// the array, and `debug` holds its session on it; all else leaves it as it was, but a want of its memory, after which none is open.
-pub fn run<S: Source, O: Sink, E: Sink, A: Array>(
+/// notes, whose own faults change neither status nor output.
+///
+/// `render`, `colour`, `refine`, `tile`, `shadow`, `sample` and `play` open the array and clock it, and
+/// `debug` holds its session on it. Every other command and every refusal leaves it as it was, its
+/// slots and its work too; for want of memory it may be left closed, with a tile drawn, or opened for
+/// a session.
+pub fn run<S: Source, O: Sink, E: Sink, A: Operating>(
     alloc: Global,
     words: &[String],
     input: &mut S,
@@ -42,7 +47,9 @@ pub fn run<S: Source, O: Sink, E: Sink, A: Array>(
         × IsRunOf (map string_bytes words.now) bytes taken A.BITS result
         (O.written out.old) (O.written out.new) (O.finished out.old) (O.finished out.new)
         (E.written notes.old) (E.written notes.new) (E.finished notes.old) (E.finished notes.new)
-        (E.faults notes.old) (E.faults notes.new) (A.device array.old) (A.device array.new) }
+        (E.faults notes.old) (E.faults notes.new)
+        (array_view (A.device array.old) (A.slots array.old) (A.work array.old))
+        (array_view (A.device array.new) (A.slots array.new) (A.work array.new)) }
     ensures usage { (result ≡ Status.Usage) ↔ (command_of (map string_bytes words.now) ≡ None) }
     ensures faults { HasRisen result (S.faults input.old) (S.faults input.new) (O.faults out.old)
         (O.faults out.new) }
@@ -59,7 +66,7 @@ pub fn run<S: Source, O: Sink, E: Sink, A: Array>(
 }
 
 /// Finds the command, and does it.
-fn perform<S: Source, O: Sink, A: Array>(
+fn perform<S: Source, O: Sink, A: Operating>(
     alloc: Global,
     words: &[String],
     input: &mut S,
@@ -69,7 +76,9 @@ fn perform<S: Source, O: Sink, A: Array>(
     requires bits { A.BITS ≤ 256 }
     ensures performs { Performs result (command_of (map string_bytes words.now)) A.BITS
         (S.rest input.old) (S.rest input.new) (O.written out.old) (O.written out.new)
-        (O.finished out.old) (O.finished out.new) (A.device array.old) (A.device array.new) }
+        (O.finished out.old) (O.finished out.new)
+        (array_view (A.device array.old) (A.slots array.old) (A.work array.old))
+        (array_view (A.device array.new) (A.slots array.new) (A.work array.new)) }
     ensures causes { HasStopCauses result (S.faults input.old) (S.faults input.new) (O.faults out.old)
         (O.faults out.new) }
     ensures took { Took (command_of (map string_bytes words.now)) (status_in result)

@@ -3,6 +3,7 @@ ghost use Rattle.std.specs.Prelude.{◌≡◌, ◌+◌, ◌*◌, ◌^◌, ◌<�
 ghost use Rattle.std.specs.Io.KnownBytes.{Appends};
 ghost use Rattle.px_io.specs.Counts.{HasCause};
 ghost use Rattle.px_io.specs.Told.{TakesFront, Tells};
+ghost use Rattle.px_array.specs.Slots.{IsRunOnce, array_view};
 ghost use Rattle.px_prune.specs.Kept.{plan_of};
 ghost use Rattle.px_sched.specs.Layouts.{layout_of};
 ghost use Rattle.px_scene.specs.Reading.{scene_of};
@@ -21,6 +22,7 @@ use crate::stop::Stop;
 use arrayvec::ArrayString;
 use px_answers::four_lines;
 use px_array::Array;
+use px_asm::Operating;
 use px_control::{Job, law_of_grids};
 use px_frame::stored;
 use px_io::{Failed, Sink};
@@ -39,7 +41,7 @@ struct Shown {
 }
 
 /// Draws the sample of so many blocks, and prints its numbers.
-pub(crate) fn sample<O: Sink, A: Array>(
+pub(crate) fn sample<O: Sink, A: Operating>(
     n: u32,
     alloc: Global,
     out: &mut O,
@@ -51,8 +53,9 @@ pub(crate) fn sample<O: Sink, A: Array>(
     ensures serves { DoesWork result (sampled n A.BITS)
         (O.written out.old) (O.written out.new) (O.finished out.old) (O.finished out.new)
         (O.faults out.old) (O.faults out.new) }
-    ensures array { Draws (status_in result) A.BITS (sample_scene n) (A.device array.old)
-        (A.device array.new) }
+    ensures array { Draws (status_in result) A.BITS (sample_scene n)
+        (array_view (A.device array.old) (A.slots array.old) (A.work array.old))
+        (array_view (A.device array.new) (A.slots array.new) (A.work array.new)) }
 {
     let Ok(text) = sample_text(alloc, n) else {
         return Err(Stop::Memory);
@@ -61,7 +64,7 @@ pub(crate) fn sample<O: Sink, A: Array>(
 }
 
 /// Draws the scene of a text, and prints its numbers.
-fn measure_text<O: Sink, A: Array>(
+fn measure_text<O: Sink, A: Operating>(
     alloc: Global,
     text: &[u8],
     out: &mut O,
@@ -72,14 +75,15 @@ fn measure_text<O: Sink, A: Array>(
         (O.written out.old) (O.written out.new) (O.finished out.old) (O.finished out.new)
         (O.faults out.old) (O.faults out.new) }
     ensures array { Draws (status_in result) A.BITS (scene_of (worded text.now))
-        (A.device array.old) (A.device array.new) }
+        (array_view (A.device array.old) (A.slots array.old) (A.work array.old))
+        (array_view (A.device array.new) (A.slots array.new) (A.work array.new)) }
 {
     let scene = scene_in(alloc, text)?;
     measure(alloc, &scene, out, array)
 }
 
 /// Draws a scene, and prints its numbers.
-fn measure<O: Sink, A: Array>(
+fn measure<O: Sink, A: Operating>(
     alloc: Global,
     scene: &Scene,
     out: &mut O,
@@ -89,8 +93,9 @@ fn measure<O: Sink, A: Array>(
     ensures serves { DoesWork result (measured scene.now A.BITS)
         (O.written out.old) (O.written out.new) (O.finished out.old) (O.finished out.new)
         (O.faults out.old) (O.faults out.new) }
-    ensures array { Draws (status_in result) A.BITS scene.now (A.device array.old)
-        (A.device array.new) }
+    ensures array { Draws (status_in result) A.BITS scene.now
+        (array_view (A.device array.old) (A.slots array.old) (A.work array.old))
+        (array_view (A.device array.new) (A.slots array.new) (A.work array.new)) }
 {
     let products = count_kept(alloc, scene, A::BITS as u32)?;
     let mut job = open_job(alloc, scene, array)?;
@@ -101,7 +106,7 @@ fn measure<O: Sink, A: Array>(
 }
 
 /// Makes the clocks of an opened job, writes the numbers of the scene, and finishes.
-fn deliver_measures<A: Array, O: Sink>(
+fn deliver_measures<A: Operating, O: Sink>(
     job: &mut Job<'_>,
     scene: &Scene,
     array: &mut A,
@@ -118,6 +123,9 @@ fn deliver_measures<A: Array, O: Sink>(
         (O.finished out.old) (O.finished out.new) (measures scene.now)) }
     ensures cause { HasCause (O.faults out.old) (O.faults out.new) result }
     ensures drawn { IsDrawn A.BITS scene.now (A.device array.new) }
+    ensures once { IsRunOnce
+        (array_view (A.device array.old) (A.slots array.old) (A.work array.old))
+        → IsRunOnce (array_view (A.device array.new) (A.slots array.new) (A.work array.new)) }
 {
     let text = measures(job, scene, array, products);
     write_finished(text.as_bytes(), out)
@@ -133,7 +141,7 @@ fn count_kept(alloc: Global, scene: &Scene, bits: u32) -> Result<u64, Stop>
 }
 
 /// Makes the clocks of an opened job, and tells the numbers of the scene. Takes no memory.
-fn measures<A: Array>(
+fn measures<A: Operating>(
     job: &mut Job<'_>,
     scene: &Scene,
     array: &mut A,
@@ -144,6 +152,9 @@ fn measures<A: Array>(
     requires products { products ≡ length (plan_of scene.now) }
     ensures text { result.bytes ≡ measures scene.now }
     ensures drawn { IsDrawn A.BITS scene.now (A.device array.new) }
+    ensures once { IsRunOnce
+        (array_view (A.device array.old) (A.slots array.old) (A.work array.old))
+        → IsRunOnce (array_view (A.device array.new) (A.slots array.new) (A.work array.new)) }
 {
     let layout = draw(job, scene, array);
     let shown = count_shown(array, &layout, scene);

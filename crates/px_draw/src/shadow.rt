@@ -3,6 +3,7 @@ ghost use Rattle.std.specs.Prelude.{◌≡◌, ◌≢◌, ◌+◌, ◌<◌, ◌�
 ghost use Rattle.std.specs.Io.KnownBytes.{Appends};
 ghost use Rattle.px_io.specs.Counts.{HasCause};
 ghost use Rattle.px_io.specs.Told.{TakesAll, TakesFront, Tells};
+ghost use Rattle.px_array.specs.Slots.{IsRunOnce, array_view};
 ghost use Rattle.px_control.specs.GridLaw.{CoversThePicture};
 ghost use Rattle.px_control.specs.Program.{IsAt};
 ghost use Rattle.px_lines.specs.Parts.{behind_part, part_end, scene_part};
@@ -39,6 +40,7 @@ use crate::render::draw;
 use crate::stop::Stop;
 use arrayvec::ArrayVec;
 use px_array::Array;
+use px_asm::Operating;
 use px_control::Job;
 use px_io::{Failed, Sink, Source};
 use px_lines::{laws_of_parts, part_end};
@@ -51,7 +53,7 @@ use std::alloc::Global;
 
 /// Reads the input to its end, and draws the image of the lights that the lines behind its scene
 /// part name.
-pub(crate) fn shadow<S: Source, O: Sink, A: Array>(
+pub(crate) fn shadow<S: Source, O: Sink, A: Operating>(
     alloc: Global,
     input: &mut S,
     out: &mut O,
@@ -60,7 +62,9 @@ pub(crate) fn shadow<S: Source, O: Sink, A: Array>(
     requires bits { A.BITS ≤ 256 }
     ensures performs { Performs result (Some Command.Shadow) A.BITS
         (S.rest input.old) (S.rest input.new) (O.written out.old) (O.written out.new)
-        (O.finished out.old) (O.finished out.new) (A.device array.old) (A.device array.new) }
+        (O.finished out.old) (O.finished out.new)
+        (array_view (A.device array.old) (A.slots array.old) (A.work array.old))
+        (array_view (A.device array.new) (A.slots array.new) (A.work array.new)) }
     ensures causes { HasStopCauses result (S.faults input.old) (S.faults input.new) (O.faults out.old)
         (O.faults out.new) }
     ensures took { Took (Some Command.Shadow) (status_in result)
@@ -72,7 +76,7 @@ pub(crate) fn shadow<S: Source, O: Sink, A: Array>(
 }
 
 /// Draws the lights of a text.
-fn shade_text<O: Sink, A: Array>(
+fn shade_text<O: Sink, A: Operating>(
     alloc: Global,
     text: &[u8],
     out: &mut O,
@@ -82,8 +86,9 @@ fn shade_text<O: Sink, A: Array>(
     ensures serves { DoesWork result (shadowed text.now A.BITS)
         (O.written out.old) (O.written out.new) (O.finished out.old) (O.finished out.new)
         (O.faults out.old) (O.faults out.new) }
-    ensures array { Shades (status_in result) A.BITS text.now (A.device array.old)
-        (A.device array.new) }
+    ensures array { Shades (status_in result) A.BITS text.now
+        (array_view (A.device array.old) (A.slots array.old) (A.work array.old))
+        (array_view (A.device array.new) (A.slots array.new) (A.work array.new)) }
 {
     if text.len() >= READ_LIMIT {
         return Err(Stop::Refused(too_long()));
@@ -105,7 +110,7 @@ fn part_length(text: &[u8]) -> usize
 }
 
 /// Draws the lights of a scene part and the lines behind it.
-fn shade_parts<O: Sink, A: Array>(
+fn shade_parts<O: Sink, A: Operating>(
     alloc: Global,
     part: &[u8],
     behind: &[u8],
@@ -119,7 +124,8 @@ fn shade_parts<O: Sink, A: Array>(
         (O.written out.old) (O.written out.new) (O.finished out.old) (O.finished out.new)
         (O.faults out.old) (O.faults out.new) }
     ensures array { ShadesParts (status_in result) A.BITS part.now behind.now
-        (A.device array.old) (A.device array.new) }
+        (array_view (A.device array.old) (A.slots array.old) (A.work array.old))
+        (array_view (A.device array.new) (A.slots array.new) (A.work array.new)) }
 {
     let scene = scene_in(alloc, part)?;
     let lights = lights_in(&scene, behind, line_behind(part))?;
@@ -167,7 +173,7 @@ fn light_refusal(fault: LightFault) -> Refusal
 }
 
 /// Draws a scene on the array and makes its shadow passes, and writes the image of its lights.
-fn shade_scene<O: Sink, A: Array>(
+fn shade_scene<O: Sink, A: Operating>(
     alloc: Global,
     scene: &Scene,
     lights: &ArrayVec<SolidSet, 8>,
@@ -180,7 +186,8 @@ fn shade_scene<O: Sink, A: Array>(
         (O.written out.old) (O.written out.new) (O.finished out.old) (O.finished out.new)
         (O.faults out.old) (O.faults out.new) }
     ensures array { ShadesBy (status_in result) A.BITS scene.now lights.now.items
-        (A.device array.old) (A.device array.new) }
+        (array_view (A.device array.old) (A.slots array.old) (A.work array.old))
+        (array_view (A.device array.new) (A.slots array.new) (A.work array.new)) }
 {
     let mut job = open_lit(alloc, scene, lights.len(), array)?;
     match deliver_masks(&mut job, scene, lights, array, out) {
@@ -200,11 +207,14 @@ fn open_lit<'s, A: Array>(
     requires few { lights ≤ 8 }
     ensures job { IfOk result (λ job. (job.scene ≡ scene.now) × (job.place.clock ≡ 0)) }
     ensures at { OnOk result (IsAt A.BITS scene.now 0 (A.device array.new)) }
+    ensures once { OnOk result (IsRunOnce
+        (array_view (A.device array.new) (A.slots array.new) (A.work array.new))) }
     ensures need { OnOk result (need_with (layout_of scene.now) lights ≤ A.BITS) }
     ensures fits { OnOk result ((o : Outcome) → lit_drawable A.BITS scene.now lights o ≡ o) }
     ensures err { IfErr result (λ stop. StopsAt (lit_drawable A.BITS scene.now lights) stop) }
     ensures array { IfErr result (λ stop. Draws (status_of stop) A.BITS scene.now
-        (A.device array.old) (A.device array.new)) }
+        (array_view (A.device array.old) (A.slots array.old) (A.work array.old))
+        (array_view (A.device array.new) (A.slots array.new) (A.work array.new))) }
 {
     let need = bits_needed(scene, lights, A::BITS as u32);
     if need as usize > A::BITS {
@@ -228,7 +238,7 @@ fn bits_needed(scene: &Scene, lights: usize, bits: u32) -> u32
 
 /// Makes the clocks that are left of a job and the shadow passes, writes the image of the lights
 /// that the array then stores, and finishes.
-fn deliver_masks<A: Array, O: Sink>(
+fn deliver_masks<A: Operating, O: Sink>(
     job: &mut Job<'_>,
     scene: &Scene,
     lights: &ArrayVec<SolidSet, 8>,
@@ -246,6 +256,9 @@ fn deliver_masks<A: Array, O: Sink>(
         (O.finished out.old) (O.finished out.new) (mask_image scene.now lights.now.items)) }
     ensures cause { HasCause (O.faults out.old) (O.faults out.new) result }
     ensures shaded { IsShaded A.BITS scene.now lights.now.items (A.device array.new) }
+    ensures once { IsRunOnce
+        (array_view (A.device array.old) (A.slots array.old) (A.work array.old))
+        → IsRunOnce (array_view (A.device array.new) (A.slots array.new) (A.work array.new)) }
 {
     let layout = draw_lit(job, scene, lights, array);
     write_lights(array, &layout, scene, lights, out)?;
@@ -254,7 +267,7 @@ fn deliver_masks<A: Array, O: Sink>(
 
 /// Makes the clocks that are left of a job and then the shadow passes, and answers where the
 /// picture stands in a pixel's memory.
-fn draw_lit<A: Array>(
+fn draw_lit<A: Operating>(
     job: &mut Job<'_>,
     scene: &Scene,
     lights: &ArrayVec<SolidSet, 8>,
@@ -266,6 +279,9 @@ fn draw_lit<A: Array>(
     requires known { All (IsBelow (length scene.now.solids)) lights.now.items }
     ensures layout { result ≡ layout_of scene.now }
     ensures shaded { IsShaded A.BITS scene.now lights.now.items (A.device array.new) }
+    ensures once { IsRunOnce
+        (array_view (A.device array.old) (A.slots array.old) (A.work array.old))
+        → IsRunOnce (array_view (A.device array.new) (A.slots array.new) (A.work array.new)) }
     ensures lights { StoresTheLights scene.now result lights.now.items
         (A.device array.new).state }
     ensures grid { CoversThePicture scene.now (A.device array.new) }

@@ -1,9 +1,19 @@
 //! Why a run does not do its work.
-ghost use Rattle.std.specs.Prelude.{◌≡◌};
-ghost use Rattle.px_draw.specs.Stops.{status_of};
+ghost use Rattle.std.specs.Prelude.{◌≡◌, ◌≤◌, ◌^◌, ℕ};
+ghost use Rattle.px_control.specs.declared.fault.JobFault.{JobFault};
+ghost use Rattle.px_normal.specs.declared.fault.NormalFault.{NormalFault};
+ghost use Rattle.px_draw.specs.declared.stop.Stop.{Stop};
+ghost use Rattle.px_draw.specs.Refining.{scene_limit};
+ghost use Rattle.px_draw.specs.Stops.{job_stop, products_stop, status_of};
 
-use crate::refusal::Refusal;
+use crate::refusal::{Kind, Refusal, short_of_bits, too_many};
 use crate::status::Status;
+use px_control::JobFault;
+use px_io::ReadError;
+use px_listing::ListFault;
+use px_normal::NormalFault;
+use px_refine::FineFault;
+use px_scene::{LimitKind, SceneFault};
 
 /// Why the work was not done.
 #[derive(Clone, Copy, Debug, PartialEq, Eq)]
@@ -28,5 +38,109 @@ impl Stop {
             Stop::WriteFault => Status::WriteFault,
             Stop::Memory => Status::Memory,
         }
+    }
+}
+
+impl From<ReadError> for Stop {
+    ghost use Rattle.std.specs.Prelude.{◌≡◌};
+    ghost use Rattle.px_draw.specs.Stops.{read_stop};
+
+    ghost from_gives = { λ fault stop. stop ≡ read_stop fault };
+
+    fn from(fault: ReadError) -> Self {
+        match fault {
+            ReadError::Failed => Stop::ReadFault,
+            ReadError::Memory => Stop::Memory,
+        }
+    }
+}
+
+impl From<SceneFault> for Stop {
+    ghost use Rattle.std.specs.Prelude.{◌≡◌};
+    ghost use Rattle.px_draw.specs.Stops.{scene_stop};
+
+    ghost from_gives = { λ fault stop. stop ≡ scene_stop fault };
+
+    fn from(fault: SceneFault) -> Self {
+        match fault {
+            SceneFault::Malformed { line, cause } => {
+                Stop::Refused(Refusal::Malformed { line, cause })
+            }
+            SceneFault::Limit { line, kind, found } => {
+                let kind = Kind::Scene(kind);
+                Stop::Refused(Refusal::Limit { line, kind, found })
+            }
+            SceneFault::Memory => Stop::Memory,
+        }
+    }
+}
+
+impl From<ListFault> for Stop {
+    ghost use Rattle.std.specs.Prelude.{◌≡◌};
+    ghost use Rattle.px_draw.specs.Stops.{list_stop};
+
+    ghost from_gives = { λ fault stop. stop ≡ list_stop fault };
+
+    fn from(fault: ListFault) -> Self {
+        match fault {
+            ListFault::Malformed { line, cause } => {
+                Stop::Refused(Refusal::Malformed { line, cause })
+            }
+            ListFault::Limit { line, kind, found } => {
+                let kind = Kind::List(kind);
+                Stop::Refused(Refusal::Limit { line, kind, found })
+            }
+            ListFault::Memory => Stop::Memory,
+        }
+    }
+}
+
+impl From<FineFault> for Stop {
+    ghost use Rattle.std.specs.Prelude.{◌≡◌};
+    ghost use Rattle.px_draw.specs.Stops.{fine_stop};
+
+    ghost from_gives = { λ fault stop. stop ≡ fine_stop fault };
+
+    fn from(fault: FineFault) -> Self {
+        match fault {
+            FineFault::Fraction { found } => past_limit(LimitKind::Fraction, i64::from(found)),
+            FineFault::Picture { found } => past_limit(LimitKind::Picture, i64::from(found)),
+            FineFault::Coefficient { found } => past_limit(LimitKind::Coefficient, found),
+            FineFault::Memory => Stop::Memory,
+        }
+    }
+}
+
+/// The finer scene is past a limit.
+fn past_limit(kind: LimitKind, found: i64) -> Stop
+    ensures { result ≡ Stop.Refused (scene_limit kind found) }
+{
+    Stop::Refused(Refusal::Limit {
+        line: 0,
+        kind: Kind::Scene(kind),
+        found,
+    })
+}
+
+/// Why a job was not opened.
+pub(crate) fn job_stop(fault: JobFault) -> Stop
+    requires { (count : ℕ) → fault ≡ JobFault.Products count → count ≤ 2 ^ 21 }
+    ensures { result ≡ job_stop fault }
+{
+    match fault {
+        JobFault::PixelMemory { need } => Stop::Refused(short_of_bits(need)),
+        JobFault::Products { count } => Stop::Refused(too_many(count)),
+        JobFault::Memory => Stop::Memory,
+    }
+}
+
+/// Why a scene has no plan.
+pub(crate) fn products_stop(fault: NormalFault) -> Stop
+    requires { (count : ℕ) → fault ≡ NormalFault.TooMany count → count ≤ 2 ^ 21 }
+    ensures { result ≡ products_stop fault }
+{
+    match fault {
+        NormalFault::TooMany { count } => Stop::Refused(too_many(count)),
+        NormalFault::Memory => Stop::Memory,
     }
 }

@@ -3,6 +3,7 @@ ghost use Rattle.std.specs.Prelude.{◌≡◌, ◌^◌, ◌≤◌, ◌++◌, ℕ
 ghost use Rattle.std.specs.Io.KnownBytes.{Appends};
 ghost use Rattle.px_io.specs.Counts.{HasCause};
 ghost use Rattle.px_io.specs.Told.{TakesFront, Tells};
+ghost use Rattle.px_array.specs.Slots.{array_view};
 ghost use Rattle.px_tile.specs.Found.{IsFound};
 ghost use Rattle.px_tile.specs.Pictures.{IsLastDrawn};
 ghost use Rattle.px_tile.specs.Tilings.{IsWideSize};
@@ -20,7 +21,7 @@ ghost use Rattle.px_draw.specs.declared.refusal.Refusal.{Refusal};
 
 use crate::refusal::{Kind, Refusal, short_of_bits, too_many};
 use crate::stop::Stop;
-use px_array::Array;
+use px_asm::Operating;
 use px_command::Size;
 use px_io::{Failed, Sink};
 use px_scene::{LimitKind, Scene};
@@ -28,7 +29,7 @@ use px_tile::{WideFault, render_tiles, write_wide};
 use std::alloc::Global;
 
 /// Draws a wide picture of a scene tile by tile on the array, and writes its two images.
-pub(crate) fn make_tiled<O: Sink, A: Array>(
+pub(crate) fn make_tiled<O: Sink, A: Operating>(
     alloc: Global,
     scene: &Scene,
     size: Size,
@@ -39,8 +40,9 @@ pub(crate) fn make_tiled<O: Sink, A: Array>(
     ensures serves { DoesWork result (tiled size scene.now A.BITS)
         (O.written out.old) (O.written out.new) (O.finished out.old) (O.finished out.new)
         (O.faults out.old) (O.faults out.new) }
-    ensures array { DrawsTiles (status_in result) A.BITS size scene.now (A.device array.old)
-        (A.device array.new) }
+    ensures array { DrawsTiles (status_in result) A.BITS size scene.now
+        (array_view (A.device array.old) (A.slots array.old) (A.work array.old))
+        (array_view (A.device array.new) (A.slots array.new) (A.work array.new)) }
 {
     let found = find_pixels(alloc, scene, size, array)?;
     match deliver_wide(found.as_slice(), scene, size, out) {
@@ -50,7 +52,7 @@ pub(crate) fn make_tiled<O: Sink, A: Array>(
 }
 
 /// Draws the tiles, and gives the numbers of the wide picture.
-fn find_pixels<A: Array>(
+fn find_pixels<A: Operating>(
     alloc: Global,
     scene: &Scene,
     size: Size,
@@ -59,12 +61,13 @@ fn find_pixels<A: Array>(
     requires size { IsWideSize size.width size.height }
     ensures fits { OnOk result (tiles_refusal size scene.now A.BITS ≡ None) }
     ensures found { IfOk result (λ found. IsFound scene.now size.width size.height found.items) }
-    ensures drawn { OnOk result
-        (IsLastDrawn A.BITS scene.now size.width size.height (A.device array.new)) }
+    ensures drawn { OnOk result (IsLastDrawn A.BITS scene.now size.width size.height
+        (array_view (A.device array.new) (A.slots array.new) (A.work array.new))) }
     ensures err { IfErr result (λ stop.
         StopsAt (unless_refused (tiles_refusal size scene.now A.BITS)) stop) }
     ensures array { IfErr result (λ stop. DrawsTiles (status_of stop) A.BITS size scene.now
-        (A.device array.old) (A.device array.new)) }
+        (array_view (A.device array.old) (A.slots array.old) (A.work array.old))
+        (array_view (A.device array.new) (A.slots array.new) (A.work array.new))) }
 {
     match render_tiles(alloc, scene, size.width, size.height, array) {
         Ok(found) => Ok(found),

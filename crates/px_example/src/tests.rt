@@ -19,7 +19,7 @@ fn a_text_that_is_no_scene_has_no_picture(rt: HostRuntime) {
     assert!(rt;
         matches!(
             picture_of(rt.alloc(), b"pxscene 1\n".as_slice()),
-            Err(NotDrawn)
+            Err(NotDrawn::Refused)
         )
     );
 }

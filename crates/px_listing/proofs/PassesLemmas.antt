@@ -12,7 +12,9 @@ use Rattle.px_io.proofs.ToldLaws.{front_before}
 use Rattle.std.specs.List.{flat_map, range_with_len}
 use Rattle.px_macro.specs.Macros.{IsLawful, IsLawfulInMore, PixelBits}
 use Rattle.px_macro.specs.declared.operation.Macro.{Macro}
-use Rattle.px_model.specs.Scenes.{IsGridExponent, IsLawfulScene, SceneView, IsLawfulSolid}
+use Rattle.px_model.specs.Grids.{exponent_of}
+use Rattle.px_model.proofs.GridLaws.{exponent_between, exponent_is}
+use Rattle.px_model.specs.Scenes.{IsLawfulScene, SceneView, IsLawfulSolid}
 use Rattle.px_model.specs.Cells.{picture}
 use Rattle.px_sched.specs.Layouts.{layout_of, need_of}
 use Rattle.px_sched.specs.Passes.{passes}
@@ -23,43 +25,10 @@ use Rattle.px_listing.specs.Listings.{macro_line}
 use Rattle.px_listing.specs.Pieces.{Puts}
 use Rattle.px_listing.proofs.PieceLemmas.{err_cut, ok_all, puts_both, puts_cut, puts_none}
 use Rattle.px_listing.proofs.RowLemmas.{listed_cut, listed_more}
-use Rattle.px_listing.specs.PassesText.{PassesAreReadBack, PlayedPassesShowThePicture, exponent_of}
+use Rattle.px_listing.specs.PassesText.{PassesAreReadBack, PassesHaveTheScenesGrid, PlayedPassesShowThePicture}
 use Rattle.px_listing.specs.PassesText.{passes_listing}
 use Rattle.px_listing.specs.Played.{zero_bits}
 use Rattle.px_listing.specs.RoundTrip.{TextsAreReadBack}
-
--- a power is less than the size exactly where its exponent is less than the least one
-test_of : (size n t : ℕ) → IsGridExponent size n → 1 ≤ t → nat_lt (2 ^ t) size ≡ nat_lt t n
-test_of size n t is some =
-    elim (cases_lt t n) [
-      | inl less ↦ let above : 2 ^ t < size = by_least less in grind (arith, nat_tests)
-      | inr more ↦ let below : 2 ^ n ≤ 2 ^ t = pow_mono more in let enough = is.enough in grind (arith, nat_tests)
-    ]
-  where
-    by_least : t < n → 2 ^ t < size
-    by_least less = elim (cases_lt (2 ^ t) size) [
-      | inl above ↦ above
-      | inr below ↦
-          absurd (let least = is.least t some below in omega (arith, least, less))
-    ]
-
-count_is : (n : ℕ) → 1 ≤ n → n ≤ 9 → 1 + count_by (λ t. nat_lt t n) (range_with_len 1 8) ≡ n
-count_is n some few = grind (arith, nat_tests)
-
-pub exponent_is : (size n : ℕ) → IsGridExponent size n → size ≤ 512 → n ≡ exponent_of size
-unfolding exponent_of
-exponent_is size n is few =
-    let most : n ≤ 9 = is.least 9 (omega arith) (omega (arith, few)) in
-    sym (rw (
-      test_of size n 1 is (omega arith),
-      test_of size n 2 is (omega arith),
-      test_of size n 3 is (omega arith),
-      test_of size n 4 is (omega arith),
-      test_of size n 5 is (omega arith),
-      test_of size n 6 is (omega arith),
-      test_of size n 7 is (omega arith),
-      test_of size n 8 is (omega arith),
-    ) (count_is n is.positive most))
 
 -- each operation that is given is one of them
 pub lawful_here : (bits : ℕ) (ops : List Macro) (i : ℕ) (op : Macro) → slice_get ops i ≡ Some op
@@ -144,46 +113,22 @@ pub passes_lawful_in_all : IsLawfulInMore → LayoutsAreLawful → PassesAreLawf
 passes_lawful_in_all more layouts lawful scene h solids =
     passes_lawful more lawful 256 scene h solids (few_bits layouts scene h)
 
--- a scene's grid is one that an array can have, and covers the picture
-exponent_between : (size : ℕ) → (1 ≤ exponent_of size) × (exponent_of size ≤ 9)
-unfolding exponent_of
-exponent_between size = (grind arith, grind arith)
-
 pub passes_read_back : IsLawfulInMore → PassesAreLawful → TextsAreReadBack → PassesAreReadBack
 passes_read_back more lawful texts bits scene can few =
-    texts bits (passes_listing scene) few (exponent_between scene.width, exponent_between scene.height)
+    texts bits (passes_listing scene) few (exponent_between scene.width can.scene_is.width, exponent_between scene.height can.scene_is.height)
     (passes_lawful more lawful bits scene can.scene_is can.solids can.enough)
 
-grid_at : (size k : ℕ) → 2 ^ k < size → size ≤ 2 ^ (k + 1) → IsGridExponent size (k + 1)
-grid_at size k above fits = record {
-  positive = omega arith;
-  enough = fits;
-  least = λ m some enough.
-      elim (cases_lt m (k + 1)) [
-        | inl less ↦ absurd (let low : 2 ^ m ≤ 2 ^ k = pow_mono (omega (arith, less)) in
-            omega (arith, low, above, enough))
-        | inr more ↦ more
-      ];
+pub scenes_grid : PassesHaveTheScenesGrid
+scenes_grid scene lawful = record {
+  columns = exponent_is scene.width lawful.width;
+  rows = exponent_is scene.height lawful.height;
 }
-
-by_steps : (size k : ℕ) → size ≤ 2 ^ (k + 1) → (n : ℕ) × IsGridExponent size n
-by_steps size zero fits = (1, record { positive = omega arith; enough = fits; least = λ m some enough. some })
-by_steps size (suc k) fits =
-    elim (cases_lt (2 ^ suc k) size) [
-      | inl above ↦ (suc k + 1, grid_at size (suc k) above fits)
-      | inr below ↦ by_steps size k (let next : suc k ≡ k + 1 = omega arith in subst (λ n. size ≤ 2 ^ n) next below)
-    ]
-
--- a scene's grid covers the picture
-covers : (size : ℕ) → size ≤ 512 → size ≤ 2 ^ exponent_of size
-covers size few =
-    let grid = by_steps size 8 (omega (arith, few)) in
-    subst (λ n. size ≤ 2 ^ n) (exponent_is size grid.0 grid.1 few) grid.1.enough
 
 pub show_the_picture : PassesLaw → PlayedPassesShowThePicture
 show_the_picture law bits scene state can has x y left above =
-    let column : x < 2 ^ exponent_of scene.width = omega (arith, left, covers scene.width can.scene_is.width) in
-    let row : y < 2 ^ exponent_of scene.height = omega (arith, above, covers scene.height can.scene_is.height) in
+    let grid = scenes_grid scene can.scene_is in
+    let column : x < 2 ^ exponent_of scene.width = omega (arith, left, grid.columns.enough) in
+    let row : y < 2 ^ exponent_of scene.height = omega (arith, above, grid.rows.enough) in
     let same = ap (λ (p : PixelBits). p.memory) (has x y column row) in
     let room : need_of (layout_of scene) ≤ length (zero_bits bits).memory =
     omega (arith, can.enough, length-replicate bits false) in

@@ -1,8 +1,8 @@
 -- The listing of a scene: its grid and its passes. Clauses of public calls stand on it.
-use Rattle.std.specs.Prelude.{ℕ, ◌+◌, ◌^◌, ◌≤◌, All, count_by, nat_lt}
-use Rattle.std.specs.List.{range_with_len}
+use Rattle.std.specs.Prelude.{ℕ, ◌≤◌, All}
 use Rattle.px_array.specs.Arrays.{State, pixel_of}
-use Rattle.px_model.specs.Scenes.{IsLawfulScene, SceneView, IsLawfulSolid}
+use Rattle.px_model.specs.Grids.{exponent_of}
+use Rattle.px_model.specs.Scenes.{IsGridExponent, IsLawfulScene, SceneView, IsLawfulSolid}
 use Rattle.px_sched.specs.Layouts.{layout_of, need_of}
 use Rattle.px_sched.specs.Passes.{passes}
 use Rattle.px_sched.specs.PassesLaw.{ShowsThePicture}
@@ -10,17 +10,20 @@ use Rattle.px_listing.specs.Listings.{ListingView, canonical_text}
 use Rattle.px_listing.specs.Played.{HasPlayed}
 use Rattle.px_listing.specs.RoundTrip.{IsReadAs}
 
--- the least n of at least 1 with 2 ^ n at least the size, which is at most 2 ^ 9:
--- one more than there are powers from 2 ^ 1 on that are less than the size
-unfoldable pub exponent_of : (size : ℕ) → ℕ
-exponent_of size = 1 + count_by (λ t. nat_lt (2 ^ t) size) (range_with_len 1 8)
-
 abbrev pub passes_listing : SceneView → ListingView
 passes_listing scene = record {
   nx = exponent_of scene.width;
   ny = exponent_of scene.height;
   macros = passes scene;
 }
+
+-- the grid of a listing is a scene's: the least powers of 2 for its columns and its rows
+pub record HasScenesGrid (scene : SceneView) (l : ListingView) : Type 0 where
+  pub columns : IsGridExponent scene.width l.nx
+  pub rows : IsGridExponent scene.height l.ny
+
+abbrev pub PassesHaveTheScenesGrid : Type 0
+PassesHaveTheScenesGrid = (scene : SceneView) → IsLawfulScene scene → HasScenesGrid scene (passes_listing scene)
 
 -- pixels that have the bits that the layout needs
 pub record CanPlay (bits : ℕ) (scene : SceneView) : Type 0 where

@@ -1,6 +1,10 @@
 //! What holds of every listing.
 ghost use Rattle.px_listing.specs.Laws.{MemoriesShowThePlayed};
-ghost use Rattle.px_listing.specs.PassesText.{PassesAreReadBack, PlayedPassesShowThePicture};
+ghost use Rattle.px_listing.specs.PassesText.{
+  PassesAreReadBack,
+  PassesHaveTheScenesGrid,
+  PlayedPassesShowThePicture,
+};
 ghost use Rattle.px_listing.specs.RoundTrip.{TextsAreReadBack};
 
 use px_macro::laws_of_operations;
@@ -11,12 +15,14 @@ use px_text::written_law;
 ///
 /// The canonical text of a listing is read as the listing. What is printed of an array that has
 /// played a listing is what the listing's operations mean. An array that has played the passes of a
-/// scene stores the picture of the scene.
+/// scene stores the picture of the scene. The grid of their listing is the one that `Scene::grid`
+/// gives.
 pub fn laws_of_listings()
     ensures read_back { TextsAreReadBack }
     ensures printed { MemoriesShowThePlayed }
     ensures passes { PassesAreReadBack }
     ensures picture { PlayedPassesShowThePicture }
+    ensures grid { PassesHaveTheScenesGrid }
 {
     written_law();
     laws_of_operations();

@@ -4,7 +4,7 @@ ghost use Rattle.std.specs.List.{flat_map};
 ghost use Rattle.px_io.specs.Counts.{HasCause};
 ghost use Rattle.px_io.specs.Told.{TakesAll, TakesFront};
 ghost use Rattle.px_listing.specs.Listings.{canonical_text, macro_line};
-ghost use Rattle.px_listing.specs.PassesText.{exponent_of, passes_listing};
+ghost use Rattle.px_listing.specs.PassesText.{passes_listing};
 ghost use Rattle.px_listing.specs.Pieces.{Puts};
 ghost use Rattle.px_macro.specs.Macros.{IsLawful};
 ghost use Rattle.px_prune.specs.Kept.{plan_of};
@@ -42,19 +42,10 @@ pub fn write_passes<O: Sink>(
     laws_of_passes();
     laws_of_operations();
     let mut piece = Piece::new();
-    let (nx, ny) = grid_of(scene);
+    let (nx, ny) = scene.grid();
     put_first_lines(out, &mut piece, nx, ny)?;
     put_passes(scene, plan, layout, out, &mut piece)?;
     put_end(out, &mut piece)
-}
-
-/// The exponents of a scene's grid.
-fn grid_of(scene: &Scene) -> (u32, u32)
-    ensures columns { result.0 ≡ exponent_of scene.now.width }
-    ensures rows { result.1 ≡ exponent_of scene.now.height }
-{
-    laws_of_scenes(scene);
-    scene.grid()
 }
 
 /// A line for each operation of the passes.

@@ -2,6 +2,7 @@
 ghost use Rattle.std.specs.Prelude.{◌≡◌, ◌-◌, ◌^◌, ◌<◌, ◌≤◌, All, length};
 ghost use Rattle.px_model.specs.Scenes.{IsLawfulSolid};
 ghost use Rattle.px_model.specs.Cells.{depths_of, end_of};
+ghost use Rattle.px_model.specs.Grids.{exponent_of};
 ghost use Rattle.px_model.specs.Scenes.{SceneView, IsLawfulScene, IsGridExponent, faces_of, colour_in_scene};
 
 use crate::solid::{Colour, Solid};
@@ -164,6 +165,8 @@ impl Scene {
     pub fn grid(&self) -> (u32, u32)
         ensures width { IsGridExponent self.now.width result.0 }
         ensures height { IsGridExponent self.now.height result.1 }
+        ensures columns { result.0 ≡ exponent_of self.now.width }
+        ensures rows { result.1 ≡ exponent_of self.now.height }
     {
         (grid_exponent(self.width), grid_exponent(self.height))
     }

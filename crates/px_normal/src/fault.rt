@@ -5,7 +5,7 @@ use thiserror::Error;
 /// Why an expression is not made into products (docs/SCENES.md, "Limits").
 #[derive(Clone, Copy, Debug, PartialEq, Eq, Error)]
 pub enum NormalFault {
-    /// A sum has at most `MAX_PRODUCTS` products. Counts end at `2^32`.
+    /// A wanted list of live products has more than `MAX_PRODUCTS`; the count is at most `2^21`.
     #[error("{count} products, of at most 1024")]
     TooMany { count: u64 },
     #[error("out of memory")]

@@ -1,11 +1,8 @@
 -- Each pixel alone.
-use Rattle.std.proofs.Common.{◌≡◌, ◌+◌, [], ◌∷◌, refl, sym, ap, ◌∙◌, arith}
+use Rattle.std.proofs.Common.{◌≡◌, ◌+◌, [], ◌∷◌, refl, ap, ◌∙◌, arith}
 use Rattle.px_array.proofs.ClockLaws.{nx-after_tree_op, ny-after_tree_op, pixel_at-after_clock}
 use Rattle.px_array.specs.Clocks.{after_clock, after_tree_op}
-use Rattle.px_planes.specs.ArraysLaw.{BothAreOneDevice, EachPixelIsAlone, alone_after}
-
-pub both_are_one_device : BothAreOneDevice
-both_are_one_device bits micros start pixels planes one other = one ∙ sym other
+use Rattle.px_planes.specs.ArraysLaw.{EachPixelIsAlone, alone_after}
 
 pub each_pixel_is_alone : EachPixelIsAlone
 each_pixel_is_alone [] start place within = refl

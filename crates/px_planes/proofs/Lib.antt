@@ -10,3 +10,8 @@ pub mod ShelfLemmas
 pub mod StoredLemmas
 pub mod TreeLemmas
 pub mod WeaveLemmas
+pub mod WorkLemmas
+pub mod OperatedLemmas
+pub mod OperationLemmas
+pub mod IdleLemmas
+pub mod ReachLemmas

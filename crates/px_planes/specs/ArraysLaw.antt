@@ -1,18 +1,11 @@
--- What the law of the arrays says: of both, and of each pixel alone. Clauses of public calls stand on it.
+-- What the law of the arrays says of each pixel. Clauses of public calls stand on it.
 use Rattle.std.specs.Prelude.{◌≡◌, ℕ, ◌+◌, ◌^◌, ◌<◌, List, [], ◌∷◌}
-use Rattle.px_array.specs.Arrays.{Device, State, pixel_at}
-use Rattle.px_array.specs.Clocks.{after_clocks, after_tree_op, all_clocked}
+use Rattle.px_array.specs.Arrays.{State, pixel_at}
+use Rattle.px_array.specs.Clocks.{after_clocks, after_tree_op}
 use Rattle.px_array.specs.declared.micro.Micro.{Micro}
-use Rattle.px_array.specs.declared.pixel_array.PixelArray.{PixelArray}
 use Rattle.px_pixel.specs.Acts.{after_act}
 use Rattle.px_pixel.specs.Pixels.{PixelState}
-use Rattle.px_planes.specs.declared.plane_array.PlaneArray.{PlaneArray}
 use Rattle.px_tree.specs.Nodes.{TreeState, leaf_output}
-
--- whatever micros were clocked on both from one device, both are one device
-abbrev pub BothAreOneDevice : Type 0
-BothAreOneDevice = (bits : ℕ) (micros : List Micro) (start : Device) (pixels : PixelArray bits) (planes : PlaneArray bits)
-    → pixels.device ≡ all_clocked micros start → planes.device ≡ all_clocked micros start → pixels.device ≡ planes.device
 
 -- what some micros make of one pixel, which sees of the others nothing, and of the tree its own leaf
 abbrev pub alone_after : List Micro → TreeState → (place : ℕ) → PixelState → PixelState

@@ -4,6 +4,7 @@ pub mod Heap
 pub mod Lanes
 pub mod Lent
 pub mod OpenPlanes
+pub mod Operations
 pub mod Pixels
 pub mod Shelves
 pub mod Trees

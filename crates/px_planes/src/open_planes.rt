@@ -1,15 +1,20 @@
 //! An open array of planes: what is clocked, and what its slots keep.
-ghost use Rattle.std.specs.Prelude.{◌≡◌, ◌-◌, ◌^◌, ◌<◌, ◌≤◌, IfOk, Some, length, replicate};
+ghost use Rattle.std.specs.Prelude.{◌≡◌, ◌+◌, ◌-◌, ◌^◌, ◌<◌, ◌≤◌, IfOk, Some, length, replicate};
 ghost use Rattle.px_array.specs.Arrays.{opened};
 ghost use Rattle.px_array.specs.Clocks.{clocked};
 ghost use Rattle.px_planes.specs.OpenPlanes.{empty_slot};
 ghost use Rattle.px_array.specs.Slots.{ArrayView, IsSaved, after_save, no_slots, slot_of, worked};
+ghost use Rattle.px_asm.specs.Making.{cycles_on};
+ghost use Rattle.px_asm.specs.Operated.{IsOperated};
+ghost use Rattle.px_macro.specs.Macros.{IsLawful};
 ghost use Rattle.px_pixel.specs.Acts.{HasPlace};
 ghost use Rattle.px_tree.specs.Nodes.{IsGrid};
 
 use crate::plane_grid::PlaneGrid;
 use crate::slot::Slot;
 use px_array::Micro;
+use px_asm::cycles;
+use px_macro::Macro;
 use px_num::Memory;
 use std::alloc::Global;
 use std::marker::Model;
@@ -67,6 +72,20 @@ impl<const N: usize> OpenPlanes<N> {
     {
         self.grid.clock(m);
         self.work = self.work.saturating_add(1);
+    }
+
+    /// Makes an operation at once, which counts as its clocks.
+    pub(crate) fn operate(&mut self, m: &Macro)
+        requires lawful { IsLawful m.now 256 }
+        requires places { IsLawful m.now N }
+        requires counted { self.old.device.clocks + cycles_on self.old.device m.now ≤ 2 ^ 64 - 1 }
+        ensures operated { IsOperated N m.now self.old.device self.new.device }
+        ensures slots { self.new.slots ≡ self.old.slots }
+        ensures work { self.new.work ≡ worked (cycles_on self.old.device m.now) self.old.work }
+    {
+        let (nx, ny) = self.grid.size();
+        self.grid.operate(m);
+        self.work = self.work.saturating_add(u64::from(cycles(m, nx, ny)));
     }
 
     pub(crate) fn save(&mut self, slot: u32)

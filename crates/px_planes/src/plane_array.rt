@@ -8,6 +8,8 @@ ghost use Rattle.px_array.specs.Slots.{none_open};
 
 use crate::open_planes::OpenPlanes;
 use px_array::{Array, Micro, Registers};
+use px_asm::Operating;
+use px_macro::Macro;
 use px_num::Memory;
 use std::alloc::Global;
 use std::marker::Model;
@@ -143,6 +145,14 @@ impl<const N: usize> Array for PlaneArray<N> {
         match &self.array {
             Some(array) => array.work(),
             None => 0,
+        }
+    }
+}
+
+impl<const N: usize> Operating for PlaneArray<N> {
+    fn operate(&mut self, m: &Macro) {
+        if let Some(array) = &mut self.array {
+            array.operate(m);
         }
     }
 }

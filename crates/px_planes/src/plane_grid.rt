@@ -3,6 +3,9 @@ ghost use Rattle.std.specs.Prelude.{◌≡◌, ◌+◌, ◌-◌, ◌*◌, ◌^�
 ghost use Rattle.std.specs.Prelude.{IfOk, length, nat_lt, replicate};
 ghost use Rattle.px_array.specs.Arrays.{HasPixel, IsOpen, opened, pixel_at, pixel_of, registers_of};
 ghost use Rattle.px_array.specs.Clocks.{acted, after_tree_op, clocked};
+ghost use Rattle.px_asm.specs.Making.{cycles_on};
+ghost use Rattle.px_asm.specs.Operated.{IsOperated};
+ghost use Rattle.px_macro.specs.Macros.{IsLawful};
 ghost use Rattle.px_num.specs.Bits.{bit_at, nat_bit};
 ghost use Rattle.px_pixel.specs.Acts.{HasPlace};
 ghost use Rattle.px_pixel.specs.Pixels.{zero_pixel};
@@ -12,9 +15,13 @@ ghost use Rattle.px_planes.specs.Lent.{memory_bit};
 ghost use Rattle.px_tree.specs.Nodes.{IsGrid, leaf_bit, node_at};
 
 use crate::acts::act_planes;
+use crate::operating::operate_planes;
 use crate::plane_tree::PlaneTree;
 use crate::planes::Planes;
+use crate::reach::{Reach, whole};
 use px_array::{Micro, Registers, TreeOp};
+use px_asm::cycles;
+use px_macro::Macro;
 use px_num::{Memory, power};
 use px_pixel::Act;
 use px_tree::{Tree, leaf_index};
@@ -22,17 +29,19 @@ use std::alloc::Global;
 use std::marker::Model;
 
 /// The planes of an open array, whose pixel `(x, y)` stands at place `x * 2^ny + y`, and the tree
-/// over them.
+/// over them. No pixel is enabled outside the words of `reach`.
 #[derive(Drop)]
 pub(crate) struct PlaneGrid<const N: usize> {
     pub(crate) planes: Planes,
     pub(crate) tree: PlaneTree,
     pub(crate) clocks: u64,
+    pub(crate) reach: Reach,
 }
 
 impl<const N: usize> Model for PlaneGrid<N> {
     ghost use Rattle.std.specs.Prelude.{◌≤◌, ◌+◌, ◌^◌};
     ghost use Rattle.px_array.specs.Arrays.{Device};
+    ghost use Rattle.px_planes.specs.Operations.{IsReach};
     ghost use Rattle.px_planes.specs.Pixels.{HasPixels, pixels_in};
     ghost use Rattle.px_tree.specs.Nodes.{IsGrid};
 
@@ -47,6 +56,7 @@ impl<const N: usize> Model for PlaneGrid<N> {
       bits : N ≤ 256;
       grid : IsGrid g.tree.nx g.tree.ny;
       pixels : HasPixels N (2 ^ (g.tree.nx + g.tree.ny)) g.planes;
+      reach : IsReach g.reach g.planes;
     } };
 }
 
@@ -59,10 +69,12 @@ impl<const N: usize> PlaneGrid<N> {
     {
         let tree = PlaneTree::new(alloc, nx, ny)?;
         let planes = zero_planes::<N>(alloc, nx, ny)?;
+        let reach = whole(&planes);
         Ok(PlaneGrid {
             planes,
             tree,
             clocks: 0,
+            reach,
         })
     }
 
@@ -73,8 +85,21 @@ impl<const N: usize> PlaneGrid<N> {
     {
         // The pixels come first, since their leaf bits are those from before the clock.
         act_all::<N>(&mut self.planes, &self.tree, m.act);
+        self.reach = whole(&self.planes);
         move_tree(&mut self.tree, m.tree);
         self.clocks += 1;
+    }
+
+    /// Makes an operation at once, which counts as its clocks.
+    pub(crate) fn operate(&mut self, m: &Macro)
+        requires lawful { IsLawful m.now 256 }
+        requires places { IsLawful m.now N }
+        requires counted { self.old.clocks + cycles_on self.old m.now ≤ 2 ^ 64 - 1 }
+        ensures { IsOperated N m.now self.old self.new }
+    {
+        let (nx, ny) = self.tree.size();
+        self.reach = operate_planes::<N>(&mut self.planes, self.reach, m, nx, ny);
+        self.clocks += u64::from(cycles(m, nx, ny));
     }
 
     pub(crate) fn size(&self) -> (u32, u32)

@@ -10,6 +10,7 @@ ghost use Rattle.px_tree.specs.Nodes.{IsGrid};
 use crate::plane_grid::PlaneGrid;
 use crate::plane_tree::PlaneTree;
 use crate::planes::Planes;
+use crate::reach::whole;
 use crate::shelf::Shelf;
 use px_num::{Memory, power};
 use px_rows::Row;
@@ -87,6 +88,7 @@ impl<const N: usize> Slot<N> {
         ensures rows { grid.new.state.tree.ny ≡ self.now.ny }
     {
         take_planes(&mut grid.planes, &self.shelf);
+        grid.reach = whole(&grid.planes);
         grid.tree.copy_from(&self.tree);
         grid.clocks = self.clocks;
     }

@@ -1,7 +1,8 @@
 //! The finer scene, and why a scene has none.
-ghost use Rattle.std.specs.Prelude.{◌≡◌, ◌≤◌, ◌*◌, ◌^◌, IfErr, IfOk, OnOk, None};
+ghost use Rattle.std.specs.Prelude.{◌≡◌, ◌≤◌, ◌*◌, ◌^◌, Err, IfErr, IfOk, OnOk, None, Some};
 ghost use Rattle.px_model.specs.Pixels.{HasSceneOver};
 ghost use Rattle.px_refine.specs.Finer.{fine_scene};
+ghost use Rattle.px_refine.specs.declared.fault.FineFault.{FineFault};
 ghost use Rattle.px_refine.specs.FineFaults.{IsRefusal, fine_fault, most_fraction};
 
 use crate::fault::FineFault;
@@ -14,12 +15,14 @@ use std::alloc::Global;
 /// (docs/PICTURE.md, "Refinement").
 ///
 /// It is refused where the fraction of a depth would have too many bits, then where the picture
-/// would be too wide or too high, then where the constant of a plane would be too large.
+/// would be too wide or too high, then where the constant of a plane would be too large; each of
+/// them comes where it is due, before memory is taken.
 pub fn fine_scene(alloc: Global, scene: &Scene, s: u32) -> Result<Scene, FineFault>
     requires { s ≤ 2 }
     ensures scene { IfOk result (λ fine. fine ≡ fine_scene s scene.now) }
     ensures whole { OnOk result (fine_fault s scene.now ≡ None) }
     ensures refused { IfErr result (λ fault. IsRefusal (fine_fault s scene.now) fault) }
+    ensures due { (fault : FineFault) → fine_fault s scene.now ≡ Some fault → result ≡ Err fault }
 {
     if let Some(fault) = fine_fault(scene, s) {
         return Err(fault);

@@ -1,5 +1,5 @@
 //! One bit of every pixel.
-ghost use Rattle.std.specs.Prelude.{◌≡◌, ◌<◌, ◌*◌, ◌&&◌, ℕ, cond, not, true, length, replicate};
+ghost use Rattle.std.specs.Prelude.{◌≡◌, ◌<◌, ◌*◌, ◌&&◌, ℕ, cond, not, true, length, replicate, slice_index, slice_set};
 ghost use Rattle.std.specs.Prelude.{IfOk};
 ghost use Rattle.std.specs.Bool.{beq};
 ghost use Rattle.px_num.specs.Bits.{majority, xor};
@@ -48,6 +48,24 @@ impl Row {
         ensures { result ≡ row_bit self.now place }
     {
         bit_of_row(&self.words, place)
+    }
+
+    /// The word of the pixels from place `64 * w` on.
+    #[inline(always)]
+    pub fn word(&self, w: usize) -> u64
+        requires { w < length self.now }
+        ensures { result ≡ slice_index self.now w }
+    {
+        self.words[w]
+    }
+
+    /// That word becomes another.
+    #[inline(always)]
+    pub fn set_word(&mut self, w: usize, word: u64)
+        requires { w < length self.old }
+        ensures { self.new ≡ slice_set self.old w word }
+    {
+        self.words[w] = word;
     }
 
     /// Each bit stays 1 where the other is the one that is wanted.

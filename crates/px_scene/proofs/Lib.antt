@@ -1,3 +1,4 @@
+pub mod AcceptedLemmas
 pub mod CanonicalLemmas
 pub mod CutLemmas
 pub mod DraftLemmas
@@ -13,6 +14,7 @@ pub mod ReadingLemmas
 pub mod RoundLemmas
 pub mod SampleLemmas
 pub mod SceneWalkLemmas
+pub mod SolidLemmas
 pub mod SolidsLemmas
 pub mod TakenLemmas
 pub mod TellsLemmas

@@ -21,7 +21,7 @@ pub record IsReadTo (draft : DraftView) (lines : List Words) (i : ℕ) : Type 0 
   pub lawful : IsLawfulDraft draft
   pub judged : first_bad [] lines ≡ first_bad (take i lines) (drop i lines)
 
-lawful_blank : IsLawfulDraft blank
+pub lawful_blank : IsLawfulDraft blank
 lawful_blank = record {
   some_width = omega arith;
   width_limit = omega arith;

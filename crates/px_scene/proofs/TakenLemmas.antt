@@ -227,11 +227,11 @@ faces_of-with_last change more grows (s ∷ t ∷ ss) some =
     let later = faces_of-with_last change more grows (t ∷ ss) (omega arith)
     in omega (arith, faces_of-cons s (t ∷ ss), faces_of-cons s (with_last change (t ∷ ss)))
 
-record IsBetween (least most z : ℤ) : Type 0 where
-  above : least ≤ℤ z
-  below : z ≤ℤ most
+pub record IsBetween (least most z : ℤ) : Type 0 where
+  pub above : least ≤ℤ z
+  pub below : z ≤ℤ most
 
-past_none : (limit : LimitKind) (least most z : ℤ) → past limit least most z ≡ None → IsBetween least most z
+pub past_none : (limit : LimitKind) (least most z : ℤ) → past limit least most z ≡ None → IsBetween least most z
 past_none limit least most z e = record { above = grind (arith, ints); below = grind (arith, ints) }
 
 -- a size within a limit

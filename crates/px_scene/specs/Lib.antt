@@ -2,6 +2,7 @@ pub use Rattle.px_model.specs.Cells
 pub use Rattle.px_model.specs.Scenes
 pub use Rattle.px_text.specs.Text
 pub use Rattle.px_text.specs.Written
+pub mod AcceptedLaw
 pub mod Canonical
 pub mod DraftViews
 pub mod Drafts

@@ -16,6 +16,6 @@ pub use px_model::{
 };
 pub use px_show::{Cause, LimitKind, SceneFault, expression_law, printed_law};
 pub use px_text::{MAX_TEXT_BYTES, written_law};
-pub use read::read_scene;
+pub use read::{laws_of_texts, read_scene};
 pub use sample::{MAX_BLOCKS, laws_of_samples, sample_text};
 pub use write::{canonical_law, write_scene};

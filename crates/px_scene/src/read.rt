@@ -1,6 +1,7 @@
 //! Reading a scene from its text.
 ghost use Rattle.std.specs.Prelude.{◌≡◌, ◌⊎◌, ◌+◌, ◌<◌, ◌≤◌, ◌^◌, [], ◌∷◌, map, length, OnOk, IfOk, IfErr, IsErrOf, None, Some, ℕ};
 ghost use Rattle.px_text.specs.Text.{lines_of, words_of, worded};
+ghost use Rattle.px_scene.specs.AcceptedLaw.{AcceptedIsLawful};
 ghost use Rattle.px_scene.specs.Reading.{first_bad, scene_of, due_behind, refusal_of, fault_at, is_nothing};
 ghost use Rattle.px_scene.specs.Tells.{IsFirstBad, IsDraftOf};
 ghost use Rattle.px_scene.specs.DraftViews.{view_of};
@@ -65,3 +66,9 @@ fn fault_at(line: u32, fault: LineFault) -> SceneFault
         LineFault::Limit { kind, found } => SceneFault::Limit { line, kind, found },
     }
 }
+
+/// What holds of the scene of every text that is accepted: it is within the limits of scenes, and so
+/// are its solids, as of every `Scene`.
+pub fn laws_of_texts()
+    ensures accepted { AcceptedIsLawful }
+{}

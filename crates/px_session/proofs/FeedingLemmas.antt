@@ -11,13 +11,14 @@ use Rattle.px_io.specs.Told.{TakesAll, TakesFirst, TakesFront}
 use Rattle.px_io.proofs.ToldLaws.{appends_both, takes_both, reopens_both}
 use Rattle.px_debug.specs.Answers.{answer}
 use Rattle.px_debug.specs.Commands.{line_command}
-use Rattle.px_debug.specs.Moves.{SessionView, going, moved}
+use Rattle.px_debug.specs.Moves.{SessionView, going, most_clocks, moved}
 use Rattle.px_debug.specs.declared.session.Going.{Going}
 use Rattle.px_debug.specs.declared.session.Going.TheVariants as g
 use Rattle.px_session.specs.Buffers.{held_with, short_ended, short_left}
 use Rattle.px_session.specs.Servings.{Answered}
 use Rattle.px_session.specs.Turns.{Broke}
-use Rattle.px_session.specs.Sessions.{after, after_line, answer_line, answers, has_quit, is_last, is_quit, until_quit}
+use Rattle.px_session.specs.Sessions.{Obeyed, Stand, after, after_line, answer_line, answers, clocks_over, has_quit}
+use Rattle.px_session.specs.Sessions.{is_last, is_quit, line_clocks, stand, until_quit}
 
 pub ended-append : (held bs cs : List ℕ) → short_ended held (bs ++ cs) ≡ short_ended held bs
     ++ short_ended (short_left held bs) cs
@@ -104,30 +105,56 @@ keeps : (w : Option (List ℕ)) → Appends w w []
 keeps None = tt
 keeps (Some xs) = sym (append-nil xs)
 
-pub answered_none : (bits : ℕ) (s : SessionView) (a : Option (List ℕ)) (p : Option Bool) → Answered bits s s a a p p []
+-- lines obeyed one after another
+clocks-append : (s : SessionView) (ls ms : List (List ℕ)) → clocks_over s (ls ++ ms)
+    ≡ clocks_over s ls + clocks_over (after s ls) ms
+clocks-append s [] ms = omega arith
+clocks-append s (l ∷ ls) ms =
+    omega (arith, clocks-append (after_line s l) ls ms)
+
+obeyed_none : (s : Stand) → Obeyed s s []
+obeyed_none s = record { session = refl; work = omega arith }
+
+obeyed_one : (s t : Stand) (l : List ℕ) → t.session ≡ after_line s.session l
+    → t.work ≤ s.work + line_clocks s.session l → Obeyed s t (l ∷ [])
+obeyed_one s t l is few = record { session = is; work = omega (arith, few) }
+
+obeyed_both : (s t u : Stand) (ls ms : List (List ℕ)) → Obeyed s t ls → Obeyed t u ms → Obeyed s u (ls ++ ms)
+obeyed_both s t u ls ms first second = record {
+  session = second.session ∙ ap (λ x. after x ms) first.session ∙ sym (after-append s.session ls ms);
+  work = omega (
+    arith,
+    first.work,
+    second.work,
+    clocks-append s.session ls ms,
+    ap (λ x. clocks_over x ms) first.session,
+  );
+}
+
+pub answered_none : (bits : ℕ) (s : Stand) (a : Option (List ℕ)) (p : Option Bool) → Answered bits s s a a p p []
 answered_none bits s a p = record {
-  state = refl;
+  state = obeyed_none s;
   wrote = record { all = keeps a; end = record { taken = λ some. absurd (omega arith); idle = λ none. refl } };
 }
 
 -- first these lines, and then those
-pub answered_both : (bits : ℕ) (s t u : SessionView) (a b c : Option (List ℕ)) (p q r : Option Bool)
+pub answered_both : (bits : ℕ) (s t u : Stand) (a b c : Option (List ℕ)) (p q r : Option Bool)
     (ls ms : List (List ℕ))
     → Answered bits s t a b p q ls → Answered bits t u b c q r ms → Answered bits s u a c p r (ls ++ ms)
 answered_both bits s t u a b c p q r ls ms first second = record {
-  state = second.state ∙ ap (λ x. after x ms) first.state ∙ sym (after-append s ls ms);
-  wrote = rw (answers-append bits s ls ms, ← first.state) (takes_both a b c p q r (answers bits s ls)
-      (answers bits t ms) first.wrote second.wrote);
+  state = obeyed_both s t u ls ms first.state second.state;
+  wrote = rw (answers-append bits s.session ls ms, ← first.state.session)
+      (takes_both a b c p q r (answers bits s.session ls) (answers bits t.session ms) first.wrote second.wrote);
 }
 
-pub answered_until : (bits : ℕ) (s t u : SessionView) (a b c : Option (List ℕ)) (p q r : Option Bool)
+pub answered_until : (bits : ℕ) (s t u : Stand) (a b c : Option (List ℕ)) (p q r : Option Bool)
     (ls ms : List (List ℕ))
     → Answered bits s t a b p q ls → has_quit ls ≡ false → Answered bits t u b c q r (until_quit ms)
     → Answered bits s u a c p r (until_quit (ls ++ ms))
 answered_until bits s t u a b c p q r ls ms first quiet second =
     rw (until_then ls ms quiet) (answered_both bits s t u a b c p q r ls (until_quit ms) first second)
 
-pub broke_both : (bits : ℕ) (s t u : SessionView) (a b c : Option (List ℕ)) (p q r : Option Bool)
+pub broke_both : (bits : ℕ) (s t u : Stand) (a b c : Option (List ℕ)) (p q r : Option Bool)
     (ls ms : List (List ℕ))
     → Answered bits s t a b p q ls → Broke bits t u b c q r ms → Broke bits s u a c p r (ls ++ ms)
 broke_both bits s t u a b c p q r ls ms first second =
@@ -135,22 +162,21 @@ broke_both bits s t u a b c p q r ls ms first second =
     let t0 : take (length ls + k) (ls ++ ms) ≡ ls ++ take k ms = take-append-add ls ms k in
     let t1 : take (length ls + k + 1) (ls ++ ms) ≡ ls ++ take (k + 1) ms =
     rw add_assoc (take-append-add ls ms (k + 1)) in
-    let e0 = answers-append bits s ls (take k ms) in
-    let e1 = answers-append bits s ls (take (k + 1) ms) in
+    let e0 = answers-append bits s.session ls (take k ms) in
+    let e1 = answers-append bits s.session ls (take (k + 1) ms) in
     record {
       whole = length ls + k;
       within = omega (arith, length-append ls ms, second.within);
-      state = rw t1 (second.state ∙ ap (λ x. after x (take (k + 1) ms)) first.state
-          ∙ sym (after-append s ls (take (k + 1) ms)));
-      count = length (answers bits s ls) + second.count;
-      before = rw (t0, e0, ← first.state)
-          (omega (arith, length-append (answers bits s ls) (answers bits t (take k ms)), second.before));
-      wrote = rw (t1, e1, ← first.state)
-          (first_after a b c p q r (answers bits s ls) (answers bits t (take (k + 1) ms)) second.count first.wrote
+      state = rw t1 (obeyed_both s t u ls (take (k + 1) ms) first.state second.state);
+      count = length (answers bits s.session ls) + second.count;
+      before = rw (t0, e0, ← first.state.session)
+          (omega (arith, length-append (answers bits s.session ls) (answers bits t.session (take k ms)), second.before));
+      wrote = rw (t1, e1, ← first.state.session)
+          (first_after a b c p q r (answers bits s.session ls) (answers bits t.session (take (k + 1) ms)) second.count first.wrote
           second.wrote);
     }
 
-pub broke_more : (bits : ℕ) (s t : SessionView) (a b : Option (List ℕ)) (p q : Option Bool) (ls ms : List (List ℕ))
+pub broke_more : (bits : ℕ) (s t : Stand) (a b : Option (List ℕ)) (p q : Option Bool) (ls ms : List (List ℕ))
     → Broke bits s t a b p q ls → Broke bits s t a b p q (ls ++ ms)
 broke_more bits s t a b p q ls ms broke =
     let k = broke.whole in
@@ -165,14 +191,14 @@ broke_more bits s t a b p q ls ms broke =
       wrote = rw t1 broke.wrote;
     }
 
-pub broke_until : (bits : ℕ) (s t u : SessionView) (a b c : Option (List ℕ)) (p q r : Option Bool)
+pub broke_until : (bits : ℕ) (s t u : Stand) (a b c : Option (List ℕ)) (p q r : Option Bool)
     (ls ms : List (List ℕ))
     → Answered bits s t a b p q ls → has_quit ls ≡ false → Broke bits t u b c q r (until_quit ms)
     → Broke bits s u a c p r (until_quit (ls ++ ms))
 broke_until bits s t u a b c p q r ls ms first quiet second =
     rw (until_then ls ms quiet) (broke_both bits s t u a b c p q r ls (until_quit ms) first second)
 
-pub broke_until_more : (bits : ℕ) (s t : SessionView) (a b : Option (List ℕ)) (p q : Option Bool)
+pub broke_until_more : (bits : ℕ) (s t : Stand) (a b : Option (List ℕ)) (p q : Option Bool)
     (ls ms : List (List ℕ))
     → Broke bits s t a b p q (until_quit ls) → Broke bits s t a b p q (until_quit (ls ++ ms))
 broke_until_more bits s t a b p q ls ms broke =
@@ -180,20 +206,25 @@ broke_until_more bits s t a b p q ls ms broke =
     (if has_quit ls then [] else until_quit ms) broke)
 
 -- one line, answered or not
-pub answered_line : (bits : ℕ) (s t : SessionView) (a b : Option (List ℕ)) (p q : Option Bool) (l : List ℕ)
-    → t ≡ after_line s l → TakesAll a b p q (answer_line bits s l) → Answered bits s t a b p q (until_quit (l ∷ []))
-answered_line bits s t a b p q l is wrote =
-    rw (until_one l) (record { state = is; wrote = rw (append-nil (answer_line bits s l)) wrote })
+pub answered_line : (bits : ℕ) (s t : Stand) (a b : Option (List ℕ)) (p q : Option Bool) (l : List ℕ)
+    → t.session ≡ after_line s.session l → t.work ≤ s.work + line_clocks s.session l
+    → TakesAll a b p q (answer_line bits s.session l) → Answered bits s t a b p q (until_quit (l ∷ []))
+answered_line bits s t a b p q l is few wrote =
+    rw (until_one l) (record {
+      state = obeyed_one s t l is few;
+      wrote = rw (append-nil (answer_line bits s.session l)) wrote;
+    })
 
-pub broke_line : (bits : ℕ) (s t : SessionView) (a b : Option (List ℕ)) (p q : Option Bool) (l : List ℕ)
-    → t ≡ after_line s l → TakesFront a b p q (answer_line bits s l) → Broke bits s t a b p q (until_quit (l ∷ []))
-broke_line bits s t a b p q l is (n, wrote) = rw (until_one l) (record {
+pub broke_line : (bits : ℕ) (s t : Stand) (a b : Option (List ℕ)) (p q : Option Bool) (l : List ℕ)
+    → t.session ≡ after_line s.session l → t.work ≤ s.work + line_clocks s.session l
+    → TakesFront a b p q (answer_line bits s.session l) → Broke bits s t a b p q (until_quit (l ∷ []))
+broke_line bits s t a b p q l is few (n, wrote) = rw (until_one l) (record {
   whole = 0;
   within = omega arith;
-  state = is;
+  state = obeyed_one s t l is few;
   count = n;
   before = omega arith;
-  wrote = rw (append-nil (answer_line bits s l)) wrote;
+  wrote = rw (append-nil (answer_line bits s.session l)) wrote;
 })
 
 pub on_err : {T E : Type 0} (r : Result T E) (P : Type 0) → P → OnErr r P
@@ -224,6 +255,11 @@ pub answer_is : (bits : ℕ) (s t : SessionView) (l : List ℕ)
 unfolding answer_line
 answer_is bits s t l is = rw is refl
 
+clocks_are : (s : SessionView) (l : List ℕ) (m n : ℕ) → n ≤ m + most_clocks s.scene s.now (line_command l)
+    → n ≤ m + line_clocks s l
+unfolding line_clocks
+clocks_are s l m n few = few
+
 quit_of : (l : List ℕ) → is_quit l ≡ is_last (going (line_command l))
 unfolding is_quit
 quit_of l = refl
@@ -232,19 +268,23 @@ pub quit_is : (on : Going) (l : List ℕ) → on ≡ going (line_command l) → 
 quit_is on l is = rw is (sym (quit_one l ∙ quit_of l))
 
 -- a line given, whose answer was written or not
-pub given_answered : (bits : ℕ) (s t : SessionView) (a b : Option (List ℕ)) (p q : Option Bool) (l : List ℕ)
+pub given_answered : (bits : ℕ) (s t : SessionView) (m n : ℕ) (a b : Option (List ℕ)) (p q : Option Bool) (l : List ℕ)
     → t ≡ record { scene = s.scene; now = moved s.scene s.now (line_command l); lines = s.lines + 1 }
+    → n ≤ m + most_clocks s.scene s.now (line_command l)
     → TakesAll a b p q (answer bits t.scene t.now t.lines (line_command l))
-    → Answered bits s t a b p q (until_quit (l ∷ []))
-given_answered bits s t a b p q l is wrote =
-    answered_line bits s t a b p q l (state_is s t l is) (rw (answer_is bits s t l is) at wrote)
+    → Answered bits (stand s m) (stand t n) a b p q (until_quit (l ∷ []))
+given_answered bits s t m n a b p q l is few wrote =
+    answered_line bits (stand s m) (stand t n) a b p q l (state_is s t l is) (clocks_are s l m n few)
+    (rw (answer_is bits s t l is) at wrote)
 
-pub given_broke : (bits : ℕ) (s t : SessionView) (a b : Option (List ℕ)) (p q : Option Bool) (l : List ℕ)
+pub given_broke : (bits : ℕ) (s t : SessionView) (m n : ℕ) (a b : Option (List ℕ)) (p q : Option Bool) (l : List ℕ)
     → t ≡ record { scene = s.scene; now = moved s.scene s.now (line_command l); lines = s.lines + 1 }
+    → n ≤ m + most_clocks s.scene s.now (line_command l)
     → TakesFront a b p q (answer bits t.scene t.now t.lines (line_command l))
-    → Broke bits s t a b p q (until_quit (l ∷ []))
-given_broke bits s t a b p q l is wrote =
-    broke_line bits s t a b p q l (state_is s t l is) (rw (answer_is bits s t l is) at wrote)
+    → Broke bits (stand s m) (stand t n) a b p q (until_quit (l ∷ []))
+given_broke bits s t m n a b p q l is few wrote =
+    broke_line bits (stand s m) (stand t n) a b p q l (state_is s t l is) (clocks_are s l m n few)
+    (rw (answer_is bits s t l is) at wrote)
 
 -- what follows from what holds of an answer
 pub on_ok_by : {T E : Type 0} {P Q : Type 0} (r : Result T E) → OnOk r P → (P → Q) → OnOk r Q

@@ -7,11 +7,10 @@ use Rattle.std.proofs.lemmas.List.{map-append}
 use Rattle.px_io.specs.Told.{Tells}
 use Rattle.px_io.proofs.ToldLaws.{appends_kept, consumes_none}
 use Rattle.px_io.specs.Counts.{Rose}
-use Rattle.px_debug.specs.Moves.{SessionView}
 use Rattle.px_lines.specs.Lines.{all_lines, ended, last_of, left, whole_lines}
 use Rattle.px_session.specs.Buffers.{short_ended, short_left}
 use Rattle.px_session.specs.Servings.{Answered, Broken, Finished, Serves, seen}
-use Rattle.px_session.specs.Sessions.{answers, has_quit, until_quit}
+use Rattle.px_session.specs.Sessions.{Stand, answers, has_quit, until_quit}
 use Rattle.px_session.specs.Turns.{Broke, Ended, HasAnswered, HasStopped, Stopped, lines_at_end, seen_lines}
 use Rattle.px_session.specs.declared.serving.Ending.{Ending}
 use Rattle.px_session.specs.declared.serving.Ending.TheVariants as e
@@ -44,7 +43,7 @@ texts_of read more bytes =
       all = rw (whole, left-append [] read (seen more bytes)) (append_assoc (short_ended [] read) _ _);
     }
 
-pub stopped_both : (ending : Ending) (bits : ℕ) (read held : List ℕ) (more : ℕ) (s t u : SessionView)
+pub stopped_both : (ending : Ending) (bits : ℕ) (read held : List ℕ) (more : ℕ) (s t u : Stand)
     (x y a b c : Option (List ℕ)) (p q r : Option Bool)
     → Answered bits s t a b p q (until_quit (short_ended [] read)) → has_quit (short_ended [] read) ≡ false
     → held ≡ short_left [] read
@@ -112,7 +111,7 @@ nothing_seen : (read : List ℕ) (more : ℕ) → read ++ seen more [] ≡ read
 nothing_seen read more = rw (seen_none more) (append-nil read)
 
 -- a quit among the lines that were read before
-pub stopped_quit : (bits : ℕ) (read : List ℕ) (more : ℕ) (s t : SessionView) (x a b : Option (List ℕ))
+pub stopped_quit : (bits : ℕ) (read : List ℕ) (more : ℕ) (s t : Stand) (x a b : Option (List ℕ))
     (p q : Option Bool)
     → Answered bits s t a b p q (until_quit (short_ended [] read)) → has_quit (short_ended [] read) ≡ true
     → Stopped e.Quit bits read more s t x x a b p q
@@ -128,7 +127,7 @@ stopped_quit bits read more s t x a b p q answered quits = record {
 }
 
 -- a write that failed in an answer to them
-pub stopped_broke : (bits : ℕ) (read : List ℕ) (more : ℕ) (s t : SessionView) (x a b : Option (List ℕ))
+pub stopped_broke : (bits : ℕ) (read : List ℕ) (more : ℕ) (s t : Stand) (x a b : Option (List ℕ))
     (p q : Option Bool)
     → Broke bits s t a b p q (until_quit (short_ended [] read)) → Stopped e.WriteFault bits read more s t x x a b p q
 stopped_broke bits read more s t x a b p q broke = record {
@@ -140,19 +139,19 @@ stopped_broke bits read more s t x a b p q broke = record {
       (last_of (short_left [] read)) broke)));
 }
 
-finished : (bits : ℕ) (s t : SessionView) (a b c : Option (List ℕ)) (p q r : Option Bool) (ls : List (List ℕ))
+finished : (bits : ℕ) (s t : Stand) (a b c : Option (List ℕ)) (p q r : Option Bool) (ls : List (List ℕ))
     → Answered bits s t a b p q ls → Keeps b c → Tells r true → Finished bits s t a c r ls
 finished bits s t a b c p q r ls answered kept end = record {
   state = answered.state;
-  wrote = appends_kept a b c (answers bits s ls) answered.wrote.all kept;
+  wrote = appends_kept a b c (answers bits s.session ls) answered.wrote.all kept;
   end = end;
 }
 
 -- a write that failed in finishing
-broken_end : (bits : ℕ) (s t : SessionView) (a b c : Option (List ℕ)) (p q r : Option Bool) (ls : List (List ℕ))
+broken_end : (bits : ℕ) (s t : Stand) (a b c : Option (List ℕ)) (p q r : Option Bool) (ls : List (List ℕ))
     → Answered bits s t a b p q ls → Keeps b c → r ≡ q → Broken bits s t a c p r ls
 broken_end bits s t a b c p q r ls answered kept same =
-    let text = answers bits s ls in
+    let text = answers bits s.session ls in
     let all : take (length ls) ls ≡ ls = take_all (length ls) ls (omega arith) in
     record {
       count = length ls;
@@ -160,7 +159,7 @@ broken_end bits s t a b c p q r ls answered kept same =
       some = no_lines ls;
       state = rw all answered.state;
       gained = length text;
-      before = answers_grow bits s ls (length ls - 1);
+      before = answers_grow bits s.session ls (length ls - 1);
       wrote = rw all (record {
         within = omega arith;
         front = rw (take_all (length text) text (omega arith)) (appends_kept a b c text answered.wrote.all kept);
@@ -172,7 +171,7 @@ broken_end bits s t a b c p q r ls answered kept same =
     no_lines [] none = refl
     no_lines (l ∷ ls) none = absurd (omega arith)
 
-broken_in : (bits : ℕ) (s t : SessionView) (a b : Option (List ℕ)) (p q : Option Bool) (ls : List (List ℕ))
+broken_in : (bits : ℕ) (s t : Stand) (a b : Option (List ℕ)) (p q : Option Bool) (ls : List (List ℕ))
     → Broke bits s t a b p q ls → Broken bits s t a b p q ls
 broken_in bits s t a b p q ls broke =
     let whole : broke.whole + 1 - 1 ≡ broke.whole = omega arith in
@@ -191,7 +190,7 @@ abbrev pub Finishes : (ending result : Ending) (q r : Option Bool) (m n : ℕ) �
 Finishes ending result q r m n =
     (Tells r true × (result ≡ ending) × (n ≡ m)) ⊎ ((r ≡ q) × (result ≡ e.WriteFault) × Rose m n)
 
-pub served_quit : (result : Ending) (bits : ℕ) (read : List ℕ) (more : ℕ) (s t : SessionView)
+pub served_quit : (result : Ending) (bits : ℕ) (read : List ℕ) (more : ℕ) (s t : Stand)
     (x y a b c : Option (List ℕ)) (p q r : Option Bool) (m n : ℕ)
     → Stopped e.Quit bits read more s t x y a b p q → Keeps b c → Finishes e.Quit result q r m n
     → Serves result bits read more s t x y a c p r
@@ -211,7 +210,7 @@ served_quit result bits read more s t x y a b c p q r m n stopped kept (inr (sam
       (broken_end bits s t a b c p q r _ stopped.stopped.0 kept same);
 })
 
-pub served_end : (result : Ending) (bits : ℕ) (read : List ℕ) (more : ℕ) (s t : SessionView)
+pub served_end : (result : Ending) (bits : ℕ) (read : List ℕ) (more : ℕ) (s t : Stand)
     (x y a b c : Option (List ℕ)) (p q r : Option Bool) (m n : ℕ)
     → Stopped e.End bits read more s t x y a b p q → Keeps b c → Finishes e.End result q r m n
     → Serves result bits read more s t x y a c p r
@@ -234,7 +233,7 @@ served_end result bits read more s t x y a b c p q r m n stopped kept (inr (same
 })
 
 -- without finishing
-pub served_as : (ending : Ending) (bits : ℕ) (read : List ℕ) (more : ℕ) (s t : SessionView)
+pub served_as : (ending : Ending) (bits : ℕ) (read : List ℕ) (more : ℕ) (s t : Stand)
     (x y a b : Option (List ℕ)) (p q : Option Bool)
     → ending ≢ e.Quit → ending ≢ e.End → Stopped ending bits read more s t x y a b p q
     → Serves ending bits read more s t x y a b p q
@@ -254,7 +253,7 @@ served_as e.WriteFault bits read more s t x y a b p q not_quit not_end stopped =
     }
 
 -- the same, where the buffer was empty before
-pub begun_both : (ending : Ending) (bits : ℕ) (start read held : List ℕ) (more : ℕ) (s t u : SessionView)
+pub begun_both : (ending : Ending) (bits : ℕ) (start read held : List ℕ) (more : ℕ) (s t u : Stand)
     (x y a b c : Option (List ℕ)) (p q r : Option Bool)
     → start ≡ [] → Answered bits s t a b p q (until_quit (short_ended start read))
     → has_quit (short_ended start read) ≡ false
@@ -264,7 +263,7 @@ begun_both ending bits start read held more s t u x y a b c p q r none first qui
     stopped_both ending bits read held more s t u x y a b c p q r (rw none at first) (rw none at quiet)
     (rw none at is) last
 
-pub begun_quit : (bits : ℕ) (start read : List ℕ) (more : ℕ) (s t : SessionView) (x a b : Option (List ℕ))
+pub begun_quit : (bits : ℕ) (start read : List ℕ) (more : ℕ) (s t : Stand) (x a b : Option (List ℕ))
     (p q : Option Bool)
     → start ≡ [] → Answered bits s t a b p q (until_quit (short_ended start read))
     → has_quit (short_ended start read) ≡ true
@@ -272,7 +271,7 @@ pub begun_quit : (bits : ℕ) (start read : List ℕ) (more : ℕ) (s t : Sessio
 begun_quit bits start read more s t x a b p q none answered quits =
     stopped_quit bits read more s t x a b p q (rw none at answered) (rw none at quits)
 
-pub begun_broke : (bits : ℕ) (start read : List ℕ) (more : ℕ) (s t : SessionView) (x a b : Option (List ℕ))
+pub begun_broke : (bits : ℕ) (start read : List ℕ) (more : ℕ) (s t : Stand) (x a b : Option (List ℕ))
     (p q : Option Bool)
     → start ≡ [] → Broke bits s t a b p q (until_quit (short_ended start read)) → Stopped e.WriteFault bits read more
     s t x x a b p q

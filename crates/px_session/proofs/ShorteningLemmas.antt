@@ -1,6 +1,6 @@
 -- A line's first 256 bytes say what the line says.
 use Rattle.std.proofs.Common.{◌≡◌, ℕ, ◌+◌, Bool, true, false, ◌==◌, List, [], ◌∷◌, ◌++◌, Option, length}
-use Rattle.std.proofs.Common.{take, map, refl, sym, ap, ◌∙◌, inl, inr, length-append, length-take, arith}
+use Rattle.std.proofs.Common.{take, map, refl, sym, ap, ◌∙◌, ◌≤◌, inl, inr, length-append, length-take, arith}
 use Rattle.std.proofs.Common.{if◌then◌else◌}
 use Rattle.std.proofs.lemmas.Bool.{cases_lt}
 use Rattle.std.proofs.lemmas.List.{length-map, take_all, take-append-le, take-map}
@@ -11,7 +11,8 @@ use Rattle.px_lines.specs.Lines.{ended, last_of, left}
 use Rattle.px_session.specs.Buffers.{held_with, short_ended, short_left}
 use Rattle.px_session.specs.Servings.{Answered}
 use Rattle.px_session.specs.Turns.{Broke}
-use Rattle.px_session.specs.Sessions.{after, after_line, answer_line, answers, has_quit, is_quit, until_quit}
+use Rattle.px_session.specs.Sessions.{Obeyed, Stand, after, after_line, answer_line, answers, clocks_over, has_quit}
+use Rattle.px_session.specs.Sessions.{is_quit, line_clocks, until_quit}
 
 abbrev pub short : List ℕ → List ℕ
 short line = take 256 line
@@ -86,25 +87,42 @@ until_short (l ∷ ls) =
     ≡ map short (l ∷ (if t then [] else until_quit ls)))
     [ true ↦ refl | false ↦ ap (λ ks. short l ∷ ks) (until_short ls) ])
 
-pub answered_short : (bits : ℕ) (s t : SessionView) (a b : Option (List ℕ)) (p q : Option Bool) (ls : List (List ℕ))
-    → Answered bits s t a b p q (map short ls) → Answered bits s t a b p q ls
-answered_short bits s t a b p q ls answered = record {
-  state = answered.state ∙ after_short s ls;
-  wrote = rw (← answers_short bits s ls) answered.wrote;
+clocks_short : (s : SessionView) (l : List ℕ) → line_clocks s (short l) ≡ line_clocks s l
+unfolding line_clocks
+clocks_short s l = rw (command_short l) refl
+
+over_short : (s : SessionView) (ls : List (List ℕ)) → clocks_over s (map short ls) ≡ clocks_over s ls
+over_short s [] = refl
+over_short s (l ∷ ls) =
+    ap (λ x. line_clocks s (short l) + clocks_over x (map short ls)) (line_short s l)
+    ∙ ap (λ n. n + clocks_over (after_line s l) (map short ls)) (clocks_short s l)
+    ∙ ap (λ n. line_clocks s l + n) (over_short (after_line s l) ls)
+
+obeyed_short : (s t : Stand) (ls : List (List ℕ)) → Obeyed s t (map short ls) → Obeyed s t ls
+obeyed_short s t ls obeyed = record {
+  session = obeyed.session ∙ after_short s.session ls;
+  work = omega (arith, obeyed.work, over_short s.session ls);
 }
 
-pub broke_short : (bits : ℕ) (s t : SessionView) (a b : Option (List ℕ)) (p q : Option Bool) (ls : List (List ℕ))
+pub answered_short : (bits : ℕ) (s t : Stand) (a b : Option (List ℕ)) (p q : Option Bool) (ls : List (List ℕ))
+    → Answered bits s t a b p q (map short ls) → Answered bits s t a b p q ls
+answered_short bits s t a b p q ls answered = record {
+  state = obeyed_short s t ls answered.state;
+  wrote = rw (← answers_short bits s.session ls) answered.wrote;
+}
+
+pub broke_short : (bits : ℕ) (s t : Stand) (a b : Option (List ℕ)) (p q : Option Bool) (ls : List (List ℕ))
     → Broke bits s t a b p q (map short ls) → Broke bits s t a b p q ls
 broke_short bits s t a b p q ls broke =
     let k = broke.whole in
-    let first : answers bits s (take k (map short ls)) ≡ answers bits s (take k ls) =
-    ap (λ ks. answers bits s ks) (take-map short k ls) ∙ answers_short bits s (take k ls) in
-    let more : answers bits s (take (k + 1) (map short ls)) ≡ answers bits s (take (k + 1) ls) =
-    ap (λ ks. answers bits s ks) (take-map short (k + 1) ls) ∙ answers_short bits s (take (k + 1) ls) in
+    let first : answers bits s.session (take k (map short ls)) ≡ answers bits s.session (take k ls) =
+    ap (λ ks. answers bits s.session ks) (take-map short k ls) ∙ answers_short bits s.session (take k ls) in
+    let more : answers bits s.session (take (k + 1) (map short ls)) ≡ answers bits s.session (take (k + 1) ls) =
+    ap (λ ks. answers bits s.session ks) (take-map short (k + 1) ls) ∙ answers_short bits s.session (take (k + 1) ls) in
     record {
       whole = k;
       within = omega (arith, broke.within, length-map ls short);
-      state = broke.state ∙ ap (λ ks. after s ks) (take-map short (k + 1) ls) ∙ after_short s (take (k + 1) ls);
+      state = obeyed_short s t (take (k + 1) ls) (rw (take-map short (k + 1) ls) at broke.state);
       count = broke.count;
       before = rw first at broke.before;
       wrote = rw more at broke.wrote;

@@ -5,11 +5,10 @@ use Rattle.std.specs.Io.KnownBytes.{Consumes, Keeps}
 use Rattle.std.proofs.Math.Seq.{take-append-add}
 use Rattle.std.proofs.lemmas.List.{take_all, take_min, length-take, take-take, take-append-le as take_within}
 use Rattle.px_io.proofs.ToldLaws.{consumes_both, consumes_kept, consumes_none}
-use Rattle.px_debug.specs.Moves.{SessionView}
 use Rattle.px_lines.specs.Lines.{last_of}
 use Rattle.px_session.specs.Buffers.{short_ended, short_left}
 use Rattle.px_session.specs.Servings.{Answered, seen}
-use Rattle.px_session.specs.Sessions.{has_quit, until_quit}
+use Rattle.px_session.specs.Sessions.{Stand, has_quit, until_quit}
 use Rattle.px_session.specs.Turns.{Broke, Ended, HasAnswered, Went, lines_at_end, seen_left, seen_lines}
 use Rattle.px_session.specs.declared.serving.Ending.{Ending}
 use Rattle.px_session.specs.declared.serving.Ending.TheVariants as e
@@ -27,7 +26,7 @@ seen_all limit xs some = take_all (limit - 1) xs (omega arith)
 pub seen_none : (limit : ℕ) → seen limit [] ≡ []
 seen_none limit = take_all (limit - 1) [] (omega arith)
 
-pub went_none : (limit bits : ℕ) (held : List ℕ) (s : SessionView) (rest a : Option (List ℕ)) (p : Option Bool)
+pub went_none : (limit bits : ℕ) (held : List ℕ) (s : Stand) (rest a : Option (List ℕ)) (p : Option Bool)
     → Went limit 0 bits held held s s rest rest a a p p
 went_none limit bits held s rest a p =
     let none = seen_none limit in
@@ -53,7 +52,7 @@ left_both : (limit m : ℕ) (held held' xs ys : List ℕ) → length xs < limit 
 left_both limit m held held' xs ys some left kept =
     rw (seen_both limit xs ys some, left-append, kept, seen_all limit xs some, left) refl
 
-pub went_both : (limit n k c m bits : ℕ) (h h' h'' : List ℕ) (s t u : SessionView) (x y z a b c' : Option (List ℕ))
+pub went_both : (limit n k c m bits : ℕ) (h h' h'' : List ℕ) (s t u : Stand) (x y z a b c' : Option (List ℕ))
     (p q r : Option Bool)
     → n < limit → c ≡ n + k → m ≡ limit - n
     → Went limit n bits h h' s t x y a b p q → Went m k bits h' h'' t u y z b c' q r
@@ -89,7 +88,7 @@ lines_of limit m h h' xs ys some left kept =
 
 abbrev Both : Ending → Type 0
 Both ending =
-    (limit m bits : ℕ) (h h' xs ys : List ℕ) (s t u : SessionView) (rest a b c : Option (List ℕ)) (p q r : Option Bool)
+    (limit m bits : ℕ) (h h' xs ys : List ℕ) (s t u : Stand) (rest a b c : Option (List ℕ)) (p q r : Option Bool)
     → length xs < limit → m ≡ limit - length xs → h' ≡ seen_left limit h xs
     → Answered bits s t a b p q (seen_lines limit h xs) → has_quit (seen_lines limit h xs) ≡ false
     → HasAnswered ending m bits h' ys t u rest b c q r → HasAnswered ending limit bits h (xs ++ ys) s u rest a c p r
@@ -122,7 +121,7 @@ both_answered e.WriteFault limit m bits h h' xs ys s t u rest a b c p q r some l
     let lines = lines_of limit m h h' xs ys some left kept in
     rw lines.all (broke_until bits s t u a b c p q r _ _ first quiet second)
 
-pub ended_both : (ending : Ending) (limit n m bits : ℕ) (h h' : List ℕ) (s t u : SessionView)
+pub ended_both : (ending : Ending) (limit n m bits : ℕ) (h h' : List ℕ) (s t u : Stand)
     (x y z a b c : Option (List ℕ)) (p q r : Option Bool)
     → n < limit → m ≡ limit - n → Went limit n bits h h' s t x y a b p q → Ended ending m bits h' t u y z b c q r
     → Ended ending limit bits h s u x z a c p r
@@ -147,7 +146,7 @@ seen_read limit n k buf ys within is =
     let whole : take k t ≡ take (limit - 1) t = rw m at (take_min (limit - 1) t) in
     take_within k buf ys (omega arith) ∙ sym (take-take k n buf (omega arith)) ∙ whole
 
-pub ended_broke : (limit bits : ℕ) (h bytes fed : List ℕ) (s t : SessionView) (x y a b : Option (List ℕ))
+pub ended_broke : (limit bits : ℕ) (h bytes fed : List ℕ) (s t : Stand) (x y a b : Option (List ℕ))
     (p q : Option Bool)
     → length bytes ≤ limit → Consumes x y bytes → fed ≡ seen limit bytes
     → Broke bits s t a b p q (until_quit (short_ended h fed)) → Ended e.WriteFault limit bits h s t x y a b p q
@@ -160,7 +159,7 @@ ended_broke limit bits h bytes fed s t x y a b p q few taken is broke = record {
 }
 
 -- a read failed
-pub ended_fault : (limit bits : ℕ) (h : List ℕ) (s : SessionView) (x y a : Option (List ℕ)) (p : Option Bool)
+pub ended_fault : (limit bits : ℕ) (h : List ℕ) (s : Stand) (x y a : Option (List ℕ)) (p : Option Bool)
     → Keeps x y
     → Ended e.ReadFault limit bits h s s x y a a p p
 ended_fault limit bits h s x y a p kept =
@@ -173,7 +172,7 @@ ended_fault limit bits h s x y a p kept =
     }
 
 -- bytes were read and fed
-pub went_fed : (limit n bits : ℕ) (h h' buf fed : List ℕ) (s t : SessionView) (x y a b : Option (List ℕ))
+pub went_fed : (limit n bits : ℕ) (h h' buf fed : List ℕ) (s t : Stand) (x y a b : Option (List ℕ))
     (p q : Option Bool)
     → n ≤ length buf → Consumes x y (take n buf) → fed ≡ seen limit (take n buf)
     → Answered bits s t a b p q (until_quit (short_ended h fed)) → has_quit (short_ended h fed) ≡ false
@@ -188,7 +187,7 @@ went_fed limit n bits h h' buf fed s t x y a b p q within taken is answered quie
   kept = rw (← is) kept;
 }
 
-pub ended_quit : (limit n bits : ℕ) (h buf fed : List ℕ) (s t : SessionView) (x y a b : Option (List ℕ))
+pub ended_quit : (limit n bits : ℕ) (h buf fed : List ℕ) (s t : Stand) (x y a b : Option (List ℕ))
     (p q : Option Bool)
     → n ≤ length buf → n ≤ limit → Consumes x y (take n buf) → fed ≡ seen limit (take n buf)
     → Answered bits s t a b p q (until_quit (short_ended h fed)) → has_quit (short_ended h fed) ≡ true

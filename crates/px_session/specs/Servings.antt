@@ -3,43 +3,42 @@ use Rattle.std.specs.Prelude.{◌≡◌, ℕ, ◌-◌, ◌<◌, ◌≤◌, Bool,
 use Rattle.std.specs.Io.KnownBytes.{Appends, Consumes, IsAtEnd}
 use Rattle.px_io.specs.Counts.{Rose}
 use Rattle.px_io.specs.Told.{TakesAll, TakesFirst, Tells}
-use Rattle.px_debug.specs.Moves.{SessionView}
 use Rattle.px_lines.specs.Lines.{all_lines, whole_lines}
-use Rattle.px_session.specs.Sessions.{after, answers, has_quit, until_quit}
+use Rattle.px_session.specs.Sessions.{Obeyed, Stand, answers, has_quit, until_quit}
 use Rattle.px_session.specs.declared.serving.Ending.{Ending}
 use Rattle.px_session.specs.declared.serving.Ending.TheVariants as e
 
 -- all of the lines were obeyed and answered
-pub record Answered (bits : ℕ) (from now : SessionView) (written_old written_new : Option (List ℕ))
+pub record Answered (bits : ℕ) (from now : Stand) (written_old written_new : Option (List ℕ))
     (finished_old finished_new : Option Bool) (lines : List (List ℕ)) : Type 0 where
-  pub state : now ≡ after from lines
-  pub wrote : TakesAll written_old written_new finished_old finished_new (answers bits from lines)
+  pub state : Obeyed from now lines
+  pub wrote : TakesAll written_old written_new finished_old finished_new (answers bits from.session lines)
 
 -- and then the output was finished
-pub record Finished (bits : ℕ) (from now : SessionView) (written_old written_new : Option (List ℕ))
+pub record Finished (bits : ℕ) (from now : Stand) (written_old written_new : Option (List ℕ))
     (finished_new : Option Bool) (lines : List (List ℕ)) : Type 0 where
-  pub state : now ≡ after from lines
-  pub wrote : Appends written_old written_new (answers bits from lines)
+  pub state : Obeyed from now lines
+  pub wrote : Appends written_old written_new (answers bits from.session lines)
   pub end : Tells finished_new true
 
 -- a write failed in the answer to one of the lines, or in finishing behind the last: so many lines were obeyed, of whose
 -- answers a front was written, with all answers but the last in it
-pub record Broken (bits : ℕ) (from now : SessionView) (written_old written_new : Option (List ℕ))
+pub record Broken (bits : ℕ) (from now : Stand) (written_old written_new : Option (List ℕ))
     (finished_old finished_new : Option Bool) (lines : List (List ℕ)) : Type 0 where
   pub count : ℕ
   pub within : count ≤ length lines
   pub some : count ≡ 0 → lines ≡ []
-  pub state : now ≡ after from (take count lines)
+  pub state : Obeyed from now (take count lines)
   pub gained : ℕ
-  pub before : length (answers bits from (take (count - 1) lines)) ≤ gained
-  pub wrote : TakesFirst gained written_old written_new finished_old finished_new (answers bits from (take count lines))
+  pub before : length (answers bits from.session (take (count - 1) lines)) ≤ gained
+  pub wrote : TakesFirst gained written_old written_new finished_old finished_new (answers bits from.session (take count lines))
 
 -- of so many bytes that may yet be read the last is only to be told
 abbrev pub seen : (more : ℕ) → List ℕ → List ℕ
 seen more bytes = take (more - 1) bytes
 
 -- what was answered, by how it ended: `text` is all that was seen, and `bytes` what was read of it here
-abbrev pub HasServed : Ending → (bits : ℕ) → (from now : SessionView) → (written_old written_new : Option (List ℕ))
+abbrev pub HasServed : Ending → (bits : ℕ) → (from now : Stand) → (written_old written_new : Option (List ℕ))
     → (finished_old finished_new : Option Bool) → (text bytes : List ℕ) → (more : ℕ) → (rest : Option (List ℕ)) → Type 0
 HasServed e.Quit bits from now written_old written_new finished_old finished_new text bytes more rest =
     Finished bits from now written_old written_new finished_new (until_quit (whole_lines text))
@@ -57,7 +56,7 @@ HasServed e.WriteFault bits from now written_old written_new finished_old finish
     Broken bits from now written_old written_new finished_old finished_new (until_quit (all_lines text))
 
 -- some bytes were read before, and more of the input here: the lines of both were answered
-pub record Serves (ending : Ending) (bits : ℕ) (read : List ℕ) (more : ℕ) (from now : SessionView)
+pub record Serves (ending : Ending) (bits : ℕ) (read : List ℕ) (more : ℕ) (from now : Stand)
     (rest_old rest_new : Option (List ℕ)) (written_old written_new : Option (List ℕ))
     (finished_old finished_new : Option Bool) : Type 0 where
   pub bytes : List ℕ

@@ -1,9 +1,9 @@
 -- A session over lines, one after another. Clauses of public calls stand on it.
-use Rattle.std.specs.Prelude.{ℕ, ◌+◌, List, [], ◌∷◌, ◌++◌, Bool, true, false, ◌||◌, if◌then◌else◌}
+use Rattle.std.specs.Prelude.{◌≡◌, ℕ, ◌+◌, ◌≤◌, List, [], ◌∷◌, ◌++◌, Bool, true, false, ◌||◌, if◌then◌else◌}
 use Rattle.px_model.specs.Scenes.{SceneView}
 use Rattle.px_debug.specs.Answers.{answer}
 use Rattle.px_debug.specs.Commands.{line_command}
-use Rattle.px_debug.specs.Moves.{SessionView, going, moved}
+use Rattle.px_debug.specs.Moves.{SessionView, going, most_clocks, moved}
 use Rattle.px_debug.specs.declared.session.Going.{Going}
 use Rattle.px_debug.specs.declared.session.Going.TheVariants as g
 
@@ -37,6 +37,10 @@ abbrev pub until_quit : List (List ℕ) → List (List ℕ)
 until_quit [] = []
 until_quit (line ∷ lines) = line ∷ (if is_quit line then [] else until_quit lines)
 
+-- the most clocks that a line makes
+unfoldable pub line_clocks : SessionView → (line : List ℕ) → ℕ
+line_clocks s line = most_clocks s.scene s.now (line_command line)
+
 -- where a session stands after all of the lines
 abbrev pub after : SessionView → List (List ℕ) → SessionView
 after s [] = s
@@ -46,3 +50,21 @@ after s (line ∷ lines) = after (after_line s line) lines
 abbrev pub answers : (bits : ℕ) → SessionView → List (List ℕ) → List ℕ
 answers bits s [] = []
 answers bits s (line ∷ lines) = answer_line bits s line ++ answers bits (after_line s line) lines
+
+-- the most clocks that they make
+abbrev pub clocks_over : SessionView → List (List ℕ) → ℕ
+clocks_over s [] = 0
+clocks_over s (line ∷ lines) = line_clocks s line + clocks_over (after_line s line) lines
+
+-- a session, and the work of the array that it is lent
+pub record Stand : Type 0 where
+  pub session : SessionView
+  pub work : ℕ
+
+abbrev pub stand : SessionView → (work : ℕ) → Stand
+stand session work = record { session = session; work = work }
+
+-- all of the lines were obeyed, and the work grew by at most the clocks that they make
+pub record Obeyed (from now : Stand) (lines : List (List ℕ)) : Type 0 where
+  pub session : now.session ≡ after from.session lines
+  pub work : now.work ≤ from.work + clocks_over from.session lines

@@ -2,24 +2,23 @@
 use Rattle.std.specs.Prelude.{◌≡◌, ℕ, ◌+◌, ◌<◌, ◌≤◌, Bool, true, false, List, ◌++◌, Option, length, take}
 use Rattle.std.specs.Io.KnownBytes.{Consumes, IsAtEnd}
 use Rattle.px_io.specs.Told.{TakesFirst}
-use Rattle.px_debug.specs.Moves.{SessionView}
 use Rattle.px_lines.specs.Lines.{all_lines, last_of, whole_lines}
 use Rattle.px_session.specs.Buffers.{short_ended, short_left}
 use Rattle.px_session.specs.Servings.{Answered, seen}
-use Rattle.px_session.specs.Sessions.{after, answers, has_quit, until_quit}
+use Rattle.px_session.specs.Sessions.{Obeyed, Stand, answers, has_quit, until_quit}
 use Rattle.px_session.specs.declared.serving.Ending.{Ending}
 use Rattle.px_session.specs.declared.serving.Ending.TheVariants as e
 
 -- so many lines were answered whole, and one more was obeyed, in whose answer a write failed
-pub record Broke (bits : ℕ) (from now : SessionView) (written_old written_new : Option (List ℕ))
+pub record Broke (bits : ℕ) (from now : Stand) (written_old written_new : Option (List ℕ))
     (finished_old finished_new : Option Bool) (lines : List (List ℕ)) : Type 0 where
   pub whole : ℕ
   pub within : whole < length lines
-  pub state : now ≡ after from (take (whole + 1) lines)
+  pub state : Obeyed from now (take (whole + 1) lines)
   pub count : ℕ
-  pub before : length (answers bits from (take whole lines)) ≤ count
+  pub before : length (answers bits from.session (take whole lines)) ≤ count
   pub wrote : TakesFirst count written_old written_new finished_old finished_new
-      (answers bits from (take (whole + 1) lines))
+      (answers bits from.session (take (whole + 1) lines))
 
 -- the lines that are ended by what is seen of bytes, and what is then held
 abbrev pub seen_lines : (more : ℕ) → (held bytes : List ℕ) → List (List ℕ)
@@ -33,7 +32,7 @@ abbrev pub lines_at_end : (more : ℕ) → (held bytes : List ℕ) → List (Lis
 lines_at_end more held bytes = seen_lines more held bytes ++ last_of (seen_left more held bytes)
 
 -- so many bytes were read, and their lines answered, none of which is a `quit`
-pub record Went (more count : ℕ) (bits : ℕ) (held_old held_new : List ℕ) (from now : SessionView)
+pub record Went (more count : ℕ) (bits : ℕ) (held_old held_new : List ℕ) (from now : Stand)
     (rest_old rest_new : Option (List ℕ)) (written_old written_new : Option (List ℕ))
     (finished_old finished_new : Option Bool) : Type 0 where
   pub bytes : List ℕ
@@ -44,7 +43,7 @@ pub record Went (more count : ℕ) (bits : ℕ) (held_old held_new : List ℕ) (
   pub kept : held_new ≡ seen_left more held_old bytes
 
 -- what was answered, by how it ended
-abbrev pub HasAnswered : Ending → (more : ℕ) → (bits : ℕ) → (held bytes : List ℕ) → (from now : SessionView)
+abbrev pub HasAnswered : Ending → (more : ℕ) → (bits : ℕ) → (held bytes : List ℕ) → (from now : Stand)
     → (rest : Option (List ℕ)) → (written_old written_new : Option (List ℕ)) → (finished_old finished_new : Option Bool) → Type 0
 HasAnswered e.Quit more bits held bytes from now rest written_old written_new finished_old finished_new =
     Answered bits from now written_old written_new finished_old finished_new (until_quit (seen_lines more held bytes))
@@ -62,7 +61,7 @@ HasAnswered e.WriteFault more bits held bytes from now rest written_old written_
     Broke bits from now written_old written_new finished_old finished_new (until_quit (lines_at_end more held bytes))
 
 -- it ended, and the lines were answered
-pub record Ended (ending : Ending) (more : ℕ) (bits : ℕ) (held : List ℕ) (from now : SessionView)
+pub record Ended (ending : Ending) (more : ℕ) (bits : ℕ) (held : List ℕ) (from now : Stand)
     (rest_old rest_new : Option (List ℕ)) (written_old written_new : Option (List ℕ))
     (finished_old finished_new : Option Bool) : Type 0 where
   pub bytes : List ℕ
@@ -71,7 +70,7 @@ pub record Ended (ending : Ending) (more : ℕ) (bits : ℕ) (held : List ℕ) (
   pub answered : HasAnswered ending more bits held bytes from now rest_new written_old written_new finished_old finished_new
 
 -- what was answered before the output is finished, by how it ended: `text` is all that was seen, and `bytes` what was read here
-abbrev pub HasStopped : Ending → (bits : ℕ) → (from now : SessionView) → (written_old written_new : Option (List ℕ))
+abbrev pub HasStopped : Ending → (bits : ℕ) → (from now : Stand) → (written_old written_new : Option (List ℕ))
     → (finished_old finished_new : Option Bool) → (text bytes : List ℕ) → (more : ℕ) → (rest : Option (List ℕ)) → Type 0
 HasStopped e.Quit bits from now written_old written_new finished_old finished_new text bytes more rest =
     Answered bits from now written_old written_new finished_old finished_new (until_quit (whole_lines text))
@@ -89,7 +88,7 @@ HasStopped e.WriteFault bits from now written_old written_new finished_old finis
     Broke bits from now written_old written_new finished_old finished_new (until_quit (all_lines text))
 
 -- some bytes were read before, and more of the input here: the lines of both were answered
-pub record Stopped (ending : Ending) (bits : ℕ) (read : List ℕ) (more : ℕ) (from now : SessionView)
+pub record Stopped (ending : Ending) (bits : ℕ) (read : List ℕ) (more : ℕ) (from now : Stand)
     (rest_old rest_new : Option (List ℕ)) (written_old written_new : Option (List ℕ))
     (finished_old finished_new : Option Bool) : Type 0 where
   pub bytes : List ℕ

@@ -5,11 +5,11 @@ ghost use Rattle.px_debug.specs.Moves.{Fits};
 ghost use Rattle.px_lines.specs.Lines.{last_of};
 ghost use Rattle.px_session.specs.Buffers.{held_with, short_ended, short_left};
 ghost use Rattle.px_session.specs.Servings.{Answered};
-ghost use Rattle.px_session.specs.Sessions.{has_quit, is_last, until_quit};
+ghost use Rattle.px_session.specs.Sessions.{has_quit, is_last, stand, until_quit};
 ghost use Rattle.px_session.specs.Turns.{Broke};
 
 use arrayvec::ArrayVec;
-use px_array::Array;
+use px_asm::Operating;
 use px_debug::{Going, Session};
 use px_io::{Failed, Sink};
 
@@ -26,7 +26,7 @@ fn keep(held: &mut Line, byte: u8)
 }
 
 /// Gives a line to a session.
-fn give<A: Array, O: Sink>(
+fn give<A: Operating, O: Sink>(
     session: &mut Session<'_>,
     array: &mut A,
     line: &[u8],
@@ -35,11 +35,13 @@ fn give<A: Array, O: Sink>(
     requires fits { Fits A.BITS session.old (A.device array.old) (A.slots array.old) }
     requires counted { session.old.lines < 2 ^ 64 - 1 }
     ensures fits { Fits A.BITS session.new (A.device array.new) (A.slots array.new) }
-    ensures ok { OnOk result (Answered A.BITS session.old session.new
+    ensures ok { OnOk result (Answered A.BITS
+        (stand session.old (A.work array.old)) (stand session.new (A.work array.new))
         (O.written out.old) (O.written out.new) (O.finished out.old) (O.finished out.new)
         (until_quit (line.now ∷ []))) }
     ensures going { IfOk result (λ on. is_last on ≡ has_quit (line.now ∷ [])) }
-    ensures err { OnErr result (Broke A.BITS session.old session.new
+    ensures err { OnErr result (Broke A.BITS
+        (stand session.old (A.work array.old)) (stand session.new (A.work array.new))
         (O.written out.old) (O.written out.new) (O.finished out.old) (O.finished out.new)
         (until_quit (line.now ∷ []))) }
     ensures count { session.new.lines ≡ session.old.lines + 1 }
@@ -49,7 +51,7 @@ fn give<A: Array, O: Sink>(
 }
 
 /// A byte: the end of a line has the line answered, and any other is held.
-fn take_byte<A: Array, O: Sink>(
+fn take_byte<A: Operating, O: Sink>(
     session: &mut Session<'_>,
     held: &mut Line,
     array: &mut A,
@@ -59,13 +61,15 @@ fn take_byte<A: Array, O: Sink>(
     requires fits { Fits A.BITS session.old (A.device array.old) (A.slots array.old) }
     requires counted { session.old.lines < 2 ^ 64 - 1 }
     ensures fits { Fits A.BITS session.new (A.device array.new) (A.slots array.new) }
-    ensures ok { OnOk result (Answered A.BITS session.old session.new
+    ensures ok { OnOk result (Answered A.BITS
+        (stand session.old (A.work array.old)) (stand session.new (A.work array.new))
         (O.written out.old) (O.written out.new) (O.finished out.old) (O.finished out.new)
         (until_quit (short_ended held.old.items (byte ∷ [])))) }
     ensures going { IfOk result (λ on.
         is_last on ≡ has_quit (short_ended held.old.items (byte ∷ []))) }
     ensures held { OnOk result (held.new.items ≡ short_left held.old.items (byte ∷ [])) }
-    ensures err { OnErr result (Broke A.BITS session.old session.new
+    ensures err { OnErr result (Broke A.BITS
+        (stand session.old (A.work array.old)) (stand session.new (A.work array.new))
         (O.written out.old) (O.written out.new) (O.finished out.old) (O.finished out.new)
         (until_quit (short_ended held.old.items (byte ∷ [])))) }
     ensures count { session.new.lines ≤ session.old.lines + 1 }
@@ -82,7 +86,7 @@ fn take_byte<A: Array, O: Sink>(
 }
 
 /// Has each line answered that the bytes end, up to a `quit`.
-pub(crate) fn feed<A: Array, O: Sink>(
+pub(crate) fn feed<A: Operating, O: Sink>(
     session: &mut Session<'_>,
     held: &mut Line,
     array: &mut A,
@@ -92,13 +96,15 @@ pub(crate) fn feed<A: Array, O: Sink>(
     requires fits { Fits A.BITS session.old (A.device array.old) (A.slots array.old) }
     requires counted { session.old.lines + length bytes.now < 2 ^ 64 - 1 }
     ensures fits { Fits A.BITS session.new (A.device array.new) (A.slots array.new) }
-    ensures ok { OnOk result (Answered A.BITS session.old session.new
+    ensures ok { OnOk result (Answered A.BITS
+        (stand session.old (A.work array.old)) (stand session.new (A.work array.new))
         (O.written out.old) (O.written out.new) (O.finished out.old) (O.finished out.new)
         (until_quit (short_ended held.old.items bytes.now))) }
     ensures going { IfOk result (λ on. is_last on ≡ has_quit (short_ended held.old.items bytes.now)) }
     ensures held { IfOk result (λ on. on ≡ Going.More →
         held.new.items ≡ short_left held.old.items bytes.now) }
-    ensures err { OnErr result (Broke A.BITS session.old session.new
+    ensures err { OnErr result (Broke A.BITS
+        (stand session.old (A.work array.old)) (stand session.new (A.work array.new))
         (O.written out.old) (O.written out.new) (O.finished out.old) (O.finished out.new)
         (until_quit (short_ended held.old.items bytes.now))) }
     ensures count { session.new.lines ≤ session.old.lines + length bytes.now }
@@ -114,7 +120,7 @@ pub(crate) fn feed<A: Array, O: Sink>(
 }
 
 /// Has the last piece answered, which is a line where it is not empty.
-pub(crate) fn finish_line<A: Array, O: Sink>(
+pub(crate) fn finish_line<A: Operating, O: Sink>(
     session: &mut Session<'_>,
     held: &Line,
     array: &mut A,
@@ -123,10 +129,12 @@ pub(crate) fn finish_line<A: Array, O: Sink>(
     requires fits { Fits A.BITS session.old (A.device array.old) (A.slots array.old) }
     requires counted { session.old.lines < 2 ^ 64 - 1 }
     ensures fits { Fits A.BITS session.new (A.device array.new) (A.slots array.new) }
-    ensures ok { OnOk result (Answered A.BITS session.old session.new
+    ensures ok { OnOk result (Answered A.BITS
+        (stand session.old (A.work array.old)) (stand session.new (A.work array.new))
         (O.written out.old) (O.written out.new) (O.finished out.old) (O.finished out.new)
         (until_quit (last_of held.now.items))) }
-    ensures err { OnErr result (Broke A.BITS session.old session.new
+    ensures err { OnErr result (Broke A.BITS
+        (stand session.old (A.work array.old)) (stand session.new (A.work array.new))
         (O.written out.old) (O.written out.new) (O.finished out.old) (O.finished out.new)
         (until_quit (last_of held.now.items))) }
     ensures cause { HasCause (O.faults out.old) (O.faults out.new) result }

@@ -5,11 +5,12 @@ ghost use Rattle.px_io.specs.Counts.{Rose};
 ghost use Rattle.px_io.specs.Told.{Tells};
 ghost use Rattle.px_debug.specs.Moves.{Fits};
 ghost use Rattle.px_session.specs.Servings.{HasCauses, Serves};
+ghost use Rattle.px_session.specs.Sessions.{stand};
 ghost use Rattle.px_session.specs.Turns.{Ended, Stopped, Went};
 
 use crate::feed::{Line, feed, finish_line};
 use arrayvec::ArrayVec;
-use px_array::Array;
+use px_asm::Operating;
 use px_debug::{Going, Session};
 use px_io::{Sink, Source};
 
@@ -34,7 +35,7 @@ pub enum Ending {
 /// The bytes of `read` were read before. At most `more` bytes are read, in reads of at most 4096, and
 /// no line ends with the last of them. A last piece without a line feed is a line; a line is handed on
 /// by its first 256 bytes. After a `quit` nothing is read. Takes no memory.
-pub fn serve<S: Source, O: Sink, A: Array>(
+pub fn serve<S: Source, O: Sink, A: Operating>(
     session: &mut Session<'_>,
     array: &mut A,
     read: &[u8],
@@ -45,7 +46,8 @@ pub fn serve<S: Source, O: Sink, A: Array>(
     requires fits { Fits A.BITS session.old (A.device array.old) (A.slots array.old) }
     requires counted { session.old.lines + length read.now + more < 2 ^ 64 - 1 }
     ensures fits { Fits A.BITS session.new (A.device array.new) (A.slots array.new) }
-    ensures serves { Serves result A.BITS read.now more session.old session.new
+    ensures serves { Serves result A.BITS read.now more
+        (stand session.old (A.work array.old)) (stand session.new (A.work array.new))
         (S.rest input.old) (S.rest input.new) (O.written out.old) (O.written out.new)
         (O.finished out.old) (O.finished out.new) }
     ensures causes { HasCauses result (S.faults input.old) (S.faults input.new)
@@ -72,7 +74,7 @@ fn finish<O: Sink>(out: &mut O, ending: Ending) -> Ending
 }
 
 /// Has the lines answered that the bytes end, and reads on.
-fn answer_all<S: Source, O: Sink, A: Array>(
+fn answer_all<S: Source, O: Sink, A: Operating>(
     session: &mut Session<'_>,
     array: &mut A,
     read: &[u8],
@@ -83,7 +85,8 @@ fn answer_all<S: Source, O: Sink, A: Array>(
     requires fits { Fits A.BITS session.old (A.device array.old) (A.slots array.old) }
     requires counted { session.old.lines + length read.now + more < 2 ^ 64 - 1 }
     ensures fits { Fits A.BITS session.new (A.device array.new) (A.slots array.new) }
-    ensures stopped { Stopped result A.BITS read.now more session.old session.new
+    ensures stopped { Stopped result A.BITS read.now more
+        (stand session.old (A.work array.old)) (stand session.new (A.work array.new))
         (S.rest input.old) (S.rest input.new) (O.written out.old) (O.written out.new)
         (O.finished out.old) (O.finished out.new) }
     ensures causes { HasCauses result (S.faults input.old) (S.faults input.new)
@@ -98,7 +101,7 @@ fn answer_all<S: Source, O: Sink, A: Array>(
 }
 
 /// Reads on, where some of a line is held.
-fn read_on<S: Source, O: Sink, A: Array>(
+fn read_on<S: Source, O: Sink, A: Operating>(
     session: &mut Session<'_>,
     held: &mut Line,
     array: &mut A,
@@ -109,7 +112,8 @@ fn read_on<S: Source, O: Sink, A: Array>(
     requires fits { Fits A.BITS session.old (A.device array.old) (A.slots array.old) }
     requires counted { session.old.lines + limit < 2 ^ 64 - 1 }
     ensures fits { Fits A.BITS session.new (A.device array.new) (A.slots array.new) }
-    ensures ended { Ended result limit A.BITS held.old.items session.old session.new
+    ensures ended { Ended result limit A.BITS held.old.items
+        (stand session.old (A.work array.old)) (stand session.new (A.work array.new))
         (S.rest input.old) (S.rest input.new) (O.written out.old) (O.written out.new)
         (O.finished out.old) (O.finished out.new) }
     ensures causes { HasCauses result (S.faults input.old) (S.faults input.new)
@@ -127,7 +131,7 @@ fn read_on<S: Source, O: Sink, A: Array>(
 }
 
 /// One read, and the answers to the lines that it ends.
-fn turn<S: Source, O: Sink, A: Array>(
+fn turn<S: Source, O: Sink, A: Operating>(
     session: &mut Session<'_>,
     held: &mut Line,
     array: &mut A,
@@ -142,14 +146,16 @@ fn turn<S: Source, O: Sink, A: Array>(
     requires counted { session.old.lines + limit < 2 ^ 64 - 1 }
     ensures fits { Fits A.BITS session.new (A.device array.new) (A.slots array.new) }
     ensures on { IfOk result (λ count. Went limit count A.BITS held.old.items held.new.items
-        session.old session.new (S.rest input.old) (S.rest input.new)
+        (stand session.old (A.work array.old)) (stand session.new (A.work array.new))
+        (S.rest input.old) (S.rest input.new)
         (O.written out.old) (O.written out.new) (O.finished out.old) (O.finished out.new)) }
     ensures count { IfOk result (λ count. (0 < count) × (count ≤ limit)
         × (session.new.lines + (limit - count) < 2 ^ 64 - 1)) }
     ensures calm { OnOk result ((S.faults input.new ≡ S.faults input.old)
         × (O.faults out.new ≡ O.faults out.old)) }
     ensures off { IfErr result (λ ending. Ended ending limit A.BITS held.old.items
-        session.old session.new (S.rest input.old) (S.rest input.new)
+        (stand session.old (A.work array.old)) (stand session.new (A.work array.new))
+        (S.rest input.old) (S.rest input.new)
         (O.written out.old) (O.written out.new) (O.finished out.old) (O.finished out.new)) }
     ensures causes { IfErr result (λ ending. HasCauses ending
         (S.faults input.old) (S.faults input.new) (O.faults out.old) (O.faults out.new)) }

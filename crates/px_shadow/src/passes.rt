@@ -1,6 +1,6 @@
 //! The shadow passes, made on an array that stores the picture of a scene.
 ghost use Rattle.std.specs.Prelude.{◌≡◌, ◌+◌, ◌-◌, ◌<◌, ◌≤◌, All, length};
-ghost use Rattle.px_array.specs.Slots.{worked};
+ghost use Rattle.px_array.specs.Slots.{IsRunOnce, array_view, worked};
 ghost use Rattle.px_face.specs.Faces.{face_count};
 ghost use Rattle.px_normal.specs.Sets.{IsBelow};
 ghost use Rattle.px_model.specs.Cells.{depths_of, end_of};
@@ -70,6 +70,9 @@ pub fn shade<A: Array>(
     ensures slots { A.slots array.new ≡ A.slots array.old }
     ensures work { A.work array.new
         ≡ worked (length (shadow_program scene.now lights.now.items)) (A.work array.old) }
+    ensures once { IsRunOnce
+        (array_view (A.device array.old) (A.slots array.old) (A.work array.old))
+        → IsRunOnce (array_view (A.device array.new) (A.slots array.new) (A.work array.new)) }
 {
     laws_of_scenes(scene);
     laws_of_shadows();
@@ -79,6 +82,7 @@ pub fn shade<A: Array>(
     laws_of_operations();
     laws_of_passes();
     all_lights(array, scene, layout, lights.as_slice());
+    let _clocks = array.clocks();
 }
 
 /// The passes of all lights.

@@ -1,5 +1,5 @@
 //! Printing an expression, from its last byte to its first.
-ghost use Rattle.std.specs.Prelude.{◌≡◌, ◌<◌, ◌≤◌, ◌++◌, ◌∷◌, [], List, OnOk, IfOk, All, length, reverse};
+ghost use Rattle.std.specs.Prelude.{◌≡◌, ◌<◌, ◌≤◌, ◌++◌, ◌∷◌, [], List, OnErr, OnOk, IfOk, All, length, reverse};
 ghost use Rattle.px_expr.specs.Tree.{HasLeavesBelow, IsLawfulTree};
 ghost use Rattle.px_expr.specs.Shapes.{IsLeafBelow};
 ghost use Rattle.px_model.specs.Scenes.{names_of};
@@ -28,6 +28,8 @@ struct Gap {
 }
 
 /// Appends an expression (docs/SCENES.md, "Canonical text"), with solids by their names.
+///
+/// After `Memory` the text is as it was.
 pub fn put_expression(
     alloc: Global,
     text: &mut Vec<u8>,
@@ -37,6 +39,7 @@ pub fn put_expression(
     requires { HasLeavesBelow (length solids.now) expr.now }
     ensures text { OnOk result (text.new.items ≡ text.old.items
         ++ printed (named_by (names_of solids.now) expr.now)) }
+    ensures err { OnErr result (text.new.items ≡ text.old.items) }
     ensures lawful { OnOk result (IsLawfulTree expr.now) }
 {
     let mut back = printed_back(alloc, solids, expr)?;

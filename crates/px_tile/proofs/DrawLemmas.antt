@@ -6,7 +6,7 @@ use Rattle.std.specs.Option.{option_map}
 use Rattle.std.proofs.Math.Nat.{mul-le-mul_right}
 use Rattle.std.proofs.lemmas.Bool.{cases_lt}
 use Rattle.std.proofs.lemmas.List.{append-nil, drop_all, take_all}
-use Rattle.px_array.specs.Arrays.{Device}
+use Rattle.px_array.specs.Slots.{ArrayView}
 use Rattle.px_prune.specs.Kept.{crowd_of}
 use Rattle.px_model.specs.Scenes.{SceneView}
 use Rattle.px_model.specs.Cells.{picture}
@@ -103,7 +103,7 @@ module _ (scene : SceneView) (width height : ℕ) (some_w : 1 ≤ scene.width) (
       (some_across scene.height height some_h size.some_height) (some_across scene.width width some_w size.some_width))
 
   -- the array that the last tile left
-  pub last_left : (bits : ℕ) (before now : Device) → IsLeft bits scene width height (tile_count scene width height)
+  pub last_left : (bits : ℕ) (before now : ArrayView) → IsLeft bits scene width height (tile_count scene width height)
       before now
       → IsLastDrawn bits scene width height now
   last_left bits before now (inl (none, same)) = absurd (omega (arith, some_tiles))
@@ -111,13 +111,13 @@ module _ (scene : SceneView) (width height : ℕ) (some_w : 1 ≤ scene.width) (
       let here : tile_count scene width height - 1 ≡ last = omega arith in rw here drawn
 
 -- every refusal may leave the array as it was
-pub kept_on_refusal : (fault : WideFault) (bits : ℕ) (scene : SceneView) (width height : ℕ) (device : Device)
-    → LeavesOnWideRefusal fault bits scene width height device device
-kept_on_refusal (wide.Tiles n) bits scene width height device = refl
-kept_on_refusal (wide.Coefficient n) bits scene width height device = refl
-kept_on_refusal (wide.PixelMemory n) bits scene width height device = refl
-kept_on_refusal (wide.Products n) bits scene width height device = refl
-kept_on_refusal wide.Memory bits scene width height device = inl refl
+pub kept_on_refusal : (fault : WideFault) (bits : ℕ) (scene : SceneView) (width height : ℕ) (array : ArrayView)
+    → LeavesOnWideRefusal fault bits scene width height array array
+kept_on_refusal (wide.Tiles n) bits scene width height array = refl
+kept_on_refusal (wide.Coefficient n) bits scene width height array = refl
+kept_on_refusal (wide.PixelMemory n) bits scene width height array = refl
+kept_on_refusal (wide.Products n) bits scene width height array = refl
+kept_on_refusal wide.Memory bits scene width height array = inl refl
 
 -- the refusals are those of any two arrays that have both bits enough, or neither
 pub same_refusal : (scene : SceneView) (width height some other : ℕ)

@@ -1,6 +1,6 @@
 -- Where the drawing of a wide picture stands after so many tiles, and what is asked of one tile. Only proofs and private functions stand on it.
 use Rattle.std.specs.Prelude.{◌≡◌, ℕ, ◌+◌, ◌*◌, ◌/◌, ◌<◌, ◌⊎◌, List, length, Option}
-use Rattle.px_array.specs.Arrays.{Device}
+use Rattle.px_array.specs.Slots.{ArrayView}
 use Rattle.px_model.specs.Scenes.{SceneView}
 use Rattle.px_model.specs.Cells.{picture}
 use Rattle.px_tile.specs.Found.{number_at, sight_number}
@@ -19,7 +19,7 @@ pub record HasTiles (scene : SceneView) (width height count : ℕ) (found : List
       number_at found width x y ≡ sight_number (picture scene x y)
 
 -- the array is as before, or as the last of the first so many tiles left it
-abbrev pub IsLeft : (bits : ℕ) → SceneView → (width height count : ℕ) → (before now : Device) → Type 0
+abbrev pub IsLeft : (bits : ℕ) → SceneView → (width height count : ℕ) → (before now : ArrayView) → Type 0
 IsLeft bits scene width height count before now = ((count ≡ 0) × (now ≡ before))
     ⊎ ((last : ℕ) × (count ≡ last + 1) × (last < tile_count scene width height) × IsTileDrawn bits scene width height last now)
 

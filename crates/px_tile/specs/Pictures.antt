@@ -1,29 +1,29 @@
 -- What drawing a wide picture tile by tile leaves of the array. Clauses of public calls stand on it.
 use Rattle.std.specs.Prelude.{◌≡◌, ℕ, ◌-◌, ◌<◌, ◌⊎◌}
-use Rattle.px_array.specs.Arrays.{Device, closed}
+use Rattle.px_array.specs.Slots.{ArrayView, IsRunOnce, none_open}
 use Rattle.px_model.specs.Scenes.{SceneView}
 use Rattle.px_control.specs.Program.{IsAt, total}
 use Rattle.px_tile.specs.declared.fault.WideFault.{WideFault}
 use Rattle.px_tile.specs.declared.fault.WideFault.TheVariants as wide
 use Rattle.px_tile.specs.Tilings.{scene_of_tile, tile_count}
 
--- the array is as all broadcasts of a tile's scene leave it
-abbrev pub IsTileDrawn : (bits : ℕ) → SceneView → (width height tile : ℕ) → Device → Type 0
-IsTileDrawn bits scene width height tile device =
-    IsAt bits (scene_of_tile scene width height tile) (total (scene_of_tile scene width height tile)) device
+-- the array is as all broadcasts of a tile's scene leave a new one, its slots and its work too
+abbrev pub IsTileDrawn : (bits : ℕ) → SceneView → (width height tile : ℕ) → ArrayView → Type 0
+IsTileDrawn bits scene width height tile now =
+    IsAt bits (scene_of_tile scene width height tile) (total (scene_of_tile scene width height tile)) now.device × IsRunOnce now
 
 -- the array after the last tile
-abbrev pub IsLastDrawn : (bits : ℕ) → SceneView → (width height : ℕ) → Device → Type 0
-IsLastDrawn bits scene width height device =
-    IsTileDrawn bits scene width height (tile_count scene width height - 1) device
+abbrev pub IsLastDrawn : (bits : ℕ) → SceneView → (width height : ℕ) → ArrayView → Type 0
+IsLastDrawn bits scene width height now =
+    IsTileDrawn bits scene width height (tile_count scene width height - 1) now
 
 -- one of the tiles is drawn
-abbrev pub IsSomeDrawn : (bits : ℕ) → SceneView → (width height : ℕ) → Device → Type 0
-IsSomeDrawn bits scene width height device =
-    (tile : ℕ) × (tile < tile_count scene width height) × IsTileDrawn bits scene width height tile device
+abbrev pub IsSomeDrawn : (bits : ℕ) → SceneView → (width height : ℕ) → ArrayView → Type 0
+IsSomeDrawn bits scene width height now =
+    (tile : ℕ) × (tile < tile_count scene width height) × IsTileDrawn bits scene width height tile now
 
 -- what a refusal leaves of the array: only for want of memory may it be another one, and then none is open or a tile is drawn
-abbrev pub LeavesOnWideRefusal : WideFault → (bits : ℕ) → SceneView → (width height : ℕ) → (before now : Device) → Type 0
+abbrev pub LeavesOnWideRefusal : WideFault → (bits : ℕ) → SceneView → (width height : ℕ) → (before now : ArrayView) → Type 0
 LeavesOnWideRefusal wide.Memory bits scene width height before now =
-    (now ≡ before) ⊎ (now ≡ closed) ⊎ IsSomeDrawn bits scene width height now
+    (now ≡ before) ⊎ (now ≡ none_open) ⊎ IsSomeDrawn bits scene width height now
 LeavesOnWideRefusal fault bits scene width height before now = now ≡ before

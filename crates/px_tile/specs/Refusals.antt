@@ -2,6 +2,8 @@
 use Rattle.std.specs.Prelude.{ℕ, ℤ, nat_lt, if◌then◌else◌, List, [], ◌∷◌, Option, Some, None, map}
 use Rattle.std.specs.List.{range_with_len}
 use Rattle.std.specs.Option.{option_map, option_or}
+use Rattle.px_normal.specs.declared.fault.NormalFault.{NormalFault}
+use Rattle.px_normal.specs.declared.fault.NormalFault.TheVariants as normal
 use Rattle.px_prune.specs.Kept.{crowd_of}
 use Rattle.px_model.specs.Planes.{first_past}
 use Rattle.px_model.specs.Scenes.{SceneView}
@@ -43,6 +45,17 @@ bits_short fault scene bits =
 -- why a scene is not drawn on an array with pixels of so many bits
 abbrev pub tile_refusal : SceneView → (bits : ℕ) → Option JobFault
 tile_refusal scene bits = option_or (bits_short job.PixelMemory scene bits) (option_map job.Products (crowd_of scene))
+
+-- a refusal of a tile's products as one of the wide picture
+abbrev pub products_fault : NormalFault → WideFault
+products_fault (normal.TooMany count) = wide.Products count
+products_fault normal.Memory = wide.Memory
+
+-- why a wide picture is not drawn, as far as it is known before any memory is taken: all but the products of its tiles
+abbrev pub early_refusal : SceneView → (width height bits : ℕ) → Option WideFault
+early_refusal scene width height bits = option_or (many_tiles (tile_count scene width height))
+    (option_or (option_map wide.Coefficient (first_coefficient scene width height))
+    (bits_short wide.PixelMemory scene bits))
 
 -- why a wide picture is not drawn tile by tile
 abbrev pub wide_refusal : SceneView → (width height bits : ℕ) → Option WideFault

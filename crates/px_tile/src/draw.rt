@@ -1,12 +1,12 @@
 //! Drawing a wide picture tile by tile on one array.
 ghost use Rattle.std.specs.Prelude.{◌≡◌, ◌*◌, ◌^◌, ◌<◌, ◌≤◌, ◌⊎◌, ℕ, nat_lt, Err, IfErr, IfOk, None, OnErr, OnOk, Some, length, vec_len};
 ghost use Rattle.std.specs.Option.{option_map};
-ghost use Rattle.px_array.specs.Arrays.{closed};
+ghost use Rattle.px_array.specs.Slots.{array_view, none_open};
 ghost use Rattle.px_sched.specs.Layouts.{layout_of, need_of};
 ghost use Rattle.px_model.specs.Planes.{first_past};
 ghost use Rattle.px_tile.specs.Found.{IsFound, PutsTile};
 ghost use Rattle.px_tile.specs.Pictures.{IsLastDrawn, IsTileDrawn, LeavesOnWideRefusal};
-ghost use Rattle.px_tile.specs.Refusals.{first_coefficient, first_crowd, tile_refusal, wide_refusal};
+ghost use Rattle.px_tile.specs.Refusals.{early_refusal, first_coefficient, first_crowd, tile_refusal, wide_refusal};
 ghost use Rattle.px_tile.specs.Drawn.{crowd_of_tile};
 ghost use Rattle.px_tile.specs.Tilings.{
   IsWideSize,
@@ -22,9 +22,9 @@ use crate::render::render_tile;
 use crate::tile::moved_scene;
 use crate::tiling::{tile_at, tile_count};
 use px_array::Array;
+use px_asm::Operating;
 use px_control::MAX_LAYOUT_BITS;
 use px_model::{Pixels, Scene, laws_of_scenes};
-use px_normal::NormalFault;
 use px_num::Memory;
 use px_prune::plan_of;
 use px_sched::{Layout, NeedBits, laws_of_passes};
@@ -36,6 +36,8 @@ pub const MAX_TILES: u32 = 1024;
 /// Whether a picture of `width` by `height` pixels, each from 1 to `MAX_SIDE`, can be drawn tile by tile
 /// on an array with pixels of so many memory bits, each tile of the size of the scene's picture, or
 /// why not (docs/PICTURE.md, "Tiles").
+///
+/// Only the products of the tiles take memory: every other refusal comes where it is due.
 pub fn check_tiles(
     alloc: Global,
     scene: &Scene,
@@ -47,6 +49,8 @@ pub fn check_tiles(
     ensures ok { OnOk result (wide_refusal scene.now width height bits ≡ None) }
     ensures err { IfErr result (λ fault.
         (wide_refusal scene.now width height bits ≡ Some fault) ⊎ (fault ≡ WideFault.Memory)) }
+    ensures early { (fault : WideFault) → early_refusal scene.now width height bits ≡ Some fault →
+        result ≡ Err fault }
     ensures small { (count : ℕ) → result ≡ Err (WideFault.Products count) → count ≤ 2 ^ 21 }
 {
     let count = tile_count(scene, width, height);
@@ -124,14 +128,9 @@ fn check_products_of_tile(
         ⊎ (fault ≡ WideFault.Memory)) }
     ensures small { (count : ℕ) → result ≡ Err (WideFault.Products count) → count ≤ 2 ^ 21 }
 {
-    let Ok(tile) = scene_of_tile(alloc, scene, width, height, tile) else {
-        return Err(WideFault::Memory);
-    };
-    match plan_of(alloc, &tile) {
-        Ok(_) => Ok(()),
-        Err(NormalFault::TooMany { count }) => Err(WideFault::Products { count }),
-        Err(NormalFault::Memory) => Err(WideFault::Memory),
-    }
+    let tile = scene_of_tile(alloc, scene, width, height, tile)?;
+    let _plan = plan_of(alloc, &tile)?;
+    Ok(())
 }
 
 /// The scene of a tile that has no coefficient past the limit.
@@ -156,7 +155,7 @@ fn scene_of_tile(
 ///
 /// Ok has a number for each pixel, row by row: `depth * 2^32 + face`. Every refusal but the want of
 /// memory is found before the array is opened. The numbers take at most 128 MB.
-pub fn render_tiles<A: Array>(
+pub fn render_tiles<A: Operating>(
     alloc: Global,
     scene: &Scene,
     width: u32,
@@ -166,13 +165,16 @@ pub fn render_tiles<A: Array>(
     requires size { IsWideSize width height }
     ensures fits { OnOk result (wide_refusal scene.now width height A.BITS ≡ None) }
     ensures found { IfOk result (λ found. IsFound scene.now width height found.items) }
-    ensures drawn { OnOk result
-        (IsLastDrawn A.BITS scene.now width height (A.device array.new)) }
+    ensures drawn { OnOk result (IsLastDrawn A.BITS scene.now width height
+        (array_view (A.device array.new) (A.slots array.new) (A.work array.new))) }
     ensures err { IfErr result (λ fault.
         (wide_refusal scene.now width height A.BITS ≡ Some fault) ⊎ (fault ≡ WideFault.Memory)) }
+    ensures early { (fault : WideFault) → early_refusal scene.now width height A.BITS ≡ Some fault →
+        result ≡ Err fault }
     ensures small { (count : ℕ) → result ≡ Err (WideFault.Products count) → count ≤ 2 ^ 21 }
     ensures array { IfErr result (λ fault. LeavesOnWideRefusal fault A.BITS scene.now width height
-        (A.device array.old) (A.device array.new)) }
+        (array_view (A.device array.old) (A.slots array.old) (A.work array.old))
+        (array_view (A.device array.new) (A.slots array.new) (A.work array.new))) }
 {
     if let Err(fault) = check_tiles(alloc, scene, width, height, memory_bits::<A>(scene)) {
         return Err(fault);
@@ -184,7 +186,7 @@ pub fn render_tiles<A: Array>(
 }
 
 /// Draws the tiles of a picture that is not refused.
-fn draw_tiles<A: Array>(
+fn draw_tiles<A: Operating>(
     alloc: Global,
     scene: &Scene,
     width: u32,
@@ -194,10 +196,11 @@ fn draw_tiles<A: Array>(
     requires size { IsWideSize width height }
     requires fits { wide_refusal scene.now width height A.BITS ≡ None }
     ensures found { IfOk result (λ found. IsFound scene.now width height found.items) }
-    ensures drawn { OnOk result
-        (IsLastDrawn A.BITS scene.now width height (A.device array.new)) }
+    ensures drawn { OnOk result (IsLastDrawn A.BITS scene.now width height
+        (array_view (A.device array.new) (A.slots array.new) (A.work array.new))) }
     ensures array { OnErr result (LeavesOnWideRefusal WideFault.Memory A.BITS scene.now width height
-        (A.device array.old) (A.device array.new)) }
+        (array_view (A.device array.old) (A.slots array.old) (A.work array.old))
+        (array_view (A.device array.new) (A.slots array.new) (A.work array.new))) }
 {
     let Ok(mut found) = Vec::from_elem(alloc, 0, width as usize * height as usize) else {
         return Err(Memory);
@@ -214,7 +217,7 @@ fn draw_tiles<A: Array>(
 }
 
 /// Draws a tile that is not refused, and puts its picture into the numbers.
-fn draw_tile<A: Array>(
+fn draw_tile<A: Operating>(
     alloc: Global,
     scene: &Scene,
     width: u32,
@@ -230,10 +233,12 @@ fn draw_tile<A: Array>(
     requires room { length found.old ≡ width * height }
     ensures ok { OnOk result (PutsTile (scene_of_tile scene.now width height tile)
         (column_of scene.now width tile) (row_of scene.now width tile) width found.old found.new) }
-    ensures drawn { OnOk result
-        (IsTileDrawn A.BITS scene.now width height tile (A.device array.new)) }
-    ensures array { OnErr result ((A.device array.new ≡ A.device array.old)
-        ⊎ (A.device array.new ≡ closed)) }
+    ensures drawn { OnOk result (IsTileDrawn A.BITS scene.now width height tile
+        (array_view (A.device array.new) (A.slots array.new) (A.work array.new))) }
+    ensures array { OnErr result (
+        (array_view (A.device array.new) (A.slots array.new) (A.work array.new)
+        ≡ array_view (A.device array.old) (A.slots array.old) (A.work array.old))
+        ⊎ (array_view (A.device array.new) (A.slots array.new) (A.work array.new) ≡ none_open)) }
 {
     let place = tile_at(scene, width, height, tile);
     let Ok(scene) = scene_of_tile(alloc, scene, width, height, tile) else {

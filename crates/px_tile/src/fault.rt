@@ -1,4 +1,5 @@
 //! Why a picture is not drawn tile by tile.
+use px_normal::NormalFault;
 use px_num::Memory;
 use thiserror::Error;
 
@@ -57,5 +58,31 @@ impl From<Memory> for TileFault {
 
     fn from(_: Memory) -> Self {
         TileFault::Memory
+    }
+}
+
+impl From<NormalFault> for WideFault {
+    ghost use Rattle.std.specs.Prelude.{◌≡◌};
+    ghost use Rattle.px_tile.specs.Refusals.{products_fault};
+
+    ghost from_gives = { λ cause fault. fault ≡ products_fault cause };
+
+    fn from(cause: NormalFault) -> Self {
+        match cause {
+            NormalFault::TooMany { count } => WideFault::Products { count },
+            NormalFault::Memory => WideFault::Memory,
+        }
+    }
+}
+
+impl From<Memory> for WideFault {
+    ghost use Rattle.std.specs.Prelude.{◌≡◌};
+    ghost use Rattle.px_tile.specs.declared.fault.WideFault.{WideFault};
+    ghost use Rattle.px_tile.specs.declared.fault.WideFault.TheVariants.{Memory as NoMemory};
+
+    ghost from_gives = { λ _ fault. fault ≡ NoMemory };
+
+    fn from(_: Memory) -> Self {
+        WideFault::Memory
     }
 }

@@ -1,6 +1,7 @@
 //! Drawing one tile, and putting its picture into the numbers of the wide picture.
 ghost use Rattle.std.specs.Prelude.{◌≡◌, ◌+◌, ◌*◌, ◌<◌, ◌≤◌, ◌⊎◌, IfErr, None, OnErr, OnOk, Some, length};
 ghost use Rattle.px_array.specs.Arrays.{pixel_of};
+ghost use Rattle.px_array.specs.Slots.{IsRunOnce, array_view};
 ghost use Rattle.px_control.specs.GridLaw.{CoversThePicture};
 ghost use Rattle.px_control.specs.Program.{IsAt, total};
 ghost use Rattle.px_control.specs.Standing.{LeavesOnRefusal};
@@ -12,6 +13,7 @@ ghost use Rattle.px_tile.specs.Refusals.{tile_refusal};
 ghost use Rattle.px_tile.specs.Stored.{PutsRow, PutsRows};
 
 use px_array::Array;
+use px_asm::Operating;
 use px_control::{Job, JobFault, law_of_grids};
 use px_frame::stored;
 use px_model::{Scene, laws_of_scenes};
@@ -24,7 +26,7 @@ use std::alloc::Global;
 /// `scene` is the tile's, which begins at the pixel (x0, y0) of a picture of `width` columns and
 /// lies in it; `found` has a number for each pixel of the wide picture, row by row. It is refused
 /// as `Job::open`, and then leaves the numbers.
-pub fn render_tile<A: Array>(
+pub fn render_tile<A: Operating>(
     alloc: Global,
     scene: &Scene,
     x0: u32,
@@ -38,11 +40,14 @@ pub fn render_tile<A: Array>(
     ensures fits { OnOk result (tile_refusal scene.now A.BITS ≡ None) }
     ensures ok { OnOk result (PutsTile scene.now x0 y0 width found.old found.new) }
     ensures drawn { OnOk result (IsAt A.BITS scene.now (total scene.now) (A.device array.new)) }
+    ensures once { OnOk result (IsRunOnce
+        (array_view (A.device array.new) (A.slots array.new) (A.work array.new))) }
     ensures err { IfErr result (λ fault.
         (tile_refusal scene.now A.BITS ≡ Some fault) ⊎ (fault ≡ JobFault.Memory)) }
     ensures found { OnErr result (found.new ≡ found.old) }
-    ensures array { IfErr result (λ fault.
-        LeavesOnRefusal fault (A.device array.old) (A.device array.new)) }
+    ensures array { IfErr result (λ fault. LeavesOnRefusal fault
+        (array_view (A.device array.old) (A.slots array.old) (A.work array.old))
+        (array_view (A.device array.new) (A.slots array.new) (A.work array.new))) }
 {
     let mut job = Job::open(alloc, scene, array)?;
     job.finish(array);

@@ -2,7 +2,15 @@
 #![tactic(auto)]
 
 #[cfg(test)]
+mod at_once;
+#[cfg(test)]
 mod clocks;
+#[cfg(test)]
+mod compared;
+#[cfg(test)]
+mod drawn;
+#[cfg(test)]
+mod numbers;
 #[cfg(test)]
 mod operations;
 #[cfg(test)]

@@ -4,8 +4,10 @@ ghost use Rattle.px_array.specs.Arrays.{IsOpen};
 ghost use Rattle.px_array.specs.Slots.{ArrayView, IsSaved};
 ghost use Rattle.px_pixel.specs.Acts.{HasPlace};
 
+use crate::compared::compare;
+use crate::numbers::Numbers;
 use px_array::{Array, Micro, PixelArray, TreeOp};
-use px_num::{Linear, power};
+use px_num::Linear;
 use px_pixel::Act;
 use px_planes::{PlaneArray, PlaneTree};
 use px_tree::{Tree, feed_form, value_bit};
@@ -115,7 +117,10 @@ fn both_arrays_agree(rt: HostRuntime) -> Result<(), Fail> {
         let mut planes = PlaneArray::<5>::new(rt.alloc());
         pixels.open(nx, ny)?;
         planes.open(nx, ny)?;
-        let mut draw = Draw { state: 7, lines: 0 };
+        let mut draw = Draw {
+            numbers: Numbers::from(7),
+            lines: 0,
+        };
         for _ in 0..6 {
             assert!(rt; pixels.size().0 >= 1 && planes.size().0 >= 1);
             clock_both(&rt, &mut pixels, &mut planes, &mut draw, 40);
@@ -131,20 +136,16 @@ fn both_arrays_agree(rt: HostRuntime) -> Result<(), Fail> {
     Ok(())
 }
 
-/// Numbers that look random, and the lines of the last feed.
+/// Random numbers, and the lines of the last feed.
 #[derive(Drop)]
 struct Draw {
-    state: u64,
+    numbers: Numbers,
     lines: u32,
 }
 
 impl Draw {
     fn number(&mut self) -> u32 {
-        self.state = self
-            .state
-            .wrapping_mul(6364136223846793005)
-            .wrapping_add(1442695040888963407);
-        (self.state >> 33) as u32
+        self.numbers.draw()
     }
 
     /// A micro, which mostly feeds the tree, and more often than not by the lines of the feed before.
@@ -247,45 +248,4 @@ fn clock_one(rt: &impl Abort, pixels: &mut PixelArray<5>, planes: &mut PlaneArra
     planes.clock(m);
     compare(rt, pixels, planes);
     assert!(rt; pixels.size().0 >= 1 && planes.size().0 >= 1);
-}
-
-/// Every bit, register, leaf and node of both arrays is the same, and so are their clocks.
-fn compare(rt: &impl Abort, pixels: &PixelArray<5>, planes: &PlaneArray<5>) {
-    assert_eq!(rt; pixels.clocks(), planes.clocks());
-    let (nx, ny) = pixels.size();
-    assert!(rt; 1 <= nx && nx <= 9 && 1 <= ny && ny <= 9);
-    for x in 0..power(nx) {
-        for y in 0..power(ny) {
-            compare_pixel(rt, pixels, planes, x as u32, y as u32);
-        }
-    }
-    for level in 1..nx + ny + 1 {
-        for index in 0..power(level) {
-            compare_node(rt, pixels, planes, level, index as u32);
-        }
-    }
-}
-
-fn compare_pixel(rt: &impl Abort, pixels: &PixelArray<5>, planes: &PlaneArray<5>, x: u32, y: u32) {
-    let (nx, ny) = pixels.size();
-    assert!(rt; planes.size() == (nx, ny) && 1 <= nx && nx <= 9 && ny <= 9);
-    assert!(rt; (x as usize) < power(nx) && (y as usize) < power(ny));
-    assert_eq!(rt; pixels.registers(x, y), planes.registers(x, y));
-    assert_eq!(rt; pixels.tree_bit(x, y), planes.tree_bit(x, y));
-    for at in 0..5 {
-        assert_eq!(rt; pixels.bit(x, y, at), planes.bit(x, y, at));
-    }
-}
-
-fn compare_node(
-    rt: &impl Abort,
-    pixels: &PixelArray<5>,
-    planes: &PlaneArray<5>,
-    level: u32,
-    index: u32,
-) {
-    let (nx, ny) = pixels.size();
-    assert!(rt; planes.size() == (nx, ny) && 1 <= nx && nx <= 9 && ny <= 9);
-    assert!(rt; 1 <= level && level <= nx + ny && (index as usize) < power(level));
-    assert_eq!(rt; pixels.node(level, index), planes.node(level, index));
 }

@@ -2,7 +2,7 @@
 ghost use Rattle.std.specs.Prelude.{◌≤◌};
 
 use itoa::Buffer;
-use px_array::Array;
+use px_asm::Operating;
 use px_draw::{Status, run};
 use px_io::{CalmSource, MemSink};
 use px_planes::PlaneArray;
@@ -32,7 +32,7 @@ fn a_light_takes_a_bit_more(rt: HostRuntime) -> Result<(), Fail> {
 }
 
 /// A run of `shadow` over the scene and a light that its shown solid keeps off.
-fn shadow<A: Array>(
+fn shadow<A: Operating>(
     alloc: Global,
     array: &mut A,
     out: &mut MemSink,

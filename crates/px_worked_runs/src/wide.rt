@@ -1,8 +1,10 @@
 //! A picture wider than the array: what is clocked tile by tile.
 use arrayvec::ArrayVec;
 use px_array::{Array, Micro, PixelArray, Registers};
+use px_asm::Operating;
 use px_draw::{Status, run};
 use px_io::{CalmSink, CalmSource};
+use px_macro::Macro;
 use px_num::Memory;
 use std::alloc::Global;
 use std::test::Fail;
@@ -103,6 +105,12 @@ impl Array for Watched {
 
     fn work(&self) -> u64 {
         self.array.work()
+    }
+}
+
+impl Operating for Watched {
+    fn operate(&mut self, m: &Macro) {
+        self.array.operate(m);
     }
 }
 

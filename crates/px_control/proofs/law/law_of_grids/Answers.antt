@@ -1,5 +1,5 @@
 use Rattle.std.proofs.Common.{◌≡◌, ◌^◌, ◌≤◌, ◌∙◌, ap, subst, sym}
-use Rattle.px_control.proofs.GridLemmas.{exponent_is}
+use Rattle.px_model.proofs.GridLaws.{exponent_is}
 use Rattle.px_control.proofs.ArrayLaws.{columns_at, rows_at}
 use Rattle.px_control.specs.Program.{columns_of, rows_of}
 use Rattle.px_control.proofs.law.law_of_grids.Goals as goal

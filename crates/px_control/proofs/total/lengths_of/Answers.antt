@@ -1,23 +1,19 @@
 use Rattle.std.proofs.Common.{refl, arith, ap}
 use Rattle.px_model.specs.Scenes.{faces_of}
 use Rattle.px_sched.proofs.LayoutLaws.{bit_length_most}
-use Rattle.px_control.proofs.GridLemmas.{exponent_between, grid_exponent_is}
+use Rattle.px_model.proofs.GridLaws.{exponent_between}
 use Rattle.px_control.proofs.total.lengths_of.Goals as goal
 
 pub returns-clause-lengths : goal.returns-clause-lengths
 returns-clause-lengths c =
-    let scene = c.args.scene.now
-    in let lawful = c.depth_bits.ensures.lawful
-    in let columns = grid_exponent_is scene.width c.grid-columns.result.0 lawful.width c.grid-columns.ensures.width
-    in let rows = grid_exponent_is scene.height c.grid-columns.result.1 lawful.height c.grid-columns.ensures.height
-    in rw (
+    rw (
       c.from.ensures,
       c.from-2.ensures,
       c.from-3.ensures,
       c.from-4.ensures,
       c.from-5.ensures,
-      columns,
-      rows,
+      c.grid-columns.ensures.columns,
+      c.grid-columns.ensures.rows,
       c.depth_bits.ensures.value,
       c.fraction_bits.ensures.value,
       c.number_bits.ensures,
@@ -28,14 +24,12 @@ pub returns-clause-short : goal.returns-clause-short
 returns-clause-short c =
     let scene = c.args.scene.now
     in let lawful = c.depth_bits.ensures.lawful
-    in let columns = grid_exponent_is scene.width c.grid-columns.result.0 lawful.width c.grid-columns.ensures.width
-    in let rows = grid_exponent_is scene.height c.grid-columns.result.1 lawful.height c.grid-columns.ensures.height
     in let number = ap (λ l. l.number_bits) c.requires
     in record {
       levels = omega (
         arith,
-        columns,
-        rows,
+        c.grid-columns.ensures.columns,
+        c.grid-columns.ensures.rows,
         c.from.ensures,
         c.from-2.ensures,
         (exponent_between scene.width lawful.width).1,

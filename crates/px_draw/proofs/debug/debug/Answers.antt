@@ -1,4 +1,4 @@
-use Rattle.std.proofs.Common.{◌≡◌, ◌-◌, Err, ap, arith, length, rules, subst, sym, ◌∙◌}
+use Rattle.std.proofs.Common.{◌≡◌, ◌-◌, Err, ap, arith, length, refl, rules, subst, sym, ◌∙◌}
 use Rattle.px_debug.specs.Moves.{Fits}
 use Rattle.px_session.specs.Sessions.{session_opened}
 use Rattle.px_draw.specs.Debugs.{command_text}
@@ -51,8 +51,12 @@ returns-in-Some-clause-performs g c =
     let seated : Seated g.A.Array.BITS c.in-Some.length text c.in_ok-scene.scene =
     record { part = part; good = on.good; scene = on.scene; draws = c.in_ok-session.ensures.draws } in
     let left : 1048577 - c.len-more.result ≡ 1048577 - length text = omega (arith, c.len-more.ensures) in
-    performs_sat laws _ _ _ text _ _ _ _ _ _ _ _ _ _ _ _ _ _ _ seated o.few o.taken
-    c.in_ok-session.ensures.session c.sit.ensures.fits (c.commands-read.ensures
+    performs_sat laws _ _ _ text _ _ _ _ _ _ _ _ _ _ _ _ _ _ seated o.few o.taken
+    c.in_ok-session.ensures.session (record {
+      fits = c.sit.ensures.fits;
+      none = c.in_ok-session.ensures.work;
+      same = refl;
+    }) (c.commands-read.ensures
     ∙ ap command_text c.as_slice.ensures.value) left c.sit.ensures.sits
 
 pub returns-in-Some-clause-took : goal.returns-in-Some-clause-took
@@ -74,9 +78,9 @@ returns-clause-performs g c =
     (g.A.Array.slots c.open_session.new.array) =
     subst (λ s. Fits g.A.Array.BITS s (g.A.Array.device c.open_session.new.array)
     (g.A.Array.slots c.open_session.new.array)) c.in_ok-session.ensures.session c.in_ok-session.ensures.fits in
-    performs_empty laws _ _ c.in_ok-opening.opening _ _ _ _ _ _ _ _ _ _ c.in_ok-opening.ensures.opens
+    performs_empty laws _ _ c.in_ok-opening.opening _ _ _ _ _ _ _ _ _ c.in_ok-opening.ensures.opens
     c.in_ok-scene.ensures.ok c.in-None.is
-    c.in_ok-session.ensures.draws fits c.finish.ensures.bytes c.finish.ensures.end
+    c.in_ok-session.ensures.draws fits c.in_ok-session.ensures.work c.finish.ensures.bytes c.finish.ensures.end
 
 pub returns-clause-causes : goal.returns-clause-causes
 returns-clause-causes g c = causes_behind _ _ _ _ _ c.in_ok-opening.ensures.calm c.finish.ensures.causes

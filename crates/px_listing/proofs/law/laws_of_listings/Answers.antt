@@ -1,5 +1,5 @@
 use Rattle.px_listing.proofs.MemoryLemmas.{show_the_played}
-use Rattle.px_listing.proofs.PassesLemmas.{passes_read_back, show_the_picture}
+use Rattle.px_listing.proofs.PassesLemmas.{passes_read_back, scenes_grid, show_the_picture}
 use Rattle.px_listing.proofs.TextLemmas.{read_back}
 use Rattle.px_listing.proofs.law.laws_of_listings.Goals as goal
 
@@ -17,3 +17,6 @@ returns-clause-passes c =
 
 pub returns-clause-picture : goal.returns-clause-picture
 returns-clause-picture c = show_the_picture c.laws_of_passes.ensures.picture
+
+pub returns-clause-grid : goal.returns-clause-grid
+returns-clause-grid c = scenes_grid

@@ -1,5 +1,6 @@
 use Rattle.std.proofs.Common.{◌≡◌, ◌+◌, ◌-◌, ◌≤◌, ◌<◌, ◌^◌}
 use Rattle.px_debug.specs.Moves.{Fits}
+use Rattle.px_session.specs.Sessions.{stand}
 use Rattle.px_session.specs.Turns.{Went}
 use Rattle.px_session.proofs.serving.read_on.Given as goal
 
@@ -7,7 +8,8 @@ abbrev pub invariant-loop-more : goal.invariant-loop-more
 invariant-loop-more g l = record {
   fits : Fits g.A.Array.BITS l.session (g.A.Array.device l.array) (g.A.Array.slots l.array);
   within : l.more ≤ l.limit;
-  went : Went l.limit (l.limit - l.more) g.A.Array.BITS l.fn.held.items l.held.items l.fn.session l.session
+  went : Went l.limit (l.limit - l.more) g.A.Array.BITS l.fn.held.items l.held.items
+      (stand l.fn.session (g.A.Array.work l.fn.array)) (stand l.session (g.A.Array.work l.array))
       (g.S.Source.rest l.fn.input) (g.S.Source.rest l.input) (g.O.Sink.written l.fn.out) (g.O.Sink.written l.out)
       (g.O.Sink.finished l.fn.out) (g.O.Sink.finished l.out);
   few : l.session.lines + l.more < 2 ^ 64 - 1;

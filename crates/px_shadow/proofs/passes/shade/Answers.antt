@@ -1,5 +1,6 @@
 use Rattle.std.proofs.Common.{◌≤◌, List, length, ap, subst, sym, arith, ◌∙◌}
 use Rattle.px_array.specs.Slots.{worked}
+use Rattle.px_array.proofs.WorkLaws.{still_once}
 use Rattle.px_normal.specs.declared.set.SolidSet.{SolidSet}
 use Rattle.px_sched.specs.Layouts.{layout_of}
 use Rattle.px_shadow.specs.declared.passes.TheConstants.{MAX_LIGHTS}
@@ -30,7 +31,7 @@ all_lights-requires-clause-can g c =
     bits scene lights device c.laws_of_scenes.ensures.scene c.laws_of_scenes.ensures.solids c.requires.products
     c.requires.at c.requires.known enough few))
 
-made : (g : Over) (c : goal.After-all_lights g) → IsShaded g.A.Array.BITS c.args.scene.now c.args.lights.now.items
+made : (g : Over) (c : goal.After-clocks-clocks g) → IsShaded g.A.Array.BITS c.args.scene.now c.args.lights.now.items
     (g.A.Array.device c.all_lights.new.array)
 made g c =
     let bits = g.A.Array.BITS in
@@ -69,3 +70,12 @@ returns-clause-work g c =
     ∙ ap (λ n. worked n (g.A.Array.work c.args.array.now))
     (clocks_made g.A.Array.BITS scene lights (g.A.Array.device c.args.array.now)
     (g.A.Array.device c.all_lights.new.array) c.requires.at (made g c))
+
+pub returns-clause-once : goal.returns-clause-once
+returns-clause-once g c = λ once.
+    let made = c.all_lights.ensures in
+    record {
+      slots = made.slots ∙ once.slots;
+      work = still_once _ _ _ _ _ made.work once.work (omega (arith, made.clocks))
+          (omega (arith, c.clocks-clocks.ensures.value));
+    }

@@ -21,6 +21,7 @@ invariant_of-grid g c =
       pixels = pixels_taken g.row.N (2 ^ (tree.nx + tree.ny)) c.take_planes.new.planes c.self.inside.shelf.words
           (c.take_planes.ensures.memory ∙ pixels.memory) kept c.grid.inside.planes.full
           (c.self.invariant.filled saved) words c.take_planes.ensures.full pixels.full;
+      reach = c.whole-grid-inside.ensures;
     })
 
 pub returns-clause-given : goal.returns-clause-given

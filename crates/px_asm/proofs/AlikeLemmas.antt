@@ -1,0 +1,359 @@
+-- Two runs of the same micros from states of which some parts are known to be the same.
+use Rattle.std.proofs.Common.{◌≡◌, ℕ, zero, suc, ◌+◌, ◌-◌, ◌*◌, ◌/◌, ◌%◌, ◌^◌, ◌<◌, ◌≤◌, ◌==◌, Bool, true, false}
+use Rattle.std.proofs.Common.{if◌then◌else◌, nat_lt, List, [], ◌∷◌, All, refl, sym, subst, ap, ◌∙◌, arith}
+use Rattle.std.proofs.lemmas.List.{ext_get_or}
+use Rattle.std.proofs.lemmas.Bool.Decides.{nat_tests}
+use Rattle.px_pixel.specs.Acts.{after_act}
+use Rattle.px_pixel.specs.Pixels.{PixelState}
+use Rattle.px_pixel.specs.declared.act.Act.{Act}
+use Rattle.px_pixel.specs.declared.act.Act.TheVariants as act
+use Rattle.px_tree.specs.Nodes.{TreeState, leaf_output}
+use Rattle.px_macro.specs.Macros.{IsLawful}
+use Rattle.px_macro.specs.declared.operation.Macro.{Macro}
+use Rattle.px_macro.specs.declared.operation.Macro.TheVariants as m
+use Rattle.px_array.specs.Arrays.{HasGrid, State, no_pixel, pixel_at}
+use Rattle.px_array.specs.Clocks.{after_clock, after_clocks, after_tree_op}
+use Rattle.px_array.specs.declared.micro.Micro.{Micro}
+use Rattle.px_array.specs.declared.micro.TreeOp.{TreeOp}
+use Rattle.px_array.specs.declared.micro.TreeOp.TheVariants.{Hold, Clear, Feed}
+use Rattle.px_array.proofs.ClockLaws.{grid_after_clock, pixel_at-after_clock, after_clocks-append}
+use Rattle.px_asm.specs.Micros.{act_at, all_micros, cycles, micro_at, micros, tree_at}
+use Rattle.px_asm.specs.Operated.{Known, all_known, all_renewed, renewed}
+use Rattle.px_asm.proofs.StepLemmas.{run_is_steps, steps}
+
+pub record AlikePixels (k : Known) (p q : PixelState) : Type 0 where
+  pub memory : p.memory ≡ q.memory
+  pub enable : p.enable ≡ q.enable
+  pub carry : k.carry ≡ true → p.carry ≡ q.carry
+  pub latch : k.latch ≡ true → p.latch ≡ q.latch
+
+pub record Alike (bits nx ny : ℕ) (k : Known) (s t : State) : Type 0 where
+  pub first : HasGrid bits nx ny s
+  pub second : HasGrid bits nx ny t
+  pub pixels : (place : ℕ) → place < 2 ^ (nx + ny) → AlikePixels k (pixel_at s place) (pixel_at t place)
+  pub tree : k.tree ≡ true → s.tree ≡ t.tree
+
+-- ---- one act
+
+-- what an act reads is known
+abbrev pub suits : Act → Known → Type 0
+suits act.Nop k = Unit {0}
+suits act.EnableAll k = Unit {0}
+suits (act.EnableCarry v) k = k.carry ≡ true
+suits (act.EnableTree v) k = k.tree ≡ true
+suits (act.EnableBit at v) k = Unit {0}
+suits (act.SetCarry v) k = Unit {0}
+suits (act.Fetch at) k = Unit {0}
+suits (act.StoreTree at) k = k.tree ≡ true
+suits (act.StoreLatch at) k = k.latch ≡ true
+suits (act.StoreConst at v) k = Unit {0}
+suits (act.Toggle at) k = Unit {0}
+suits (act.CarryTree at) k = k.tree ≡ true
+suits (act.CarryLatch at) k = k.latch ≡ true
+suits (act.AddTree at) k = (k.tree ≡ true) × (k.carry ≡ true)
+
+abbrev pub known_by_act : Act → Known → Known
+known_by_act act.Nop k = k
+known_by_act act.EnableAll k = k
+known_by_act (act.EnableCarry v) k = k
+known_by_act (act.EnableTree v) k = k
+known_by_act (act.EnableBit at v) k = k
+known_by_act (act.SetCarry v) k = record { tree = k.tree; carry = true; latch = k.latch }
+known_by_act (act.Fetch at) k = record { tree = k.tree; carry = k.carry; latch = true }
+known_by_act (act.StoreTree at) k = k
+known_by_act (act.StoreLatch at) k = k
+known_by_act (act.StoreConst at v) k = k
+known_by_act (act.Toggle at) k = k
+known_by_act (act.CarryTree at) k = k
+known_by_act (act.CarryLatch at) k = k
+known_by_act (act.AddTree at) k = k
+
+pub act_alike : (a : Act) (k : Known) (b c : Bool) (p q : PixelState) → suits a k → (k.tree ≡ true → b ≡ c)
+    → AlikePixels k p q → AlikePixels (known_by_act a k) (after_act a b p) (after_act a c q)
+act_alike act.Nop k b c p q fit tree h = h
+act_alike act.EnableAll k b c p q fit tree h =
+    record { memory = h.memory; enable = refl; carry = h.carry; latch = h.latch }
+act_alike (act.EnableCarry v) k b c p q fit tree h =
+    record { memory = h.memory; enable = rw (h.enable, h.carry fit) refl; carry = h.carry; latch = h.latch }
+act_alike (act.EnableTree v) k b c p q fit tree h =
+    record { memory = h.memory; enable = rw (h.enable, tree fit) refl; carry = h.carry; latch = h.latch }
+act_alike (act.EnableBit at v) k b c p q fit tree h =
+    record { memory = h.memory; enable = rw (h.enable, h.memory) refl; carry = h.carry; latch = h.latch }
+act_alike (act.SetCarry v) k b c p q fit tree h =
+    record { memory = h.memory; enable = h.enable; carry = λ e. refl; latch = h.latch }
+act_alike (act.Fetch at) k b c p q fit tree h =
+    record { memory = h.memory; enable = h.enable; carry = h.carry; latch = λ e. rw h.memory refl }
+act_alike (act.StoreTree at) k b c p q fit tree h =
+    record { memory = rw (h.memory, h.enable, tree fit) refl; enable = h.enable; carry = h.carry; latch = h.latch }
+act_alike (act.StoreLatch at) k b c p q fit tree h =
+    record { memory = rw (h.memory, h.enable, h.latch fit) refl; enable = h.enable; carry = h.carry; latch = h.latch }
+act_alike (act.StoreConst at v) k b c p q fit tree h =
+    record { memory = rw (h.memory, h.enable) refl; enable = h.enable; carry = h.carry; latch = h.latch }
+act_alike (act.Toggle at) k b c p q fit tree h =
+    record { memory = rw (h.memory, h.enable) refl; enable = h.enable; carry = h.carry; latch = h.latch }
+act_alike (act.CarryTree at) k b c p q fit tree h =
+    record { memory = h.memory; enable = h.enable; carry = λ e. rw (h.memory, h.carry e, tree fit) refl; latch = h.latch }
+act_alike (act.CarryLatch at) k b c p q fit tree h =
+    record { memory = h.memory; enable = h.enable; carry = λ e. rw (h.memory, h.carry e, h.latch fit) refl; latch = h.latch }
+act_alike (act.AddTree at) k b c p q fit tree h =
+    let same = h.carry fit.1 in
+    let bit = tree fit.0 in
+    record {
+      memory = rw (h.memory, h.enable, same, bit) refl;
+      enable = h.enable;
+      carry = λ e. rw (h.memory, same, bit) refl;
+      latch = h.latch;
+    }
+
+-- ---- one clock
+
+abbrev pub known_by_op : TreeOp → Known → Known
+known_by_op Hold k = k
+known_by_op Clear k = record { tree = true; carry = k.carry; latch = k.latch }
+known_by_op (Feed a b c) k = k
+
+abbrev pub known_by : Micro → Known → Known
+known_by micro k = known_by_op micro.tree (known_by_act micro.act k)
+
+act_keeps_tree : (a : Act) (k : Known) → (known_by_act a k).tree ≡ k.tree
+act_keeps_tree act.Nop k = refl
+act_keeps_tree act.EnableAll k = refl
+act_keeps_tree (act.EnableCarry v) k = refl
+act_keeps_tree (act.EnableTree v) k = refl
+act_keeps_tree (act.EnableBit at v) k = refl
+act_keeps_tree (act.SetCarry v) k = refl
+act_keeps_tree (act.Fetch at) k = refl
+act_keeps_tree (act.StoreTree at) k = refl
+act_keeps_tree (act.StoreLatch at) k = refl
+act_keeps_tree (act.StoreConst at v) k = refl
+act_keeps_tree (act.Toggle at) k = refl
+act_keeps_tree (act.CarryTree at) k = refl
+act_keeps_tree (act.CarryLatch at) k = refl
+act_keeps_tree (act.AddTree at) k = refl
+
+op_alike : (op : TreeOp) (k : Known) (p q : PixelState) → AlikePixels k p q → AlikePixels (known_by_op op k) p q
+op_alike Hold k p q h = h
+op_alike Clear k p q h = record { memory = h.memory; enable = h.enable; carry = h.carry; latch = h.latch }
+op_alike (Feed a b c) k p q h = h
+
+trees_alike : (op : TreeOp) (k : Known) (s t : TreeState) → s.nx ≡ t.nx → s.ny ≡ t.ny → (k.tree ≡ true → s ≡ t)
+    → (known_by_op op k).tree ≡ true → after_tree_op op s ≡ after_tree_op op t
+trees_alike Hold k s t columns rows same known = same known
+trees_alike Clear k s t columns rows same known = rw (columns, rows) refl
+trees_alike (Feed a b c) k s t columns rows same known = ap (after_tree_op (Feed a b c)) (same known)
+
+pub clock_alike : (bits nx ny : ℕ) (micro : Micro) (k : Known) (s t : State) → suits micro.act k
+    → Alike bits nx ny k s t → Alike bits nx ny (known_by micro k) (after_clock micro s) (after_clock micro t)
+clock_alike bits nx ny micro k s t fit h =
+    record {
+      first = grid_after_clock bits nx ny micro s h.first;
+      second = grid_after_clock bits nx ny micro t h.second;
+      pixels = λ place inside.
+          let in_s : place < 2 ^ (s.tree.nx + s.tree.ny) = rw (h.first.columns, h.first.rows) inside in
+          let in_t : place < 2 ^ (t.tree.nx + t.tree.ny) = rw (h.second.columns, h.second.rows) inside in
+          let one = act_alike micro.act k (leaf_output s.tree place) (leaf_output t.tree place) (pixel_at s place)
+          (pixel_at t place) fit (λ e. ap (λ (tree : TreeState). leaf_output tree place) (h.tree e))
+          (h.pixels place inside) in
+          rw (pixel_at-after_clock micro s place in_s, pixel_at-after_clock micro t place in_t)
+          (op_alike micro.tree (known_by_act micro.act k) _ _ one);
+      tree = trees_alike micro.tree (known_by_act micro.act k) s.tree t.tree (h.first.columns ∙ sym h.second.columns)
+          (h.first.rows ∙ sym h.second.rows) (λ e. h.tree (sym (act_keeps_tree micro.act k) ∙ e));
+    }
+
+-- ---- a run of clocks that need nothing but what is known
+
+pub record Keeps (micro : Micro) (k : Known) : Type 0 where
+  pub fit : suits micro.act k
+  pub same : known_by micro k ≡ k
+
+pub run_alike : (bits nx ny : ℕ) (micro : ℕ → Micro) (k : Known) (from n : ℕ) (s t : State)
+    → ((i : ℕ) → from ≤ i → i < from + n → Keeps (micro i) k)
+    → Alike bits nx ny k (steps micro from s) (steps micro from t)
+    → Alike bits nx ny k (steps micro (from + n) s) (steps micro (from + n) t)
+run_alike bits nx ny micro k from zero s t keeps h =
+    let e : from ≡ from + 0 = omega arith in rw (← e) h
+run_alike bits nx ny micro k from (suc n) s t keeps h =
+    let before = run_alike bits nx ny micro k from n s t (λ i low high. keeps i low (omega arith)) h in
+    let here = keeps (from + n) (omega arith) (omega arith) in
+    let e : from + suc n ≡ suc (from + n) = omega arith in
+    let one = clock_alike bits nx ny (micro (from + n)) k (steps micro (from + n) s) (steps micro (from + n) t) here.fit before in
+    rw e (rw here.same at one)
+
+-- ---- the operations
+
+fits_choice : (b : Bool) (x y : Act) (k : Known) → suits x k → suits y k → suits (if b then x else y) k
+fits_choice true x y k first second = first
+fits_choice false x y k first second = second
+
+same_choice : (b : Bool) (x y : Act) (k : Known) → known_by_act x k ≡ k → known_by_act y k ≡ k
+    → known_by_act (if b then x else y) k ≡ k
+same_choice true x y k first second = first
+same_choice false x y k first second = second
+
+-- where the tree is known, it stays so
+op_keeps : (op : TreeOp) (carry latch : Bool) → known_by_op op (record { tree = true; carry = carry; latch = latch })
+    ≡ record { tree = true; carry = carry; latch = latch }
+op_keeps Hold carry latch = refl
+op_keeps Clear carry latch = refl
+op_keeps (Feed a b c) carry latch = refl
+
+keeps_fed : (op : TreeOp) (a : Act) (carry latch : Bool) → suits a (record { tree = true; carry = carry; latch = latch })
+    → known_by_act a (record { tree = true; carry = carry; latch = latch }) ≡ record { tree = true; carry = carry; latch = latch }
+    → Keeps (record { tree = op; act = a }) (record { tree = true; carry = carry; latch = latch })
+keeps_fed op a carry latch fit same = record {
+  fit = fit;
+  same = ap (known_by_op op) same ∙ op_keeps op carry latch;
+}
+
+not_first : (i n : ℕ) → i < n → (i == n) ≡ false
+not_first i n low = grind (arith, nat_tests)
+
+not_zero : (i : ℕ) → 1 ≤ i → (i == 0) ≡ false
+not_zero i some = grind (arith, nat_tests)
+
+-- the acts on a bit of the value, where the carry is known if they read it
+record Suits (a : Act) (carry latch : Bool) : Type 0 where
+  fit : suits a (record { tree = true; carry = carry; latch = latch })
+  same : known_by_act a (record { tree = true; carry = carry; latch = latch }) ≡ record { tree = true; carry = carry; latch = latch }
+
+suits_bits : (levels i : ℕ) (first : Act) (each : ℕ → Act) (carry latch : Bool) → 1 ≤ i → ((t : ℕ) → Suits (each t) carry latch)
+    → Suits (act_at levels first each i) carry latch
+suits_bits levels i first each carry latch some fit =
+    rw (not_zero i some) (record {
+      fit = fits_choice (nat_lt levels i) (each (i - 1 - levels)) act.Nop _ (fit (i - 1 - levels)).fit tt;
+      same = same_choice (nat_lt levels i) (each (i - 1 - levels)) act.Nop _ (fit (i - 1 - levels)).same refl;
+    })
+
+-- the first clock, and then those that need nothing but what is known
+first_then : (bits nx ny : ℕ) (micro : ℕ → Micro) (k l : Known) (n count : ℕ) (s t : State) → count ≡ 1 + n
+    → suits (micro 0).act k → known_by (micro 0) k ≡ l
+    → ((i : ℕ) → 1 ≤ i → i < count → Keeps (micro i) l)
+    → Alike bits nx ny k s t
+    → Alike bits nx ny l (steps micro count s) (steps micro count t)
+first_then bits nx ny micro k l n count s t total fit known keeps h =
+    let one = clock_alike bits nx ny (micro 0) k s t fit h in
+    let start : Alike bits nx ny l (steps micro 1 s) (steps micro 1 t) = rw known at one in
+    rw total (run_alike bits nx ny micro l 1 n s t (λ i low high. keeps i low (omega arith)) start)
+
+module _ (bits nx ny : ℕ) (k : Known) (s t : State) (h : Alike bits nx ny k s t) where
+  -- operations of one clock, which need nothing
+  one_clock : (micro : ℕ → Micro) → Keeps (micro 0) k → Alike bits nx ny k (steps micro 1 s) (steps micro 1 t)
+  one_clock micro keeps = rw (← keeps.same) (clock_alike bits nx ny (micro 0) k s t keeps.fit h)
+
+  steps_alike : (op : Macro) → IsLawful op bits
+      → Alike bits nx ny (renewed op k) (steps (micro_at op nx ny) (cycles op nx ny) s)
+      (steps (micro_at op nx ny) (cycles op nx ny) t)
+  steps_alike m.All lawful = one_clock (micro_at m.All nx ny) (record { fit = tt; same = refl })
+  steps_alike (m.KeepSign form) lawful =
+      let micro = micro_at (m.KeepSign form) nx ny in
+      let last = 40 + (nx + ny) in
+      let l : Known = record { tree = true; carry = k.carry; latch = k.latch } in
+      let early : (0 == last) ≡ false = not_first 0 last (omega arith) in
+      first_then bits nx ny micro k l last (41 + (nx + ny)) s t (omega arith) (rw early tt) (rw early refl)
+      (λ i low high.
+      keeps_fed (tree_at form nx ny i) (if i == last then act.EnableTree false else act.Nop) k.carry k.latch
+      (fits_choice (i == last) (act.EnableTree false) act.Nop l refl tt)
+      (same_choice (i == last) (act.EnableTree false) act.Nop l refl refl)) h
+  steps_alike (m.KeepBit at v) lawful = one_clock (micro_at (m.KeepBit at v) nx ny) (record { fit = tt; same = refl })
+  steps_alike (m.LoadLinear form f) lawful =
+      let micro = micro_at (m.LoadLinear form f) nx ny in
+      let l : Known = record { tree = true; carry = k.carry; latch = k.latch } in
+      first_then bits nx ny micro k l (nx + ny + f.len) (1 + (nx + ny) + f.len) s t (omega arith) tt refl
+      (λ i low high.
+      let each : ℕ → Act = λ u. act.StoreTree (f.at + u) in
+      let fit = suits_bits (nx + ny) i act.Nop each k.carry k.latch low (λ u. record { fit = refl; same = refl }) in
+      keeps_fed (tree_at form nx ny i) (act_at (nx + ny) act.Nop each i) k.carry k.latch fit.fit fit.same) h
+  steps_alike (m.KeepAtMost form f) lawful =
+      let micro = micro_at (m.KeepAtMost form f) nx ny in
+      let last = 1 + (nx + ny) + f.len in
+      let l : Known = record { tree = true; carry = true; latch = k.latch } in
+      let early : (0 == last) ≡ false = not_first 0 last (omega arith) in
+      first_then bits nx ny micro k l last (2 + (nx + ny) + f.len) s t (omega arith) (rw early tt) (rw early refl)
+      (λ i low high.
+      let each : ℕ → Act = λ u. act.CarryTree (f.at + u) in
+      let fit = suits_bits (nx + ny) i (act.SetCarry true) each true k.latch low (λ u. record { fit = refl; same = refl }) in
+      keeps_choice (i == last) (record { tree = Hold; act = act.EnableCarry true })
+      (record { tree = tree_at form nx ny i; act = act_at (nx + ny) (act.SetCarry true) each i }) l
+      (record { fit = refl; same = refl })
+      (keeps_fed (tree_at form nx ny i) (act_at (nx + ny) (act.SetCarry true) each i) true k.latch fit.fit fit.same)) h
+    where
+      keeps_choice : (b : Bool) (x y : Micro) (l : Known) → Keeps x l → Keeps y l → Keeps (if b then x else y) l
+      keeps_choice true x y l first second = first
+      keeps_choice false x y l first second = second
+  steps_alike (m.AddLinear form f) lawful =
+      let micro = micro_at (m.AddLinear form f) nx ny in
+      let l : Known = record { tree = true; carry = true; latch = k.latch } in
+      first_then bits nx ny micro k l (nx + ny + f.len) (1 + (nx + ny) + f.len) s t (omega arith) tt refl
+      (λ i low high.
+      let each : ℕ → Act = λ u. act.AddTree (f.at + u) in
+      let fit = suits_bits (nx + ny) i (act.SetCarry false) each true k.latch low (λ u. record { fit = (refl, refl); same = refl }) in
+      keeps_fed (tree_at form nx ny i) (act_at (nx + ny) (act.SetCarry false) each i) true k.latch fit.fit fit.same) h
+  steps_alike (m.LoadConst f c) lawful =
+      let e : 0 + f.len ≡ f.len = omega arith in
+      rw e at (run_alike bits nx ny (micro_at (m.LoadConst f c) nx ny) k 0 f.len s t
+      (λ i low high. record { fit = tt; same = refl }) h)
+  steps_alike (m.SetBit at v) lawful = one_clock (micro_at (m.SetBit at v) nx ny) (record { fit = tt; same = refl })
+  steps_alike (m.Toggle at) lawful = one_clock (micro_at (m.Toggle at) nx ny) (record { fit = tt; same = refl })
+  steps_alike (m.Copy f g) lawful =
+      let micro = micro_at (m.Copy f g) nx ny in
+      let l : Known = record { tree = k.tree; carry = k.carry; latch = true } in
+      first_then bits nx ny micro k l (2 * f.len - 1) (2 * f.len) s t (omega (arith, lawful.0.fields.0.from_one)) tt refl
+      (λ i low high. record {
+        fit = fits_choice (i % 2 == 0) (act.Fetch (f.at + i / 2)) (act.StoreLatch (g.at + i / 2)) l tt refl;
+        same = same_choice (i % 2 == 0) (act.Fetch (f.at + i / 2)) (act.StoreLatch (g.at + i / 2)) l refl refl;
+      }) h
+  steps_alike (m.KeepLess f g) lawful =
+      let micro = micro_at (m.KeepLess f g) nx ny in
+      let some = lawful.fields.0.from_one in
+      let l : Known = record { tree = k.tree; carry = true; latch = k.latch } in
+      let l2 : Known = record { tree = k.tree; carry = true; latch = true } in
+      let one = clock_alike bits nx ny (micro 0) k s t tt h in
+      let second : (1 == 1 + 2 * f.len) ≡ false = not_first 1 (1 + 2 * f.len) (omega arith) in
+      let two = clock_alike bits nx ny (micro 1) l (steps micro 1 s) (steps micro 1 t) (rw second tt) one in
+      let known : known_by (micro 1) l ≡ l2 = rw second refl in
+      let start : Alike bits nx ny l2 (steps micro 2 s) (steps micro 2 t) =
+      subst (λ (j : Known). Alike bits nx ny j (steps micro 2 s) (steps micro 2 t)) known two in
+      run_alike bits nx ny micro l2 2 (2 * f.len) s t
+      (λ i low high.
+      let later : (i == 0) ≡ false = not_zero i (omega arith) in
+      rw later (record {
+        fit = fits_choice (i == 1 + 2 * f.len) (act.EnableCarry false) _ l2 refl
+            (fits_choice (i % 2 == 1) (act.Fetch (g.at + (i - 1) / 2)) (act.CarryLatch (f.at + (i - 1) / 2)) l2 tt refl);
+        same = same_choice (i == 1 + 2 * f.len) (act.EnableCarry false) _ l2 refl
+            (same_choice (i % 2 == 1) (act.Fetch (g.at + (i - 1) / 2)) (act.CarryLatch (f.at + (i - 1) / 2)) l2 refl refl);
+      })) start
+
+pub micros_alike : (bits nx ny : ℕ) (k : Known) (s t : State) (op : Macro) → IsLawful op bits → Alike bits nx ny k s t
+    → Alike bits nx ny (renewed op k) (after_clocks (micros op nx ny) s) (after_clocks (micros op nx ny) t)
+micros_alike bits nx ny k s t op lawful h =
+    rw (run_is_steps (micro_at op nx ny) (cycles op nx ny) s, run_is_steps (micro_at op nx ny) (cycles op nx ny) t)
+    (steps_alike bits nx ny k s t h op lawful)
+
+pub all_micros_alike : (bits nx ny : ℕ) (ops : List Macro) → All (λ op. IsLawful op bits) ops → (k : Known) (s t : State)
+    → Alike bits nx ny k s t
+    → Alike bits nx ny (all_renewed ops k) (after_clocks (all_micros ops nx ny) s) (after_clocks (all_micros ops nx ny) t)
+all_micros_alike bits nx ny [] lawful k s t h = h
+all_micros_alike bits nx ny (op ∷ ops) lawful k s t h =
+    let rest : All (λ m. IsLawful m bits) ops = λ i d low. lawful (suc i) d (omega arith) in
+    let first = micros_alike bits nx ny k s t op (lawful 0 op (omega arith)) h in
+    rw (after_clocks-append (micros op nx ny) (all_micros ops nx ny) s, after_clocks-append (micros op nx ny) (all_micros ops nx ny) t)
+    (all_micros_alike bits nx ny ops rest (renewed op k) _ _ first)
+
+-- ---- where all is known, the states are the same
+
+same_pixel : (p q : PixelState) → p.memory ≡ q.memory → p.enable ≡ q.enable → p.carry ≡ q.carry → p.latch ≡ q.latch → p ≡ q
+same_pixel p q memory enable carry latch =
+    ap (λ (x : List Bool). record { memory = x; enable = p.enable; carry = p.carry; latch = p.latch }) memory
+    ∙ (ap (λ (x : Bool). record { memory = q.memory; enable = x; carry = p.carry; latch = p.latch }) enable
+    ∙ (ap (λ (x : Bool). record { memory = q.memory; enable = q.enable; carry = x; latch = p.latch }) carry
+    ∙ ap (λ (x : Bool). record { memory = q.memory; enable = q.enable; carry = q.carry; latch = x }) latch))
+
+pub same_state : (bits nx ny : ℕ) (s t : State) → Alike bits nx ny all_known s t → s ≡ t
+same_state bits nx ny s t h =
+    let pixels : s.pixels ≡ t.pixels =
+    ext_get_or no_pixel s.pixels t.pixels (h.first.pixels ∙ sym h.second.pixels)
+    (λ place inside.
+    let one = h.pixels place (omega (arith, h.first.pixels)) in
+    same_pixel (pixel_at s place) (pixel_at t place) one.memory one.enable (one.carry refl) (one.latch refl)) in
+    ap (λ (ps : List PixelState). record { pixels = ps; tree = s.tree }) pixels
+    ∙ ap (λ (tree : TreeState). record { pixels = t.pixels; tree = tree }) (h.tree refl)

@@ -1,0 +1,66 @@
+-- Arrays on which operations were made at once, beside those on which their micros were made.
+use Rattle.std.proofs.Common.{◌≡◌, ℕ, ◌+◌, ◌*◌, ◌/◌, ◌%◌, ◌^◌, ◌<◌, true, false, sym, ap, ◌∙◌, arith}
+use Rattle.std.proofs.Math.Nat.{one-le-pow}
+use Rattle.std.proofs.lemmas.Nat.{pow-add}
+use Rattle.px_macro.specs.Macros.{PixelBits, after_macro}
+use Rattle.px_array.specs.Arrays.{State, pixel_at, pixel_of}
+use Rattle.px_array.proofs.ClockLaws.{grid_after_clocks}
+use Rattle.px_asm.specs.Micros.{micros}
+use Rattle.px_asm.specs.Microprograms.{LeaveTheMeaning}
+use Rattle.px_asm.specs.Operated.{Agree, BecomeTheSame, StayInAgreement, none_known}
+use Rattle.px_asm.proofs.AlikeLemmas.{Alike, all_micros_alike, same_state}
+
+-- pixels by their places
+pub alike_places : (bits nx ny : ℕ) (s t : State) → Agree bits nx ny s t → Alike bits nx ny none_known s t
+alike_places bits nx ny s t h = record {
+  first = h.first;
+  second = h.second;
+  pixels = λ place inside.
+      let split : 2 ^ (nx + ny) ≡ 2 ^ nx * 2 ^ ny = pow-add 2 nx ny in
+      let x = place / 2 ^ ny in
+      let y = place % 2 ^ ny in
+      let whole : x * 2 ^ ny + y ≡ place = whole_of place (2 ^ ny) in
+      let column : x < 2 ^ nx = column_of place (2 ^ nx) (2 ^ ny) (rw split at inside) in
+      let row : y < 2 ^ ny = row_of place ny in
+      let same = h.pixels x y column row in
+      let s_at : pixel_of s x y ≡ pixel_at s place =
+      ap (λ rows. pixel_at s (x * 2 ^ rows + y)) h.first.rows ∙ ap (pixel_at s) whole in
+      let t_at : pixel_of t x y ≡ pixel_at t place =
+      ap (λ rows. pixel_at t (x * 2 ^ rows + y)) h.second.rows ∙ ap (pixel_at t) whole in
+      let bits = rw (s_at, t_at) at same in
+      record {
+        memory = ap (λ (b : PixelBits). b.memory) bits;
+        enable = ap (λ (b : PixelBits). b.enable) bits;
+        carry = λ e. absurd (no e);
+        latch = λ e. absurd (no e);
+      };
+  tree = λ e. absurd (no e);
+}
+  where
+    no : false ≡ true → ⊥
+    no e = cc
+
+    whole_of : (place n : ℕ) → place / n * n + place % n ≡ place
+    whole_of place n = grind arith
+
+    column_of : (place m n : ℕ) → place < m * n → place / n < m
+    column_of place m n inside = grind arith
+
+    row_of : (place ny : ℕ) → place % 2 ^ ny < 2 ^ ny
+    row_of place ny = omega (arith, one-le-pow ny 2 (omega arith))
+
+pub become_the_same : BecomeTheSame
+become_the_same bits nx ny ops lawful s t h all =
+    same_state bits nx ny _ _ (rw all at (all_micros_alike bits nx ny ops lawful none_known s t (alike_places bits nx ny s t h)))
+
+pub stay_in_agreement : LeaveTheMeaning → StayInAgreement
+stay_in_agreement law bits nx ny sizes op lawful before now s agree done = record {
+  first = rw (agree.first.columns, agree.first.rows) at done.grid;
+  second = grid_after_clocks bits nx ny (micros op nx ny) s agree.second;
+  pixels = λ x y column row.
+      let column_before : x < 2 ^ before.state.tree.nx = rw agree.first.columns column in
+      let row_before : y < 2 ^ before.state.tree.ny = rw agree.first.rows row in
+      done.meaning x y column_before row_before
+      ∙ (ap (after_macro op x y) (agree.pixels x y column row)
+      ∙ sym (law bits nx ny sizes op lawful s agree.second x y column row));
+}

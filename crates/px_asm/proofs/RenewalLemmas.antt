@@ -1,0 +1,75 @@
+-- Lists of operations that begin the tree, the carry and the latch anew somewhere.
+use Rattle.std.proofs.Common.{◌≡◌, ℕ, suc, ◌+◌, ◌-◌, ◌<◌, ◌≤◌, Bool, true, false, ◌||◌, List, [], ◌∷◌, ◌++◌, length, take, drop, get_or, Some, refl, sym, ap, ◌∙◌, arith}
+use Rattle.std.specs.List.{slice_get}
+use Rattle.std.proofs.Math.Seq.{drop-cons}
+use Rattle.std.proofs.lemmas.List.{drop-drop, take-append-drop}
+use Rattle.std.proofs.lemmas.Option.{slice_get_within, slice_get-get_or}
+use Rattle.px_asm.specs.Operated.{Known, all_known, all_renewed, none_known, renewed}
+use Rattle.px_macro.specs.declared.operation.Macro.{Macro}
+use Rattle.px_macro.specs.declared.operation.Macro.TheVariants as m
+
+abbrev pub joined : Known → Known → Known
+joined a b = record { tree = a.tree || b.tree; carry = a.carry || b.carry; latch = a.latch || b.latch }
+
+renewed_joins : (op : Macro) (k : Known) → renewed op k ≡ joined (renewed op none_known) k
+renewed_joins m.All k = refl
+renewed_joins (m.KeepSign form) k = refl
+renewed_joins (m.KeepBit at v) k = refl
+renewed_joins (m.LoadLinear form f) k = refl
+renewed_joins (m.KeepAtMost form f) k = refl
+renewed_joins (m.AddLinear form f) k = refl
+renewed_joins (m.LoadConst f c) k = refl
+renewed_joins (m.SetBit at v) k = refl
+renewed_joins (m.Toggle at) k = refl
+renewed_joins (m.Copy f g) k = refl
+renewed_joins (m.KeepLess f g) k = refl
+
+or_true : (b : Bool) → (b || true) ≡ true
+or_true true = refl
+or_true false = refl
+
+found : (ops : List Macro) (i : ℕ) (op : Macro) → slice_get ops i ≡ Some op → i < length ops → get_or ops i op ≡ op
+found ops i op here inside = let e = sym (slice_get-get_or ops i op inside) ∙ here in cc
+
+module _ (part : Known → Bool) (joins : (a b : Known) → part (joined a b) ≡ (part a || part b)) where
+  renewed_keeps : (op : Macro) (k : Known) → part k ≡ true → part (renewed op k) ≡ true
+  renewed_keeps op k known =
+      ap part (renewed_joins op k) ∙ (joins (renewed op none_known) k ∙ rw known (or_true (part (renewed op none_known))))
+
+  renewed_here : (op : Macro) (k : Known) → part (renewed op none_known) ≡ true → part (renewed op k) ≡ true
+  renewed_here op k new = ap part (renewed_joins op k) ∙ (joins (renewed op none_known) k ∙ rw new refl)
+
+  all_keep : (ops : List Macro) (k : Known) → part k ≡ true → part (all_renewed ops k) ≡ true
+  all_keep [] k known = known
+  all_keep (op ∷ ops) k known = all_keep ops (renewed op k) (renewed_keeps op k known)
+
+  all_here : (first rest : List Macro) (op : Macro) (k : Known) → part (renewed op none_known) ≡ true
+      → part (all_renewed (first ++ op ∷ rest) k) ≡ true
+  all_here [] rest op k new = all_keep rest (renewed op k) (renewed_here op k new)
+  all_here (o ∷ first) rest op k new = all_here first rest op (renewed o k) new
+
+  from_there : (ops : List Macro) (n i : ℕ) (op : Macro) → slice_get ops i ≡ Some op → n ≤ i
+      → drop (i - n) (drop n ops) ≡ op ∷ drop (suc i) ops
+  from_there ops n i op here low =
+      let inside = slice_get_within ops i op here in
+      let e : n + (i - n) ≡ i = omega arith in
+      drop-drop (i - n) n ops
+      ∙ (ap (λ j. drop j ops) e
+      ∙ (drop-cons ops i op inside
+      ∙ ap (λ (x : Macro). x ∷ drop (suc i) ops) (found ops i op here inside)))
+
+  -- one of the operations from n on begins it anew
+  pub somewhere : (ops : List Macro) (n i : ℕ) (op : Macro) → slice_get ops i ≡ Some op → n ≤ i → part (renewed op none_known) ≡ true
+      → part (all_renewed (drop n ops) none_known) ≡ true
+  somewhere ops n i op here low new =
+      let inside = slice_get_within ops i op here in
+      let xs = drop n ops in
+      let at : drop (i - n) xs ≡ op ∷ drop (suc i) ops = from_there ops n i op here low in
+      let cut : take (i - n) xs ++ drop (i - n) xs ≡ xs = take-append-drop (i - n) xs in
+      rw (← cut, at) (all_here (take (i - n) xs) (drop (suc i) ops) op none_known new)
+
+pub all_of_them : (k : Known) → k.tree ≡ true → k.carry ≡ true → k.latch ≡ true → k ≡ all_known
+all_of_them k tree carry latch =
+    ap (λ (b : Bool). record { tree = b; carry = k.carry; latch = k.latch }) tree
+    ∙ (ap (λ (b : Bool). record { tree = true; carry = b; latch = k.latch }) carry
+    ∙ ap (λ (b : Bool). record { tree = true; carry = true; latch = b }) latch)

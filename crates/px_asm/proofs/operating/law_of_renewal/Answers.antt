@@ -1,0 +1,8 @@
+use Rattle.px_asm.proofs.OperatedLemmas.{become_the_same, stay_in_agreement}
+use Rattle.px_asm.proofs.operating.law_of_renewal.Goals as goal
+
+pub returns-clause-same : goal.returns-clause-same
+returns-clause-same c = become_the_same
+
+pub returns-clause-agreement : goal.returns-clause-agreement
+returns-clause-agreement c = stay_in_agreement c.law_of_microprograms.ensures.meaning

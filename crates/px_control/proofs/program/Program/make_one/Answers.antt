@@ -1,0 +1,64 @@
+use Rattle.std.proofs.Common.{◌≡◌, ◌∙◌, ap, arith}
+use Rattle.px_array.specs.Arrays.{Device}
+use Rattle.px_array.specs.Clocks.{all_clocked}
+use Rattle.px_array.proofs.ClockLaws.{nx-after_clocks, ny-after_clocks}
+use Rattle.px_asm.specs.Micros.{micros}
+use Rattle.px_asm.proofs.MakingLemmas.{count_of_them}
+use Rattle.px_control.specs.Program.{columns_of, rows_of}
+use Rattle.px_control.proofs.PlaceLemmas.{here_of}
+use Rattle.px_control.proofs.WholeLemmas.{left_more, made_law, none_left, sized_more}
+use Rattle.px_control.proofs.program.Program.make_one.Goals as goal
+
+pub cycles-cycles-requires : goal.cycles-cycles-requires
+cycles-cycles-requires g c =
+    (here_of c.args.self.now c.args.place.now c.in-Some.m c.laws.ensures.good.lawful c.requires.stands c.in-Some.is).lawful
+
+pub make_micros-requires-clause-lawful : goal.make_micros-requires-clause-lawful
+make_micros-requires-clause-lawful g c =
+    let good = c.laws.ensures.good in
+    let here = here_of c.args.self.now c.args.place.now c.in-Some.m good.lawful c.requires.stands c.in-Some.is in
+    c.laws.ensures.more c.in-Some.m _ 256 (omega (arith, good.bits)) here.lawful
+
+pub make_micros-requires-clause-places : goal.make_micros-requires-clause-places
+make_micros-requires-clause-places g c =
+    let here = here_of c.args.self.now c.args.place.now c.in-Some.m c.laws.ensures.good.lawful c.requires.stands
+    c.in-Some.is in
+    c.laws.ensures.more c.in-Some.m _ _ c.requires.enough here.lawful
+
+pub make_micros-requires-clause-counted : goal.make_micros-requires-clause-counted
+make_micros-requires-clause-counted g c =
+    let good = c.laws.ensures.good in
+    let here = here_of c.args.self.now c.args.place.now c.in-Some.m good.lawful c.requires.stands c.in-Some.is in
+    omega (arith, c.requires.sized.clocks, here.below, good.clocks, c.cycles-cycles.ensures.few)
+
+pub returns-in-Some-clause-sized : goal.returns-in-Some-clause-sized
+returns-in-Some-clause-sized g c =
+    let scene = c.args.self.now in
+    let before = g.A.Array.device c.args.array.now in
+    let place = c.args.place.now in
+    let made = made_law scene place.clock c.in-Some.m before _ c.cycles-cycles.result c.requires.sized
+    c.cycles-cycles.ensures.value c.make_micros.ensures.device in
+    sized_more scene place.clock _ c.in-Some.m before _ c.requires.sized made
+    (omega (arith, c.after.ensures.clock, c.cycles-cycles.ensures.value, c.requires.micro))
+
+pub returns-in-Some-clause-device : goal.returns-in-Some-clause-device
+returns-in-Some-clause-device g c =
+    let scene = c.args.self.now in
+    let before = g.A.Array.device c.args.array.now in
+    let place = c.args.place.now in
+    let made = made_law scene place.clock c.in-Some.m before _ c.cycles-cycles.result c.requires.sized
+    c.cycles-cycles.ensures.value c.make_micros.ensures.device in
+    λ end low. left_more scene place c.in-Some.m before _ _ end c.requires.stands c.in-Some.is
+    (c.after.ensures.operation (omega arith)) low made
+
+pub returns-in-None-clause-operation : goal.returns-in-None-clause-operation
+returns-in-None-clause-operation g c =
+    absurd (omega (arith, c.requires.more, none_left c.args.self.now c.args.place.now c.requires.stands c.in-None.is))
+
+pub returns-in-None-clause-later : goal.returns-in-None-clause-later
+returns-in-None-clause-later g c =
+    absurd (omega (arith, c.requires.more, none_left c.args.self.now c.args.place.now c.requires.stands c.in-None.is))
+
+pub returns-in-None-clause-device : goal.returns-in-None-clause-device
+returns-in-None-clause-device g c =
+    absurd (omega (arith, c.requires.more, none_left c.args.self.now c.args.place.now c.requires.stands c.in-None.is))

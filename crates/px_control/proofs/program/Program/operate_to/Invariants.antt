@@ -1,0 +1,19 @@
+use Rattle.std.proofs.Common.{◌≡◌, ◌-◌, ◌≤◌}
+use Rattle.px_array.specs.Slots.{worked}
+use Rattle.px_control.specs.Standing.{StandsFor}
+use Rattle.px_control.specs.Whole.{IsNear}
+use Rattle.px_control.proofs.program.Program.operate_to.Given as goal
+
+abbrev pub decreases-loop-place : goal.decreases-loop-place
+decreases-loop-place g l = l.k - l.place.operation
+
+abbrev pub invariant-loop-place : goal.invariant-loop-place
+invariant-loop-place g l = record {
+  stands : StandsFor l.self l.place;
+  micro : l.place.micro ≡ 0;
+  order : l.place.operation ≤ l.k;
+  later : l.from.clock ≤ l.place.clock;
+  near : IsNear g.A.Array.BITS l.self l.place.clock (g.A.Array.device l.array);
+  slots : g.A.Array.slots l.array ≡ g.A.Array.slots l.fn.array;
+  work : g.A.Array.work l.array ≡ worked (l.place.clock - l.from.clock) (g.A.Array.work l.fn.array);
+}

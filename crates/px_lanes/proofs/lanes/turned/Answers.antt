@@ -1,0 +1,12 @@
+use Rattle.std.proofs.Common.{◌≡◌, ◌∙◌, Bool, true, false, not, refl}
+use Rattle.px_num.specs.Bits.{nat_bit, xor}
+use Rattle.px_rows.proofs.BitLaws.{bit-xor}
+use Rattle.px_rows.proofs.WordLemmas.{all_ones}
+use Rattle.px_lanes.proofs.lanes.turned.Goals as goal
+
+xor_true : (b : Bool) → xor b true ≡ not b
+xor_true true = refl
+xor_true false = refl
+
+pub returns : goal.returns
+returns c = λ j within. bit-xor c.args.word 18446744073709551615 j ∙ rw (all_ones.each j within) (xor_true (nat_bit c.args.word j))

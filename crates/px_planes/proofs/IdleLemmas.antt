@@ -1,0 +1,128 @@
+-- Operations where no pixel is enabled, and grids after an operation.
+use Rattle.std.proofs.Common.{◌≡◌, ◌≢◌, ℕ, ◌+◌, ◌*◌, ◌/◌, ◌^◌, ◌<◌, ◌≤◌, ◌%◌, Bool, true, false, ◌&&◌, List, length, get_or}
+use Rattle.std.proofs.Common.{refl, sym, ap, ◌∙◌, arith}
+use Rattle.std.proofs.Common.{inl, inr}
+use Rattle.std.proofs.Math.Nat.{one-le-pow, pow-le-pow_right}
+use Rattle.std.proofs.lemmas.Bool.{cases_lt, le-ltb, lt-ltb}
+use Rattle.std.proofs.lemmas.Nat.{pow-add}
+use Rattle.px_planes.proofs.GridLemmas.{whole_words}
+use Rattle.px_asm.specs.Microprograms.{bits_of}
+use Rattle.px_macro.specs.Macros.{PixelBits, after_macro, keep, put_bit, with_field}
+use Rattle.px_macro.specs.declared.field.Field.{Field}
+use Rattle.px_macro.specs.declared.operation.Macro.{Macro}
+use Rattle.px_macro.specs.declared.operation.Macro.TheVariants as m
+use Rattle.px_num.specs.Bits.{nat_bit}
+use Rattle.px_pixel.specs.Pixels.{PixelState, zero_pixel}
+use Rattle.px_rows.specs.Rows.{row_bit, words_for}
+use Rattle.px_rows.proofs.BitLaws.{bit_of_zero}
+use Rattle.px_planes.specs.Operations.{IsDone, IsEnabled, IsLike, IsPartial, IsWordDone}
+use Rattle.px_planes.specs.Pixels.{HasPixels, HasWords, pixel_in}
+use Rattle.px_planes.specs.declared.planes.Planes.{Planes}
+
+idle_keep : (test : Bool) (p : PixelBits) → p.enable ≡ false → keep test p ≡ p
+idle_keep test p off =
+    let e : (p.enable && test) ≡ p.enable = rw off refl in
+    ap (λ (b : Bool). record { memory = p.memory; enable = b }) e
+
+idle_field : (f : Field) (n : ℕ) (p : PixelBits) → p.enable ≡ false → with_field f n p ≡ p
+idle_field f n p off = rw off refl
+
+idle_put : (at : ℕ) (v : Bool) (p : PixelBits) → p.enable ≡ false → put_bit at v p ≡ p
+idle_put at v p off = rw off refl
+
+pub idle : (op : Macro) → IsPartial op → (x y : ℕ) (p : PixelBits) → p.enable ≡ false → after_macro op x y p ≡ p
+idle m.All part x y p off = absurd part
+idle (m.KeepSign form) part x y p off = idle_keep _ p off
+idle (m.KeepBit at v) part x y p off = idle_keep _ p off
+idle (m.LoadLinear form f) part x y p off = idle_field f _ p off
+idle (m.KeepAtMost form f) part x y p off = idle_keep _ p off
+idle (m.AddLinear form f) part x y p off = idle_field f _ p off
+idle (m.LoadConst f c) part x y p off = idle_field f c p off
+idle (m.SetBit at v) part x y p off = idle_put at v p off
+idle (m.Toggle at) part x y p off = idle_put at _ p off
+idle (m.Copy f g) part x y p off = idle_field g _ p off
+idle (m.KeepLess f g) part x y p off = idle_keep _ p off
+
+pub idle_word : (op : Macro) (ny w n : ℕ) (planes : Planes) → IsPartial op → HasWords n planes → get_or planes.enable w 0 ≡ 0
+    → IsWordDone op ny w n planes planes
+idle_word op ny w n planes part words none = record {
+  each = λ p within here.
+      let off : row_bit planes.enable p ≡ false = rw (here, none) (bit_of_zero (p % 64)) in
+      sym (idle op part (p / 2 ^ ny) (p % 2 ^ ny) (bits_of (pixel_in planes p)) off);
+  others = λ p within other. refl;
+  like = record { words = words; memory = refl; carry = refl; latch = refl; full = refl };
+}
+
+same_pixel : (p q : PixelState) → bits_of p ≡ bits_of q → p.carry ≡ q.carry → p.latch ≡ q.latch → p ≡ q
+same_pixel p q bits carry latch =
+    ap (λ (b : PixelBits). record { memory = b.memory; enable = b.enable; carry = p.carry; latch = p.latch }) bits
+    ∙ (ap (λ (x : Bool). record { memory = q.memory; enable = q.enable; carry = x; latch = p.latch }) carry
+    ∙ ap (λ (x : Bool). record { memory = q.memory; enable = q.enable; carry = q.carry; latch = x }) latch)
+
+module _ (bits n : ℕ) (old new : Planes) (pixels : HasPixels bits n old) where
+  padded : (like : IsLike (words_for n) old new)
+      → ((p : ℕ) → n ≤ p → p < 64 * words_for n → bits_of (pixel_in new p) ≡ bits_of (zero_pixel bits))
+      → HasPixels bits n new
+  padded like empty = record {
+    words = like.words;
+    memory = like.memory ∙ pixels.memory;
+    full = λ p within. ap (λ (w : ℕ). nat_bit w (p % 64)) like.full ∙ pixels.full p within;
+    padding = λ p past within.
+        let before = pixels.padding p past within in
+        same_pixel (pixel_in new p) (zero_pixel bits) (empty p past within)
+        (ap (λ (row : List ℕ). row_bit row p) like.carry ∙ ap (λ (x : PixelState). x.carry) before)
+        (ap (λ (row : List ℕ). row_bit row p) like.latch ∙ ap (λ (x : PixelState). x.latch) before);
+  }
+
+  pub pixels_after_part : (op : Macro) (ny : ℕ) → IsPartial op → IsDone op ny (length old.enable) old new → HasPixels bits n new
+  pixels_after_part op ny part done =
+      let long = pixels.words.enable in
+      let like : IsLike (words_for n) old new = rw long at done.like in
+      padded like (λ p past within.
+      let before = pixels.padding p past within in
+      done.each p (omega (arith, long))
+      ∙ (ap (λ (x : PixelState). after_macro op (p / 2 ^ ny) (p % 2 ^ ny) (bits_of x)) before
+      ∙ idle op part (p / 2 ^ ny) (p % 2 ^ ny) (bits_of (zero_pixel bits)) refl))
+
+  pub pixels_after_all : IsEnabled (length old.enable) old new → HasPixels bits n new
+  pixels_after_all done =
+      let long = pixels.words.enable in
+      let like : IsLike (words_for n) old new = rw long at done.like in
+      padded like (λ p past within.
+      let before = pixels.padding p past within in
+      let outside : nat_bit old.full (p % 64) ≡ false = pixels.full p within ∙ le-ltb p n past in
+      done.each p (omega (arith, long))
+      ∙ (ap (λ (b : Bool). record { memory = (pixel_in old p).memory; enable = b }) outside
+      ∙ ap (λ (x : PixelState). record { memory = x.memory; enable = false }) before))
+
+  pub all_enabled : IsEnabled (length old.enable) old new → (x y p : ℕ) → p < n → n ≤ 64 * words_for n
+      → bits_of (pixel_in new p) ≡ after_macro m.All x y (bits_of (pixel_in old p))
+  all_enabled done x y p inside enough =
+      let inside_full : nat_bit old.full (p % 64) ≡ true = pixels.full p (omega arith) ∙ lt-ltb p n inside in
+      done.each p (omega (arith, pixels.words.enable))
+      ∙ ap (λ (b : Bool). record { memory = (pixel_in old p).memory; enable = b }) inside_full
+
+pub part_of : (op : Macro) → op ≢ m.All → IsPartial op
+part_of m.All other = absurd (other refl)
+part_of (m.KeepSign form) other = tt
+part_of (m.KeepBit at v) other = tt
+part_of (m.LoadLinear form f) other = tt
+part_of (m.KeepAtMost form f) other = tt
+part_of (m.AddLinear form f) other = tt
+part_of (m.LoadConst f c) other = tt
+part_of (m.SetBit at v) other = tt
+part_of (m.Toggle at) other = tt
+part_of (m.Copy f g) other = tt
+part_of (m.KeepLess f g) other = tt
+
+-- the words of a grid
+pub words_below : (nx ny : ℕ) → nx ≤ 9 → 64 * words_for (2 ^ (nx + ny)) ≤ 2 ^ (9 + ny)
+words_below nx ny low = elim (cases_lt 64 (2 ^ (nx + ny))) [
+  | inl large ↦
+      let whole = whole_words (nx + ny) large in
+      let sum : nx + ny ≤ 9 + ny = omega arith in
+      omega (arith, whole, pow-le-pow_right {n = 2} (omega arith) sum)
+  | inr small ↦
+      let split : 2 ^ (9 + ny) ≡ 512 * 2 ^ ny = pow-add 2 9 ny in
+      omega (arith, split, one-le-pow ny 2 (omega arith))
+]

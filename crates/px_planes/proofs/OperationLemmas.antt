@@ -1,0 +1,157 @@
+-- Operations made at once in one word.
+use Rattle.std.proofs.Common.{◌≡◌, ℕ, zero, suc, ◌+◌, ◌*◌, ◌/◌, ◌^◌, ◌<◌, ◌≤◌, ◌%◌, ℤ, pos, Bool, true, false, not, cond}
+use Rattle.std.proofs.Common.{List, [], length, get_or, refl, sym, ap, ◌∙◌, arith, length-set}
+use Rattle.std.specs.Vec.{with_item}
+use Rattle.std.proofs.lemmas.List.{length-map}
+use Rattle.px_asm.proofs.ActingLemmas.{after_acts}
+use Rattle.px_asm.proofs.StoringLemmas.{put_by_stores}
+use Rattle.px_asm.specs.Microprograms.{bits_of}
+use Rattle.px_macro.specs.Macros.{after_macro, with_field}
+use Rattle.px_macro.specs.declared.field.Field.{Field}
+use Rattle.px_macro.specs.declared.operation.Macro.{Macro}
+use Rattle.px_num.specs.Bits.{bit_at, bit_of, nat_bit}
+use Rattle.px_num.specs.Forms.{IsInTreeRange, value_at}
+use Rattle.px_num.specs.declared.linear.Linear.{Linear}
+use Rattle.px_tree.specs.TreeBit.{LeafGivesSign, LeafGivesValue}
+use Rattle.std.specs.Int.{is_negative}
+use Rattle.std.proofs.Math.Nat.{one-le-pow}
+use Rattle.std.proofs.lemmas.Nat.{pow-add}
+use Rattle.px_pixel.specs.Acts.{kept, stored}
+use Rattle.px_pixel.specs.Pixels.{PixelState}
+use Rattle.px_pixel.specs.declared.act.Act.TheVariants.{StoreConst}
+use Rattle.std.proofs.Common.{◌&&◌, ◌+ℤ◌, ◌≤ℤ◌, ◌<ℤ◌}
+use Rattle.std.proofs.lemmas.Int.{ints}
+use Rattle.px_lanes.specs.Lanes.{offset}
+use Rattle.px_macro.specs.declared.operation.Macro.TheVariants.{KeepSign}
+use Rattle.px_num.proofs.TruthLaws.{and_true}
+use Rattle.px_rows.proofs.BitLaws.{bit_of_zero}
+use Rattle.px_rows.specs.Rows.{row_bit}
+use Rattle.px_planes.specs.Operations.{IsDone, IsWordDone, IsWorked, stored_bits}
+use Rattle.px_planes.specs.Pixels.{HasWords, pixel_in}
+use Rattle.px_planes.specs.declared.planes.Planes.{Planes}
+use Rattle.px_planes.proofs.StoredLemmas.{bit_of_rows, stored_row, words_stored}
+
+pub done_by_work : (op : Macro) (ny w n : ℕ) (f : ℕ → PixelState → PixelState) (old new : Planes) → IsWorked w n f old new
+    → ((p : ℕ) → p < 64 * n → p / 64 ≡ w → bits_of (f p (pixel_in old p))
+    ≡ after_macro op (p / 2 ^ ny) (p % 2 ^ ny) (bits_of (pixel_in old p)))
+    → IsWordDone op ny w n old new
+done_by_work op ny w n f old new work means = record {
+  each = λ p within here. ap bits_of (work.each p within here) ∙ means p within here;
+  others = work.others;
+  like = work.like;
+}
+
+pub bit_of_word : (planes : Planes) (at w p : ℕ) → at < length planes.memory.items → p / 64 ≡ w
+    → nat_bit (get_or (get_or planes.memory.items at []) w 0) (p % 64) ≡ bit_at (pixel_in planes p).memory at
+bit_of_word planes at w p place here = rw (← here) (sym (bit_of_rows planes.memory.items at p place))
+
+stored_acts : (at : ℕ) (v : ℕ → Bool) (n : ℕ) (x : PixelState)
+    → stored_bits at v n x ≡ after_acts (λ t. StoreConst (at + t) (v t)) (λ t. false) n x
+stored_acts at v zero x = refl
+stored_acts at v (suc n) x = ap (stored (at + n) (v n)) (stored_acts at v n x)
+
+pub stored_law : (f : Field) (number : ℕ) (v : ℕ → Bool) (n : ℕ) (planes : Planes) (p : ℕ) → n ≡ f.len
+    → f.at + f.len ≤ length planes.memory.items → ((t : ℕ) → t < f.len → v t ≡ nat_bit number t)
+    → bits_of (stored_bits f.at v n (pixel_in planes p)) ≡ with_field f number (bits_of (pixel_in planes p))
+stored_law f number v n planes p long room bits =
+    let x = pixel_in planes p in
+    let size : length x.memory ≡ length planes.memory.items = length-map planes.memory.items (λ (row : List ℕ). row_bit row p) in
+    ap bits_of (ap (λ k. stored_bits f.at v k x) long ∙ stored_acts f.at v f.len x)
+    ∙ put_by_stores f number v (λ t. StoreConst (f.at + t) (v t)) (λ t. false) x (omega (arith, size)) bits (λ t q low. refl)
+
+pub place_in_word : (p w : ℕ) → p / 64 ≡ w → 64 * w + p % 64 ≡ p
+place_in_word p w here = omega arith
+
+column_of : (place m n : ℕ) → place < m * n → place / n < m
+column_of place m n inside = grind arith
+
+-- bit 39 of a value is its sign
+pub sign_at : LeafGivesValue → LeafGivesSign → (form : Linear) (ny p : ℕ) → IsInTreeRange form → 1 ≤ ny → ny ≤ 9
+    → p < 2 ^ (9 + ny)
+    → bit_of (value_at form (p / 2 ^ ny) (p % 2 ^ ny)) 39 ≡ is_negative (value_at form (p / 2 ^ ny) (p % 2 ^ ny))
+sign_at leaf sign form ny p range some rows within =
+    let split : 2 ^ (9 + ny) ≡ 512 * 2 ^ ny = pow-add 2 9 ny in
+    let column : p / 2 ^ ny < 2 ^ 9 = column_of p 512 (2 ^ ny) (rw split at within) in
+    let positive : 1 ≤ 2 ^ ny = one-le-pow ny 2 (omega arith) in
+    let row : p % 2 ^ ny < 2 ^ ny = omega arith in
+    let nine : 9 ≤ 9 = omega arith in
+    let one : 1 ≤ 9 = omega arith in
+    sym (leaf form 9 ny (p / 2 ^ ny) (p % 2 ^ ny) 39 one some column row)
+    ∙ sign form 9 ny (p / 2 ^ ny) (p % 2 ^ ny) range ((one, nine), (some, rows)) column row
+
+-- a word that lies on one side of an edge whole
+is_positive_value : (v o base low : ℤ) → v ≡ o +ℤ base → low ≤ℤ o → pos 0 ≤ℤ (base +ℤ low) → is_negative v ≡ false
+is_positive_value v o base low is least test = sign_of v (omega (arith, ints))
+  where
+    sign_of : (v : ℤ) → pos 0 ≤ℤ v → is_negative v ≡ false
+    sign_of v h = grind (arith, ints)
+
+is_negative_value : (v o base high : ℤ) → v ≡ o +ℤ base → o ≤ℤ high → (base +ℤ high) <ℤ pos 0 → is_negative v ≡ true
+is_negative_value v o base high is most test = sign_of v (omega (arith, ints))
+  where
+    sign_of : (v : ℤ) → v <ℤ pos 0 → is_negative v ≡ true
+    sign_of v h = grind (arith, ints)
+
+pub value_here : (form : Linear) (ny w p : ℕ) (base : ℤ)
+    → ((j : ℕ) → j < 64 → value_at form ((64 * w + j) / 2 ^ ny) ((64 * w + j) % 2 ^ ny) ≡ offset form ny j +ℤ base)
+    → p / 64 ≡ w → value_at form (p / 2 ^ ny) (p % 2 ^ ny) ≡ offset form ny (p % 64) +ℤ base
+value_here form ny w p base values here =
+    let small : p % 64 < 64 = omega arith in
+    rw (place_in_word p w here) at (values (p % 64) small)
+
+pub kept_whole : (form : Linear) (ny w n : ℕ) (base low : ℤ) (planes : Planes) → HasWords n planes
+    → ((j : ℕ) → j < 64 → value_at form ((64 * w + j) / 2 ^ ny) ((64 * w + j) % 2 ^ ny) ≡ offset form ny j +ℤ base)
+    → ((j : ℕ) → j < 64 → low ≤ℤ offset form ny j) → pos 0 ≤ℤ (base +ℤ low)
+    → IsWordDone (KeepSign form) ny w n planes planes
+kept_whole form ny w n base low planes words values least test = record {
+  each = λ p within here.
+      let small : p % 64 < 64 = omega arith in
+      let v = value_at form (p / 2 ^ ny) (p % 2 ^ ny) in
+      let sign = is_positive_value v (offset form ny (p % 64)) base low (value_here form ny w p base values here)
+      (least (p % 64) small) test in
+      let b = bits_of (pixel_in planes p) in
+      let same : b.enable ≡ (b.enable && not (is_negative v)) = rw sign (sym (and_true b.enable)) in
+      ap (λ (e : Bool). record { memory = b.memory; enable = e }) same;
+  others = λ p within other. refl;
+  like = record { words = words; memory = refl; carry = refl; latch = refl; full = refl };
+}
+
+pub none_kept : (form : Linear) (ny w n : ℕ) (base high : ℤ) (old new : Planes)
+    → IsWorked w n (λ p x. kept (nat_bit 0 (p % 64)) x) old new
+    → ((j : ℕ) → j < 64 → value_at form ((64 * w + j) / 2 ^ ny) ((64 * w + j) % 2 ^ ny) ≡ offset form ny j +ℤ base)
+    → ((j : ℕ) → j < 64 → offset form ny j ≤ℤ high) → (base +ℤ high) <ℤ pos 0
+    → IsWordDone (KeepSign form) ny w n old new
+none_kept form ny w n base high old new work values most test =
+    done_by_work (KeepSign form) ny w n _ old new work
+    (λ p within here.
+    let small : p % 64 < 64 = omega arith in
+    let v = value_at form (p / 2 ^ ny) (p % 2 ^ ny) in
+    let sign = is_negative_value v (offset form ny (p % 64)) base high (value_here form ny w p base values here)
+    (most (p % 64) small) test in
+    ap (λ (b : Bool). bits_of (kept b (pixel_in old p))) (bit_of_zero (p % 64) ∙ ap not (sym sign)))
+
+-- a row that is stored where the pixels are enabled
+pub stored_in_rows : (op : Macro) (ny : ℕ) (old : Planes) (at : ℕ) (row : List ℕ) (v : ℕ → Bool) → HasWords (length old.enable) old
+    → at < length old.memory.items → length row ≡ length old.enable
+    → ((p : ℕ) → p < 64 * length row → row_bit row p ≡ cond (row_bit old.enable p) (v p)
+    (row_bit (get_or old.memory.items at []) p))
+    → ((p : ℕ) → bits_of (stored at (v p) (pixel_in old p)) ≡ after_macro op (p / 2 ^ ny) (p % 2 ^ ny) (bits_of (pixel_in old p)))
+    → IsDone op ny (length old.enable) old (record old { memory = with_item old.memory at row })
+stored_in_rows op ny old at row v words place long each means = record {
+  each = λ p within.
+      ap (λ (memory : List Bool). record { memory = memory; enable = row_bit old.enable p })
+      (stored_row old.memory.items at p row (row_bit old.enable p) (v p) place (each p (omega (arith, long))))
+      ∙ means p;
+  like = record {
+    words = record {
+      memory = words_stored old.enable old at row place words long;
+      enable = words.enable;
+      carry = words.carry;
+      latch = words.latch;
+    };
+    memory = length-set old.memory.items at row;
+    carry = refl;
+    latch = refl;
+    full = refl;
+  };
+}

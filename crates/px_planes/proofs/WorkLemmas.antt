@@ -1,0 +1,153 @@
+-- What is done to the pixels of one word.
+use Rattle.std.proofs.Common.{◌≡◌, ◌≢◌, ℕ, zero, suc, ◌+◌, ◌*◌, ◌/◌, ◌<◌, ◌%◌, ◌≤◌, Bool, true, false, cond, List, [], length, length-set}
+use Rattle.std.proofs.Common.{get_or, get_or-set_other, get_or-set_same, set, map, refl, sym, ap, ◌∙◌, arith, bit_and}
+use Rattle.std.specs.Vec.{with_item}
+use Rattle.px_num.specs.Bits.{bit_at, nat_bit}
+use Rattle.px_pixel.specs.Acts.{kept, stored}
+use Rattle.px_pixel.specs.Pixels.{PixelState}
+use Rattle.px_rows.specs.Rows.{row_bit}
+use Rattle.px_rows.proofs.BitLaws.{bit-and}
+use Rattle.px_planes.specs.Operations.{IsLike, IsWorked, stored_bits}
+use Rattle.px_planes.specs.Pixels.{HasWords, pixel_in}
+use Rattle.px_planes.specs.declared.planes.Planes.{Planes}
+use Rattle.px_planes.proofs.StoredLemmas.{stored_row, words_stored}
+
+-- a row of which one word was set
+pub bit_set : (row : List ℕ) (w word p : ℕ) → w < length row → p / 64 ≡ w → row_bit (set row w word) p ≡ nat_bit word (p % 64)
+bit_set row w word p inside here = rw here (ap (λ (n : ℕ). nat_bit n (p % 64)) (get_or-set_same row w word 0 inside))
+
+pub bit_beside : (row : List ℕ) (w word p : ℕ) → p / 64 ≢ w → row_bit (set row w word) p ≡ row_bit row p
+bit_beside row w word p other = ap (λ (n : ℕ). nat_bit n (p % 64)) (get_or-set_other row w (p / 64) word 0 other)
+
+like_self : (n : ℕ) (planes : Planes) → HasWords n planes → IsLike n planes planes
+like_self n planes words = record { words = words; memory = refl; carry = refl; latch = refl; full = refl }
+
+pub put_law : (old : Planes) (at w value word : ℕ) → HasWords (length old.enable) old → at < length old.memory.items
+    → w < length old.enable
+    → ((j : ℕ) → j < 64 → nat_bit word j ≡ cond (nat_bit (get_or old.enable w 0) j) (nat_bit value j)
+    (nat_bit (get_or (get_or old.memory.items at []) w 0) j))
+    → IsWorked w (length old.enable) (λ p x. stored at (nat_bit value (p % 64)) x) old
+    (record old { memory = with_item old.memory at (set (get_or old.memory.items at []) w word) })
+put_law old at w value word words place inside bits =
+    let row = get_or old.memory.items at [] in
+    let in_row : w < length row = omega (arith, words.memory at place) in
+    record {
+      each = λ p within here.
+          let j_small : p % 64 < 64 = omega arith in
+          let written : row_bit (set row w word) p ≡ cond (row_bit old.enable p) (nat_bit value (p % 64)) (row_bit row p) =
+          bit_set row w word p in_row here ∙ (bits (p % 64) j_small ∙ rw (← here) refl) in
+          ap (λ (memory : List Bool). record {
+            memory = memory;
+            enable = row_bit old.enable p;
+            carry = row_bit old.carry p;
+            latch = row_bit old.latch p;
+          }) (stored_row old.memory.items at p (set row w word) (row_bit old.enable p) (nat_bit value (p % 64)) place written);
+      others = λ p within other.
+          ap (λ (memory : List Bool). record {
+            memory = memory;
+            enable = row_bit old.enable p;
+            carry = row_bit old.carry p;
+            latch = row_bit old.latch p;
+          }) (stored_row old.memory.items at p (set row w word) false false place (bit_beside row w word p other));
+      like = record {
+        words = record {
+          memory = words_stored old.enable old at (set row w word) place words (length-set row w word ∙ words.memory at place);
+          enable = words.enable;
+          carry = words.carry;
+          latch = words.latch;
+        };
+        memory = length-set old.memory.items at (set row w word);
+        carry = refl;
+        latch = refl;
+        full = refl;
+      };
+    }
+
+pub keep_law : (old : Planes) (w mask : ℕ) → HasWords (length old.enable) old → w < length old.enable
+    → IsWorked w (length old.enable) (λ p x. kept (nat_bit mask (p % 64)) x) old
+    (record old { enable = set old.enable w (bit_and (get_or old.enable w 0) mask) })
+keep_law old w mask words inside =
+    let word = bit_and (get_or old.enable w 0) mask in
+    record {
+      each = λ p within here.
+          ap (λ (e : Bool). record {
+            memory = map (λ (row : List ℕ). row_bit row p) old.memory.items;
+            enable = e;
+            carry = row_bit old.carry p;
+            latch = row_bit old.latch p;
+          }) (bit_set old.enable w word p inside here ∙ (bit-and (get_or old.enable w 0) mask (p % 64) ∙ rw (← here) refl));
+      others = λ p within other.
+          ap (λ (e : Bool). record {
+            memory = map (λ (row : List ℕ). row_bit row p) old.memory.items;
+            enable = e;
+            carry = row_bit old.carry p;
+            latch = row_bit old.latch p;
+          }) (bit_beside old.enable w word p other);
+      like = record {
+        words = record {
+          memory = words.memory;
+          enable = length-set old.enable w word ∙ words.enable;
+          carry = words.carry;
+          latch = words.latch;
+        };
+        memory = refl;
+        carry = refl;
+        latch = refl;
+        full = refl;
+      };
+    }
+
+pub like_then : (n : ℕ) (a b c : Planes) → IsLike n a b → IsLike n b c → IsLike n a c
+like_then n a b c first second = record {
+  words = second.words;
+  memory = second.memory ∙ first.memory;
+  carry = second.carry ∙ first.carry;
+  latch = second.latch ∙ first.latch;
+  full = second.full ∙ first.full;
+}
+
+pub worked_then : (w n : ℕ) (f g : ℕ → PixelState → PixelState) (a b c : Planes) → IsWorked w n f a b → IsWorked w n g b c
+    → IsWorked w n (λ p x. g p (f p x)) a c
+worked_then w n f g a b c first second = record {
+  each = λ p within here. second.each p within here ∙ ap (g p) (first.each p within here);
+  others = λ p within other. second.others p within other ∙ first.others p within other;
+  like = like_then n a b c first.like second.like;
+}
+
+pub none_worked : (w n : ℕ) (planes : Planes) → HasWords n planes → IsWorked w n (λ p x. x) planes planes
+none_worked w n planes words = record {
+  each = λ p within here. refl;
+  others = λ p within other. refl;
+  like = like_self n planes words;
+}
+
+stored_beside : (at k : ℕ) (b : Bool) (x : PixelState) → at ≢ k → bit_at (stored at b x).memory k ≡ bit_at x.memory k
+stored_beside at k b x other = by_enable x.enable refl
+  where
+    by_enable : (e : Bool) → x.enable ≡ e → bit_at (stored at b x).memory k ≡ bit_at x.memory k
+    by_enable false off = rw off refl
+    by_enable true on = rw on (get_or-set_other x.memory at k b false (λ e. other (sym e)))
+
+-- what is stored from a place on leaves the bits above it
+pub bit_above : (at : ℕ) (v : ℕ → Bool) (n k : ℕ) (x : PixelState) → at + n ≤ k
+    → bit_at (stored_bits at v n x).memory k ≡ bit_at x.memory k
+bit_above at v zero k x above = refl
+bit_above at v (suc n) k x above =
+    let other : at + n ≢ k = omega arith in
+    stored_beside (at + n) k (v n) (stored_bits at v n x) other ∙ bit_above at v n k x (omega arith)
+
+-- one bit more is stored
+pub stored_more : (w n at t : ℕ) (v : ℕ → ℕ → Bool) (word : ℕ) (a b c : Planes)
+    → IsWorked w n (λ p x. stored_bits at (v p) t x) a b
+    → IsWorked w n (λ p x. stored (at + t) (nat_bit word (p % 64)) x) b c
+    → ((p : ℕ) → p < 64 * n → p / 64 ≡ w → nat_bit word (p % 64) ≡ v p t)
+    → IsWorked w n (λ p x. stored_bits at (v p) (suc t) x) a c
+stored_more w n at t v word a b c first second bit =
+    let both = worked_then w n _ _ a b c first second in
+    record {
+      each = λ p within here.
+          both.each p within here
+          ∙ ap (λ (e : Bool). stored (at + t) e (stored_bits at (v p) t (pixel_in a p))) (bit p within here);
+      others = both.others;
+      like = both.like;
+    }

@@ -1,0 +1,18 @@
+use Rattle.std.proofs.Common.{◌≡◌, ℕ, pos, ◌+ℤ◌, ◌<◌, ◌*◌, ◌/◌, ◌%◌, length}
+use Rattle.px_lanes.specs.Lanes.{HasCarries, offset}
+use Rattle.px_macro.specs.Fields.{number_in}
+use Rattle.px_num.specs.Bits.{bit_of}
+use Rattle.px_planes.specs.Operations.{IsWorked, stored_bits}
+use Rattle.px_planes.specs.Pixels.{pixel_in}
+use Rattle.px_planes.proofs.word_operations.add_linear.Given as goal
+
+abbrev pub invariant-loop-t : goal.invariant-loop-t
+invariant-loop-t l =
+    let n = length l.fn.planes.enable
+    in let number = λ (p : ℕ). pos (number_in l.field (pixel_in l.fn.planes p).memory)
+    in record {
+      worked : IsWorked l.w n (λ p x. stored_bits l.field.at (λ s. bit_of ((offset l.form l.ny (p % 64) +ℤ l.base) +ℤ number p) s) l.t x)
+          l.fn.planes l.planes;
+      carries : (p : ℕ) → p < 64 * n → p / 64 ≡ l.w
+          → HasCarries l.carries (p % 64) (offset l.form l.ny (p % 64)) l.base (number p) l.t;
+    }

@@ -1,0 +1,129 @@
+-- Operations that are made at once, word by word. Only proofs and private functions stand on it.
+use Rattle.std.specs.Prelude.{◌≡◌, ◌≢◌, ℕ, zero, suc, ◌+◌, ◌*◌, ◌/◌, ◌%◌, ◌^◌, ◌<◌, ◌≤◌, ◌⊎◌, ⊤, ℤ, ◌≤ℤ◌, Bool, true, false, List, length}
+use Rattle.px_num.specs.Forms.{IsWithin}
+use Rattle.px_lanes.specs.Lanes.{HasValue, offset}
+use Rattle.px_macro.specs.declared.operation.Macro.TheVariants as m
+use Rattle.px_num.specs.Bits.{nat_bit}
+use Rattle.px_num.specs.declared.linear.Linear.{Linear}
+use Rattle.px_asm.specs.Microprograms.{bits_of}
+use Rattle.px_macro.specs.Macros.{after_macro}
+use Rattle.px_macro.specs.declared.operation.Macro.{Macro}
+use Rattle.px_pixel.specs.Acts.{stored}
+use Rattle.px_pixel.specs.Pixels.{PixelState}
+use Rattle.px_planes.specs.Pixels.{HasWords, pixel_in}
+use Rattle.px_planes.specs.declared.edges.Edge.{Edge}
+use Rattle.px_planes.specs.declared.planes.Planes.{Planes}
+use Rattle.px_planes.specs.declared.reach.Reach.{Reach}
+use Rattle.px_rows.specs.Rows.{row_bit}
+
+-- the first n bits of v are stored from a place on
+abbrev pub stored_bits : (at : ℕ) (v : ℕ → Bool) (n : ℕ) → PixelState → PixelState
+stored_bits at v zero x = x
+stored_bits at v (suc n) x = stored (at + n) (v n) (stored_bits at v n x)
+
+-- rows of n words, of which carry, latch and all sizes are as they were
+pub record IsLike (n : ℕ) (old new : Planes) : Type 0 where
+  pub words : HasWords n new
+  pub memory : length new.memory.items ≡ length old.memory.items
+  pub carry : new.carry ≡ old.carry
+  pub latch : new.latch ≡ old.latch
+  pub full : new.full ≡ old.full
+
+-- the pixels of word w became what f says, and all others are as they were
+pub record IsWorked (w n : ℕ) (f : ℕ → PixelState → PixelState) (old new : Planes) : Type 0 where
+  pub each : (p : ℕ) → p < 64 * n → p / 64 ≡ w → pixel_in new p ≡ f p (pixel_in old p)
+  pub others : (p : ℕ) → p < 64 * n → p / 64 ≢ w → pixel_in new p ≡ pixel_in old p
+  pub like : IsLike n old new
+
+-- the operation was made in the pixels of word w
+pub record IsWordDone (op : Macro) (ny w n : ℕ) (old new : Planes) : Type 0 where
+  pub each : (p : ℕ) → p < 64 * n → p / 64 ≡ w → bits_of (pixel_in new p) ≡ after_macro op (p / 2 ^ ny) (p % 2 ^ ny) (bits_of (pixel_in old p))
+  pub others : (p : ℕ) → p < 64 * n → p / 64 ≢ w → pixel_in new p ≡ pixel_in old p
+  pub like : IsLike n old new
+
+-- the operation was made everywhere
+pub record IsDone (op : Macro) (ny n : ℕ) (old new : Planes) : Type 0 where
+  pub each : (p : ℕ) → p < 64 * n → bits_of (pixel_in new p) ≡ after_macro op (p / 2 ^ ny) (p % 2 ^ ny) (bits_of (pixel_in old p))
+  pub like : IsLike n old new
+
+-- an operation that changes only what is enabled
+abbrev pub IsPartial : Macro → Type 0
+IsPartial m.All = ⊥
+IsPartial (m.KeepSign form) = ⊤
+IsPartial (m.KeepBit at v) = ⊤
+IsPartial (m.LoadLinear form f) = ⊤
+IsPartial (m.KeepAtMost form f) = ⊤
+IsPartial (m.AddLinear form f) = ⊤
+IsPartial (m.LoadConst f c) = ⊤
+IsPartial (m.SetBit at v) = ⊤
+IsPartial (m.Toggle at) = ⊤
+IsPartial (m.Copy f g) = ⊤
+IsPartial (m.KeepLess f g) = ⊤
+
+-- what is added in each lane to the value at the first pixel of its word
+abbrev pub AreOffsets : Linear → (ny : ℕ) → List ℕ → Type 0
+AreOffsets form ny offsets = (j : ℕ) → j < 64 → HasValue offsets j (offset form ny j)
+
+-- no offset is less than the first or greater than the second
+pub record IsSpan (form : Linear) (ny : ℕ) (low high : ℤ) : Type 0 where
+  pub least : (j : ℕ) → j < 64 → low ≤ℤ offset form ny j
+  pub most : (j : ℕ) → j < 64 → offset form ny j ≤ℤ high
+  pub first : IsWithin (2 ^ 42) low
+  pub second : IsWithin (2 ^ 42) high
+
+-- the offsets are those of the operation's form, if it has one
+abbrev pub HaveOffsets : Macro → (ny : ℕ) → List ℕ → Type 0
+HaveOffsets m.All ny offsets = ⊤
+HaveOffsets (m.KeepSign form) ny offsets = ⊤
+HaveOffsets (m.KeepBit at v) ny offsets = ⊤
+HaveOffsets (m.LoadLinear form f) ny offsets = AreOffsets form ny offsets
+HaveOffsets (m.KeepAtMost form f) ny offsets = AreOffsets form ny offsets
+HaveOffsets (m.AddLinear form f) ny offsets = AreOffsets form ny offsets
+HaveOffsets (m.LoadConst f c) ny offsets = ⊤
+HaveOffsets (m.SetBit at v) ny offsets = ⊤
+HaveOffsets (m.Toggle at) ny offsets = ⊤
+HaveOffsets (m.Copy f g) ny offsets = ⊤
+HaveOffsets (m.KeepLess f g) ny offsets = ⊤
+
+-- every pixel is enabled
+pub record IsEnabled (n : ℕ) (old new : Planes) : Type 0 where
+  pub each : (p : ℕ) → p < 64 * n → bits_of (pixel_in new p) ≡ record { memory = (pixel_in old p).memory; enable = nat_bit old.full (p % 64) }
+  pub like : IsLike n old new
+
+-- an operation that is made word by word and is no edge
+abbrev pub IsWordwise : Macro → Type 0
+IsWordwise m.All = ⊥
+IsWordwise (m.KeepSign form) = ⊥
+IsWordwise (m.KeepBit at v) = ⊥
+IsWordwise (m.LoadLinear form f) = ⊤
+IsWordwise (m.KeepAtMost form f) = ⊤
+IsWordwise (m.AddLinear form f) = ⊤
+IsWordwise (m.LoadConst f c) = ⊤
+IsWordwise (m.SetBit at v) = ⊥
+IsWordwise (m.Toggle at) = ⊥
+IsWordwise (m.Copy f g) = ⊤
+IsWordwise (m.KeepLess f g) = ⊤
+
+-- how many bits of its offsets such an operation needs
+abbrev pub bits_needed : Macro → ℕ
+bits_needed m.All = 0
+bits_needed (m.KeepSign form) = 0
+bits_needed (m.KeepBit at v) = 0
+bits_needed (m.LoadLinear form f) = f.len
+bits_needed (m.KeepAtMost form f) = f.len
+bits_needed (m.AddLinear form f) = f.len
+bits_needed (m.LoadConst f c) = 0
+bits_needed (m.SetBit at v) = 0
+bits_needed (m.Toggle at) = 0
+bits_needed (m.Copy f g) = 0
+bits_needed (m.KeepLess f g) = 0
+
+-- no pixel is enabled outside the words of a reach
+pub record IsReach (reach : Reach) (planes : Planes) : Type 0 where
+  pub within : reach.to ≤ length planes.enable
+  pub outside : (p : ℕ) → p < 64 * length planes.enable → (p / 64 < reach.from) ⊎ (reach.to ≤ p / 64) → row_bit planes.enable p ≡ false
+
+-- what is known of an edge: where its values lie, and its offsets once they are made
+pub record IsEdge (form : Linear) (ny : ℕ) (edge : Edge) : Type 0 where
+  pub span : IsSpan form ny edge.low edge.high
+  pub offsets : edge.has_offsets ≡ true → AreOffsets form ny edge.offsets

@@ -1,0 +1,171 @@
+-- The solids of a draft stay lawful over a good line.
+use Prim.Native.Nat.{suc}
+use Rattle.std.proofs.Common.{◌≡◌, ℕ, ℤ, pos, ◌+◌, ◌-◌, ◌^◌, ◌<◌, ◌≤◌, List, [], ◌∷◌, ◌++◌, length, Option, Some, None}
+use Rattle.std.proofs.Common.{arith, slice_get, IfSome, All, length-append}
+use Rattle.std.proofs.lemmas.Int.{ints}
+use Rattle.std.proofs.lemmas.List.Elements.{All-cons, All-head, All-nil, All-tail}
+use Rattle.std.specs.Option.{option_map_or, option_or}
+use lib.IntN.{negsuc}
+use Rattle.px_num.specs.declared.linear.Linear.{Linear}
+use Rattle.px_num.proofs.TruthLaws.{none_first, none_second}
+use Rattle.px_model.specs.declared.solid.Colour.{Colour}
+use Rattle.px_model.specs.declared.solid.Face.{Face}
+use Rattle.px_model.specs.Scenes.{AreFaces, IsColour, IsLawfulSolid, IsPlane, SolidView}
+use Rattle.px_model.proofs.SolidLemmas.{All-push, faces_pushed}
+use Rattle.px_show.specs.declared.fault.LimitKind.TheVariants as kind
+use Rattle.px_scene.specs.Drafts.{CanTakeFace, fresh_solid, with_back, with_front, with_last, with_side}
+use Rattle.px_scene.specs.Lines.{colour_of, colour_past, face_past, past, plane_of, plane_past, size_of, size_past, three_past}
+use Rattle.px_scene.specs.Reading.{head_colour}
+use Rattle.px_scene.proofs.TakenLemmas.{past_none}
+
+part_within : (z : ℤ) → past kind.Colour (pos 0) (pos 255) z ≡ None → size_of z < 256
+part_within (pos n) e =
+    let is = past_none kind.Colour (pos 0) (pos 255) (pos n) e in let below = is.below in omega (arith, ints)
+part_within (negsuc n) e = omega arith
+
+colour_within : (red green blue : ℤ) → colour_past red green blue ≡ None → IsColour (colour_of red green blue)
+colour_within red green blue e =
+    let first = none_first (option_or (past kind.Colour (pos 0) (pos 255) red) (past kind.Colour (pos 0) (pos 255) green))
+    (past kind.Colour (pos 0) (pos 255) blue) e in
+    record {
+      red = part_within red (none_first _ (past kind.Colour (pos 0) (pos 255) green) first);
+      green = part_within green (none_second (past kind.Colour (pos 0) (pos 255) red) _ first);
+      blue = part_within blue (none_second (option_or (past kind.Colour (pos 0) (pos 255) red)
+          (past kind.Colour (pos 0) (pos 255) green)) _ e);
+    }
+
+plane_within : (a b c : ℤ) → plane_past a b c ≡ None → IsPlane (plane_of a b c)
+plane_within a b c e =
+    let first = none_first (option_or (size_past (2 ^ 23) a) (size_past (2 ^ 23) b)) (size_past (2 ^ 33) c) e in
+    let in_a = past_none kind.Coefficient _ _ a (none_first _ (size_past (2 ^ 23) b) first) in
+    let in_b = past_none kind.Coefficient _ _ b (none_second (size_past (2 ^ 23) a) _ first) in
+    let in_c = past_none kind.Coefficient _ _ c (none_second (option_or (size_past (2 ^ 23) a) (size_past (2 ^ 23) b)) _ e) in
+    record { a = (in_a.above, in_a.below); b = (in_b.above, in_b.below); c = (in_c.above, in_c.below) }
+
+head_within : (zs : List ℤ) → three_past zs ≡ None → IsColour (head_colour zs)
+head_within [] e = record { red = omega arith; green = omega arith; blue = omega arith }
+head_within (a ∷ []) e = record { red = omega arith; green = omega arith; blue = omega arith }
+head_within (a ∷ b ∷ []) e = record { red = omega arith; green = omega arith; blue = omega arith }
+head_within (a ∷ b ∷ c ∷ []) e = colour_within a b c e
+head_within (a ∷ b ∷ c ∷ d ∷ zs) e = record { red = omega arith; green = omega arith; blue = omega arith }
+
+-- a solid without planes
+pub fresh_lawful : (name : List ℕ) (number : ℕ) (colour : Colour) → IsColour colour
+    → IsLawfulSolid (fresh_solid name number colour)
+fresh_lawful name number colour is =
+    let none : AreFaces number [] = record {
+      few = omega arith;
+      planes = λ k d lt. absurd (omega arith);
+      colours = λ k d lt. absurd (omega arith);
+      numbers = λ k d lt. absurd (omega arith);
+      order = λ i j d lt below. absurd (omega arith);
+    } in
+    record {
+      colour = is;
+      fronts = none;
+      backs = none;
+      few_sides = omega arith;
+      sides = λ k d lt. absurd (omega arith);
+    }
+
+-- a front, a back or a side more
+front_added : (s : SolidView) (f : Face) → IsLawfulSolid s → length s.fronts < 32 → CanTakeFace f.number s
+    → IsPlane f.plane → IsColour f.colour → IsLawfulSolid (record s { fronts = s.fronts ++ f ∷ [] })
+front_added s f is room can plane colour = record {
+  colour = is.colour;
+  fronts = faces_pushed s.near_number s.fronts f is.fronts room plane colour can.near can.fronts;
+  backs = is.backs;
+  few_sides = is.few_sides;
+  sides = is.sides;
+}
+
+back_added : (s : SolidView) (f : Face) → IsLawfulSolid s → length s.backs < 32 → CanTakeFace f.number s
+    → IsPlane f.plane → IsColour f.colour → IsLawfulSolid (record s { backs = s.backs ++ f ∷ [] })
+back_added s f is room can plane colour = record {
+  colour = is.colour;
+  fronts = is.fronts;
+  backs = faces_pushed s.near_number s.backs f is.backs room plane colour can.near can.backs;
+  few_sides = is.few_sides;
+  sides = is.sides;
+}
+
+side_added : (s : SolidView) (p : Linear) → IsLawfulSolid s → length s.sides < 32 → IsPlane p
+    → IsLawfulSolid (record s { sides = s.sides ++ p ∷ [] })
+side_added s p is room plane = record {
+  colour = is.colour;
+  fronts = is.fronts;
+  backs = is.backs;
+  few_sides = omega (arith, length-append s.sides (p ∷ []));
+  sides = All-push IsPlane s.sides p is.sides plane;
+}
+
+front_lawful : (s : SolidView) (number : ℕ) (zs : List ℤ) → face_past zs ≡ None → length s.fronts < 32
+    → CanTakeFace number s → IsLawfulSolid s → IsLawfulSolid (with_front number zs s)
+front_lawful s number [] e room can is = is
+front_lawful s number (a ∷ []) e room can is = is
+front_lawful s number (a ∷ b ∷ []) e room can is = is
+front_lawful s number (a ∷ b ∷ c ∷ []) e room can is =
+    front_added s _ is room can (plane_within a b c e) is.colour
+front_lawful s number (a ∷ b ∷ c ∷ d ∷ []) e room can is = is
+front_lawful s number (a ∷ b ∷ c ∷ d ∷ f ∷ []) e room can is = is
+front_lawful s number (a ∷ b ∷ c ∷ d ∷ f ∷ g ∷ []) e room can is =
+    front_added s _ is room can (plane_within a b c (none_first _ (colour_past d f g) e))
+    (colour_within d f g (none_second (plane_past a b c) _ e))
+front_lawful s number (a ∷ b ∷ c ∷ d ∷ f ∷ g ∷ h ∷ zs) e room can is = is
+
+back_lawful : (s : SolidView) (number : ℕ) (zs : List ℤ) → face_past zs ≡ None → length s.backs < 32
+    → CanTakeFace number s → IsLawfulSolid s → IsLawfulSolid (with_back number zs s)
+back_lawful s number [] e room can is = is
+back_lawful s number (a ∷ []) e room can is = is
+back_lawful s number (a ∷ b ∷ []) e room can is = is
+back_lawful s number (a ∷ b ∷ c ∷ []) e room can is =
+    back_added s _ is room can (plane_within a b c e) is.colour
+back_lawful s number (a ∷ b ∷ c ∷ d ∷ []) e room can is = is
+back_lawful s number (a ∷ b ∷ c ∷ d ∷ f ∷ []) e room can is = is
+back_lawful s number (a ∷ b ∷ c ∷ d ∷ f ∷ g ∷ []) e room can is =
+    back_added s _ is room can (plane_within a b c (none_first _ (colour_past d f g) e))
+    (colour_within d f g (none_second (plane_past a b c) _ e))
+back_lawful s number (a ∷ b ∷ c ∷ d ∷ f ∷ g ∷ h ∷ zs) e room can is = is
+
+side_lawful : (s : SolidView) (zs : List ℤ) → face_past zs ≡ None → length s.sides < 32 → IsLawfulSolid s
+    → IsLawfulSolid (with_side zs s)
+side_lawful s [] e room is = is
+side_lawful s (a ∷ []) e room is = is
+side_lawful s (a ∷ b ∷ []) e room is = is
+side_lawful s (a ∷ b ∷ c ∷ []) e room is = side_added s _ is room (plane_within a b c e)
+side_lawful s (a ∷ b ∷ c ∷ d ∷ zs) e room is = is
+
+-- the same of the last solid of some, where there is one
+pub last_front : (o : Option SolidView) (number : ℕ) (zs : List ℤ) → face_past zs ≡ None
+    → option_map_or (λ (s : SolidView). length s.fronts) o 0 < 32 → IfSome o (CanTakeFace number)
+    → IfSome o (λ s. IsLawfulSolid s → IsLawfulSolid (with_front number zs s))
+last_front None number zs e room can = tt
+last_front (Some s) number zs e room can = λ is. front_lawful s number zs e room can is
+
+pub last_back : (o : Option SolidView) (number : ℕ) (zs : List ℤ) → face_past zs ≡ None
+    → option_map_or (λ (s : SolidView). length s.backs) o 0 < 32 → IfSome o (CanTakeFace number)
+    → IfSome o (λ s. IsLawfulSolid s → IsLawfulSolid (with_back number zs s))
+last_back None number zs e room can = tt
+last_back (Some s) number zs e room can = λ is. back_lawful s number zs e room can is
+
+pub last_side : (o : Option SolidView) (zs : List ℤ) → face_past zs ≡ None
+    → option_map_or (λ (s : SolidView). length s.sides) o 0 < 32
+    → IfSome o (λ s. IsLawfulSolid s → IsLawfulSolid (with_side zs s))
+last_side None zs e room = tt
+last_side (Some s) zs e room = λ is. side_lawful s zs e room is
+
+-- a change of the last solid keeps all lawful, where it keeps that one
+pub lawful_last : (change : SolidView → SolidView) (ss : List SolidView)
+    → IfSome (slice_get ss (length ss - 1)) (λ s. IsLawfulSolid s → IsLawfulSolid (change s)) → All IsLawfulSolid ss
+    → All IsLawfulSolid (with_last change ss)
+lawful_last change [] keeps all = all
+lawful_last change (s ∷ []) keeps all =
+    All-cons IsLawfulSolid (change s) [] (keeps (All-head IsLawfulSolid s [] all)) (All-nil IsLawfulSolid)
+lawful_last change (s ∷ t ∷ ss) keeps all =
+    let place : length (s ∷ t ∷ ss) - 1 ≡ suc (length (t ∷ ss) - 1) = omega arith in
+    All-cons IsLawfulSolid s (with_last change (t ∷ ss)) (All-head IsLawfulSolid s (t ∷ ss) all)
+    (lawful_last change (t ∷ ss) (rw place at keeps) (All-tail IsLawfulSolid s (t ∷ ss) all))
+
+pub head_lawful : (name : List ℕ) (number : ℕ) (colour : Colour) (zs : List ℤ) → head_colour zs ≡ colour
+    → three_past zs ≡ None → IsLawfulSolid (fresh_solid name number colour)
+head_lawful name number colour zs is e = fresh_lawful name number colour (rw is at (head_within zs e))
