@@ -3,7 +3,7 @@ import os
 import sys
 
 sys.dont_write_bytecode = True
-sys.path.insert(0, "tools")
+sys.path.insert(0, os.path.join("tools", "lib"))
 import netpbm
 import program
 import scenes

@@ -1,0 +1,99 @@
+"""What the tools share: their words, files and standard streams, and one line for a bad file."""
+import importlib.machinery
+import importlib.util
+import os
+import sys
+
+import netpbm
+
+TOP = os.path.dirname(os.path.dirname(os.path.dirname(os.path.abspath(__file__))))
+TROUBLE = 2
+
+
+def say(tool, line):
+    print("%s: %s" % (tool, line), file=sys.stderr)
+
+
+def content(path):
+    """The bytes of a file, or of standard input for `-`."""
+    if path == "-":
+        if sys.stdin is None:
+            raise netpbm.Bad("standard input is closed")
+        return sys.stdin.buffer.read()
+    with open(path, "rb") as file:
+        return file.read()
+
+
+def drop_output():
+    """What could not be written is not tried again at the end."""
+    os.dup2(os.open(os.devnull, os.O_WRONLY), 1)
+
+
+def ended(help_text, main):
+    """The status that `main` gives for the words, with all that it printed written."""
+    if sys.stdout is None:
+        raise netpbm.Bad("standard output is closed")
+    words = sys.argv[1:]
+    if "-h" in words or "--help" in words:
+        print(help_text.strip())
+        status = 0
+    else:
+        status = main(words)
+    sys.stdout.flush()
+    return status
+
+
+def run(tool, help_text, main):
+    """Ends with what `main` gives for the words; trouble is one line and no traceback."""
+    try:
+        status = ended(help_text, main)
+    except netpbm.Bad as bad:
+        say(tool, bad)
+        status = TROUBLE
+    except BrokenPipeError:
+        drop_output()
+        status = TROUBLE
+    except OSError as error:
+        drop_output()
+        name = "" if error.filename is None else "%s: " % error.filename
+        say(tool, name + (error.strerror or "cannot be read"))
+        status = TROUBLE
+    except KeyboardInterrupt:
+        status = 130
+    sys.exit(status)
+
+
+def script(leaf):
+    """A script of tools/, or of tools/dev/, as a module: `show`, or `dev/run_cases`."""
+    loader = importlib.machinery.SourceFileLoader(leaf.replace("/", "_"), os.path.join(TOP, "tools", leaf))
+    module = importlib.util.module_from_spec(importlib.util.spec_from_loader(loader.name, loader))
+    loader.exec_module(module)
+    return module
+
+
+def jobs(word):
+    """How many things are done side by side: as said, or as many as there are processors."""
+    if word is None:
+        return os.cpu_count() or 1
+    if not word.isdigit() or int(word) == 0:
+        raise netpbm.Bad("--jobs wants a number from 1 on, and not %s" % word)
+    return int(word)
+
+
+def options(words, flags, with_word):
+    """Splits words into the others and what the options say; `with_word` take the word behind."""
+    said, others = {}, []
+    words = list(words)
+    while words:
+        word = words.pop(0)
+        if word in flags:
+            said[word] = True
+        elif word in with_word:
+            if not words:
+                raise netpbm.Bad("%s wants a word behind it" % word)
+            said[word] = words.pop(0)
+        elif word.startswith("-") and word != "-":
+            raise netpbm.Bad("%s is no option; --help says more" % word)
+        else:
+            others.append(word)
+    return others, said

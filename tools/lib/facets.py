@@ -1,0 +1,299 @@
+"""From points and facets to convex solids: the planes of a convex one, and the convex parts of one
+that is not. A facet is a list of the numbers of its points; a plane is the normal, of length 1 and
+out of the solid, and its distance from the origin. Points are as exact as six digits can write
+them, which is what OpenSCAD does."""
+import math
+
+from netpbm import Bad
+
+SIX_DIGITS = 5e-6
+NEAR = 6
+SLIM = 0.02
+MOST_PLANES = 4095
+MOST_PARTS = 255
+TRIED = 24
+JUDGES = 60
+MOST_EFFORT = 1000000
+GRID = 40
+REACH = 1e8
+
+
+def dot(one, other):
+    return one[0] * other[0] + one[1] * other[1] + one[2] * other[2]
+
+
+def lengthwise(normal):
+    return math.sqrt(dot(normal, normal))
+
+
+def area_normal(points):
+    """The normal of a polygon, as long as twice its area (Newell's sum)."""
+    normal = [0.0, 0.0, 0.0]
+    for i, a in enumerate(points):
+        b = points[(i + 1) % len(points)]
+        normal[0] += (a[1] - b[1]) * (a[2] + b[2])
+        normal[1] += (a[2] - b[2]) * (a[0] + b[0])
+        normal[2] += (a[0] - b[0]) * (a[1] + b[1])
+    return normal
+
+
+def plane_of(points):
+    """The plane of a polygon, and its height over its longest edge; None without area."""
+    normal = area_normal(points)
+    length = lengthwise(normal)
+    longest = max(math.dist(a, points[i - 1]) for i, a in enumerate(points))
+    if length < 1e-12 or longest < 1e-12:
+        return None
+    normal = [part / length for part in normal]
+    return normal, sum(dot(normal, point) for point in points) / len(points), length / longest
+
+
+def extent(points):
+    """The greatest coordinate, and the greatest width along an axis."""
+    size = max(max(abs(part) for part in point) for point in points) or 1
+    return size, max(max(p[i] for p in points) - min(p[i] for p in points) for i in range(3)) or 1
+
+
+class Found:
+    """The planes that are found, each once, with those of like direction close at hand."""
+
+    def __init__(self):
+        self.planes, self.by_way = [], {}
+
+    def way(self, normal):
+        return tuple(round(part * GRID) for part in normal)
+
+    def add(self, number, plane):
+        self.planes.append((number, plane))
+        self.by_way.setdefault(self.way(plane[0]), []).append(plane)
+
+    def has(self, normal, corners, near):
+        """Whether all corners lie on one plane that looks about the same way."""
+        x, y, z = self.way(normal)
+        return any(all(abs(dot(n, corner) - far) <= near for corner in corners)
+                   for i in (-1, 0, 1) for j in (-1, 0, 1) for k in (-1, 0, 1)
+                   for n, far in self.by_way.get((x + i, y + j, z + k), ()))
+
+
+def measured(points, facets, numbers):
+    """Height, normal, distance, corners and number of each facet with area, the highest first."""
+    middle = [sum(point[i] for point in points) / len(points) for i in range(3)]
+    out = []
+    for facet, number in zip(facets, numbers):
+        corners = [points[at] for at in facet]
+        plane = plane_of(corners)
+        if plane:
+            normal, far, high = plane
+            if far < dot(normal, middle):
+                normal, far = [-part for part in normal], -far
+            out.append((high, normal, far, corners, number))
+    return sorted(out, key=lambda facet: -facet[0])
+
+
+def planes(points, facets, numbers=None):
+    """The half-spaces `normal * p <= far` whose common part is the solid, each once, in the order
+    of the facets. `Bad` where it
+    is flat, open or not convex. A facet may be off by what its points' last digits leave open, the
+    more the slimmer it is; one that is too slim to tell its plane is passed over where the others
+    close the solid without it."""
+    size, wide = extent(points)
+    digit = SIX_DIGITS * size
+    closed(facets)
+    found, slim = Found(), []
+    for high, normal, far, corners, number in measured(points, facets, numbers or range(1, len(facets) + 1)):
+        if found.has(normal, corners, NEAR * digit):
+            continue
+        give = digit * (2 + 2 * wide / high)
+        if give > SLIM * wide:
+            slim.append((corners, normal, number))
+            continue
+        rooms = [far - dot(normal, point) for point in points]
+        if max(rooms) <= give:
+            raise Bad("is flat: no point is more than %.2g behind its facet %s" % (max(max(rooms), 0), number))
+        if min(rooms) < -give:
+            raise Bad("is not convex: a point is %.2g before its facet %s" % (-min(rooms), number))
+        found.add(number, (normal, far))
+        if len(found.planes) > MOST_PLANES:
+            raise Bad("has more than %d planes" % MOST_PLANES)
+    if len(found.planes) < 4:
+        raise Bad("has fewer than four planes")
+    by_number = [plane for _, plane in sorted(found.planes)]
+    for corners, normal, number in slim:
+        if bulge(by_number, corners, normal) > SLIM * wide:
+            raise Bad("has a facet too slim to tell its plane: facet %s" % number)
+    return by_number
+
+
+def bulge(found, corners, normal):
+    """How far it is from the middle of a facet, along its normal, to where the planes end."""
+    middle = [sum(corner[i] for corner in corners) / len(corners) for i in range(3)]
+    return min(((far - dot(n, middle)) / dot(n, normal) for n, far in found
+                if dot(n, normal) > 1e-3), default=math.inf)
+
+
+def closed(facets):
+    """`Bad` where an edge is not between two facets."""
+    edges = {}
+    for facet in facets:
+        for i, at in enumerate(facet):
+            edge = frozenset((at, facet[(i + 1) % len(facet)]))
+            edges[edge] = edges.get(edge, 0) + (len(edge) == 2)
+    if any(count % 2 for count in edges.values()):
+        raise Bad("is not closed")
+
+
+def is_turned_alike(facets):
+    """Whether each edge is passed as often one way as the other."""
+    ways = {}
+    for facet in facets:
+        for i, at in enumerate(facet):
+            edge = at, facet[(i + 1) % len(facet)]
+            if edge[0] != edge[1]:
+                ways[edge] = ways.get(edge, 0) + 1
+    return all(ways.get((b, a)) == count for (a, b), count in ways.items())
+
+
+def volume(points, facets):
+    """Six times the volume; below 0 where the facets look inwards."""
+    return sum(dot(points[facet[0]], area_normal([points[facet[0]], points[facet[i]], points[facet[i + 1]]]))
+               for facet in facets for i in range(1, len(facet) - 1))
+
+
+def parts(points, facets):
+    """The meshes of a mesh, each with its facets' numbers in the file: facets that share a point
+    belong together."""
+    above = list(range(len(points)))
+
+    def top(at):
+        while above[at] != at:
+            above[at] = above[above[at]]
+            at = above[at]
+        return at
+
+    for facet in facets:
+        for at in facet[1:]:
+            above[top(at)] = top(facet[0])
+    found = {}
+    for number, facet in enumerate(facets, 1):
+        found.setdefault(top(facet[0]), []).append((number, facet))
+    return [only(points, [facet for _, facet in own]) + ([number for number, _ in own],)
+            for own in found.values()]
+
+
+def only(points, facets):
+    """The facets, and the points that they name."""
+    numbers = {at: i for i, at in enumerate(sorted({at for facet in facets for at in facet}))}
+    return [points[at] for at in numbers], [[numbers[at] for at in facet] for facet in facets]
+
+
+def divided(polygon, plane, near):
+    """The pieces of a polygon behind a plane and before it; None for one that is not there."""
+    normal, far = plane
+    rooms = [far - dot(normal, point) for point in polygon]
+    if all(abs(room) <= near for room in rooms):
+        return None, None
+    behind, before = [], []
+    for i, point in enumerate(polygon):
+        here, back = rooms[i], rooms[i - 1]
+        if here * back < 0 and min(abs(here), abs(back)) > near:
+            part = back / (back - here)
+            cut = [a + part * (b - a) for a, b in zip(polygon[i - 1], point)]
+            behind.append(cut)
+            before.append(cut)
+        if here >= -near:
+            behind.append(point)
+        if here <= near:
+            before.append(point)
+    return (behind if max(rooms) > near else None), (before if min(rooms) < -near else None)
+
+
+def best_plane(polygons, near):
+    """Of some polygons' planes that which divides the fewest of some polygons, and then the most evenly."""
+    judges = [polygon for polygon, _ in polygons[::max(1, len(polygons) // JUDGES)]]
+
+    def cost(plane):
+        sides = [divided(polygon, plane, near) for polygon in judges]
+        behind = sum(one is not None for one, _ in sides)
+        before = sum(other is not None for _, other in sides)
+        return behind + before, abs(behind - before) * (before > 0)
+
+    tried = polygons[::max(1, len(polygons) // TRIED)]
+    return min((plane for _, plane in tried), key=cost)
+
+
+def cells(points, facets):
+    """The convex parts of a solid, each as its planes and points: its facets' planes divide space,
+    and what is behind a facet and before none is inside. `Bad` where the facets do not close it, or
+    where there are more parts than a scene has solids."""
+    closed(facets)
+    if not is_turned_alike(facets):
+        raise Bad("is not convex, and its facets are not turned alike, so that its inside cannot be told")
+    turned = facets if volume(points, facets) > 0 else [facet[::-1] for facet in facets]
+    size, wide = extent(points)
+    near = NEAR * SIX_DIGITS * size
+    polygons = [([points[at] for at in facet], plane_of([points[at] for at in facet])) for facet in turned]
+    polygons = [(polygon, plane[:2]) for polygon, plane in polygons
+                if plane and SIX_DIGITS * size * (2 + 2 * wide / plane[2]) <= SLIM * wide]
+    out, todo, effort = [], [([], polygons)], 0
+    while todo:
+        path, polygons = todo.pop()
+        effort += len(polygons)
+        if effort > MOST_EFFORT:
+            raise Bad("has too many facets to be divided into convex parts; say it by differences or unions")
+        normal, far = plane = best_plane(polygons, near)
+        sides = [(divided(polygon, plane, near), own) for polygon, own in polygons]
+        behind = [(side[0], own) for side, own in sides if side[0]]
+        before = [(side[1], own) for side, own in sides if side[1]]
+        if before:
+            todo.append((path + [([-part for part in normal], -far)], before))
+        if behind:
+            todo.append((path + [plane], behind))
+        else:
+            cell = bounded(path + [plane], near)
+            out += [cell] if cell else []
+        if len(out) > MOST_PARTS:
+            raise Bad("is not convex, and has more than %d convex parts" % MOST_PARTS)
+    return out
+
+
+def sides_of(half_spaces, near):
+    """Each plane that bounds the common part of half-spaces, with the polygon that it has of it."""
+    kept = []
+    for i, plane in enumerate(half_spaces):
+        polygon = square_on(plane, REACH * near)
+        for k, other in enumerate(half_spaces):
+            if k != i and polygon:
+                polygon = divided(polygon, other, near)[0] or (
+                    polygon if k > i and is_same(plane, other, near) else None)
+        area = plane_of(polygon) if polygon and len(polygon) > 2 else None
+        if area and area[2] > near:
+            kept.append((plane, polygon))
+    return kept
+
+
+def bounded(half_spaces, near):
+    """The planes of a convex solid that bound it, and its corners; None where nothing is inside."""
+    kept, corners = sides_of(half_spaces, near), []
+    for _, polygon in kept:
+        corners += [corner for corner in polygon
+                    if not any(math.dist(corner, other) <= near for other in corners)]
+    if len(kept) < 4 or any(max(abs(part) for part in corner) > REACH / 2 * near for corner in corners):
+        return None
+    return [plane for plane, _ in kept], corners
+
+
+def is_same(one, other, near):
+    return dot(one[0], other[0]) > 1 - 1e-9 and abs(one[1] - other[1]) <= near
+
+
+def square_on(plane, wide):
+    """A square of that width, to each side, on a plane."""
+    normal, far = plane
+    axis = min(range(3), key=lambda i: abs(normal[i]))
+    along = [float(i == axis) - normal[axis] * normal[i] for i in range(3)]
+    long = lengthwise(along)
+    along = [part / long * wide for part in along]
+    across = [normal[(i + 1) % 3] * along[(i + 2) % 3] - normal[(i + 2) % 3] * along[(i + 1) % 3]
+              for i in range(3)]
+    return [[far * normal[i] + one * along[i] + other * across[i] for i in range(3)]
+            for one, other in ((1, 1), (-1, 1), (-1, -1), (1, -1))]

@@ -1,0 +1,137 @@
+"""Convex solids as `model` places them, and the trees that they are joined to. A tree is None for
+nothing, a solid, or (sign, trees)."""
+import itertools
+
+import ends
+import facets
+from netpbm import Bad
+
+AS_IS = [[1, 0, 0, 0], [0, 1, 0, 0], [0, 0, 1, 0]]
+
+
+class Solid:
+    """`points` are its corners, and perhaps others of it; `planes` as in facets.py."""
+
+    def __init__(self, kind, line, points, planes, colour):
+        self.kind, self.line, self.colour = kind, line, colour
+        self.points, self.planes = points, planes
+
+    def moved(self, matrix, colour):
+        """The solid under a matrix, in this colour; `Bad` where the matrix makes it flat."""
+        if matrix == AS_IS:
+            return Solid(self.kind, self.line, self.points, self.planes, colour)
+        turned, sign = cofactors(matrix)
+        points = placed(matrix, self.points)
+        planes = []
+        for normal, _ in self.planes:
+            way = [sign * facets.dot(row, normal) for row in turned]
+            long = facets.lengthwise(way)
+            way = [part / long for part in way]
+            planes.append((way, max(facets.dot(way, point) for point in points)))
+        return Solid(self.kind, self.line, points, planes, colour)
+
+
+def placed(matrix, points):
+    """The points under a matrix of three rows of four."""
+    return [[facets.dot(row, point) + row[3] for row in matrix] for point in points]
+
+
+def cofactors(matrix):
+    """What turns normals as the matrix turns points, and the sign of its determinant."""
+    rows = [[matrix[(i + 1) % 3][(j + 1) % 3] * matrix[(i + 2) % 3][(j + 2) % 3]
+             - matrix[(i + 1) % 3][(j + 2) % 3] * matrix[(i + 2) % 3][(j + 1) % 3] for j in range(3)]
+            for i in range(3)]
+    size = facets.dot(matrix[0], rows[0])
+    longest = max(abs(part) for row in matrix for part in row[:3])
+    if abs(size) <= 1e-12 * longest ** 3:
+        raise Bad("is flat")
+    return rows, 1 if size > 0 else -1
+
+
+def times(outer, inner):
+    inner = inner + [[0, 0, 0, 1]]
+    return [[sum(outer[row][k] * inner[k][column] for k in range(4)) for column in range(4)]
+            for row in range(3)]
+
+
+def of_mesh(kind, line, points, sides, colour, numbers=None):
+    """The tree of a mesh: one solid where it is convex, and else the convex parts of it."""
+    try:
+        return Solid(kind, line, points, facets.planes(points, sides, numbers), colour)
+    except Bad as bad:
+        if not str(bad).startswith("is not convex"):
+            raise
+        try:
+            found = facets.cells(points, sides)
+        except Bad as why:
+            raise Bad("%s, and its parts are not taken: it %s" % (bad, why))
+        if not found:
+            raise Bad("%s, and nothing is inside of it" % bad)
+        ends.say("model", "%s: %s %s; it is drawn as %d convex solids" % (
+            "line %d" % line if line else "the file", kind, bad, len(found)))
+    return joined("+", [Solid(kind, line, corners, planes, colour) for planes, corners in found])
+
+
+def of_file(points, sides, colour, line=0):
+    """The tree of a mesh that may have several parts, or shells within others; `line` is that of
+    the node which has it, if any."""
+    shells = facets.parts(points, sides)
+    if len({facets.volume(*shell[:2]) > 0 for shell in shells}) > 1:
+        used, turned = facets.only(points, sides)
+        return of_mesh("part", line, used, turned, colour)
+    trees = []
+    for number, (own, turned, numbers) in enumerate(shells, 1):
+        try:
+            trees.append(of_mesh("part", line, own, turned, colour, numbers))
+        except Bad as bad:
+            raise Bad("solid %d of the file %s" % (number, bad))
+    return joined("+", trees)
+
+
+def joined(sign, trees):
+    """Trees under a sign, where a tree without solids is the empty set."""
+    if sign == "*" and None in trees or sign == "-" and trees[:1] == [None]:
+        return None
+    trees = [tree for tree in trees if tree is not None]
+    if len(trees) < 2:
+        return trees[0] if trees else None
+    if sign == "-":
+        return "-", [trees[0], joined("+", trees[1:])]
+    return sign, trees
+
+
+def each(tree, change):
+    """The tree with what `change` makes of each of its leaves."""
+    if tree is None or not isinstance(tree, tuple):
+        return None if tree is None else change(tree)
+    return joined(tree[0], [each(part, change) for part in tree[1]])
+
+
+def leaves(tree, added=True):
+    """The leaves of a tree in their order, each with whether it is added."""
+    if tree is None or not isinstance(tree, tuple):
+        return [] if tree is None else [(tree, added)]
+    sign, trees = tree
+    return [pair for i, part in enumerate(trees) for pair in leaves(part, added != (sign == "-" and i == 1))]
+
+
+def signs(tree):
+    return {tree[0]}.union(*map(signs, tree[1])) if isinstance(tree, tuple) else set()
+
+
+def convex_parts(tree, meet):
+    """The convex shapes whose union a tree without a difference is; `meet` makes one of several."""
+    if tree is None or not isinstance(tree, tuple):
+        return [] if tree is None else [tree]
+    lists = [convex_parts(part, meet) for part in tree[1]]
+    if tree[0] == "+":
+        return [part for parts in lists for part in parts]
+    return [found for found in map(meet, itertools.product(*lists)) if found]
+
+
+def met(parts):
+    """The common part of convex solids; None where there is none."""
+    size, _ = facets.extent([point for part in parts for point in part.points])
+    found = facets.bounded([plane for part in parts for plane in part.planes],
+                           facets.NEAR * facets.SIX_DIGITS * size)
+    return found and Solid(parts[0].kind, parts[0].line, found[1], found[0], parts[0].colour)
