@@ -29,6 +29,8 @@ pub(crate) fn operate_planes<const N: usize>(
     ensures pixels { HasPixels N (2 ^ (nx + ny)) planes.new }
     ensures each { (p : ℕ) → p < 2 ^ (nx + ny) → bits_of (pixel_in planes.new p)
         ≡ after_macro m.now (p / 2 ^ ny) (p % 2 ^ ny) (bits_of (pixel_in planes.old p)) }
+    ensures carry { planes.new.carry ≡ planes.old.carry }
+    ensures latch { planes.new.latch ≡ planes.old.latch }
     ensures reach { IsReach result planes.new }
 {
     match m {
