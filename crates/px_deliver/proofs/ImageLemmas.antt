@@ -3,10 +3,10 @@ use Rattle.std.proofs.Common.{◌≡◌, ℕ, ◌+◌, ◌<◌, List, [], ◌∷
 use Rattle.std.proofs.Common.{append-nil}
 use Rattle.std.proofs.lemmas.Grind.{flat_map-append}
 use Rattle.std.proofs.lemmas.List.{take_more, take-append-drop}
-use Rattle.px_scene.specs.Scenes.{SceneView}
+use Rattle.px_model.specs.Scenes.{SceneView}
 use Rattle.px_frame.specs.Picture.{picture_image}
 use Rattle.px_frame.specs.declared.plane.Plane.{Plane}
-use Rattle.px_draw.specs.Works.{images}
+use Rattle.px_deliver.specs.Images.{images}
 
 -- the images before one of them, that one, and those behind it
 pub images_at : (scene : SceneView) (planes : List Plane) (i : ℕ) (d : Plane) → i < length planes

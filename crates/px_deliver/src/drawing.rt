@@ -1,4 +1,4 @@
-//! The commands `render` and `colour`: the images that an array draws of a scene.
+//! Drawing an opened job on its array, and writing the images that the array then stores.
 ghost use Rattle.std.specs.Prelude.{◌≡◌, ◌++◌, ◌-◌, ◌≤◌, ℕ, Err, true, IfErr, IfOk, OnOk, OnErr};
 ghost use Rattle.std.specs.Io.KnownBytes.{Appends};
 ghost use Rattle.px_io.specs.Counts.{HasCause};
@@ -7,8 +7,8 @@ ghost use Rattle.px_array.specs.Slots.{IsRunOnce, array_view, worked};
 ghost use Rattle.px_sched.specs.Layouts.{layout_of};
 ghost use Rattle.px_control.specs.Program.{IsAt, total};
 ghost use Rattle.px_frame.specs.Picture.{depth_image, face_image, picture_image};
-ghost use Rattle.px_draw.specs.Arrays.{IsDrawn, IsFinished};
-ghost use Rattle.px_draw.specs.Works.{images};
+ghost use Rattle.px_deliver.specs.Drawn.{IsDrawn, IsFinished};
+ghost use Rattle.px_deliver.specs.Images.{images};
 
 use px_array::Array;
 use px_asm::Operating;
@@ -52,7 +52,7 @@ pub fn deliver<A: Operating, O: Sink>(
 }
 
 /// The same with other images.
-pub(crate) fn deliver_images<A: Operating, O: Sink>(
+pub fn deliver_images<A: Operating, O: Sink>(
     job: &mut Job<'_>,
     scene: &Scene,
     array: &mut A,
@@ -82,7 +82,7 @@ pub(crate) fn deliver_images<A: Operating, O: Sink>(
 }
 
 /// Makes the clocks that are left, and answers where the picture then stands in a pixel's memory.
-pub(crate) fn draw<A: Operating>(job: &mut Job<'_>, scene: &Scene, array: &mut A) -> Layout
+pub fn draw<A: Operating>(job: &mut Job<'_>, scene: &Scene, array: &mut A) -> Layout
     requires scene { scene.now ≡ job.old.scene }
     requires at { IsAt A.BITS scene.now job.old.place.clock (A.device array.old) }
     ensures layout { result ≡ layout_of scene.now }

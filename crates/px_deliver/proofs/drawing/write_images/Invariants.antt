@@ -1,7 +1,7 @@
 use Rattle.std.proofs.Common.{◌≡◌, take}
 use Rattle.px_io.specs.Told.{TakesAll}
-use Rattle.px_draw.specs.Works.{images}
-use Rattle.px_draw.proofs.render.write_images.Given as goal
+use Rattle.px_deliver.specs.Images.{images}
+use Rattle.px_deliver.proofs.drawing.write_images.Given as goal
 
 abbrev pub invariant-loop-plane : goal.invariant-loop-plane
 invariant-loop-plane g l = record {

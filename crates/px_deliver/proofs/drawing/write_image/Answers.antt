@@ -1,5 +1,5 @@
 use Rattle.px_control.specs.Program.{total}
-use Rattle.px_draw.proofs.render.write_image.Goals as goal
+use Rattle.px_deliver.proofs.drawing.write_image.Goals as goal
 
 pub write_picture-requires-clause-open : goal.write_picture-requires-clause-open
 write_picture-requires-clause-open g c =

@@ -1,5 +1,5 @@
 use Rattle.px_io.proofs.ToldLaws.{front_all, on_err_by}
-use Rattle.px_draw.proofs.render.deliver_images.Goals as goal
+use Rattle.px_deliver.proofs.drawing.deliver_images.Goals as goal
 
 pub returns-clause-err : goal.returns-clause-err
 returns-clause-err g c =
