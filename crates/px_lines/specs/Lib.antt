@@ -1,4 +1,5 @@
 pub mod Lines
+pub mod Listenings
 pub mod PartLaws
 pub mod Parts
 pub mod Readings

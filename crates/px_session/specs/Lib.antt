@@ -5,3 +5,4 @@ pub mod Servings
 pub mod SessionLaws
 pub mod Sessions
 pub mod Turns
+pub mod Prompts
