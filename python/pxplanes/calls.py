@@ -3,7 +3,7 @@ from __future__ import annotations
 
 import ctypes
 import functools
-from ctypes import POINTER, c_char_p, c_size_t, c_uint32, c_uint64, c_void_p
+from ctypes import POINTER, c_char_p, c_int64, c_size_t, c_uint32, c_uint64, c_void_p
 from typing import Union
 
 from .arrays import Buffer
@@ -19,8 +19,8 @@ Text = Union[str, bytes, bytearray, memoryview]
 class Found(ctypes.Structure):
     """`struct pxplanes_found`: what a call found."""
 
-    _fields_ = [(name, c_uint32) for name in ("width", "height", "faces", "line", "cause", "kind")] + [
-        (name, c_uint64) for name in ("number", "operations", "clocks", "room")]
+    _fields_ = [(name, c_uint32) for name in ("width", "height", "faces", "line", "cause", "kind")] + [("number", c_int64)] + [
+        (name, c_uint64) for name in ("operations", "clocks", "room")]
 
 
 class FoundState(ctypes.Structure):
@@ -37,18 +37,17 @@ CALLS = {"check": TEXT + FOUND, "render": TEXT + LIST + LIST + FOUND, "colour": 
          "micros": TEXT + [c_uint64] + LIST + FOUND}
 NAMES = {"cause_name": [c_uint32] + LIST, "kind_name": [c_uint32] + LIST, "version": LIST}
 
+library = functools.lru_cache(maxsize=None)(loaded)
+
 
 @functools.lru_cache(maxsize=None)
-def library() -> ctypes.CDLL:
-    """The library, with the types of its calls."""
-    found = loaded()
-    for calls, result in ((CALLS, c_uint32), (NAMES, c_size_t)):
-        for name, arguments in calls.items():
-            try:
-                call = getattr(found, "pxplanes_" + name)
-            except AttributeError:
-                raise NoLibrary("%s has no pxplanes_%s" % (found._name, name)) from None
-            call.argtypes, call.restype = arguments, result
+def call(name: str):
+    """A call of the library, with its types."""
+    try:
+        found = getattr(library(), "pxplanes_" + name)
+    except AttributeError:
+        raise NoLibrary("%s has no pxplanes_%s" % (library()._name, name)) from None
+    found.argtypes, found.restype = (CALLS[name], c_uint32) if name in CALLS else (NAMES[name], c_size_t)
     return found
 
 
@@ -60,7 +59,7 @@ def content(text: Text) -> bytes:
 def asked(name: str, text: bytes, *arguments) -> tuple[int, Found]:
     """What a call finds, and its status: `OK` or `NO_ROOM`; the others are raised."""
     found = Found()
-    status = getattr(library(), "pxplanes_" + name)(text, len(text), *arguments, ctypes.byref(found))
+    status = call(name)(text, len(text), *arguments, ctypes.byref(found))
     if status in (OK, NO_ROOM):
         return status, found
     raise refusal(status, found)
@@ -94,5 +93,5 @@ def refusal(status: int, found: Found) -> Exception:
 def word_of(name: str, *numbers: int) -> str:
     """The word that a call writes."""
     room = Buffer("B", LONGEST_NAME)
-    length = getattr(library(), "pxplanes_" + name)(*numbers, *room.given())
+    length = call(name)(*numbers, *room.given())
     return bytes(room.room[:min(length, LONGEST_NAME)]).decode("ascii")

@@ -14,6 +14,7 @@ ACTS = ("nop", "enable-all", "enable-carry", "enable-tree", "enable-bit", "set-c
 WITH_PLACE = frozenset(("enable-bit", "fetch", "store-tree", "store-latch", "store-const", "toggle", "carry-tree",
                         "carry-latch", "add-tree"))
 WITH_VALUE = frozenset(("enable-carry", "enable-tree", "enable-bit", "set-carry", "store-const"))
+TREES = ("hold", "clear", "feed")
 ENDLESS = 1 << 64
 
 
@@ -34,11 +35,13 @@ class Micro(NamedTuple):
         return " ".join(words)
 
 
-def unpacked(number: int) -> Micro:
-    """The microinstruction that a packed number is, by the fields that include/pxplanes.h names."""
-    tree = "clear" if number >> 12 & 1 else "feed" if number >> 13 & 1 else "hold"
-    return Micro(ACTS[number >> 8 & 15], number & 255, number >> 17 & 1, tree,
-                 (number >> 14 & 1, number >> 15 & 1, number >> 16 & 1))
+def unpacked(word: int) -> Optional[Micro]:
+    """The microinstruction that a word is, by the fields that include/pxplanes.h names; None of 0."""
+    if word == 0:
+        return None
+    lines = word >> 56
+    return Micro(ACTS[(word >> 32 & 255) - 1], word & 0xffffffff, word >> 40 & 1, TREES[word >> 48 & 3],
+                 (lines & 1, lines >> 1 & 1, lines >> 2 & 1))
 
 
 class Pixel(NamedTuple):
@@ -64,7 +67,7 @@ class State:
         self.words_per_row, self.bits, self.levels = found.words_per_row, found.bits, found.levels
         self.clock, self.clocks, self.operation = found.clock, found.clocks, found.operation
         self.operation_clock = found.operation_clock
-        self.next: Optional[Micro] = unpacked(found.next_micro) if self.clock < self.clocks else None
+        self.next = unpacked(found.next_micro)
         self.words = words
 
     def plane(self, which: Union[int, str]) -> Any:
@@ -93,8 +96,9 @@ class State:
         """The output and the carry of a node of the tree: levels from 1 on, a level's nodes from 0 on."""
         if not (1 <= level <= self.levels and 0 <= index < 1 << level):
             raise IndexError("level %d of %d has no node %d" % (level, self.levels, index))
-        first, wide = self._level(level)
-        return tuple(self.words[first + row * wide + index // 64] >> index % 64 & 1 for row in (0, 1))
+        at, wide = (1 << level) + index, -(-(2 << self.levels) // 64)
+        first = len(self.words) - 2 * wide
+        return tuple(self.words[first + row * wide + at // 64] >> at % 64 & 1 for row in (0, 1))
 
     def nodes(self) -> Iterator[list[tuple[int, int]]]:
         """The nodes of each level, from level 1 on."""
@@ -110,13 +114,6 @@ class State:
             raise IndexError("%r is no bit of 0 to %d and no register" % (which, self.bits - 1))
         size = self.grid_height * self.words_per_row
         return self.words[at * size:(at + 1) * size]
-
-    def _level(self, level: int) -> tuple[int, int]:
-        """Where the outputs of a level begin among the words, and how many words they are; its carries stand behind."""
-        first = (self.bits + len(REGISTERS)) * self.grid_height * self.words_per_row
-        for above in range(1, level):
-            first += 2 * -(-(1 << above) // 64)
-        return first, -(-(1 << level) // 64)
 
 
 def state(text: Text, clock: int) -> State:

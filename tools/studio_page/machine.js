@@ -7,7 +7,11 @@ import {treeOf} from "./tree.js";
 
 const at = id => document.getElementById(id);
 const CLOCKS_OF_WAVE = 24, BITS_IN_ROW = 24;
-const KINDS = [["start", /^start|^pass/], ["candidate", /^candidate/], ["against", /^against|^is there/], ["merge", /^merge/], ["open", /./]];
+const KINDS = [["start", /^start|^pass/, "the background"], ["candidate", /^candidate/, "a candidate"], ["against", /^against|^is there/, "it is counted against other faces"],
+  ["merge", /^merge/, "the nearer stays"], ["open", /./, "a solid begins"]];
+
+// What a pass is for, by its words.
+const kindOf = words => KINDS.find(([, pattern]) => pattern.test(words))?.[0] ?? "open";
 
 export class Machine {
   constructor(tell) {
@@ -26,6 +30,7 @@ export class Machine {
     at("until").addEventListener("keydown", event => { if (event.key === "Escape" || event.key === "Enter") at("until").blur(); });
     at("line-of-passes").addEventListener("click", event => this.go(Math.round(event.offsetX / at("line-of-passes").clientWidth * this.clocks)));
     at("speed").addEventListener("change", () => { if (this.playing) { this.stop(); this.play(); } });
+    for (const [kind, , words] of KINDS) at("legend").append(made("span", "", "", made("i", "chip pass-" + kind), words + " "));
     document.querySelectorAll("[data-move]").forEach(button => button.addEventListener("click", () => this.move(button.dataset.move)));
     at("play").addEventListener("click", () => this.play());
     new ResizeObserver(() => { this.drawPasses(); this.inside(); }).observe(at("machine"));
@@ -133,7 +138,7 @@ export class Machine {
     this.paint();
     const done = state.clock === state.clocks, operation = done ? program.operations.length - 1 : state.operation, [pass, line, words, first] = program.operations[operation] ?? [0, "", "", 0];
     const length = this.startOf(operation + 1) - first;
-    at("pass").replaceChildren(made("span", "label", `pass ${pass + 1} of ${program.passes.length}`), " " + (program.passes[pass] ?? ""));
+    at("pass").replaceChildren(made("i", "chip pass-" + kindOf(program.passes[pass] ?? "")), made("span", "label", `pass ${pass + 1} of ${program.passes.length}`), ...worded(program.passes[pass] ?? ""));
     at("operation").replaceChildren(...worded(done ? "all is done: key B has the picture" : words));
     at("line").replaceChildren(made("code", "", done ? "" : line), made("span", "quiet", done ? `${program.operations.length} operations in ${state.clocks} clocks`
       : `operation ${operation + 1} of ${program.operations.length}, its clock ${state.operationClock + 1} of ${length}`));
@@ -188,7 +193,7 @@ export class Machine {
   inside() {
     if (!this.state || at("machine").hidden) return;
     const pixel = this.pixel && this.pixel[0] < this.state.width && this.pixel[1] < this.state.height ? this.pixel : null;
-    const isSmall = this.state.width <= 16 && this.state.height <= 16, width = at("machine").querySelector(".inside").clientWidth - 30;
+    const isSmall = this.state.width <= 16 && this.state.height <= 16, width = at("tree-part").parentElement.clientWidth - 4;
     at("pixel-name").textContent = pixel ? `${pixel[0]}, ${pixel[1]}` : "";
     at("tree-part").hidden = !isSmall;
     if (isSmall && width > 0) at("tree").replaceChildren(treeOf(this.state, pixel, width));
@@ -210,7 +215,8 @@ export class Machine {
       registers.append(made("span", "key " + key, label, made("b", "", parts(key).map(field => `${field.name.split(" ")[1]} ${state.number(field.at, field.length, x, y)}`).join(", "))));
     const next = state.micro ? /(?:enable-bit|fetch|store-tree|store-latch|store-const|toggle|carry-tree|carry-latch|add-tree) (\d+)/.exec(state.micro) : null;
     const table = made("table", "memory");
-    for (let first = 0; first < state.bits; first += BITS_IN_ROW) {
+    const used = fields.length ? fields[fields.length - 1].at + 1 : state.bits;
+    for (let first = 0; first < used; first += BITS_IN_ROW) {
       const row = made("tr", "", "", made("th", "", String(first)));
       for (let bit = first; bit < Math.min(state.bits, first + BITS_IN_ROW); bit++) {
         const own = fields.find(field => bit >= field.at && bit < field.at + field.length);
@@ -245,7 +251,7 @@ export class Machine {
     canvas.height = canvas.clientHeight * devicePixelRatio;
     const style = getComputedStyle(document.documentElement), starts = this.passStarts(), scale = canvas.width / Math.max(1, this.clocks);
     starts.forEach((start, pass) => {
-      const kind = KINDS.find(([, pattern]) => pattern.test(this.program.passes[pass]))[0], stop = starts[pass + 1] ?? this.clocks;
+      const kind = kindOf(this.program.passes[pass]), stop = starts[pass + 1] ?? this.clocks;
       pen.fillStyle = style.getPropertyValue("--pass-" + kind);
       pen.fillRect(start * scale, 0, Math.max(1, (stop - start) * scale - ((stop - start) * scale > 4 ? 1 : 0)), canvas.height);
     });

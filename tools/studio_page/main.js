@@ -116,8 +116,9 @@ function point(pixel) {
     return at("ray").replaceChildren();
   }
   const [x, y] = pixel, place = y * page.head.width + x, number = page.picture.faces[place], face = page.head.faces.find(each => each[0] === number);
-  at("readout").replaceChildren(made("span", "label", "pixel"), ` ${x}, ${y} `, made("span", "label", "depth"), ` ${page.picture.depths[place]} `, made("span", "label", "face"),
-    ` ${number}`, ...(face ? [chipOf(face[3]), `${face[1]}, ${face[2]}, line ${face[4]}`] : [", the background"]));
+  const said = (name, ...values) => made("span", "", "", made("span", "label", name), ...values);
+  at("readout").replaceChildren(said("pixel", made("b", "", `${x}, ${y}`)), said("depth", made("b", "", String(page.picture.depths[place]))),
+    said("face", made("b", "", String(number)), ...(face ? [chipOf(face[3]), `${face[1]}, ${face[2]}, line ${face[4]}`] : [", the background"])));
   page.rayOf = `${x} ${y}`;
   ray(x, y, editor.text);
 }

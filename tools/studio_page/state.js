@@ -26,9 +26,8 @@ export class State {
 
   // Output and carry of a node of the tree.
   node(level, index) {
-    let first = (this.bits + REGISTERS.length) * this.perPlane;
-    for (let above = 1; above < level; above++) first += 4 * Math.ceil(2 ** above / 64);
-    const wide = 2 * Math.ceil(2 ** level / 64), of = row => this.words[first + row * wide + (index >> 5)] >>> (index & 31) & 1;
+    const place = 2 ** level + index, wide = 2 * Math.ceil(2 ** (this.levels + 1) / 64), first = this.words.length - 2 * wide;
+    const of = row => this.words[first + row * wide + (place >> 5)] >>> (place & 31) & 1;
     return [of(0), of(1)];
   }
 }

@@ -24,7 +24,7 @@ export function treeOf(state, pixel, width) {
     const wide = Math.max(1.2, Math.min(size, room / 2 ** level - 1));
     for (let index = 0; index < 2 ** level; index++) {
       const [out, carry] = state.node(level, index), on = leaf >= 0 && leaf >> levels - level === index;
-      const node = drawn("g", {class: "node" + (out ? " on" : "") + (on ? " way" : "")},
+      const node = drawn("g", {class: "node" + (out ? " on" : "") + (on ? " way" : "") + (wide < 6 ? " thin" : "")},
         drawn("rect", {x: x(level, index) - wide / 2, y: y(level) - size / 2, width: wide, height: size, rx: wide > 8 ? 3 : 0}),
         drawn("title", {}, `level ${level}, node ${index}: output ${out}, carry ${carry}`));
       if (wide > 13) node.append(drawn("text", {x: x(level, index), y: y(level) + 4.5, class: "bit"}, String(out)));
