@@ -98,6 +98,15 @@ def micros_of(name, numbers, nx, ny):
         raise netpbm.Bad("%s is no operation of a listing" % name)
 
 
+def clocks_of(name, numbers, levels):
+    """How many microinstructions an operation has on a tree of so many levels."""
+    one = {"all": 1, "keep-bit": 1, "set-bit": 1, "toggle": 1, "keep-sign": 1 + levels + SIGN_BIT}
+    if name in one:
+        return one[name]
+    length = numbers[1] if name in ("load-const", "copy", "keep-less") else numbers[4]
+    return {"load-const": 0, "copy": length, "keep-less": 2 + length, "keep-at-most": 2 + levels}.get(name, 1 + levels) + length
+
+
 def sum_text(form):
     """A linear form as one writes it."""
     terms = [(number, letter) for number, letter in zip(form, ("x", "y", "")) if number]

@@ -1,0 +1,16 @@
+"""Pictures of scenes, and the state of the machine that draws them, by the proved library of pxplanes.
+
+    import pxplanes
+    picture = pxplanes.render(open("docs/scenes/first.scene").read())
+    picture.depths[16, 24]      # the depth at x 24, y 16: rows from the top come first
+
+A text is `str` or `bytes`. What is not accepted raises `Malformed` or `Limit`, with the first bad line. Arrays are those of
+NumPy where it is there, and `memoryview`s of the same shape and numbers else. Calls keep nothing, and may be made by several
+threads at once. docs/SCENES.md has the language, docs/MACHINE.md the machine.
+"""
+from .errors import Limit, Malformed, NoClock, NoLibrary, Refused
+from .machine import Micro, Pixel, State, micros, state
+from .pictures import Cost, Picture, check, colour, products, render, version
+
+__all__ = ["Cost", "Limit", "Malformed", "Micro", "NoClock", "NoLibrary", "Picture", "Pixel", "Refused", "State", "check",
+           "colour", "micros", "products", "render", "state", "version"]

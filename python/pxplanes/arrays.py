@@ -1,0 +1,61 @@
+"""Buffers that the library fills, as arrays of NumPy where it is there, and as memoryviews else."""
+from __future__ import annotations
+
+import ctypes
+from typing import Any, Sequence
+
+try:
+    import numpy
+except ImportError:
+    numpy = None
+
+TYPES = {"B": ctypes.c_uint8, "I": ctypes.c_uint32, "i": ctypes.c_int32, "Q": ctypes.c_uint64}
+
+
+class Buffer:
+    """Room for so many elements of a kind: B, I, i or Q, of 1, 4, 4 and 8 bytes."""
+
+    def __init__(self, kind: str, count: int):
+        self.kind, self.count = kind, count
+        self.room = (TYPES[kind] * count)() if count else None
+
+    def given(self) -> tuple:
+        """The two words by which C takes it; null where it has no room."""
+        return ctypes.cast(self.room, ctypes.c_void_p) if self.count else None, self.count
+
+    def shaped(self, *shape: int) -> Any:
+        """Its elements in rows: an array of this shape."""
+        return shaped(memoryview(self.room if self.count else b"").cast("B"), self.kind, shape)
+
+
+def shaped(flat: memoryview, kind: str, shape: Sequence[int]) -> Any:
+    """The bytes of a memoryview as an array of a kind and a shape."""
+    if numpy is not None:
+        return numpy.frombuffer(flat, dtype=numpy.dtype(TYPES[kind])).reshape(shape)
+    return flat.cast(kind, list(shape)) if all(shape) else flat.cast(kind)
+
+
+def spread(words: memoryview, wide: int, high: int, words_per_row: int) -> Any:
+    """A plane of bits, 64 in a word from the lowest on, as rows of 0 and 1: an array of shape (high, wide)."""
+    if numpy is not None:
+        rows = numpy.frombuffer(words, dtype="<u8").reshape(high, words_per_row).view(numpy.uint8)
+        return numpy.unpackbits(rows, axis=1, count=wide, bitorder="little")
+    flat = bytearray()
+    for y in range(high):
+        row = int.from_bytes(bytes(words[y * words_per_row:(y + 1) * words_per_row].cast("B")), "little")
+        flat += bytes(row >> x & 1 for x in range(wide))
+    return shaped(memoryview(flat), "B", (high, wide))
+
+
+def weighed(planes: Sequence[Any], wide: int, high: int) -> Any:
+    """The numbers that planes write, the first the lowest bit: an array of shape (high, wide)."""
+    if numpy is not None:
+        number = numpy.zeros((high, wide), dtype=numpy.uint64)
+        for bit, plane in enumerate(planes):
+            number |= plane.astype(numpy.uint64) << numpy.uint64(bit)
+        return number
+    number = memoryview(bytearray(8 * wide * high)).cast("Q")
+    for bit, plane in enumerate(planes):
+        for at, value in enumerate(plane.cast("B") if plane.ndim > 1 else plane):
+            number[at] |= value << bit
+    return number.cast("B").cast("Q", [high, wide])

@@ -1,0 +1,97 @@
+"""The library's calls as C has them (include/pxplanes.h), and what their statuses raise."""
+from __future__ import annotations
+
+import ctypes
+import functools
+from ctypes import POINTER, c_char_p, c_int64, c_size_t, c_uint32, c_uint64, c_void_p
+from typing import Union
+
+from .arrays import Buffer
+from .errors import Limit, Malformed, NoClock, NoLibrary
+from .finding import loaded
+
+OK, MALFORMED, LIMIT, MEMORY, NO_ROOM, NO_CLOCK = 0, 3, 4, 7, 8, 9
+LONGEST_NAME = 64
+
+Text = Union[str, bytes, bytearray, memoryview]
+
+
+class Found(ctypes.Structure):
+    """`struct pxplanes_found`: what a call found."""
+
+    _fields_ = [(name, c_uint32) for name in ("width", "height", "faces", "line", "cause", "kind")] + [("number", c_int64)] + [
+        (name, c_uint64) for name in ("operations", "clocks", "room")]
+
+
+class FoundState(ctypes.Structure):
+    """`struct pxplanes_state`: what stands beside the words of a state."""
+
+    _fields_ = [(name, c_uint32) for name in ("grid_width", "grid_height", "words_per_row", "bits", "levels")] + [
+        (name, c_uint64) for name in ("clock", "clocks", "operation", "operation_clock", "next_micro")]
+
+
+LIST = [c_void_p, c_size_t]
+TEXT, FOUND = [c_char_p, c_size_t], [POINTER(Found)]
+CALLS = {"check": TEXT + FOUND, "render": TEXT + LIST + LIST + FOUND, "colour": TEXT + LIST + FOUND,
+         "products": TEXT + LIST + FOUND, "state": TEXT + [c_uint64] + LIST + [POINTER(FoundState)] + FOUND,
+         "micros": TEXT + [c_uint64] + LIST + FOUND}
+NAMES = {"cause_name": [c_uint32] + LIST, "kind_name": [c_uint32] + LIST, "version": LIST}
+
+library = functools.lru_cache(maxsize=None)(loaded)
+
+
+@functools.lru_cache(maxsize=None)
+def call(name: str):
+    """A call of the library, with its types."""
+    try:
+        found = getattr(library(), "pxplanes_" + name)
+    except AttributeError:
+        raise NoLibrary("%s has no pxplanes_%s" % (library()._name, name)) from None
+    found.argtypes, found.restype = (CALLS[name], c_uint32) if name in CALLS else (NAMES[name], c_size_t)
+    return found
+
+
+def content(text: Text) -> bytes:
+    """The bytes of a text; of a `str` in UTF-8."""
+    return text.encode("utf-8") if isinstance(text, str) else bytes(text)
+
+
+def asked(name: str, text: bytes, *arguments) -> tuple[int, Found]:
+    """What a call finds, and its status: `OK` or `NO_ROOM`; the others are raised."""
+    found = Found()
+    status = call(name)(text, len(text), *arguments, ctypes.byref(found))
+    if status in (OK, NO_ROOM):
+        return status, found
+    raise refusal(status, found)
+
+
+def filled(name: str, kinds: str, text: Text, *before, behind: tuple = ()) -> tuple[list[Buffer], Found]:
+    """The buffers of a call, one of each kind, which it filled: it is asked for their size first."""
+    text, room = content(text), 0
+    while True:
+        buffers = [Buffer(kind, room) for kind in kinds]
+        given = [word for buffer in buffers for word in buffer.given()]
+        status, found = asked(name, text, *before, *given, *behind)
+        if status == OK:
+            return buffers, found
+        room = found.room
+
+
+def refusal(status: int, found: Found) -> Exception:
+    """The error of a status."""
+    if status == MALFORMED:
+        return Malformed(found.line, word_of("cause_name", found.cause))
+    if status == LIMIT:
+        return Limit(found.line, word_of("kind_name", found.kind), found.number)
+    if status == MEMORY:
+        return MemoryError("pxplanes had no memory")
+    if status == NO_CLOCK:
+        return NoClock(found.clocks)
+    return NoLibrary("the library answers the unknown status %d" % status)
+
+
+def word_of(name: str, *numbers: int) -> str:
+    """The word that a call writes."""
+    room = Buffer("B", LONGEST_NAME)
+    length = call(name)(*numbers, *room.given())
+    return bytes(room.room[:min(length, LONGEST_NAME)]).decode("ascii")

@@ -1,0 +1,46 @@
+"""What a call raises."""
+from __future__ import annotations
+
+
+class NoLibrary(OSError):
+    """There is no libpxplanes.so where one is looked for; or it is another one than this module was made for."""
+
+
+class Refused(ValueError):
+    """A text is not accepted. `line` is the first bad line, counted from 1, and 0 where it has none; `str` of it is the
+    program's own note, as `malformed line 7: unknown-name`."""
+
+    line: int
+
+
+class Malformed(Refused):
+    """A line is not of the language. `cause` is the word of docs/SCENES.md, "Refusals", as `unknown-name`."""
+
+    def __init__(self, line: int, cause: str):
+        super().__init__("malformed line %d: %s" % (line, cause))
+        self.line, self.cause = line, cause
+
+    def __reduce__(self):
+        return Malformed, (self.line, self.cause)
+
+
+class Limit(Refused):
+    """More than there may be. `kind` is the word of docs/SCENES.md, "Limits", as `pixel-memory`; `found` how many."""
+
+    def __init__(self, line: int, kind: str, found: int):
+        super().__init__("limit line %d: %s %d" % (line, kind, found))
+        self.line, self.kind, self.found = line, kind, found
+
+    def __reduce__(self):
+        return Limit, (self.line, self.kind, self.found)
+
+
+class NoClock(IndexError):
+    """A clock lies past the last. `clocks` is how many there are."""
+
+    def __init__(self, clocks: int):
+        super().__init__("there are %d clocks" % clocks)
+        self.clocks = clocks
+
+    def __reduce__(self):
+        return NoClock, (self.clocks,)

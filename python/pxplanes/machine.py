@@ -1,0 +1,145 @@
+"""The machine at any of its clocks."""
+from __future__ import annotations
+
+import ctypes
+from typing import Any, Iterator, NamedTuple, Optional, Union
+
+from .arrays import Buffer, spread, weighed
+from .calls import FoundState, Text, asked, content, filled
+from .errors import NoClock
+
+REGISTERS = ("enable", "carry", "latch", "leaf")
+ACTS = ("nop", "enable-all", "enable-carry", "enable-tree", "enable-bit", "set-carry", "fetch", "store-tree", "store-latch",
+        "store-const", "toggle", "carry-tree", "carry-latch", "add-tree")
+WITH_PLACE = frozenset(("enable-bit", "fetch", "store-tree", "store-latch", "store-const", "toggle", "carry-tree",
+                        "carry-latch", "add-tree"))
+WITH_VALUE = frozenset(("enable-carry", "enable-tree", "enable-bit", "set-carry", "store-const"))
+TREES = ("hold", "clear", "feed")
+ENDLESS = 1 << 64
+
+
+class Micro(NamedTuple):
+    """A microinstruction (docs/MACHINE.md, "The fourteen acts"): the act of every pixel, the place in its memory and the bit
+    that it names (0 where it names none), what the tree does (`hold`, `clear` or `feed`), and the bits of the lines a, b, c.
+    `str` of it is as the debugger's trace writes it."""
+
+    act: str
+    place: int
+    value: int
+    tree: str
+    lines: tuple[int, int, int]
+
+    def __str__(self) -> str:
+        words = [self.tree] + ["%d%d%d" % self.lines] * (self.tree == "feed") + [self.act]
+        words += [str(self.place)] * (self.act in WITH_PLACE) + [str(self.value)] * (self.act in WITH_VALUE)
+        return " ".join(words)
+
+
+def unpacked(word: int) -> Optional[Micro]:
+    """The microinstruction that a word is, by the fields that include/pxplanes.h names; None of 0."""
+    if word == 0:
+        return None
+    lines = word >> 56
+    return Micro(ACTS[(word >> 32 & 255) - 1], word & 0xffffffff, word >> 40 & 1, TREES[word >> 48 & 3],
+                 (lines & 1, lines >> 1 & 1, lines >> 2 & 1))
+
+
+class Pixel(NamedTuple):
+    """What a pixel holds: its memory as a text of 0 and 1 from bit 0 on, its three registers, and the output of its leaf."""
+
+    memory: str
+    enable: int
+    carry: int
+    latch: int
+    leaf: int
+
+
+class State:
+    """The state after `clock` of `clocks` clocks.
+
+    `grid_width` and `grid_height` are the size of the array in pixels; `bits` how many memory bits a pixel has; `levels` how
+    many levels the multiplier tree has. `operation` is the index of the broadcast operation that comes next or is under way,
+    from 0 on, and `operation_clock` which of its clocks comes next; `next` is its microinstruction, None at the end.
+    `words` is what the library writes (include/pxplanes.h): plane after plane, then the nodes of the tree."""
+
+    def __init__(self, found: FoundState, words: memoryview):
+        self.grid_width, self.grid_height = found.grid_width, found.grid_height
+        self.words_per_row, self.bits, self.levels = found.words_per_row, found.bits, found.levels
+        self.clock, self.clocks, self.operation = found.clock, found.clocks, found.operation
+        self.operation_clock = found.operation_clock
+        self.next = unpacked(found.next_micro)
+        self.words = words
+
+    def plane(self, which: Union[int, str]) -> Any:
+        """A bit of all pixels: the number of a memory bit, or `enable`, `carry`, `latch` or `leaf`. An array of 0 and 1 of
+        shape (grid_height, grid_width), rows from the top."""
+        return spread(self._words_of(which), self.grid_width, self.grid_height, self.words_per_row)
+
+    def number(self, at: int, length: int) -> Any:
+        """The numbers in the field of `length` bits (1 to 64) from bit `at` on, of shape (grid_height, grid_width)."""
+        if not (1 <= length <= 64 and 0 <= at and at + length <= self.bits):
+            raise IndexError("a pixel has the bits 0 to %d" % (self.bits - 1))
+        return weighed([self.plane(bit) for bit in range(at, at + length)], self.grid_width, self.grid_height)
+
+    def bit(self, which: Union[int, str], x: int, y: int) -> int:
+        """A bit of the pixel at column x and row y."""
+        if not (0 <= x < self.grid_width and 0 <= y < self.grid_height):
+            raise IndexError("the grid has %d columns and %d rows" % (self.grid_width, self.grid_height))
+        return self._words_of(which)[y * self.words_per_row + x // 64] >> x % 64 & 1
+
+    def pixel(self, x: int, y: int) -> Pixel:
+        """All that the pixel at column x and row y holds."""
+        memory = "".join(str(self.bit(at, x, y)) for at in range(self.bits))
+        return Pixel(memory, *(self.bit(name, x, y) for name in REGISTERS))
+
+    def node(self, level: int, index: int) -> tuple[int, int]:
+        """The output and the carry of a node of the tree: levels from 1 on, a level's nodes from 0 on."""
+        if not (1 <= level <= self.levels and 0 <= index < 1 << level):
+            raise IndexError("level %d of %d has no node %d" % (level, self.levels, index))
+        at, wide = (1 << level) + index, -(-(2 << self.levels) // 64)
+        first = len(self.words) - 2 * wide
+        return tuple(self.words[first + row * wide + at // 64] >> at % 64 & 1 for row in (0, 1))
+
+    def nodes(self) -> Iterator[list[tuple[int, int]]]:
+        """The nodes of each level, from level 1 on."""
+        for level in range(1, self.levels + 1):
+            yield [self.node(level, index) for index in range(1 << level)]
+
+    def _words_of(self, which: Union[int, str]) -> memoryview:
+        if which in REGISTERS:
+            at = self.bits + REGISTERS.index(which)
+        elif isinstance(which, int) and 0 <= which < self.bits:
+            at = which
+        else:
+            raise IndexError("%r is no bit of 0 to %d and no register" % (which, self.bits - 1))
+        size = self.grid_height * self.words_per_row
+        return self.words[at * size:(at + 1) * size]
+
+
+def state(text: Text, clock: int) -> State:
+    """The state of a scene, or of a listing, after so many clocks, from 0 on.
+
+    Raises `Malformed`, `Limit` and `MemoryError`, and `NoClock` for a clock that is below 0 or past the last."""
+    found = FoundState()
+    if not 0 <= clock < ENDLESS:
+        raise NoClock(clocks_of(text))
+    (words,), _ = filled("state", "Q", text, clock, behind=(ctypes.byref(found),))
+    return State(found, memoryview(words.room).cast("B").cast("Q"))
+
+
+def micros(text: Text, first: int, count: int) -> list[Micro]:
+    """The microinstructions of so many clocks of a scene or of a listing, those from `first` on.
+
+    Raises as `state` does, `NoClock` where the text has fewer clocks."""
+    if not (0 <= first and 0 <= count and first + count < ENDLESS):
+        raise NoClock(clocks_of(text))
+    if first + count > (clocks := clocks_of(text)):
+        raise NoClock(clocks)
+    room = Buffer("Q", count)
+    asked("micros", content(text), first, *room.given())
+    return [unpacked(number) for number in room.room or ()]
+
+
+def clocks_of(text: Text) -> int:
+    """How many clocks a scene or a listing takes. Raises as `check` does."""
+    return asked("micros", content(text), 0, *Buffer("Q", 0).given())[1].clocks

@@ -1,0 +1,83 @@
+"""Scenes judged and drawn."""
+from __future__ import annotations
+
+from typing import Any, NamedTuple
+
+from .calls import Text, asked, content, filled, word_of
+
+
+class Cost(NamedTuple):
+    """What a scene is and takes: `width` and `height` in pixels, how many faces it has, and how many broadcast operations
+    and clocks draw it."""
+
+    width: int
+    height: int
+    faces: int
+    operations: int
+    clocks: int
+
+
+class Picture(NamedTuple):
+    """The two maps of a picture, each of shape (height, width) and of unsigned numbers of 32 bits, rows from the top.
+
+    `depths` counts cells from the eye; the background has the far limit, `2**W - 1`. `faces` has the number of the face that
+    shows, from 1 on in the order of the text, and 0 for the background."""
+
+    depths: Any
+    faces: Any
+    width: int
+    height: int
+
+    def maps(self) -> bytes:
+        """Both maps as `pxplanes render` writes them: P6, three bytes a number, highest first."""
+        return image(self.depths, self.width, self.height) + image(self.faces, self.width, self.height)
+
+
+def image(numbers: Any, width: int, height: int) -> bytes:
+    flat = memoryview(numbers).cast("B")
+    body = bytearray(3 * width * height)
+    for place, byte in enumerate((2, 1, 0)):
+        body[place::3] = flat[byte::4]
+    return b"P6\n%d %d\n255\n" % (width, height) + bytes(body)
+
+
+def check(text: Text) -> Cost:
+    """What a scene is and takes, before anything of it is drawn.
+
+    Raises `Malformed` and `Limit` exactly where the program refuses the scene, and `MemoryError`."""
+    _, found = asked("check", content(text))
+    return Cost(found.width, found.height, found.faces, found.operations, found.clocks)
+
+
+def render(text: Text) -> Picture:
+    """The depths and the faces of a scene. Raises as `check` does."""
+    (depths, faces), found = filled("render", "II", text)
+    shape = found.height, found.width
+    return Picture(depths.shaped(*shape), faces.shaped(*shape), found.width, found.height)
+
+
+def colour(text: Text) -> Any:
+    """The picture in the colours of its faces: red, green and blue from 0 to 255, of shape (height, width, 3), rows from the
+    top; the background is black. Raises as `check` does."""
+    (rgb,), found = filled("colour", "B", text)
+    return rgb.shaped(found.height, found.width, 3)
+
+
+def products(text: Text) -> list[tuple[int, ...]]:
+    """The kept products of a scene (docs/PICTURE.md, "Boxes and pruning"), each with its literals in order: the number of a
+    solid, from 1 on in the order of the text, with a minus where it is taken away. Raises as `check` does."""
+    (numbers,), _ = filled("products", "i", text)
+    found: list[tuple[int, ...]] = []
+    literals: list[int] = []
+    for number in numbers.room or ():
+        if number:
+            literals.append(number)
+        else:
+            found.append(tuple(literals))
+            literals = []
+    return found
+
+
+def version() -> str:
+    """The version of the library, as CHANGES.md counts it."""
+    return word_of("version")

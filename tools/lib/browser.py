@@ -1,0 +1,140 @@
+"""Drives a headless Chromium by its DevTools protocol, over a pair of pipes: what the cases of the studio look by. It is no tool itself."""
+import base64
+import json
+import os
+import shutil
+import subprocess
+import tempfile
+import time
+
+from netpbm import Bad
+
+NAMES = ("chromium", "chromium-browser", "google-chrome")
+WORDS = ("--headless=new", "--remote-debugging-pipe", "--no-sandbox", "--disable-gpu", "--no-first-run", "--disable-extensions",
+         "--disable-background-networking", "--hide-scrollbars", "--force-color-profile=srgb", "--font-render-hinting=none")
+SECONDS = 30
+
+
+class Browser:
+    """A browser with one page, of a size in pixels; its profile is thrown away at the end."""
+
+    def __init__(self, width=1280, height=720, dark=False):
+        name = next(filter(None, map(shutil.which, NAMES)), None)
+        if name is None:
+            raise Bad("there is no chromium")
+        self.folder = tempfile.TemporaryDirectory(prefix="px-browser-", ignore_cleanup_errors=True)
+        to_read, to_write = os.pipe(), os.pipe()
+
+        def plumbed():
+            os.dup2(os.dup(to_read[0]), 3)
+            os.dup2(to_write[1], 4)
+
+        words = [name, *WORDS, "--user-data-dir=" + self.folder.name, "--window-size=%d,%d" % (width, height), "about:blank"]
+        ends = {to_read[0], to_write[1]}
+        os.set_inheritable(to_read[0], True)
+        os.set_inheritable(to_write[1], True)
+        self.process = subprocess.Popen(words, stdin=subprocess.DEVNULL, stdout=subprocess.DEVNULL, stderr=subprocess.DEVNULL,
+                                        pass_fds=sorted(ends | {3, 4}), preexec_fn=plumbed, start_new_session=True)
+        for end in ends:
+            os.close(end)
+        self.out, self.into = os.fdopen(to_read[1], "wb", 0), os.fdopen(to_write[0], "rb", 0)
+        self.rest, self.number, self.session, self.events = b"", 0, None, []
+        target = self.call("Target.createTarget", url="about:blank")["targetId"]
+        self.session = self.call("Target.attachToTarget", targetId=target, flatten=True)["sessionId"]
+        self.call("Page.enable")
+        self.call("Runtime.enable")
+        self.size(width, height, dark)
+
+    def __enter__(self):
+        return self
+
+    def __exit__(self, *error):
+        try:
+            self.session = None
+            self.call("Browser.close")
+            self.process.wait(5)
+        except (Bad, OSError, subprocess.TimeoutExpired):
+            self.process.kill()
+            self.process.wait()
+        self.out.close()
+        self.into.close()
+        self.folder.cleanup()
+
+    def size(self, width, height, dark=False):
+        self.call("Emulation.setDeviceMetricsOverride", width=width, height=height, deviceScaleFactor=1, mobile=False)
+        self.call("Emulation.setEmulatedMedia", features=[{"name": "prefers-color-scheme", "value": "dark" if dark else "light"}])
+
+    def call(self, method, **words):
+        """The result of a call of the protocol."""
+        self.number += 1
+        message = {"id": self.number, "method": method, "params": words}
+        if self.session:
+            message["sessionId"] = self.session
+        self.out.write(json.dumps(message).encode() + b"\0")
+        while True:
+            answer = self.message()
+            if answer.get("id") == self.number:
+                if "error" in answer:
+                    raise Bad("%s: %s" % (method, answer["error"]["message"]))
+                return answer["result"]
+            self.events.append(answer)
+
+    def message(self):
+        while b"\0" not in self.rest:
+            part = os.read(self.into.fileno(), 1 << 16)
+            if not part:
+                raise Bad("the browser ended")
+            self.rest += part
+        text, self.rest = self.rest.split(b"\0", 1)
+        return json.loads(text)
+
+    def open(self, address):
+        self.call("Page.navigate", url=address)
+
+    def run(self, script):
+        """The value of an expression in the page; a promise is awaited."""
+        found = self.call("Runtime.evaluate", expression=script, awaitPromise=True, returnByValue=True)
+        if "exceptionDetails" in found:
+            details = found["exceptionDetails"]
+            raise Bad("%s: %s" % (script[:80], details.get("exception", {}).get("description", details["text"])))
+        return found["result"].get("value")
+
+    def until(self, script, seconds=SECONDS):
+        """Waits until an expression in the page is true, and gives its value."""
+        end = time.monotonic() + seconds
+        while time.monotonic() < end:
+            value = self.run(script)
+            if value:
+                return value
+            time.sleep(0.02)
+        raise Bad("in %d seconds it did not come: %s" % (seconds, script))
+
+    def type(self, text):
+        self.call("Input.insertText", text=text)
+
+    def press(self, key, code=None, modifiers=0):
+        """A key, pressed and let go: one letter, or a name as ArrowLeft."""
+        words = {"key": key, "modifiers": modifiers, **({"text": key} if len(key) == 1 and not modifiers & 2 else {}), **({"windowsVirtualKeyCode": code} if code else {})}
+        self.call("Input.dispatchKeyEvent", type="keyDown", **words)
+        self.call("Input.dispatchKeyEvent", type="keyUp", **words)
+
+    def point(self, x, y, click=False):
+        self.call("Input.dispatchMouseEvent", type="mouseMoved", x=x, y=y)
+        if click:
+            for kind in ("mousePressed", "mouseReleased"):
+                self.call("Input.dispatchMouseEvent", type=kind, x=x, y=y, button="left", clickCount=1)
+
+    def screenshot(self, path):
+        with open(path, "wb") as file:
+            file.write(base64.b64decode(self.call("Page.captureScreenshot", format="png")["data"]))
+
+    def faults(self):
+        """What went wrong in the page: exceptions, and errors that it wrote."""
+        found = []
+        for event in self.events:
+            if event.get("method") == "Runtime.exceptionThrown":
+                details = event["params"]["exceptionDetails"]
+                found.append(details.get("exception", {}).get("description", details["text"]).split("\n")[0])
+            if event.get("method") == "Runtime.consoleAPICalled" and event["params"]["type"] == "error":
+                found.append(" ".join(str(each.get("value", each.get("description"))) for each in event["params"]["args"]))
+        return found

@@ -1,0 +1,65 @@
+"""The exercises of docs/LESSON.md with their answers, and at which scene and clock the studio opens each. It is no tool itself."""
+import os
+import re
+
+import ends
+import sessions
+
+LESSON, ANSWERS = (os.path.join(ends.TOP, "docs", leaf) for leaf in ("LESSON.md", "LESSON_ANSWERS.md"))
+QUESTION = re.compile(r"^\*\*Exercise (\d+)\.\*\* (.*?)(?=\n\n|\n*\Z)", re.M | re.S)
+ANSWER = re.compile(r"^(\d+)\. (.*?)(?=^\d+\. |\Z)", re.M | re.S)
+HEADING = re.compile(r"^## (.*)$", re.M)
+TRIANGLE = os.path.join("docs", "scenes", "triangle.scene")
+
+
+class Place:
+    """Where an exercise begins: a text of the repository, a clock, what is shown of the array, and a pixel."""
+
+    def __init__(self, path, clock, view, pixel=(0, 0)):
+        self.path, self.clock, self.view, self.pixel = path, clock, view, pixel
+
+
+def case(name):
+    return os.path.join("cases", name, "stdin")
+
+
+PLACES = {1: Place(case("lesson_one_line"), 205, "leaf", (2, 1)), 2: Place(case("lesson_one_line"), 205, "leaf"),
+          3: Place(case("lesson_one_line"), 205, "leaf", (0, 1)), 4: Place(case("lesson_comparison"), 393, "carry"),
+          5: Place(case("lesson_comparison"), 393, "carry", (1, 0)), 6: Place(case("one_solid"), 9, "enable"),
+          7: Place(case("one_solid"), 149, "enable", (1, 1)), 8: Place(case("one_solid"), 0, "enable"),
+          9: Place(case("one_solid"), 0, "enable"), 10: Place(case("lesson_solid_without_a_cell"), 0, "best depth"),
+          11: Place(case("lesson_leaf_9"), 210, "leaf", (2, 1)), 12: Place(case("lesson_two_more_pixels"), 397, "carry"),
+          13: Place(case("lesson_enable_falls"), 52, "enable"), 14: Place(case("lesson_solid_without_a_cell"), 7, "best depth"),
+          15: Place(case("play_an_adder"), 0, "2"), 16: Place(case("play_a_comparison"), 0, "4")}
+
+OWN = {"number": "", "part": "On this page alone", "question":
+       "Draw a triangle with three edges, and watch enable. Its text is open here, and the machine stands before the candidate that "
+       "is seen in the end, face 2. Step by whole operations (the key m), and say before each which pixels will stay. How many of "
+       "the 256 are enabled after each of the three sides? Why do two more edges follow, and what do they take away? What is "
+       "different with face 1, whose candidate comes before? Then turn a side about, by the other sign of its three numbers.",
+       "answer":
+       "`all` enables 256 pixels, and the three sides leave 207, 143 and 112. Of the two further edges one asks whether the front "
+       "stands behind the near face, and the other whether it stands before the far limit: at 5 it does both everywhere, so they take "
+       "nothing away. Face 1 is the near face, at 0. It has the same sides, but it does not stand at or behind the front: that edge "
+       "leaves no pixel, and so nothing of it is written. A side with its three signs turned keeps what it left out, and what lies on "
+       "the edge itself, where the form is 0."}
+
+
+def shown(number, part, question, answer, place):
+    text = sessions.parted(ends.content(os.path.join(ends.TOP, place.path)))[0].decode("utf-8")
+    name = os.path.basename(os.path.dirname(place.path)) if place.path.endswith("stdin") else os.path.basename(place.path)
+    return {"number": number, "part": part, "question": question, "answer": answer, "name": name, "text": text,
+            "clock": place.clock, "view": place.view, "pixel": place.pixel}
+
+
+def exercises():
+    """What the page shows of each exercise that has a place; its own one is the first."""
+    lesson, answered = (ends.content(path).decode() for path in (LESSON, ANSWERS))
+    answers = {int(number): re.sub(r"^   ", "", said, flags=re.M).strip() for number, said in ANSWER.findall(answered)}
+    found = [shown("", OWN["part"], OWN["question"], OWN["answer"], Place(TRIANGLE, 271, "enable", (7, 8)))]
+    for match in QUESTION.finditer(lesson):
+        number = int(match.group(1))
+        if number in PLACES:
+            part = HEADING.findall(lesson, 0, match.start())[-1]
+            found.append(shown(number, part, " ".join(match.group(2).split("\n")), answers[number], PLACES[number]))
+    return found

@@ -1,0 +1,120 @@
+// The editor: a text area over the same text in colours, numbers of the lines beside it, and a mark on the bad one.
+import {made} from "./show.js";
+import {css} from "./palette.js";
+
+const COLOURED = 200000;
+const WORDS = new Set(["pxscene", "picture", "depth", "solid", "front", "back", "side", "show", "end", "pxlist", "grid", "all", "keep-sign",
+  "keep-bit", "set-bit", "toggle", "load-linear", "keep-at-most", "add-linear", "load-const", "copy", "keep-less"]);
+
+// The words of a line with their columns; those of an expression are names, signs and brackets.
+function wordsOf(line) {
+  const hash = line.indexOf("#"), code = hash < 0 ? line : line.slice(0, hash);
+  const found = [...code.matchAll(/^\s*show\b/.test(code) ? /[A-Za-z0-9_]+|\S/g : /\S+/g)].map(match => [match[0], match.index]);
+  return hash < 0 ? found : [...found, [line.slice(hash), hash]];
+}
+
+// The kind of a word: word, number, name, bracket, sign or comment; `odd` is none of them.
+function kindOf(word, first, at) {
+  if (word[0] === "#") return "comment";
+  if (at === 0) return WORDS.has(word) ? "word" : "odd";
+  if (/^[()]$/.test(word)) return "bracket";
+  if (/^[+*^-]$/.test(word)) return "sign";
+  if (first === "show" || first === "solid" && at === 1) return "name";
+  return /^-?\d+$/.test(word) ? "number" : "odd";
+}
+
+// A line as spans; `span` is the first column of what is wrong in it, and the one behind it.
+function coloured(line, span) {
+  const words = wordsOf(line), pieces = [];
+  let from = 0;
+  words.forEach(([word, column], at) => {
+    pieces.push(["", from, column], [kindOf(word, words[0][0], at), column, column + word.length]);
+    from = column + word.length;
+  });
+  pieces.push(["", from, line.length]);
+  const [start, stop] = span ?? [0, 0];
+  const out = pieces.flatMap(([kind, first, last]) =>
+    [[first, Math.min(last, start), ""], [Math.max(first, start), Math.min(last, stop), " wrong"], [Math.max(first, stop), last, ""]]
+      .filter(part => part[0] < part[1]).map(part => made("span", kind + part[2], line.slice(part[0], part[1]))));
+  return span && start >= line.length ? [...out, made("span", "wrong", "\u00a0")] : out;
+}
+
+// Red, green and blue that a line gives, or null.
+function colourOf(line) {
+  const words = line.split("#")[0].trim().split(/\s+/), numbers = words.slice(-3).map(Number);
+  const has = words[0] === "solid" && words.length === 5 || (words[0] === "front" || words[0] === "back") && words.length === 7;
+  return has && numbers.every(part => Number.isInteger(part) && part >= 0 && part <= 255) ? numbers : null;
+}
+
+export class Editor {
+  constructor(root, onChange) {
+    this.area = root.querySelector("textarea");
+    this.ink = root.querySelector(".ink");
+    this.gutter = root.querySelector(".gutter");
+    this.sheet = root.querySelector(".sheet");
+    this.bad = null;
+    this.area.addEventListener("input", () => { this.bad = null; this.paint(); onChange(); });
+    this.area.addEventListener("scroll", () => this.follow());
+    this.area.addEventListener("keydown", event => { if (event.key === "Escape") this.area.blur(); });
+  }
+
+  get text() { return this.area.value; }
+
+  // Takes the place of the text; what stood there comes back by undoing.
+  set text(text) {
+    this.bad = null;
+    this.area.focus({preventScroll: true});
+    this.area.select();
+    if (!document.execCommand("insertText", false, text) || this.area.value !== text) this.area.value = text;
+    this.area.setSelectionRange(0, 0);
+    this.area.scrollTop = this.area.scrollLeft = 0;
+    this.area.blur();
+    this.paint();
+  }
+
+  // Marks the line that a refusal names, or none; the span counts bytes, which are letters where the text is ASCII.
+  mark(line, span) {
+    this.bad = line ? {line, span} : null;
+    this.paint();
+  }
+
+  show(line) {
+    const height = this.area.scrollHeight / Math.max(1, this.lines), top = (line - 1) * height;
+    if (top < this.area.scrollTop || top > this.area.scrollTop + this.area.clientHeight - height) this.area.scrollTop = top - this.area.clientHeight / 2;
+    this.follow();
+  }
+
+  go(line) {
+    const start = this.text.split("\n").slice(0, line - 1).reduce((sum, each) => sum + each.length + 1, 0);
+    this.area.focus();
+    this.area.setSelectionRange(start, start);
+    this.show(line);
+  }
+
+  paint() {
+    const lines = this.text.split("\n"), plain = this.text.length > COLOURED;
+    this.lines = lines.length;
+    this.sheet.classList.toggle("plain", plain);
+    const numbers = document.createDocumentFragment(), ink = document.createDocumentFragment();
+    lines.forEach((line, at) => {
+      const bad = this.bad && this.bad.line === at + 1, rgb = plain ? null : colourOf(line), number = made("div", bad ? "bad" : "", String(at + 1));
+      if (rgb) number.append(chip(rgb));
+      numbers.append(number);
+      if (!plain) ink.append(made("div", bad ? "bad" : "", "", ...coloured(line, bad ? this.bad.span : null), "\n"));
+    });
+    this.gutter.replaceChildren(numbers);
+    this.ink.replaceChildren(ink);
+    this.follow();
+  }
+
+  follow() {
+    this.ink.style.transform = `translate(${-this.area.scrollLeft}px, ${-this.area.scrollTop}px)`;
+    this.gutter.scrollTop = this.area.scrollTop;
+  }
+}
+
+function chip(rgb) {
+  const own = made("i", "chip");
+  own.style.background = css(rgb);
+  return own;
+}
