@@ -5,7 +5,8 @@ use Rattle.std.specs.Io.KnownBytes.{Consumes}
 use Rattle.px_io.proofs.ToldLaws.{consumes_both, consumes_none}
 use Rattle.px_asked.specs.Asks.{Ask, Notes, all_given}
 use Rattle.px_asked.proofs.AskLaws.{asked_both, asked_none, given-append}
-use Rattle.px_lines.specs.Listenings.{Begun, Heard, ListenedTo, Listens}
+use Rattle.px_lines.specs.Hearings.{Begun, Heard}
+use Rattle.px_lines.specs.Listenings.{ListenedTo, Listens}
 
 pub listens_none : (a : Option (List Ask)) (w : Option (List ℕ)) → Listens a a w []
 listens_none a w = record { asks = []; asked = asked_none a; given = refl; silent = All-nil (λ x. x.told ≡ w) }

@@ -14,13 +14,3 @@ pub record Listens (asks_old asks_new : Option (List Ask)) (written : Option (Li
 abbrev pub ListenedTo : (asks_old asks_new : Option (List Ask)) → (written : Option (List ℕ)) → (rest_old rest_new : Option (List ℕ)) → Type 0
 ListenedTo asks_old asks_new written rest_old rest_new =
     (bytes : List ℕ) × Consumes rest_old rest_new bytes × Listens asks_old asks_new written bytes
-
--- what a source had given, and had been asked, where something began
-pub record Begun : Type 0 where
-  pub asks : Option (List Ask)
-  pub rest : Option (List ℕ)
-
--- since then these bytes were taken, and the sink had what it has now each time
-pub record Heard (begun : Begun) (asks : Option (List Ask)) (rest written : Option (List ℕ)) (bytes : List ℕ) : Type 0 where
-  pub taken : Consumes begun.rest rest bytes
-  pub listens : Listens begun.asks asks written bytes

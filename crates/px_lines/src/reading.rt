@@ -4,7 +4,8 @@ ghost use Rattle.std.specs.Io.KnownBytes.{Consumes, IsAtEnd};
 ghost use Rattle.px_io.specs.Counts.{Rose};
 ghost use Rattle.px_io.specs.Told.{ConsumesAtMost};
 ghost use Rattle.px_asked.specs.Asks.{Ask};
-ghost use Rattle.px_lines.specs.Listenings.{Begun, Heard, ListenedTo, Listens};
+ghost use Rattle.px_lines.specs.Hearings.{Begun, Heard};
+ghost use Rattle.px_lines.specs.Listenings.{ListenedTo, Listens};
 ghost use Rattle.px_lines.specs.Parts.{part_end};
 ghost use Rattle.px_lines.specs.Readings.{TookNoPart};
 

@@ -9,7 +9,8 @@ use Rattle.px_lines.specs.Lines.{whole_lines}
 use Rattle.px_session.specs.Buffers.{short_ended, short_left}
 use Rattle.px_session.specs.Servings.{Answered}
 use Rattle.px_session.specs.Sessions.{Stand, answers, has_quit, until_quit}
-use Rattle.px_session.specs.Prompts.{Begun, Caught, Prompt, Prompts, PromptsFrom}
+use Rattle.px_session.specs.Catching.{Begun, Caught, PromptsFrom}
+use Rattle.px_session.specs.Prompts.{Prompt, Prompts}
 use Rattle.px_session.proofs.FeedingLemmas.{answered_both, ended-append, left-append, quits_then, until_quiet}
 use Rattle.px_session.proofs.ShorteningLemmas.{answers_short, quits_short}
 use Rattle.px_session.proofs.ServeLemmas.{whole_short}

@@ -4,9 +4,7 @@ use Rattle.std.specs.Io.KnownBytes.{Appends, Consumes}
 use Rattle.px_asked.specs.Asks.{Ask, Asked, all_given}
 use Rattle.px_debug.specs.Moves.{SessionView}
 use Rattle.px_lines.specs.Lines.{whole_lines}
-use Rattle.px_session.specs.Buffers.{short_ended, short_left}
-use Rattle.px_session.specs.Servings.{Answered}
-use Rattle.px_session.specs.Sessions.{Stand, answers, has_quit}
+use Rattle.px_session.specs.Sessions.{answers, has_quit}
 
 -- each time, the whole lines of what was read before had been answered, and nothing else, and none of them was a `quit`
 abbrev pub Prompt : (bits : ℕ) (from : SessionView) (written : Option (List ℕ)) → (text : List ℕ) → List Ask → Type 0
@@ -23,26 +21,3 @@ pub record Prompts (bits : ℕ) (from : SessionView) (read : List ℕ) (asks_old
   pub asked : Asked asks_old asks_new asks
   pub taken : Consumes rest_old rest_new (all_given asks)
   pub prompt : Prompt bits from written read asks
-
--- how things stood where the session began
-pub record Begun : Type 0 where
-  pub from : Stand
-  pub read : List ℕ
-  pub asks : Option (List Ask)
-  pub rest : Option (List ℕ)
-  pub written : Option (List ℕ)
-  pub finished : Option Bool
-
-abbrev pub PromptsFrom : (bits : ℕ) → Begun → Option (List Ask) → Option (List ℕ) → Type 0
-PromptsFrom bits b asks rest = Prompts bits b.from.session b.read b.asks asks b.rest rest b.written
-
--- all whole lines have been answered: what stands when more is asked for
-pub record Caught (bits : ℕ) (b : Begun) (now : Stand) (held : List ℕ) (asks_new : Option (List Ask))
-    (rest written : Option (List ℕ)) (finished : Option Bool) : Type 0 where
-  pub asks : List Ask
-  pub asked : Asked b.asks asks_new asks
-  pub taken : Consumes b.rest rest (all_given asks)
-  pub prompt : Prompt bits b.from.session b.written b.read asks
-  pub answered : Answered bits b.from now b.written written b.finished finished (short_ended [] (b.read ++ all_given asks))
-  pub quiet : has_quit (short_ended [] (b.read ++ all_given asks)) ≡ false
-  pub kept : held ≡ short_left [] (b.read ++ all_given asks)

@@ -1,5 +1,5 @@
 use Rattle.std.proofs.Common.{◌-◌, ◌≡◌, ◌≤◌, length, take, vec_len}
-use Rattle.px_lines.specs.Listenings.{Heard}
+use Rattle.px_lines.specs.Hearings.{Heard}
 use Rattle.px_lines.specs.Searches.{HasSeen}
 use Rattle.px_lines.proofs.reading.read_part.Given as goal
 

@@ -1,6 +1,6 @@
 use Rattle.std.proofs.Common.{◌≡◌, ◌+◌, ◌-◌, ◌≤◌, ◌<◌, ◌^◌}
 use Rattle.px_debug.specs.Moves.{Fits}
-use Rattle.px_session.specs.Prompts.{Begun, Caught, PromptsFrom}
+use Rattle.px_session.specs.Catching.{Begun, Caught, PromptsFrom}
 use Rattle.px_session.specs.Sessions.{stand}
 use Rattle.px_session.specs.Turns.{Went}
 use Rattle.px_session.proofs.serving.read_on.Given as goal
