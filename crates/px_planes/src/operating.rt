@@ -45,6 +45,19 @@ pub(crate) fn operate_planes<const N: usize>(
     }
 }
 
+/// Whether an operation looks at each word in which a pixel is enabled bit by bit.
+pub(crate) fn is_made_by_words(m: &Macro) -> bool {
+    match m {
+        Macro::LoadLinear(..)
+        | Macro::KeepAtMost(..)
+        | Macro::AddLinear(..)
+        | Macro::LoadConst(..)
+        | Macro::Copy(..)
+        | Macro::KeepLess(..) => true,
+        _ => false,
+    }
+}
+
 /// Makes an operation where pixels are enabled.
 fn operate_part(planes: &mut Planes, reach: Reach, m: &Macro, ny: u32)
     requires words { HasWords (length planes.old.enable) planes.old }
