@@ -10,7 +10,7 @@ from .errors import NoLibrary
 
 LEAF = "libpxplanes.so"
 VARIABLE = "PXPLANES_LIBRARY"
-HERE = os.path.dirname(os.path.abspath(__file__))
+HERE = os.path.dirname(os.path.realpath(__file__))
 
 
 def places() -> Iterator[str]:

@@ -248,7 +248,7 @@ class Studio:
                           "state": state, "wave": wave, "program": program, "compare": compared, "model": modelled}
 
     def begin(self, asked, body):
-        return {"name": self.path and os.path.basename(self.path), "text": self.text.decode("utf-8", "surrogateescape"),
+        return {"name": self.path and os.path.basename(self.path), "text": self.text.decode("utf-8"),
                 "gallery": [[group, name] for name, (group, _) in self.offered.items()], "version": pxplanes.version(),
                 "lesson": lessons.exercises()}, []
 
