@@ -101,7 +101,7 @@ def look(page, address):
     page.point(*place(page, "picture", 24, 16), click=True)
     page.until("document.querySelectorAll('.ray-row').length")
     print("a pixel:", text_of(page, "#readout"))
-    print("its ray:", page.run("[...document.querySelectorAll('.ray-row')].slice(1).map(row => row.textContent).join('; ')"))
+    print("its ray:", page.run("[...document.querySelectorAll('.ray-row, .missed')].slice(1).map(row => row.textContent).join('; ')"))
 
     print("-- a mistake")
     choose(page, "- shaft)")
