@@ -10,6 +10,7 @@ Use: python -m pxplanes [check | render | colour | version] [SCENE]    (standard
 Ends with 0; with 3 or 4 where the scene is refused, and 7 without memory, as the program does; and with 2 where there is
 other trouble, as no library.
 """
+import os
 import sys
 
 from . import errors, pictures
@@ -59,6 +60,9 @@ def run() -> int:
         note, status = str(refusal), LIMIT
     except MemoryError:
         note, status = "out of memory", MEMORY
+    except BrokenPipeError:
+        os.dup2(os.open(os.devnull, os.O_WRONLY), 1)
+        return TROUBLE
     except OSError as error:
         named = "%s: %s" % (error.filename, error.strerror) if error.filename else str(error)
         note, status = "pxplanes: " + named, TROUBLE

@@ -15,6 +15,10 @@ WORDS = ("--headless=new", "--remote-debugging-pipe", "--no-sandbox", "--disable
 SECONDS = 30
 
 
+class Failed(Bad):
+    """An expression failed in the page."""
+
+
 class Browser:
     """A browser with one page, of a size in pixels; its profile is thrown away at the end."""
 
@@ -96,14 +100,17 @@ class Browser:
         found = self.call("Runtime.evaluate", expression=script, awaitPromise=True, returnByValue=True)
         if "exceptionDetails" in found:
             details = found["exceptionDetails"]
-            raise Bad("%s: %s" % (script[:80], details.get("exception", {}).get("description", details["text"])))
+            raise Failed("%s: %s" % (script[:80], details.get("exception", {}).get("description", details["text"])))
         return found["result"].get("value")
 
     def until(self, script, seconds=SECONDS):
-        """Waits until an expression in the page is true, and gives its value."""
+        """Waits until an expression in the page is true, and gives its value; while the page is made it may fail."""
         end = time.monotonic() + seconds
         while time.monotonic() < end:
-            value = self.run(script)
+            try:
+                value = self.run(script)
+            except Failed:
+                value = None
             if value:
                 return value
             time.sleep(0.02)

@@ -1,6 +1,7 @@
 """What the studio's page asks, answered: each question has a text or other bytes and some words, and each answer a head that
 becomes JSON and arrays of bytes. It is no tool itself. Pictures and states are those of the library (python/pxplanes)."""
 import collections
+import concurrent.futures
 import os
 import re
 import sys
@@ -123,7 +124,7 @@ class States:
         return state
 
 
-STATES = States()
+STATES, POOL = States(), concurrent.futures.ThreadPoolExecutor(os.cpu_count() or 1)
 
 
 def state(asked, text):
@@ -140,7 +141,7 @@ def wave(asked, text):
     first, last = number(asked, "first"), number(asked, "last")
     if not 0 <= last - first < MOST_CLOCKS:
         raise netpbm.Bad("at most %d clocks are shown at once" % MOST_CLOCKS)
-    states = [STATES.of(text, clock) for clock in range(first, last + 1)]
+    states = list(POOL.map(lambda clock: STATES.of(text, clock), range(first, last + 1)))
     x, y = number(asked, "x", states[0].grid_width - 1), number(asked, "y", states[0].grid_height - 1)
     broadcast = [each.next for each in states[:-1]]
     return {"first": first, "last": last, "pixels": [list(each.pixel(x, y)) for each in states],
@@ -248,7 +249,7 @@ class Studio:
                           "state": state, "wave": wave, "program": program, "compare": compared, "model": modelled}
 
     def begin(self, asked, body):
-        return {"name": self.path and os.path.basename(self.path), "text": self.text.decode("utf-8", "surrogateescape"),
+        return {"name": self.path and os.path.basename(self.path), "text": self.text.decode("utf-8"),
                 "gallery": [[group, name] for name, (group, _) in self.offered.items()], "version": pxplanes.version(),
                 "lesson": lessons.exercises()}, []
 

@@ -227,7 +227,7 @@ export class Machine {
       }
       table.append(row);
     }
-    return [registers, table];
+    return used < state.bits ? [registers, table, made("div", "quiet small", `The bits ${used} to ${state.bits - 1} are not used by this scene.`)] : [registers, table];
   }
 
   async takeWave(x, y) {

@@ -72,7 +72,8 @@ function accept(text, head, took) {
     at("verdict").textContent = `accepted: ${head.width} by ${head.height} pixels, ${count(head.faces.length, "face")}`;
     const [depths, faces] = [0, 1].map(which => wordsOf(head.arrays[which]));
     page.picture = {depths, faces, rgb: bytesOf(head.arrays[2])};
-    at("facts").textContent = `${count(head.operations, "operation")}, ${count(head.clocks, "clock")}; seen in ${Math.max(1, Math.round(took))} ms`;
+    at("facts").textContent = `${count(head.operations, "operation")}, ${count(head.clocks, "clock")}`;
+    at("facts").title = `asked, drawn and here in ${Math.max(1, Math.round(took))} ms`;
     paint();
   }
   document.body.dataset.drawn = "yes";
@@ -140,9 +141,15 @@ const ray = latest(async (x, y, text) => {
     return own;
   };
   const row = (name, runs, words, kind = "") => made("div", "ray-row " + kind, "", made("b", "", name), made("span", "track", "", ...runs), made("span", "quiet", words));
-  const rows = head.solids.map(({name, colour, run, ends, why}) => row(name, run ? [bar(run, colour)] : [], run ? `${run[0]} to ${run[1] - 1}: from ${ends[0]}, to ${ends[1]}` : why));
+  const met = head.solids.filter(each => each.run), missed = head.solids.filter(each => !each.run);
+  const rows = met.map(({name, colour, run, ends}) => row(name, [bar(run, colour)], `${run[0]} to ${run[1] - 1}: from ${ends[0]}, to ${ends[1]}`));
   const shown = row("shown", head.shown.map(run => bar(run)), head.shown.map(run => `${run[0]} to ${run[1] - 1}`).join(", ") || "nothing: the background", "shown");
-  at("ray").replaceChildren(made("div", "ray-row scale", "", made("b"), made("span", "track", "", made("span", "", "the eye, 0"), made("span", "", String(head.far))), made("span")), ...rows, shown);
+  const scale = made("div", "ray-row scale", "", made("b"), made("span", "track", "", made("span", "", "the eye, 0"), made("span", "", String(head.far))), made("span"));
+  const others = made("details", "", "", made("summary", "", `${missed.length} solid${missed.length === 1 ? " is" : "s are"} not met here`),
+    ...missed.map(({name, why}) => made("div", "missed", "", made("b", "", name), made("span", "quiet", why))));
+  others.open = page.missedOpen ?? missed.length < 4;
+  others.addEventListener("toggle", () => { page.missedOpen = others.open; });
+  at("ray").replaceChildren(scale, ...rows, shown, ...missed.length ? [others] : []);
 });
 
 // What is open
@@ -253,6 +260,7 @@ function key(event) {
 function begin(head) {
   page.own = head.name;
   at("save").hidden = !head.name;
+  at("save").textContent = `Save ${head.name}`;
   const groups = {};
   for (const [group, name] of head.gallery) {
     groups[group] ??= at("gallery").appendChild(Object.assign(document.createElement("optgroup"), {label: group}));

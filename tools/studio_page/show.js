@@ -38,7 +38,7 @@ export class Screen {
     const {width, height} = this.canvas, box = this.stage.getBoundingClientRect();
     if (!box.width || !box.height) return;
     const room = Math.min((box.width - 2) / width, (box.height - 2) / height);
-    this.scale = room >= 1 ? Math.floor(room) : room;
+    this.scale = room >= 4 ? Math.floor(room) : room;
     this.canvas.style.width = width * this.scale + "px";
     this.canvas.style.height = height * this.scale + "px";
     this.drawMark();
@@ -85,6 +85,9 @@ export class Screen {
 }
 
 const same = (one, other) => one && other && one[0] === other[0] && one[1] === other[1];
+
+// How large letters are beside the usual size.
+export const unit = () => parseFloat(getComputedStyle(document.documentElement).fontSize) / 16;
 
 // An element with a class, a text and what stands in it.
 export function made(name, kind = "", text = "", ...inside) {

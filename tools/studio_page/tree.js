@@ -1,12 +1,12 @@
 // The multiplier tree as levels of nodes, for grids up to 16 by 16: each node's output, its carry as a dot, and the way to a pixel.
-import {drawn, made} from "./show.js";
+import {drawn, made, unit} from "./show.js";
 
 export const MOST_LEVELS = 8;
 
 export function treeOf(state, pixel, width) {
   const {levels} = state, nx = Math.log2(state.width), ny = Math.log2(state.height);
   if (nx > 4 || ny > 4) return made("p", "quiet", "Shown for grids of up to 16 by 16 pixels.");
-  const high = levels > 6 ? 25 : 31, size = Math.min(20, high - 9), left = 78, room = width - left - 6, height = (levels + 1) * high + 6;
+  const letters = unit(), high = (levels > 6 ? 25 : 31) * letters, size = Math.min(20 * letters, high - 9), left = 78 * letters, room = width - left - 6, height = (levels + 1) * high + 6;
   const picture = drawn("svg", {viewBox: `0 0 ${width} ${height}`, width, height, class: "nodes", role: "img", "aria-label": "the outputs of the tree's nodes"});
   const leaf = pixel ? pixel[0] * 2 ** ny + pixel[1] : -1;
   const x = (level, index) => left + room * (index + 0.5) / 2 ** level, y = level => level * high + high / 2 + 2;
@@ -27,7 +27,7 @@ export function treeOf(state, pixel, width) {
       const node = drawn("g", {class: "node" + (out ? " on" : "") + (on ? " way" : "") + (wide < 6 ? " thin" : "")},
         drawn("rect", {x: x(level, index) - wide / 2, y: y(level) - size / 2, width: wide, height: size, rx: wide > 8 ? 3 : 0}),
         drawn("title", {}, `level ${level}, node ${index}: output ${out}, carry ${carry}`));
-      if (wide > 13) node.append(drawn("text", {x: x(level, index), y: y(level) + 4.5, class: "bit"}, String(out)));
+      if (wide > 13 * letters) node.append(drawn("text", {x: x(level, index), y: y(level) + 4 * letters, class: "bit"}, String(out)));
       if (carry) node.append(drawn("circle", {cx: x(level, index) + (wide > 10 ? wide / 2 : 0), cy: y(level) - size / 2, r: wide > 8 ? 3.5 : 2, class: "carry"}));
       picture.append(node);
     }
