@@ -57,8 +57,6 @@ export class Machine {
     this.go(Math.min(clock, program.clocks));
   }
 
-  clear() { this.text = this.program = this.state = null; }
-
   // The operation of a clock: the last that begins there or before.
   operationAt(clock) {
     const rows = this.program.operations;
@@ -117,9 +115,10 @@ export class Machine {
 
   async take() {
     const text = this.text, clock = this.wanted, began = performance.now();
+    if (!this.program) return;
     try {
       const head = await ask("state", {clock}, text);
-      if (text !== this.text) return;
+      if (text !== this.text || !this.program) return;
       if (head.trouble || head.refused) throw new Trouble(head.trouble ?? head.refused.note);
       this.before = this.state;
       this.state = new State(head);
@@ -232,6 +231,7 @@ export class Machine {
 
   async takeWave(x, y) {
     const {text, state} = this;
+    if (!state) return;
     try {
       const head = await ask("wave", {x, y, first: Math.max(0, state.clock - CLOCKS_OF_WAVE), last: state.clock}, text);
       if (head.trouble || head.refused || text !== this.text || !this.pixel) return;

@@ -148,7 +148,7 @@ const ray = latest(async (x, y, text) => {
   const others = made("details", "", "", made("summary", "", `${missed.length} solid${missed.length === 1 ? " is" : "s are"} not met here`),
     ...missed.map(({name, why}) => made("div", "missed", "", made("b", "", name), made("span", "quiet", why))));
   others.open = page.missedOpen ?? missed.length < 4;
-  others.addEventListener("toggle", () => { page.missedOpen = others.open; });
+  others.firstChild.addEventListener("click", () => { page.missedOpen = !others.open; });
   at("ray").replaceChildren(scale, ...rows, shown, ...missed.length ? [others] : []);
 });
 
