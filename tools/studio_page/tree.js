@@ -1,11 +1,12 @@
 // The multiplier tree as levels of nodes, for grids up to 16 by 16: each node's output, its carry as a dot, and the way to a pixel.
-import {drawn, made, unit} from "./show.js";
+import {drawn, unit} from "./show.js";
 
-export const MOST_LEVELS = 8;
+const MOST = 16;
+
+export const isShown = state => state.width <= MOST && state.height <= MOST;
 
 export function treeOf(state, pixel, width) {
   const {levels} = state, nx = Math.log2(state.width), ny = Math.log2(state.height);
-  if (nx > 4 || ny > 4) return made("p", "quiet", "Shown for grids of up to 16 by 16 pixels.");
   const letters = unit(), high = (levels > 6 ? 25 : 31) * letters, size = Math.min(20 * letters, high - 9), left = 78 * letters, room = width - left - 6, height = (levels + 1) * high + 6;
   const picture = drawn("svg", {viewBox: `0 0 ${width} ${height}`, width, height, class: "nodes", role: "img", "aria-label": "the outputs of the tree's nodes"});
   const leaf = pixel ? pixel[0] * 2 ** ny + pixel[1] : -1;
