@@ -9,7 +9,7 @@ export const KINDS = [
 export const kindOf = words => KINDS.find(([, pattern]) => pattern.test(words))?.[0] ?? "open";
 
 export class Course {
-  // The answer to `program`: of each operation its pass, its line, its words and its first clock; the words of each pass.
+  // The answer to `program`: of each operation its pass, line, words and first clock; and the words of each pass.
   constructor({operations, passes, clocks}) {
     Object.assign(this, {operations, passes, clocks, passStarts: []});
     for (const [pass, , , clock] of operations) if (this.passStarts.length === pass) this.passStarts.push(clock);
@@ -38,8 +38,10 @@ export class Course {
     const moves = {
       "start": () => 0, "run": () => this.clocks,
       "clock-on": () => now + 1, "clock-back": () => now - 1,
-      "operation-on": () => this.startOf(operation + 1), "operation-back": () => back(place => this.startOf(place), operation),
-      "pass-on": () => this.startOfPass(pass + 1), "pass-back": () => back(place => this.startOfPass(place), pass)};
+      "operation-on": () => this.startOf(operation + 1),
+      "operation-back": () => back(place => this.startOf(place), operation),
+      "pass-on": () => this.startOfPass(pass + 1),
+      "pass-back": () => back(place => this.startOfPass(place), pass)};
     return Math.max(0, Math.min(this.clocks, moves[move]()));
   }
 }

@@ -1,8 +1,9 @@
 // The keys of the page. They work everywhere but where something is written or chosen.
 
 const at = id => document.getElementById(id);
-const MOVES = {s: "clock-on", b: "clock-back", ArrowRight: "clock-on", ArrowLeft: "clock-back", m: "operation-on", M: "operation-back",
-  p: "pass-on", P: "pass-back", r: "run", End: "run", Home: "start"};
+const MOVES = {
+  s: "clock-on", b: "clock-back", ArrowRight: "clock-on", ArrowLeft: "clock-back", m: "operation-on", M: "operation-back", p: "pass-on",
+  P: "pass-back", r: "run", End: "run", Home: "start"};
 
 const isText = target => target.matches("textarea, input:not([type=range]), select");
 
@@ -28,7 +29,8 @@ export function listen(page) {
       event.preventDefault();
       return page.save();
     }
-    if (isText(target) || event.ctrlKey || event.altKey || event.metaKey || at("keys").open || isOwn(target, key)) return;
+    const isModified = event.ctrlKey || event.altKey || event.metaKey;
+    if (isModified || isText(target) || isOwn(target, key) || at("keys").open) return;
     const call = everywhere[key] ?? (page.isMachine() ? inMachine[key] : null);
     if (!call) return;
     event.preventDefault();

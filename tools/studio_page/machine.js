@@ -12,14 +12,17 @@ const CLOCKS_OF_WAVE = 24, GAP = 4;
 
 export class Machine {
   constructor(tell) {
-    Object.assign(this, {tell, text: null, head: null, course: null, state: null, before: null, pixel: null, view: "enable", wanted: 0});
+    Object.assign(this, {tell, text: null, head: null, course: null, state: null, before: null, pixel: null});
+    Object.assign(this, {view: "enable", wanted: 0, playing: null});
     this.screen = new Screen(at("array"), pixel => this.point(pixel));
     this.fetchState = latest(() => this.take().catch(tell));
     this.fetchWave = latest((x, y) => this.takeWave(x, y).catch(tell));
     at("view").addEventListener("change", () => { this.view = at("view").value; this.paint(); });
     at("clock").addEventListener("input", () => this.go(Number(at("clock").value)));
     at("until").addEventListener("change", () => this.go(Number(at("until").value) || 0));
-    at("until").addEventListener("keydown", event => { if (["Escape", "Enter"].includes(event.key)) at("until").blur(); });
+    at("until").addEventListener("keydown", event => {
+      if (event.key === "Escape" || event.key === "Enter") at("until").blur();
+    });
     at("speed").addEventListener("change", () => { if (this.playing) { this.stop(); this.play(); } });
     at("play").addEventListener("click", () => this.play());
     at("line-of-passes").addEventListener("click", event => {
@@ -27,7 +30,8 @@ export class Machine {
     });
     for (const button of document.querySelectorAll("[data-move]"))
       button.addEventListener("click", () => this.move(button.dataset.move));
-    for (const [kind, , words] of KINDS) at("legend").append(made("span", "", "", made("i", "chip pass-" + kind), words + " "));
+    for (const [kind, , words] of KINDS)
+      at("legend").append(made("span", "", "", made("i", "chip pass-" + kind), words + " "));
     new ResizeObserver(() => { this.drawPasses(); this.inside(); }).observe(at("machine"));
   }
 
@@ -106,13 +110,15 @@ export class Machine {
   // The pass, the operation and the microinstruction that come next, in words.
   tellPlace() {
     const {state, course} = this, isDone = state.clock === state.clocks, count = course.operations.length;
-    const operation = isDone ? count - 1 : state.operation, [pass, line, words, first] = course.operations[operation] ?? [0, "", "", 0];
-    const said = course.passes[pass] ?? "", length = course.startOf(operation + 1) - first;
-    at("pass").replaceChildren(made("i", "chip pass-" + kindOf(said)), made("span", "label", `pass ${pass + 1} of ${course.passes.length}`),
-      ...worded(said));
-    at("operation").replaceChildren(...worded(isDone ? this.head.layout ? "all is done: key B has the picture" : "all is done" : words));
-    at("line").replaceChildren(made("code", "", isDone ? "" : line), made("span", "quiet",
-      isDone ? `${count} operations in ${state.clocks} clocks` : `operation ${operation + 1} of ${count}, its clock ${state.operationClock + 1} of ${length}`));
+    const operation = isDone ? count - 1 : state.operation;
+    const [pass, line, words, first] = course.operations[operation] ?? [0, "", "", 0], said = course.passes[pass] ?? "";
+    const end = this.head.layout ? "all is done: key B has the picture" : "all is done";
+    const place = isDone ? `${count} operations in ${state.clocks} clocks`
+      : `operation ${operation + 1} of ${count}, its clock ${state.operationClock + 1} of ${course.startOf(operation + 1) - first}`;
+    const number = made("span", "label", `pass ${pass + 1} of ${course.passes.length}`);
+    at("pass").replaceChildren(made("i", "chip pass-" + kindOf(said)), number, ...worded(said));
+    at("operation").replaceChildren(...worded(isDone ? end : words));
+    at("line").replaceChildren(made("code", "", isDone ? "" : line), made("span", "quiet", place));
     at("micro").replaceChildren(made("span", "label", "next"), made("code", "", state.micro ?? "nothing"),
       made("span", "quiet", state.micro ? treeWords(state.micro) : ""));
     at("line-of-passes").title = said;
@@ -171,7 +177,8 @@ export class Machine {
     if (!state) return;
     const head = await ask("wave", {x, y, first: Math.max(0, state.clock - CLOCKS_OF_WAVE), last: state.clock}, text);
     if (head.trouble || head.refused || text !== this.text || !this.pixel) return;
-    const view = this.views.find(each => each.name === this.view), alive = this.fields.find(field => field.name === "alive");
+    const view = this.views.find(each => each.name === this.view);
+    const alive = this.fields.find(field => field.name === "alive");
     const bits = view.group === "memory" ? [[`bit ${view.plane}`, view.plane]] : alive ? [["alive", alive.at]] : [];
     at("wave").replaceChildren(waveform(head, at("wave").clientWidth - GAP, bits));
     document.body.dataset.wave = `${x} ${y} ${state.clock}`;
@@ -183,7 +190,8 @@ export class Machine {
     if (!course || !canvas.clientWidth) return;
     canvas.width = canvas.clientWidth * devicePixelRatio;
     canvas.height = canvas.clientHeight * devicePixelRatio;
-    const pen = canvas.getContext("2d"), style = getComputedStyle(document.documentElement), scale = canvas.width / Math.max(1, course.clocks);
+    const pen = canvas.getContext("2d"), style = getComputedStyle(document.documentElement);
+    const scale = canvas.width / Math.max(1, course.clocks);
     course.passStarts.forEach((start, pass) => {
       const wide = (course.startOfPass(pass + 1) - start) * scale;
       pen.fillStyle = style.getPropertyValue("--pass-" + kindOf(course.passes[pass]));
@@ -194,11 +202,13 @@ export class Machine {
 
 // Words in which names stand between backticks.
 function worded(text) {
-  return text.split("`").map((part, number) => number % 2 ? made("b", "solid-name", part) : document.createTextNode(part));
+  const node = (part, number) => number % 2 ? made("b", "solid-name", part) : document.createTextNode(part);
+  return text.split("`").map(node);
 }
 
 // What a microinstruction has the tree do.
 function treeWords(micro) {
   const [tree, lines] = micro.split(" ");
-  return {hold: "the tree holds", clear: "the tree is cleared"}[tree] ?? `the tree takes bits c ${lines[2]}, a ${lines[0]}, b ${lines[1]}`;
+  if (tree === "feed") return `the tree takes bits c ${lines[2]}, a ${lines[0]}, b ${lines[1]}`;
+  return tree === "clear" ? "the tree is cleared" : "the tree holds";
 }

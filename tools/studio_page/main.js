@@ -9,10 +9,11 @@ import {Picture} from "./picture.js";
 import * as take from "./take.js";
 
 const at = id => document.getElementById(id), main = document.querySelector("main");
-const TABS = ["write", "machine", "compare", "lesson"], MODELS = ["csg", "off", "stl"], TEXTS = ["scene", "listing", "txt"];
+const TABS = ["write", "machine", "compare", "lesson"];
+const MODELS = ["csg", "off", "stl"], TEXTS = ["scene", "listing", "txt"];
 const LARGEST_DROP = 1 << 26, TOLD = 6000, SMALLEST = 12, LARGEST = 30;
 
-// Where a text is opened at a clock, `pending` says it until the text is drawn; `stale` is what the machine has not taken yet.
+// Where a text is opened at a clock, `pending` says it until the text is drawn; `stale` is what the machine has not taken.
 const page = {tab: "write", name: "scene", own: null, saved: "", pending: null, stale: null};
 
 function tell(error) {
@@ -90,7 +91,8 @@ async function dropped(file) {
 async function takeAway(what) {
   if (what === "scene") return take.away(new Blob([editor.text]), page.name + ".scene");
   if (what === "png") {
-    const shown = page.tab === "machine" ? "array" : page.tab === "compare" && !at("differences").hidden ? "differences" : "picture";
+    const compared = page.tab === "compare" && !at("differences").hidden;
+    const shown = page.tab === "machine" ? "array" : compared ? "differences" : "picture";
     return take.away(await take.png(at(shown)), page.name + ".png");
   }
   if (!picture.maps) throw new Trouble("there is no picture");
@@ -174,13 +176,16 @@ at("take").addEventListener("click", event => {
 });
 document.addEventListener("click", event => { if (!at("take").contains(event.target)) at("take").open = false; });
 document.addEventListener("dragover", event => { event.preventDefault(); document.body.classList.add("dragging"); });
-document.addEventListener("dragleave", event => { if (!event.relatedTarget) document.body.classList.remove("dragging"); });
+document.addEventListener("dragleave", event => {
+  if (!event.relatedTarget) document.body.classList.remove("dragging");
+});
 document.addEventListener("drop", event => {
   event.preventDefault();
   document.body.classList.remove("dragging");
   if (event.dataTransfer.files[0]) dropped(event.dataTransfer.files[0]).catch(tell);
 });
 addEventListener("beforeunload", event => { if (page.own && editor.text !== page.saved) event.preventDefault(); });
-listen({save: () => save().catch(tell), choose: number => choose(TABS[number]), parts: TABS.length, letters, write, nextImage, toggleText,
-  isMachine: () => page.tab === "machine", machine});
+listen({
+  save: () => save().catch(tell), choose: number => choose(TABS[number]), parts: TABS.length, letters, write, nextImage,
+  toggleText, isMachine: () => page.tab === "machine", machine});
 ask("begin").then(begin).catch(tell);

@@ -1,4 +1,4 @@
-// The picture beside the text: drawn anew at each change, with the pixel under the pointer, its ray, and what is likely wrong.
+// The picture beside the text: drawn anew at each change, with a pixel, its ray, and what is likely wrong.
 import {ask, bytesOf, latest, wordsOf, Trouble} from "./ask.js";
 import {css, greys, hue} from "./palette.js";
 import {Screen, made} from "./show.js";
@@ -62,12 +62,14 @@ export class Picture {
     document.body.classList.remove("refused");
     document.body.classList.toggle("listing", !isScene);
     at("verdict").className = "good";
-    at("verdict").textContent = isScene ? `accepted: ${width} by ${height} pixels, ${counted(head.faces.length, "face")}`
+    at("verdict").textContent = isScene
+      ? `accepted: ${width} by ${height} pixels, ${counted(head.faces.length, "face")}`
       : `accepted: a listing, a grid of ${width} by ${height}, ${counted(head.clocks, "clock")}`;
     at("facts").textContent = isScene ? `${counted(head.operations, "operation")}, ${counted(head.clocks, "clock")}`
       : "a listing has no picture; the machine shows what it leaves";
     at("facts").title = `asked, drawn and here in ${Math.max(1, Math.round(took))} ms`;
-    this.maps = isScene ? {depths: wordsOf(head.arrays[0]), faces: wordsOf(head.arrays[1]), rgb: bytesOf(head.arrays[2])} : null;
+    const [depths, faces, rgb] = head.arrays;
+    this.maps = isScene ? {depths: wordsOf(depths), faces: wordsOf(faces), rgb: bytesOf(rgb)} : null;
     this.paint();
     document.body.dataset.drawn = "yes";
     document.body.dataset.pictureTook = Math.round(took);
@@ -98,7 +100,8 @@ export class Picture {
 
   async hint(text) {
     const head = await ask("hints", {}, text).catch(() => null);
-    if (head?.hints && text === this.editor.text) at("hints").replaceChildren(...head.hints.map(each => made("li", "", each)));
+    if (!head?.hints || text !== this.editor.text) return;
+    at("hints").replaceChildren(...head.hints.map(each => made("li", "", each)));
   }
 
   // What is seen at a pixel; the ray follows.
@@ -110,9 +113,10 @@ export class Picture {
     }
     const [x, y] = pixel, place = y * this.head.width + x, number = this.maps.faces[place];
     const face = this.head.faces.find(each => each[0] === number);
-    const said = (name, ...values) => made("span", "", "", made("span", "label", name), ...values);
-    at("readout").replaceChildren(said("pixel", made("b", "", `${x}, ${y}`)), said("depth", made("b", "", String(this.maps.depths[place]))),
-      said("face", made("b", "", String(number)), ...(face ? [chip(face[3]), `${face[1]}, ${face[2]}, line ${face[4]}`] : [", the background"])));
+    const said = (name, value, ...words) => made("span", "", "", made("span", "label", name), made("b", "", String(value)), ...words);
+    const words = face ? [chip(face[3]), `${face[1]}, ${face[2]}, line ${face[4]}`] : [", the background"];
+    at("readout").replaceChildren(
+      said("pixel", `${x}, ${y}`), said("depth", this.maps.depths[place]), said("face", number, ...words));
     this.rayOf = `${x} ${y}`;
     this.ray(x, y, this.editor.text);
   }
@@ -121,9 +125,10 @@ export class Picture {
     const head = await ask("ray", {x, y}, text);
     if (!head.lines || this.rayOf !== `${x} ${y}`) return;
     const bar = (run, colour) => barOf(run, head.far, colour), cells = run => `${run[0]} to ${run[1] - 1}`;
-    const met = head.solids.filter(each => each.run)
-      .map(({name, colour, run, ends}) => rowOf(name, [bar(run, colour)], `${cells(run)}: from ${ends[0]}, to ${ends[1]}`));
-    const shown = rowOf("shown", head.shown.map(run => bar(run)), head.shown.map(cells).join(", ") || "nothing: the background", "shown");
+    const met = head.solids.filter(each => each.run).map(({name, colour, run, ends}) =>
+      rowOf(name, [bar(run, colour)], `${cells(run)}: from ${ends[0]}, to ${ends[1]}`));
+    const words = head.shown.map(cells).join(", ") || "nothing: the background";
+    const shown = rowOf("shown", head.shown.map(run => bar(run)), words, "shown");
     const scale = rowOf("", [made("span", "", "the eye, 0"), made("span", "", String(head.far))], "", "scale");
     at("ray").replaceChildren(scale, ...met, shown, ...this.missed(head.solids.filter(each => !each.run)));
   }
@@ -131,7 +136,8 @@ export class Picture {
   // The solids that a ray does not meet, and why; folded where they are many.
   missed(solids) {
     if (!solids.length) return [];
-    const summary = made("summary", "", solids.length === 1 ? "1 solid is not met here" : `${solids.length} solids are not met here`);
+    const count = solids.length === 1 ? "1 solid is" : `${solids.length} solids are`;
+    const summary = made("summary", "", `${count} not met here`);
     const others = made("details", "", "", summary,
       ...solids.map(({name, why}) => made("div", "missed", "", made("b", "", name), made("span", "quiet", why))));
     others.open = this.unfolded ?? solids.length < FEW_MISSED;
@@ -140,8 +146,10 @@ export class Picture {
   }
 }
 
-const rowOf = (name, runs, words, kind = "") =>
-  made("div", "ray-row " + kind, "", made("b", "", name), made("span", "track", "", ...runs), made("span", "quiet", words));
+function rowOf(name, runs, words, kind = "") {
+  const track = made("span", "track", "", ...runs);
+  return made("div", "ray-row " + kind, "", made("b", "", name), track, made("span", "quiet", words));
+}
 
 // A run of cells as a bar, between the eye and the far limit.
 function barOf(run, far, colour) {

@@ -53,8 +53,8 @@ export function fieldsOf(layout) {
   return [...found, {name: "alive", at: 2 * key, length: 1}, {name: "par", at: 2 * key + 1, length: 1}];
 }
 
-// What there is to show of the array: each has a name, a label, a group, and `paint(state)`, which gives the colour of a place;
-// one of bits has its plane.
+// What there is to show of the array: each has a name, a label, a group, and `paint(state)`, which gives the colour of a
+// place; one of bits has its plane.
 export function viewsOf(layout, bits) {
   const fields = fieldsOf(layout), labels = {leaf: "leaf: the tree's bit"};
   const registers = REGISTERS.map((name, number) => bitView(name, labels[name] ?? name, "registers", bits + number));
@@ -63,25 +63,28 @@ export function viewsOf(layout, bits) {
     const label = own ? `bit ${at}: ${own.name}${single ? "" : `, bit ${at - own.at}`}` : `bit ${at}`;
     return bitView(single ? own.name : String(at), label, "memory", at);
   });
-  return [...registers, ...layout ? [...keyViews(fields, "best", "key B, the best"), ...keyViews(fields, "candidate", "key T, the candidate")] : [],
-    ...memory];
+  const keys = layout ? [["best", "key B, the best"], ["candidate", "key T, the candidate"]] : [];
+  return [...registers, ...keys.flatMap(([key, label]) => keyViews(fields, key, label)), ...memory];
 }
 
 function bitView(name, label, group, plane) {
-  return {name, label, group, plane, paint: state => at => state.bit(plane, at % state.width, Math.floor(at / state.width)) ? ON : OFF};
+  const paint = state => at => state.bit(plane, at % state.width, Math.floor(at / state.width)) ? ON : OFF;
+  return {name, label, group, plane, paint};
 }
 
 function keyViews(fields, key, label) {
   const view = (what, colour) => {
     const {at, length} = fields.find(each => each.name === `${key} ${what}`);
-    return {name: `${key} ${what}`, label: `${label}: ${what}`, group: "numbers", paint: state => numberPaint(state, at, length, colour)};
+    const paint = state => numberPaint(state, at, length, colour);
+    return {name: `${key} ${what}`, label: `${label}: ${what}`, group: "numbers", paint};
   };
   return [view("depth", (numbers, far) => greys(numbers, far)), view("face", () => hue)];
 }
 
 function numberPaint(state, at, length, colour) {
   const numbers = new Float64Array(state.width * state.height);
-  for (let y = 0, to = 0; y < state.height; y++) for (let x = 0; x < state.width; x++) numbers[to++] = state.number(at, length, x, y);
+  for (let y = 0, to = 0; y < state.height; y++)
+    for (let x = 0; x < state.width; x++) numbers[to++] = state.number(at, length, x, y);
   const of = colour(numbers, 2 ** length - 1);
   return place => of(numbers[place]);
 }
