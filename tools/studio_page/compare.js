@@ -31,7 +31,8 @@ export class Compare {
     const text = new TextEncoder().encode(this.text), length = new Uint8Array(4);
     new DataView(length.buffer).setUint32(0, text.length, true);
     try {
-      this.head = await ask("compare", {tolerance: at("tolerance").value.trim()}, new Blob([length, text, this.map.bytes]));
+      const body = new Blob([length, text, this.map.bytes]);
+      this.head = await ask("compare", {tolerance: at("tolerance").value.trim()}, body);
       this.only = null;
       this.show();
     } catch (error) {
@@ -47,7 +48,8 @@ export class Compare {
     at("groups").replaceChildren();
     at("compare-readout").textContent = "";
     at("compare-says").replaceChildren(...(trouble ? [made("p", "trouble", `${this.map.name}: ${trouble}`)]
-      : head.lines.filter(line => !line.startsWith("  ")).map((line, number) => made("p", number ? "" : "large", line))));
+      : head.lines.filter(line => !line.startsWith("  "))
+        .map((line, number) => made("p", number ? "" : "large", line))));
     document.body.dataset.compared = trouble ?? head.lines[0];
     if (trouble || !head.arrays.length) return;
     this.colours = bytesOf(head.arrays[0]);
@@ -58,7 +60,7 @@ export class Compare {
   }
 
   groupButton(count, said, number) {
-    const button = made("button", "group", "", made("b", "", String(count)), ` pixel${count === 1 ? "" : "s"}: ${said}`);
+    const words = ` pixel${count === 1 ? "" : "s"}: ${said}`, button = made("button", "group", "", made("b", "", String(count)), words);
     const only = shown => { this.only = shown; this.paint(); };
     button.setAttribute("aria-pressed", "false");
     button.addEventListener("click", () => {
@@ -86,7 +88,9 @@ export class Compare {
     if (!this.head?.arrays.length || !pixel) return at("compare-readout").replaceChildren();
     const place = pixel[1] * this.head.width + pixel[0], group = this.head.groups[this.marks[place] - 1];
     const names = new Map(this.scene.faces.map(([number, solid, kind]) => [number, `${number}, ${solid} ${kind}`]));
-    const side = (depths, faces) => [depths && `depth ${depths[place]}`, faces && `face ${names.get(faces[place]) ?? faces[place]}`].filter(Boolean).join(", ");
-    at("compare-readout").textContent = `${pixel[0]}, ${pixel[1]}: ours ${side(this.picture.depths, this.picture.faces)}; theirs ${side(this.depths, this.faces)}${group ? "" : "; alike"}`;
+    const faceOf = faces => `face ${names.get(faces[place]) ?? faces[place]}`;
+    const side = ({depths, faces}) => [depths && `depth ${depths[place]}`, faces && faceOf(faces)].filter(Boolean).join(", ");
+    at("compare-readout").textContent =
+      `${pixel[0]}, ${pixel[1]}: ours ${side(this.picture)}; theirs ${side(this)}${group ? "" : "; alike"}`;
   }
 }

@@ -3,13 +3,14 @@ import {made} from "./show.js";
 import {css} from "./palette.js";
 
 const COLOURED = 200000;
-const WORDS = new Set(["pxscene", "picture", "depth", "solid", "front", "back", "side", "show", "end", "pxlist", "grid", "all", "keep-sign",
-  "keep-bit", "set-bit", "toggle", "load-linear", "keep-at-most", "add-linear", "load-const", "copy", "keep-less"]);
+const WORDS = new Set(["pxscene", "picture", "depth", "solid", "front", "back", "side", "show", "end", "pxlist", "grid", "all",
+  "keep-sign", "keep-bit", "set-bit", "toggle", "load-linear", "keep-at-most", "add-linear", "load-const", "copy", "keep-less"]);
 
 // The words of a line with their columns; those of an expression are names, signs and brackets.
 function wordsOf(line) {
   const hash = line.indexOf("#"), code = hash < 0 ? line : line.slice(0, hash);
-  const found = [...code.matchAll(/^\s*show\b/.test(code) ? /[A-Za-z0-9_]+|\S/g : /\S+/g)].map(match => [match[0], match.index]);
+  const pattern = /^\s*show\b/.test(code) ? /[A-Za-z0-9_]+|\S/g : /\S+/g;
+  const found = [...code.matchAll(pattern)].map(match => [match[0], match.index]);
   return hash < 0 ? found : [...found, [line.slice(hash), hash]];
 }
 
@@ -33,16 +34,17 @@ function coloured(line, span) {
   });
   pieces.push(["", from, line.length]);
   const [start, stop] = span ?? [0, 0];
-  const out = pieces.flatMap(([kind, first, last]) =>
-    [[first, Math.min(last, start), ""], [Math.max(first, start), Math.min(last, stop), " wrong"], [Math.max(first, stop), last, ""]]
-      .filter(part => part[0] < part[1]).map(part => made("span", kind + part[2], line.slice(part[0], part[1]))));
+  const cut = (first, last) => [
+    [first, Math.min(last, start), ""], [Math.max(first, start), Math.min(last, stop), " wrong"], [Math.max(first, stop), last, ""]];
+  const out = pieces.flatMap(([kind, first, last]) => cut(first, last).filter(part => part[0] < part[1])
+    .map(part => made("span", kind + part[2], line.slice(part[0], part[1]))));
   return span && start >= line.length ? [...out, made("span", "wrong", "\u00a0")] : out;
 }
 
 // Red, green and blue that a line gives, or null.
 function colourOf(line) {
   const words = line.split("#")[0].trim().split(/\s+/), numbers = words.slice(-3).map(Number);
-  const has = words[0] === "solid" && words.length === 5 || (words[0] === "front" || words[0] === "back") && words.length === 7;
+  const has = {solid: 5, front: 7, back: 7}[words[0]] === words.length;
   return has && numbers.every(part => Number.isInteger(part) && part >= 0 && part <= 255) ? numbers : null;
 }
 
@@ -80,7 +82,8 @@ export class Editor {
 
   show(line) {
     const height = this.area.scrollHeight / Math.max(1, this.lines), top = (line - 1) * height;
-    if (top < this.area.scrollTop || top > this.area.scrollTop + this.area.clientHeight - height) this.area.scrollTop = top - this.area.clientHeight / 2;
+    const {scrollTop, clientHeight} = this.area;
+    if (top < scrollTop || top > scrollTop + clientHeight - height) this.area.scrollTop = top - clientHeight / 2;
     this.follow();
   }
 
@@ -97,7 +100,8 @@ export class Editor {
     this.sheet.classList.toggle("plain", plain);
     const numbers = document.createDocumentFragment(), ink = document.createDocumentFragment();
     lines.forEach((line, at) => {
-      const bad = this.bad && this.bad.line === at + 1, rgb = plain ? null : colourOf(line), number = made("div", bad ? "bad" : "", String(at + 1));
+      const bad = this.bad?.line === at + 1, rgb = plain ? null : colourOf(line);
+      const number = made("div", bad ? "bad" : "", String(at + 1));
       if (rgb) number.append(chip(rgb));
       numbers.append(number);
       if (!plain) ink.append(made("div", bad ? "bad" : "", "", ...coloured(line, bad ? this.bad.span : null), "\n"));

@@ -7,7 +7,8 @@ const at = id => document.getElementById(id);
 export function prose(text) {
   return text.split(/^```\w*\n/m).flatMap((part, number) => {
     if (number % 2) return [made("pre", "", part.replace(/\n$/, ""))];
-    return part.split(/\n\n+/).filter(each => each.trim()).map(each => made("p", "", "", ...inline(each.replace(/\n/g, " "))));
+    const pieces = part.split(/\n\n+/).filter(each => each.trim());
+    return pieces.map(each => made("p", "", "", ...inline(each.replace(/\n/g, " "))));
   });
 }
 
@@ -27,7 +28,8 @@ export class Lesson {
     exercises.forEach((each, number) => {
       if (each.part !== last) at("exercises").append(made("h2", "", each.part));
       last = each.part;
-      const button = made("button", "exercise", "", made("b", "", this.name(each)), made("span", "", "", ...inline(each.question)), made("span", "quiet", `${each.name}, clock ${each.clock}`));
+      const button = made("button", "exercise", "", made("b", "", this.name(each)), made("span", "", "", ...inline(each.question)),
+        made("span", "quiet", `${each.name}, clock ${each.clock}`));
       button.addEventListener("click", () => { this.show(number); open(each); });
       at("exercises").append(button);
     });

@@ -1,19 +1,23 @@
-// Images on the page: a canvas with a pixel for each of the image's, as large as its stage has room for, and a mark on one of them.
+// Images on the page: a canvas with a pixel for each of the image's, as large as there is room for, and a mark on one of them.
 
 export class Screen {
-  // `onPixel` is called with x and y of the pixel under the pointer, or chosen by a click or the arrow keys; null, where there is none.
+  // `onPixel` is called with x and y of the pixel under the pointer, or chosen by a click or the arrow keys; or with null.
   constructor(canvas, onPixel) {
     this.canvas = canvas;
     this.stage = canvas.parentElement;
     this.onPixel = onPixel;
     this.kept = null;
     this.inner = null;
-    this.mark = this.stage.appendChild(Object.assign(document.createElement("div"), {className: "mark", hidden: true}));
-    this.frame = this.stage.appendChild(Object.assign(document.createElement("div"), {className: "frame", hidden: true}));
+    [this.mark, this.frame] = ["mark", "frame"].map(name => this.stage.appendChild(made("div", name)));
+    this.mark.hidden = this.frame.hidden = true;
     new ResizeObserver(() => this.place()).observe(this.stage);
     canvas.addEventListener("mousemove", event => this.point(this.under(event)));
     canvas.addEventListener("mouseleave", () => this.point(this.kept));
-    canvas.addEventListener("click", event => { const pixel = this.under(event); this.keep(same(pixel, this.kept) ? null : pixel); this.point(pixel); });
+    canvas.addEventListener("click", event => {
+      const pixel = this.under(event);
+      this.keep(same(pixel, this.kept) ? null : pixel);
+      this.point(pixel);
+    });
     canvas.addEventListener("keydown", event => this.key(event));
   }
 
@@ -62,7 +66,7 @@ export class Screen {
 
   under(event) {
     const box = this.canvas.getBoundingClientRect();
-    const x = Math.floor((event.clientX - box.left) / this.scale), y = Math.floor((event.clientY - box.top) / this.scale);
+    const [x, y] = [event.clientX - box.left, event.clientY - box.top].map(each => Math.floor(each / this.scale));
     return x >= 0 && y >= 0 && x < this.canvas.width && y < this.canvas.height ? [x, y] : null;
   }
 
@@ -76,7 +80,7 @@ export class Screen {
   key(event) {
     const way = {ArrowLeft: [-1, 0], ArrowRight: [1, 0], ArrowUp: [0, -1], ArrowDown: [0, 1]}[event.key];
     if (!way || event.ctrlKey || event.altKey || event.metaKey) return;
-    const {width, height} = this.canvas, [x, y] = this.kept ?? [Math.floor(width / 2) - way[0], Math.floor(height / 2) - way[1]];
+    const {width, height} = this.canvas, middle = [width >> 1, height >> 1], [x, y] = this.kept ?? middle;
     this.keep([(x + way[0] + width) % width, (y + way[1] + height) % height]);
     this.point(this.kept);
     event.preventDefault();

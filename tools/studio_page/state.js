@@ -24,9 +24,18 @@ export class State {
     return number;
   }
 
+  // How many bits of a plane are 1.
+  ones(plane) {
+    let count = 0;
+    for (let at = plane * this.perPlane; at < (plane + 1) * this.perPlane; at++)
+      for (let word = this.words[at]; word; word &= word - 1) count += 1;
+    return count;
+  }
+
   // Output and carry of a node of the tree.
   node(level, index) {
-    const place = 2 ** level + index, wide = 2 * Math.ceil(2 ** (this.levels + 1) / 64), first = this.words.length - 2 * wide;
+    const place = 2 ** level + index, wide = 2 * Math.ceil(2 ** (this.levels + 1) / 64);
+    const first = this.words.length - 2 * wide;
     const of = row => this.words[first + row * wide + (place >> 5)] >>> (place & 31) & 1;
     return [of(0), of(1)];
   }
@@ -44,29 +53,38 @@ export function fieldsOf(layout) {
   return [...found, {name: "alive", at: 2 * key, length: 1}, {name: "par", at: 2 * key + 1, length: 1}];
 }
 
-// What there is to show of the array: a name, and `paint(state)`, which is a colour for each pixel.
+// What there is to show of the array: each has a name, a label, a group, and `paint(state)`, which gives the colour of a
+// place; one of bits has its plane.
 export function viewsOf(layout, bits) {
-  const bit = which => state => {
-    const plane = state.placeOf(which);
-    return at => state.bit(plane, at % state.width, Math.floor(at / state.width)) ? ON : OFF;
+  const fields = fieldsOf(layout), labels = {leaf: "leaf: the tree's bit"};
+  const registers = REGISTERS.map((name, number) => bitView(name, labels[name] ?? name, "registers", bits + number));
+  const memory = Array.from({length: bits}, (_, at) => {
+    const own = fields.find(each => at >= each.at && at < each.at + each.length), single = own?.length === 1;
+    const label = own ? `bit ${at}: ${own.name}${single ? "" : `, bit ${at - own.at}`}` : `bit ${at}`;
+    return bitView(single ? own.name : String(at), label, "memory", at);
+  });
+  const keys = layout ? [["best", "key B, the best"], ["candidate", "key T, the candidate"]] : [];
+  return [...registers, ...keys.flatMap(([key, label]) => keyViews(fields, key, label)), ...memory];
+}
+
+function bitView(name, label, group, plane) {
+  const paint = state => at => state.bit(plane, at % state.width, Math.floor(at / state.width)) ? ON : OFF;
+  return {name, label, group, plane, paint};
+}
+
+function keyViews(fields, key, label) {
+  const view = (what, colour) => {
+    const {at, length} = fields.find(each => each.name === `${key} ${what}`);
+    const paint = state => numberPaint(state, at, length, colour);
+    return {name: `${key} ${what}`, label: `${label}: ${what}`, group: "numbers", paint};
   };
-  const field = (at, length, colour) => state => {
-    const numbers = new Float64Array(state.width * state.height);
-    for (let y = 0, to = 0; y < state.height; y++) for (let x = 0; x < state.width; x++) numbers[to++] = state.number(at, length, x, y);
-    const of = colour(numbers);
-    return place => of(numbers[place]);
-  };
-  const fields = fieldsOf(layout), shown = name => fields.find(each => each.name === name);
-  const found = REGISTERS.map(name => ({name, label: name === "leaf" ? "leaf: the tree's bit" : name, group: "registers", paint: bit(name)}));
-  for (const key of layout ? ["best", "candidate"] : []) {
-    const {at, length} = shown(key + " depth"), own = shown(key + " face"), far = 2 ** length - 1, label = key === "best" ? "key B, the best: " : "key T, the candidate: ";
-    found.push({name: key + " depth", label: label + "depth", group: "numbers", paint: field(at, length, numbers => greys(numbers, far))},
-      {name: key + " face", label: label + "face", group: "numbers", paint: field(own.at, own.length, () => hue)});
-  }
-  for (let at = 0; at < bits; at++) {
-    const own = fields.find(each => at >= each.at && at < each.at + each.length);
-    const label = own ? own.length > 1 ? `${at}: ${own.name}, bit ${at - own.at}` : `${at}: ${own.name}` : String(at);
-    found.push({name: own && own.length === 1 ? own.name : String(at), label: "bit " + label, group: "memory", paint: bit(at)});
-  }
-  return found;
+  return [view("depth", (numbers, far) => greys(numbers, far)), view("face", () => hue)];
+}
+
+function numberPaint(state, at, length, colour) {
+  const numbers = new Float64Array(state.width * state.height);
+  for (let y = 0, to = 0; y < state.height; y++)
+    for (let x = 0; x < state.width; x++) numbers[to++] = state.number(at, length, x, y);
+  const of = colour(numbers, 2 ** length - 1);
+  return place => of(numbers[place]);
 }

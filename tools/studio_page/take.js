@@ -4,7 +4,7 @@ const head = (width, height) => new TextEncoder().encode(`P6\n${width} ${height}
 
 function ofNumbers(numbers) {
   const bytes = new Uint8Array(3 * numbers.length);
-  numbers.forEach((number, at) => { bytes[3 * at] = number >>> 16; bytes[3 * at + 1] = number >>> 8 & 255; bytes[3 * at + 2] = number & 255; });
+  numbers.forEach((number, at) => bytes.set([number >>> 16, number >>> 8 & 255, number & 255], 3 * at));
   return bytes;
 }
 
@@ -17,7 +17,8 @@ export const colours = ({width, height}, {rgb}) => new Blob([head(width, height)
 // The image of a canvas, each of its pixels as large as fits into 1024.
 export function png(canvas) {
   const factor = Math.max(1, Math.floor(1024 / Math.max(canvas.width, canvas.height)));
-  const large = Object.assign(document.createElement("canvas"), {width: canvas.width * factor, height: canvas.height * factor}), pen = large.getContext("2d");
+  const size = {width: canvas.width * factor, height: canvas.height * factor};
+  const large = Object.assign(document.createElement("canvas"), size), pen = large.getContext("2d");
   pen.imageSmoothingEnabled = false;
   pen.drawImage(canvas, 0, 0, large.width, large.height);
   return new Promise(done => large.toBlob(done, "image/png"));

@@ -1,46 +1,70 @@
 // A waveform: what a pixel held after each of some clocks, with what was broadcast between them.
 import {drawn, made, unit} from "./show.js";
 
-
-// The level of a line as a path; `levels` has a bit for each clock, null where the line brings none.
-function path(levels, wide, top, {label, tall}) {
-  let out = "", last = null;
-  levels.forEach((level, at) => {
-    const x = label + at * wide, y = level === null ? null : top + (level ? 0 : tall);
-    if (y !== null) out += (last === null ? `M${x} ${y}` : `L${x} ${y}`) + `H${x + wide}`;
-    last = y;
-  });
-  return out;
-}
-
 // What a clock broadcasts, as short as may be.
 function said({tree, act}) {
   if (act === "nop") return tree === "hold" ? "nop" : tree;
   return tree === "clear" ? `clear, ${act}` : act;
 }
 
+// How large things are, in a picture of a width with so many clocks.
+class Sizes {
+  constructor(width, count, rows) {
+    this.letters = unit();
+    this.label = 62 * this.letters;
+    this.high = 19 * this.letters;
+    this.tall = 12 * this.letters;
+    this.top = 22 * this.letters;
+    this.wide = Math.max(14, Math.min(44 * this.letters, Math.floor((width - this.label - 4) / count)));
+    this.foot = this.top + rows * this.high;
+    this.width = this.label + count * this.wide + 4;
+    this.height = this.foot + 112 * this.letters;
+  }
+
+  // The level of a line as a path; `levels` has a bit for each clock, null where the line brings none.
+  path(levels, top) {
+    let out = "", last = null;
+    levels.forEach((level, at) => {
+      const x = this.label + at * this.wide, y = level === null ? null : top + (level ? 0 : this.tall);
+      if (y !== null) out += (last === null ? `M${x} ${y}` : `L${x} ${y}`) + `H${x + this.wide}`;
+      last = y;
+    });
+    return out;
+  }
+}
+
+// The name, the bits and the kind of each line.
+function linesOf({micros, pixels}, bits) {
+  const before = pixels.slice(0, -1), line = at => micros.map(micro => micro.tree === "feed" ? micro.lines[at] : null);
+  return [
+    ["line c", line(2), "line"], ["line a", line(0), "line"], ["line b", line(1), "line"],
+    ["leaf", before.map(pixel => pixel[4]), "register"], ["carry", before.map(pixel => pixel[2]), "register"],
+    ["latch", before.map(pixel => pixel[3]), "register"], ["enable", before.map(pixel => pixel[1]), "register"],
+    ...bits.map(([name, at]) => [name, before.map(pixel => Number(pixel[0][at])), "memory"])];
+}
+
+// What stands at a clock: a stripe, its number where there is room, and what it broadcasts.
+function clockOf(sizes, clock, x, micro) {
+  const {letters, wide, top, foot} = sizes, middle = x + wide / 2, parts = [];
+  if (clock % 2 === 0) parts.push(drawn("rect", {x, y: top - 5, width: wide, height: foot - top + 5, class: "stripe"}));
+  if (wide >= 30 * letters || clock % 4 === 0)
+    parts.push(drawn("text", {x: middle, y: 12 * letters, class: "clock"}, String(clock)));
+  const turned = `translate(${middle - 4 * letters} ${foot + 5}) rotate(90)`;
+  return [...parts, drawn("text", {transform: turned, class: "act"}, said(micro))];
+}
+
 // `head` is the answer to `wave`; `bits` are memory bits to show beside the registers, with their names.
 export function waveform(head, width, bits) {
-  const {micros, pixels, first, last} = head, count = micros.length;
-  if (!count) return made("p", "quiet", "No clock was made yet.");
-  const size = unit(), label = 62 * size, high = 19 * size, tall = 12 * size;
-  const wide = Math.max(14, Math.min(44 * size, Math.floor((width - label - 4) / count)));
-  const line = at => micros.map(micro => micro.tree === "feed" ? micro.lines[at] : null), before = pixels.slice(0, -1);
-  const rows = [["line c", line(2), "line"], ["line a", line(0), "line"], ["line b", line(1), "line"],
-    ["leaf", before.map(pixel => pixel[4])], ["carry", before.map(pixel => pixel[2])], ["latch", before.map(pixel => pixel[3])],
-    ["enable", before.map(pixel => pixel[1])], ...bits.map(([name, at]) => [name, before.map(pixel => Number(pixel[0][at])), "memory"])];
-  const top = 22 * size, foot = top + rows.length * high, height = foot + 112 * size;
-  const picture = drawn("svg", {viewBox: `0 0 ${label + count * wide + 4} ${height}`, width: label + count * wide + 4, height, class: "wave", role: "img",
-    "aria-label": `the clocks ${first} to ${last - 1}`});
-  micros.forEach((micro, at) => {
-    const x = label + at * wide, clock = first + at;
-    if (clock % 2 === 0) picture.append(drawn("rect", {x, y: top - 5, width: wide, height: foot - top + 5, class: "stripe"}));
-    if (wide >= 30 * size || clock % 4 === 0) picture.append(drawn("text", {x: x + wide / 2, y: 12 * size, class: "clock"}, String(clock)));
-    picture.append(drawn("text", {transform: `translate(${x + wide / 2 - 4 * size} ${foot + 5}) rotate(90)`, class: "act"}, said(micro)));
-  });
-  rows.forEach(([name, levels, kind], at) => {
+  const {micros, first, last} = head, lines = linesOf(head, bits);
+  if (!micros.length) return made("p", "quiet", "No clock was made yet.");
+  const sizes = new Sizes(width, micros.length, lines.length), {label, high, tall, top, wide} = sizes;
+  const picture = drawn("svg", {viewBox: `0 0 ${sizes.width} ${sizes.height}`, width: sizes.width, height: sizes.height, class: "wave",
+    role: "img", "aria-label": `the clocks ${first} to ${last - 1}`});
+  micros.forEach((micro, at) => picture.append(...clockOf(sizes, first + at, label + at * wide, micro)));
+  lines.forEach(([name, levels, kind], at) => {
     const y = top + at * high;
-    picture.append(drawn("text", {x: label - 8, y: y + tall - 1, class: "name"}, name), drawn("path", {d: path(levels, wide, y, {label, tall}), class: "level " + (kind ?? "register")}));
+    picture.append(drawn("text", {x: label - 8, y: y + tall - 1, class: "name"}, name),
+      drawn("path", {d: sizes.path(levels, y), class: "level " + kind}));
   });
   return picture;
 }

@@ -7,15 +7,10 @@ if sys.argv[1:] == ["plain"]:
     sys.modules["numpy"] = None
 sys.path[:0] = [os.path.join(os.getcwd(), "tools", "lib"), os.path.join(os.getcwd(), "python")]
 import ends
-import passes
-import program
 import pxplanes
 import scenes
-import sessions
 
 cases = ends.script("dev/run_cases")
-BUILT = os.environ["PROGRAM"]
-MOST = 40000
 
 
 def note_of(call):
@@ -59,61 +54,14 @@ def wrong_answer(word, text, wanted):
     return None if (status, output, note) == (status_wanted, output_wanted, note_wanted) else "status %d, note %r" % (status, note)
 
 
-def asked_of(state, words):
-    """The answer of the debugger to a question, from a state; None where it is no question to a state."""
-    numbers = [int(word) for word in words[1:]]
-    if words[0] == b"pixel":
-        pixel = state.pixel(*numbers)
-        return "pixel %d %d m %s e %d k %d l %d t %d" % (*numbers, *pixel)
-    if words[0] == b"tree":
-        return "tree %d %d out %d carry %d" % (*numbers, *state.node(*numbers))
-    return None
-
-
-def wrong_session(text):
-    """What is wrong with the states that a session goes through, and how many answers were compared."""
-    scene, commands = sessions.parted(text)
-    commands = commands[:next((at for at, command in enumerate(commands) if sessions.is_quit(command)), len(commands))]
-    now, count = 0, 0
-    for command, lines in zip(commands, sessions.held(BUILT, scene, commands)):
-        words = sessions.words_of(command)
-        if lines and lines[0].startswith(b"at "):
-            now = int(lines[0].split()[1])
-        if not words or not lines or lines[0].startswith(b"?"):
-            continue
-        state = pxplanes.state(scene, now)
-        told = asked_of(state, words)
-        if words[0] == b"at":
-            told = ("at %d of %d macro %d micro %d" % (now, state.clocks, state.operation, state.operation_clock)
-                    if now < state.clocks else "at %d of %d done" % (now, now))
-        if words[0] == b"trace":
-            first = now - len(lines)
-            told = "\n".join("%d: %s" % (first + at, micro) for at, micro in enumerate(pxplanes.micros(scene, first, len(lines))))
-        if told is not None:
-            count += 1
-            if told.encode() != b"\n".join(lines):
-                return "%r at %d: %r in place of %r" % (command, now, told[:90], lines[0][:90]), count
-    return None, count
-
-
-counts = dict.fromkeys((*ASKED, "debug", "list"), 0)
+counts = dict.fromkeys(ASKED, 0)
 for name in cases.names():
     words, text, wanted = cases.read_case(os.path.join(cases.CASES, name))
     word = words[0].decode("latin-1") if len(words) == 1 else "render" if not words else ""
-    wrong = None
     if word in ASKED and wanted[0] in (0, 3, 4):
         wrong = wrong_answer(word, text, wanted)
         counts[word] += 1
-    elif word == "debug" and wanted[0] == 0 and len(text) < MOST:
-        wrong, count = wrong_session(text)
-        counts[word] += count
-    elif word == "list" and wanted[0] == 0 and len(text) < MOST and pxplanes.check(text).clocks < MOST:
-        clocks = pxplanes.check(text).clocks
-        same = pxplanes.micros(text, 0, clocks) == pxplanes.micros(wanted[1], 0, clocks)
-        same = same and bytes(pxplanes.state(text, clocks).words) == bytes(pxplanes.state(wanted[1], clocks).words)
-        wrong = None if same else "the scene and its listing differ"
-        counts[word] += 1
-    if wrong:
-        print("%s: %s" % (name, wrong))
+        if wrong:
+            print("%s: %s" % (name, wrong))
 for word, count in counts.items():
     print("%s: %s" % (word, "some" if count > 3 else count))

@@ -8,32 +8,12 @@ import netpbm
 import program
 import sessions
 from browser import Browser
+from pages import choose, click, give, go, pixels, point, text_of, view, written
 
 BUILT, FIRST = os.environ["PROGRAM"], "docs/scenes/first.scene"
 TOLD = {"enable": lambda words: int(words[6]), "carry": lambda words: int(words[8]), "latch": lambda words: int(words[10]),
         "leaf": lambda words: int(words[12]), "18": lambda words: int(words[4][18:19])}
 WHITE = (255, 255, 255)
-
-
-def pixels(page, canvas):
-    """Width, height, and the colours of the pixels of an image on the page."""
-    found = page.run("(() => { const c = document.getElementById('%s'); return [c.width, c.height, "
-                     "[...c.getContext('2d').getImageData(0, 0, c.width, c.height).data]] })()" % canvas)
-    return found[0], found[1], [tuple(found[2][at:at + 3]) for at in range(0, len(found[2]), 4)]
-
-
-def click(page, selector):
-    page.run("document.querySelector(%r).click()" % selector)
-
-
-def place(page, canvas, x, y):
-    """Where a pixel of an image is in the window."""
-    return page.run("(() => { const c = document.getElementById('%s'), r = c.getBoundingClientRect(); return "
-                    "[r.left + r.width * (%d + .5) / c.width, r.top + r.height * (%d + .5) / c.height] })()" % (canvas, x, y))
-
-
-def text_of(page, selector):
-    return page.run("document.querySelector(%r).textContent" % selector).strip()
 
 
 def colours_are_the_programs(page, text):
@@ -64,41 +44,13 @@ def plane_is_the_debuggers(page, text, clock, told):
     return [told(lines[0].split()) for lines in answers] == [int(shown[y * width + x] == WHITE) for x, y in places]
 
 
-def go(page, clock):
-    page.run("(() => { const c = document.getElementById('clock'); c.value = %d; c.dispatchEvent(new Event('input')) })()" % clock)
-    page.until("document.body.dataset.shown === '%d'" % clock)
-
-
-def view(page, name):
-    page.run("(() => { const v = document.getElementById('view'); v.value = %r; v.dispatchEvent(new Event('change')) })()" % name)
-
-
-def written(page, text):
-    """Types at the place where the text is chosen, and waits until it is drawn or refused."""
-    page.run("document.body.dataset.drawn = 'no'")
-    page.type(text)
-    return page.until("document.body.dataset.drawn !== 'no' && document.body.dataset.drawn")
-
-
-def choose(page, words):
-    page.run("(() => { const s = document.getElementById('source'), at = s.value.indexOf(%r); s.focus(); "
-             "s.setSelectionRange(at, at + %d) })()" % (words, len(words)))
-
-
-def give(page, selector, path):
-    """Gives a file to an input of the page."""
-    root = page.call("DOM.getDocument")["root"]["nodeId"]
-    node = page.call("DOM.querySelector", nodeId=root, selector=selector)["nodeId"]
-    page.call("DOM.setFileInputFiles", nodeId=node, files=[os.path.abspath(path)])
-
-
 def look(page, address):
     text = open(FIRST, "rb").read()
     page.open(address)
     print("drawn:", page.until("document.body.dataset.drawn === 'yes' && document.body.dataset.drawn"))
     print("colours as the program's:", colours_are_the_programs(page, text))
     print("maps as the program's:", maps_are_the_programs(page, text))
-    page.point(*place(page, "picture", 24, 16), click=True)
+    point(page, "picture", 24, 16)
     page.until("document.querySelectorAll('.ray-row').length")
     print("a pixel:", text_of(page, "#readout"))
     print("its ray:", page.run("[...document.querySelectorAll('.ray-row, .missed')].slice(1).map(row => row.textContent).join('; ')"))
@@ -134,7 +86,7 @@ def look(page, address):
     print("key B has the picture:", all(shown[y * width + x] == tuple(hues[faces[y * 48 + x]]) for y in range(32) for x in range(48)))
     go(page, 3000)
     print(text_of(page, "#operation") + " | " + text_of(page, "#line") + " | " + text_of(page, "#micro"))
-    page.point(*place(page, "array", 24, 16), click=True)
+    point(page, "array", 24, 16)
     page.until("document.body.dataset.wave === '24 16 3000'")
     print("its bits:", page.run("[...document.querySelectorAll('.memory td')].map(cell => cell.textContent).join('')")[:28])
     print("its waveform:", page.run("document.querySelectorAll('.wave path').length"), "lines,",

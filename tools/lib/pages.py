@@ -1,0 +1,60 @@
+"""What is done on the studio's page by those who look at it in a browser (browser.py). It is no tool itself."""
+import os
+
+
+def click(page, selector):
+    page.run("document.querySelector(%r).click()" % selector)
+
+
+def text_of(page, selector):
+    return page.run("document.querySelector(%r).textContent" % selector).strip()
+
+
+def pixels(page, canvas):
+    """Width, height, and the colours of the pixels of an image on the page."""
+    found = page.run("(() => { const c = document.getElementById(%r); return [c.width, c.height, "
+                     "[...c.getContext('2d').getImageData(0, 0, c.width, c.height).data]] })()" % canvas)
+    return found[0], found[1], [tuple(found[2][at:at + 3]) for at in range(0, len(found[2]), 4)]
+
+
+def point(page, canvas, x, y):
+    """Clicks a pixel of an image, so that it is kept."""
+    left, top = page.run("(() => { const c = document.getElementById(%r), r = c.getBoundingClientRect(); return "
+                         "[r.left + r.width * (%d + .5) / c.width, r.top + r.height * (%d + .5) / c.height] })()" % (canvas, x, y))
+    page.point(left, top, click=True)
+
+
+def changed(page, name, value, event):
+    """Gives a field of the page a value, as its user does."""
+    page.run("(() => { const field = document.getElementById(%r); field.value = %r; field.dispatchEvent(new Event(%r)) })()"
+             % (name, str(value), event))
+
+
+def go(page, clock):
+    """Moves the slider to a clock, and waits until it is shown."""
+    changed(page, "clock", clock, "input")
+    page.until("document.body.dataset.shown === '%d'" % clock)
+
+
+def view(page, name):
+    changed(page, "view", name, "change")
+
+
+def choose(page, words):
+    """Chooses words in the text, so that what is typed takes their place."""
+    page.run("(() => { const s = document.getElementById('source'), at = s.value.indexOf(%r); s.focus(); "
+             "s.setSelectionRange(at, at + %d) })()" % (words, len(words)))
+
+
+def written(page, text):
+    """Types, and waits until the text is drawn or refused: `yes` or `refused`."""
+    page.run("document.body.dataset.drawn = 'no'")
+    page.type(text)
+    return page.until("document.body.dataset.drawn !== 'no' && document.body.dataset.drawn")
+
+
+def give(page, selector, path):
+    """Gives a file to an input of the page."""
+    root = page.call("DOM.getDocument")["root"]["nodeId"]
+    node = page.call("DOM.querySelector", nodeId=root, selector=selector)["nodeId"]
+    page.call("DOM.setFileInputFiles", nodeId=node, files=[os.path.abspath(path)])

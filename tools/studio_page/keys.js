@@ -1,0 +1,39 @@
+// The keys of the page. They work everywhere but where something is written or chosen.
+
+const at = id => document.getElementById(id);
+const MOVES = {
+  s: "clock-on", b: "clock-back", ArrowRight: "clock-on", ArrowLeft: "clock-back", m: "operation-on", M: "operation-back", p: "pass-on",
+  P: "pass-back", r: "run", End: "run", Home: "start"};
+
+const isText = target => target.matches("textarea, input:not([type=range]), select");
+
+// Whether an element of the page has its own use for a key.
+function isOwn(target, key) {
+  const isMove = /^(Arrow|Home|End)/.test(key);
+  return isMove && target.matches("input[type=range], [role=tab]") || key === " " && target.matches("button, summary");
+}
+
+// `page` has what the keys do; a move of the machine is one of its names.
+export function listen(page) {
+  const everywhere = {
+    "+": () => page.letters(1), "-": () => page.letters(-1), "?": () => at("keys").showModal(), e: page.write,
+    v: () => page.nextImage(1), V: () => page.nextImage(-1)};
+  for (let number = 1; number <= page.parts; number++) everywhere[number] = () => page.choose(number - 1);
+  const inMachine = {
+    " ": () => page.machine.play(), u: () => { at("until").focus(); at("until").select(); }, t: page.toggleText};
+  for (const [key, move] of Object.entries(MOVES)) inMachine[key] = () => page.machine.move(move);
+
+  document.addEventListener("keydown", event => {
+    const {key, target} = event;
+    if ((event.ctrlKey || event.metaKey) && key === "s") {
+      event.preventDefault();
+      return page.save();
+    }
+    const isModified = event.ctrlKey || event.altKey || event.metaKey;
+    if (isModified || isText(target) || isOwn(target, key) || at("keys").open) return;
+    const call = everywhere[key] ?? (page.isMachine() ? inMachine[key] : null);
+    if (!call) return;
+    event.preventDefault();
+    call();
+  });
+}
