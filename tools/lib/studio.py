@@ -2,6 +2,7 @@
 becomes JSON and arrays of bytes. It is no tool itself. Pictures and states are those of the library (python/pxplanes)."""
 import collections
 import concurrent.futures
+import hashlib
 import os
 import re
 import sys
@@ -109,7 +110,7 @@ class States:
         self.kept, self.size, self.lock = collections.OrderedDict(), 0, threading.Lock()
 
     def of(self, text, clock):
-        key = hash(text), len(text), clock
+        key = hashlib.sha256(text).digest(), clock
         with self.lock:
             if key in self.kept:
                 self.kept.move_to_end(key)
@@ -281,5 +282,7 @@ class Studio:
             return {"trouble": refusal.note}, []
         except netpbm.Bad as bad:
             return {"trouble": str(bad)}, []
+        except pxplanes.NoLibrary as lacking:
+            return {"trouble": str(lacking)}, []
         except MemoryError:
             return {"trouble": "out of memory"}, []

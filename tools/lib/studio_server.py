@@ -75,6 +75,8 @@ class Handler(http.server.BaseHTTPRequestHandler):
             return self.refuse(404, "there is no such question")
         except OSError as error:
             answer = packed({"trouble": "%s: %s" % (error.filename, error.strerror)}, [])
+        except Exception as error:
+            return self.refuse(500, "the studio failed: %s: %s" % (type(error).__name__, error))
         self.sent(200, "application/octet-stream", answer)
 
     def admitted(self):

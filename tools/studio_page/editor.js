@@ -62,12 +62,13 @@ export class Editor {
 
   get text() { return this.area.value; }
 
-  // Takes the place of the text; what stood there comes back by undoing.
+  // Takes the place of the text; what stood there comes back by undoing, unless one of them is very long.
   set text(text) {
     this.bad = null;
     this.area.focus({preventScroll: true});
     this.area.select();
-    if (!document.execCommand("insertText", false, text) || this.area.value !== text) this.area.value = text;
+    const isShort = Math.max(text.length, this.area.value.length) < COLOURED;
+    if (!isShort || !document.execCommand("insertText", false, text) || this.area.value !== text) this.area.value = text;
     this.area.setSelectionRange(0, 0);
     this.area.scrollTop = this.area.scrollLeft = 0;
     this.area.blur();
@@ -98,13 +99,19 @@ export class Editor {
     const lines = this.text.split("\n"), plain = this.text.length > COLOURED;
     this.lines = lines.length;
     this.sheet.classList.toggle("plain", plain);
+    if (plain) {
+      if (this.plainLines !== lines.length) this.gutter.textContent = lines.map((_, at) => at + 1).join("\n");
+      this.plainLines = lines.length;
+      this.ink.replaceChildren();
+      return this.follow();
+    }
+    this.plainLines = 0;
     const numbers = document.createDocumentFragment(), ink = document.createDocumentFragment();
     lines.forEach((line, at) => {
-      const bad = this.bad?.line === at + 1, rgb = plain ? null : colourOf(line);
-      const number = made("div", bad ? "bad" : "", String(at + 1));
+      const bad = this.bad?.line === at + 1, rgb = colourOf(line), number = made("div", bad ? "bad" : "", String(at + 1));
       if (rgb) number.append(chip(rgb));
       numbers.append(number);
-      if (!plain) ink.append(made("div", bad ? "bad" : "", "", ...coloured(line, bad ? this.bad.span : null), "\n"));
+      ink.append(made("div", bad ? "bad" : "", "", ...coloured(line, bad ? this.bad.span : null), "\n"));
     });
     this.gutter.replaceChildren(numbers);
     this.ink.replaceChildren(ink);

@@ -51,6 +51,7 @@ function open(name, text, pending = null) {
   page.name = name;
   page.pending = pending;
   machine.stop();
+  if (!pending) at("exercise").hidden = true;
   editor.text = text;
   picture.screen.keep(null);
   document.title = `${name} - pxplanes studio`;

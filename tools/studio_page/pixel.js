@@ -31,7 +31,7 @@ function memoryOf(state, fields, value, isChanged, used) {
     const row = made("tr", "", "", made("th", "", String(first)));
     for (let bit = first; bit < Math.min(state.bits, first + BITS_IN_ROW); bit++) {
       const own = fields.find(field => bit >= field.at && bit < field.at + field.length);
-      const kind = kinds(own?.name ?? "free", value(bit) && "on", isChanged(bit) && "changed", bit === next && "next");
+      const kind = kinds(own ? own.name : fields.length ? "free" : "", value(bit) && "on", isChanged(bit) && "changed", bit === next && "next");
       const cell = made("td", kind, String(value(bit)));
       cell.title = `bit ${bit}` + (own ? `: ${own.name}` + (own.length > 1 ? `, bit ${bit - own.at}` : "") : "");
       row.append(cell);

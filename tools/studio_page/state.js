@@ -24,6 +24,21 @@ export class State {
     return number;
   }
 
+  // The numbers in a field of all pixels, row by row.
+  numbers(at, length) {
+    const {width, height, perRow, perPlane, words} = this, found = new Float64Array(width * height);
+    for (let bit = 0; bit < length; bit++) {
+      const weight = 2 ** bit, plane = (at + bit) * perPlane;
+      for (let y = 0; y < height; y++) {
+        for (let column = 0; column < width; column += 32) {
+          let word = words[plane + y * perRow + (column >> 5)];
+          for (let to = y * width + column; word; word >>>= 1, to++) if (word & 1) found[to] += weight;
+        }
+      }
+    }
+    return found;
+  }
+
   // How many bits of a plane are 1.
   ones(plane) {
     let count = 0;
@@ -82,9 +97,6 @@ function keyViews(fields, key, label) {
 }
 
 function numberPaint(state, at, length, colour) {
-  const numbers = new Float64Array(state.width * state.height);
-  for (let y = 0, to = 0; y < state.height; y++)
-    for (let x = 0; x < state.width; x++) numbers[to++] = state.number(at, length, x, y);
-  const of = colour(numbers, 2 ** length - 1);
+  const numbers = state.numbers(at, length), of = colour(numbers, 2 ** length - 1);
   return place => of(numbers[place]);
 }
