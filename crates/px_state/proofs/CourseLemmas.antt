@@ -1,8 +1,7 @@
 -- The broadcasts of operations, one operation after another.
-use Rattle.std.proofs.Common.{◌≡◌, ℕ, suc, ◌+◌, ◌-◌, ◌*◌, ◌<◌, ◌≤◌, min, List, [], ◌∷◌, ◌++◌, length, take, drop, get_or, Some, refl, sym, ap, ◌∙◌, arith}
+use Rattle.std.proofs.Common.{◌≡◌, ℕ, suc, ◌+◌, ◌-◌, ◌*◌, ◌<◌, ◌≤◌, min, List, ◌∷◌, ◌++◌, length, take, drop, get_or, Some, sym, ap, ◌∙◌, arith}
 use Rattle.std.proofs.Common.{inl, inr, length-append}
 use Rattle.std.specs.List.{between, flat_map, slice_get}
-use Rattle.std.specs.Prelude.{All}
 use Rattle.std.proofs.Math.Seq.{drop-cons, take-append-add, take-append_seam}
 use Rattle.std.proofs.lemmas.Bool.{cases_lt}
 use Rattle.std.proofs.lemmas.List.{length-take-le, take-append-drop, take-append-le, take_all}
@@ -19,7 +18,7 @@ use Rattle.px_macro.specs.declared.operation.Macro.{Macro}
 use Rattle.px_macro.specs.declared.operation.Macro.TheVariants as op
 use Rattle.px_listing.specs.Listings.{ListingView}
 use Rattle.px_control.proofs.StepLemmas.{below_total, micro_here, start_more}
-use Rattle.px_state.specs.Courses.{HasCycle, IsNext, broadcasts, device_after, start_of, total}
+use Rattle.px_state.specs.Courses.{IsNext, broadcasts, device_after, start_of, total}
 
 -- the micro of a cycle is the broadcast at its clock
 pub broadcast_here : (l : ListingView) (k i : ℕ) (m : Macro) → slice_get l.macros k ≡ Some m → i < cycles m l.nx l.ny

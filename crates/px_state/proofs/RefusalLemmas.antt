@@ -1,6 +1,6 @@
 -- What is refused, and by which fault.
-use Rattle.std.proofs.Common.{◌≡◌, ℕ, ◌<◌, ◌≤◌, ◌^◌, Bool, true, false, nat_lt, Option, Some, None, Result, Err, Ok, inl, inr, refl, ap, sym, ◌∙◌, arith}
-use Rattle.std.specs.Option.{option_map, option_or}
+use Rattle.std.proofs.Common.{◌≡◌, ℕ, ◌<◌, ◌≤◌, ◌^◌, nat_lt, Option, Some, None, inl, inr, refl, ap, sym, ◌∙◌}
+use Rattle.std.specs.Option.{option_or}
 use Rattle.std.proofs.lemmas.Bool.{lt-ltb}
 use Rattle.px_num.proofs.TruthLaws.{lt_false}
 use Rattle.px_array.specs.Slots.{ArrayView}

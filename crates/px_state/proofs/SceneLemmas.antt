@@ -1,18 +1,17 @@
 -- The operations of a scene as those of a listing.
-use Rattle.std.proofs.Common.{◌≡◌, ℕ, ◌+◌, ◌<◌, Option, Some, None, refl, ap, ◌∙◌, arith, sym}
+use Rattle.std.proofs.Common.{◌≡◌, ℕ, ◌<◌, Option, Some, None, refl, ◌∙◌, arith, sym}
 use Rattle.std.specs.List.{slice_get}
 use Rattle.px_array.specs.Arrays.{Device}
 use Rattle.px_array.specs.declared.micro.Micro.{Micro}
 use Rattle.px_macro.specs.declared.operation.Macro.{Macro}
 use Rattle.px_model.specs.Scenes.{SceneView}
-use Rattle.px_sched.specs.Passes.{passes}
 use Rattle.px_control.specs.Program.{IsAt, array_after, micro_at_clock, operation_at, program}
 use Rattle.px_control.specs.Program as program
 use Rattle.px_control.specs.Standing.{StandsFor}
 use Rattle.px_control.specs.declared.place.Place.{Place}
 use Rattle.px_control.proofs.PlaceLemmas.{at_end, micro_is, operation_is}
 use Rattle.px_listing.specs.PassesText.{passes_listing}
-use Rattle.px_state.specs.Courses.{HasCycle, IsNext, broadcasts, device_after, start_of, total}
+use Rattle.px_state.specs.Courses.{HasCycle, IsNext, broadcasts, device_after, total}
 
 pub same_program : (scene : SceneView) → program scene ≡ broadcasts (passes_listing scene)
 unfolding program

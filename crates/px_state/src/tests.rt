@@ -7,7 +7,8 @@ const ONE_SOLID: &[u8] = b"pxscene 1\npicture 1 1\ndepth 4\nsolid a 200 100 50\n
     back 0 0 9\nshow a\nend\n";
 
 /// Of four columns and two rows: a number into a field, and its sum with a form.
-const LISTING: &[u8] = b"pxlist 1\ngrid 2 1\nall\nload-linear 1 4 2 3 5\nadd-linear 1 1 0 3 5\nend\n";
+const LISTING: &[u8] =
+    b"pxlist 1\ngrid 2 1\nall\nload-linear 1 4 2 3 5\nadd-linear 1 1 0 3 5\nend\n";
 
 /// How many words the state of a grid of 2 by 2 pixels with 72 memory bits has.
 const WORDS: usize = 76 * 2 + 2;

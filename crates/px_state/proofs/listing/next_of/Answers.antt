@@ -1,7 +1,7 @@
-use Rattle.std.proofs.Common.{◌≡◌, ◌+◌, ◌-◌, ◌<◌, ◌≤◌, length, get_or, subst, ap, ◌∙◌, arith}
-use Rattle.px_asm.specs.Micros.{cycles, micro_at}
+use Rattle.std.proofs.Common.{◌≡◌, ◌-◌, ◌<◌, length, get_or, ap, ◌∙◌, arith}
+use Rattle.px_asm.specs.Micros.{cycles}
 use Rattle.px_macro.specs.declared.operation.Macro.TheVariants as m
-use Rattle.px_listing.specs.Listings.{IsListing, ListingView}
+use Rattle.px_listing.specs.Listings.{ListingView}
 use Rattle.px_state.proofs.CourseLemmas.{begins, here_in, next_here}
 use Rattle.px_state.proofs.listing.next_of.Goals as goal
 

@@ -1,5 +1,5 @@
-use Rattle.std.proofs.Common.{◌≡◌, ◌+◌, ◌-◌, ◌<◌, ◌≤◌, length, get_or, min, subst, ap, ◌∙◌, arith}
-use Rattle.px_asm.specs.Micros.{cycles, micro_at}
+use Rattle.std.proofs.Common.{◌≡◌, ◌-◌, ◌<◌, length, get_or, min, subst, ap, ◌∙◌, arith}
+use Rattle.px_asm.specs.Micros.{cycles}
 use Rattle.px_macro.specs.declared.operation.Macro.TheVariants as m
 use Rattle.px_listing.specs.Listings.{IsListing, ListingView}
 use Rattle.px_state.proofs.CourseLemmas.{begins, columns_are, goes_on, here_in, rows_are}

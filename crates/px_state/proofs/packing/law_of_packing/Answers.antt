@@ -1,6 +1,5 @@
-use Rattle.std.proofs.Common.{◌≡◌, ◌==◌, sym, ap, ◌∙◌}
-use Rattle.px_array.specs.declared.micro.Micro.{Micro}
-use Rattle.px_state.specs.Packing.{act_number, bit_number, lines_number, place_of, tree_number, value_of}
+use Rattle.std.proofs.Common.{◌==◌, sym, ap, ◌∙◌}
+use Rattle.px_state.specs.Packing.{act_number, lines_number, place_of, tree_number, value_of}
 use Rattle.px_state.proofs.PackingLemmas.{act_back, act_with, bit_back, tree_back, tree_with}
 use Rattle.px_state.proofs.packing.law_of_packing.Goals as goal
 

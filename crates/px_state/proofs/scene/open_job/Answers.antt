@@ -1,4 +1,4 @@
-use Rattle.std.proofs.Common.{◌≡◌, Err, ap}
+use Rattle.std.proofs.Common.{Err, ap}
 use Rattle.px_listing.specs.PassesText.{passes_listing}
 use Rattle.px_state.proofs.RefusalLemmas.{job_leaves, job_refused, not_refused}
 use Rattle.px_state.proofs.scene.open_job.Goals as goal

@@ -1,4 +1,4 @@
-use Rattle.std.proofs.Common.{rules, ◌≡◌, ◌==◌, [], false, refl, sym, ap, unwrap_or}
+use Rattle.std.proofs.Common.{rules, ◌==◌, [], false, refl, sym, ap, unwrap_or}
 use Rattle.std.specs.List.{slice_get}
 use Rattle.std.proofs.lemmas.Iterator.Consumers.{YieldsList-at, YieldsList-end, YieldsList-turn, YieldsList-from_filter_map}
 use Rattle.std.proofs.lemmas.Iterator.Splits.{YieldsList-from_slice_split}

@@ -1,4 +1,4 @@
-use Rattle.std.proofs.Common.{rules, ◌≡◌, ◌==◌, [], Some, arith, refl, ap, ◌∙◌}
+use Rattle.std.proofs.Common.{rules, ◌==◌, [], Some, arith, refl, ap, ◌∙◌}
 use Rattle.std.specs.List.{before_first}
 use Rattle.std.proofs.lemmas.Iterator.Consumers.{YieldsList-at, YieldsList-end, YieldsList-turn, YieldsList-from_filter}
 use Rattle.std.proofs.lemmas.Iterator.Splits.{YieldsList-from_slice_split}

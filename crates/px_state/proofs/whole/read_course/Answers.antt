@@ -1,6 +1,6 @@
-use Rattle.std.proofs.Common.{◌≡◌, None, ap, sym, ◌∙◌}
+use Rattle.std.proofs.Common.{ap, sym, ◌∙◌}
 use Rattle.std.specs.Option.{option_map}
-use Rattle.px_state.specs.Refusals.{IsRefusedBy, list_fault}
+use Rattle.px_state.specs.Refusals.{list_fault}
 use Rattle.px_state.proofs.TextLemmas.{list_course, list_keeps, list_refused, list_text}
 use Rattle.px_state.proofs.whole.read_course.Goals as goal
 

@@ -1,6 +1,6 @@
-use Rattle.std.proofs.Common.{◌≡◌, ◌<◌, length, inr, arith}
+use Rattle.std.proofs.Common.{◌<◌, length, inr, arith}
 use Rattle.px_text.specs.declared.text.TheConstants.{MAX_TEXT_BYTES}
-use Rattle.px_state.specs.Refusals.{IsRefusedBy, text_refusal, too_long}
+use Rattle.px_state.specs.Refusals.{text_refusal, too_long}
 use Rattle.px_state.proofs.RefusalLemmas.{first_refused}
 use Rattle.px_state.proofs.TextLemmas.{long_text}
 use Rattle.px_state.proofs.whole.write_state.Goals as goal

@@ -1,7 +1,7 @@
-use Rattle.std.proofs.Common.{◌≡◌, ◌≢◌, ℕ, ◌<◌, ◌≤◌, length, get_or, set, ap, sym, ◌∙◌, arith, length-set, below_more}
+use Rattle.std.proofs.Common.{◌≡◌, ◌≢◌, ℕ, ◌<◌, length, get_or, set, ap, ◌∙◌, arith, length-set, below_more}
 use Rattle.std.proofs.lemmas.List.{drop-set-lt, get_or-set_other, get_or-set_same}
 use Rattle.px_num.specs.Bits.{nat_bit}
-use Rattle.px_state.specs.Parts.{IsPart, part_bit}
+use Rattle.px_state.specs.Parts.{IsPart}
 use Rattle.px_state.specs.Words.{room_of, state_bit}
 use Rattle.px_state.proofs.PlaceLemmas.{part_is}
 use Rattle.px_state.proofs.words.write_words.Goals as goal
