@@ -11,7 +11,7 @@ use Rattle.px_control.specs.Standing.{LeavesOnRefusal}
 use Rattle.px_control.specs.declared.fault.JobFault.{JobFault}
 use Rattle.px_control.specs.declared.fault.JobFault.TheVariants as job
 use Rattle.px_listing.specs.Listings.{ListingView}
-use Rattle.px_state.specs.Refusals.{IsRefusedBy, clock_refusal, course_refusal, job_fault, job_refusal, refused_by, refused_where}
+use Rattle.px_state.specs.Refusals.{HasSmallCount, IsRefusedBy, clock_refusal, course_refusal, job_fault, job_refusal, refused_by, refused_where}
 use Rattle.px_state.specs.Courses.{total}
 use Rattle.px_state.specs.Words.{room_of}
 use Rattle.px_state.specs.States.{LeavesArray}
@@ -42,6 +42,14 @@ job_refused bits scene (job.PixelMemory need) short many =
 job_refused bits scene (job.Products count) short many =
     let is = many count refl in inr (many_refused bits count scene is.0 is.1)
 job_refused bits scene job.Memory short many = inl refl
+
+pub job_small : (bits : ℕ) (scene : SceneView) (fault : JobFault)
+    → ((count : ℕ) → fault ≡ job.Products count
+    → (need_of (layout_of scene) ≤ bits) × (crowd_of scene ≡ Some count) × (count ≤ 2 ^ 21))
+    → HasSmallCount (job_fault fault)
+job_small bits scene (job.PixelMemory need) many = tt
+job_small bits scene (job.Products count) many = let is = many count refl in is.2
+job_small bits scene job.Memory many = tt
 
 pub job_leaves : (fault : JobFault) (bits : ℕ) (l : ListingView) (before now : ArrayView) → LeavesOnRefusal fault before now
     → LeavesArray (job_fault fault) bits l before now

@@ -14,7 +14,7 @@ use Rattle.px_listing.specs.Reading.{listing_of}
 use Rattle.px_listing.specs.Reading as listing
 use Rattle.px_listing.specs.declared.read.ListFault.{ListFault}
 use Rattle.px_listing.specs.declared.read.ListFault.TheVariants as list
-use Rattle.px_state.specs.Refusals.{IsRefusedBy, course_of, is_listing, job_refusal, list_fault, scene_fault, text_refusal, too_long}
+use Rattle.px_state.specs.Refusals.{HasSmallCount, IsRefusedBy, course_of, is_listing, job_refusal, list_fault, scene_fault, text_refusal, too_long}
 use Rattle.px_state.specs.States.{KeepsArray}
 use Rattle.px_state.specs.declared.fault.StateFault.{StateFault}
 
@@ -51,6 +51,16 @@ pub scene_refused : (fault : SceneFault) (refusal : Option SceneFault) (job : Op
     → IsRefusedBy (scene_fault fault) (option_or (option_map scene_fault refusal) job)
 scene_refused fault refusal job (inl memory) = inl (ap scene_fault memory)
 scene_refused fault refusal job (inr is) = inr (rw is refl)
+
+pub list_small : (fault : ListFault) → HasSmallCount (list_fault fault)
+list_small (list.Malformed line cause) = tt
+list_small (list.Limit line kind found) = tt
+list_small list.Memory = tt
+
+pub scene_small : (fault : SceneFault) → HasSmallCount (scene_fault fault)
+scene_small (scene.Malformed line cause) = tt
+scene_small (scene.Limit line kind found) = tt
+scene_small scene.Memory = tt
 
 pub list_keeps : (fault : ListFault) → KeepsArray (list_fault fault)
 list_keeps (list.Malformed line cause) bits l array = refl

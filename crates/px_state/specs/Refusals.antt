@@ -1,5 +1,5 @@
 -- Why a text has no state and no micros, where it has none. Clauses of public calls stand on it.
-use Rattle.std.specs.Prelude.{◌≡◌, ℕ, ◌+◌, ◌⊎◌, Bool, true, false, pos, List, [], ◌∷◌, length, nat_lt, if◌then◌else◌, Option, Some, None, codes, unwrap_or, ◌==◌}
+use Rattle.std.specs.Prelude.{◌≡◌, ℕ, ◌+◌, ◌≤◌, ◌^◌, ◌⊎◌, ⊤, Bool, true, false, pos, List, [], ◌∷◌, length, nat_lt, if◌then◌else◌, Option, Some, None, codes, unwrap_or, ◌==◌}
 use Rattle.std.specs.List.{filter_map, slice_get, slice_split}
 use Rattle.std.specs.Option.{option_map, option_or}
 use Rattle.std.specs.Str.{bytes_eq}
@@ -97,6 +97,21 @@ state_refusal bits text clock room = option_or (text_refusal bits text) (course_
 -- why a text has not so many micros from a clock on
 abbrev pub micros_refusal : (bits : ℕ) → List ℕ → (first count : ℕ) → Option StateFault
 micros_refusal bits text first count = option_or (text_refusal bits text) (clock_refusal (course_of text) (first + count))
+
+-- a list of products that is past the limit has at most so many
+abbrev pub HasFewProducts : JobFault → Type 0
+HasFewProducts (job.PixelMemory need) = ⊤
+HasFewProducts (job.Products count) = count ≤ 2 ^ 21
+HasFewProducts job.Memory = ⊤
+
+-- and so of a fault that tells its length
+abbrev pub HasSmallCount : StateFault → Type 0
+HasSmallCount (f.Scene fault) = ⊤
+HasSmallCount (f.Job fault) = HasFewProducts fault
+HasSmallCount (f.Listing fault) = ⊤
+HasSmallCount (f.NoClock clocks) = ⊤
+HasSmallCount (f.NoRoom room) = ⊤
+HasSmallCount f.Memory = ⊤
 
 -- a fault is the want of memory, or else exactly the refusal
 abbrev pub IsRefusedBy : StateFault → Option StateFault → Type 0

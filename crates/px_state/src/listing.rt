@@ -3,7 +3,7 @@ ghost use Rattle.std.specs.Prelude.{◌≡◌, ◌⊎◌, ◌≤◌, ◌<◌, �
 ghost use Rattle.px_array.specs.Arrays.{opened};
 ghost use Rattle.px_macro.specs.Macros.{IsLawful};
 ghost use Rattle.px_state.specs.Courses.{IsNext, device_after, total};
-ghost use Rattle.px_state.specs.Refusals.{IsRefusedBy, course_refusal};
+ghost use Rattle.px_state.specs.Refusals.{HasSmallCount, IsRefusedBy, course_refusal};
 ghost use Rattle.px_array.specs.Slots.{array_view, worked};
 ghost use Rattle.px_state.specs.States.{IsDrawn, IsState, LeavesArray};
 ghost use Rattle.px_state.specs.Words.{HasWords};
@@ -31,6 +31,7 @@ pub(crate) fn state_of_listing<A: Operating>(
         (device_after A.BITS listing.now clock).state words.old words.new) }
     ensures err { IfErr result (λ fault.
         IsRefusedBy fault (course_refusal A.BITS listing.now clock (length words.old))) }
+    ensures small { IfErr result HasSmallCount }
     ensures kept { OnErr result (words.new ≡ words.old) }
     ensures length { length words.new ≡ length words.old }
     ensures array { OnOk result (IsDrawn A.BITS listing.now clock

@@ -11,7 +11,7 @@ ghost use Rattle.px_listing.specs.PassesText.{passes_listing};
 ghost use Rattle.px_macro.specs.Macros.{IsLawful};
 ghost use Rattle.px_tree.specs.Nodes.{IsGrid};
 ghost use Rattle.px_state.specs.Packed.{HasMicros};
-ghost use Rattle.px_state.specs.Refusals.{IsRefusedBy, clock_refusal, job_refusal};
+ghost use Rattle.px_state.specs.Refusals.{HasSmallCount, IsRefusedBy, clock_refusal, job_refusal};
 ghost use Rattle.px_state.specs.States.{IsCourse};
 
 use crate::fault::StateFault;
@@ -40,6 +40,7 @@ pub(crate) fn micros_of_listing(
     ensures micros { OnOk result (HasMicros listing.now first micros.new) }
     ensures err { IfErr result (λ fault.
         clock_refusal listing.now (first + length micros.old) ≡ Some fault) }
+    ensures small { IfErr result HasSmallCount }
     ensures kept { OnErr result (micros.new ≡ micros.old) }
     ensures length { length micros.new ≡ length micros.old }
 {
@@ -83,6 +84,7 @@ pub(crate) fn micros_of_scene(
     ensures micros { OnOk result (HasMicros (passes_listing scene.now) first micros.new) }
     ensures err { IfErr result (λ fault. IsRefusedBy fault (option_or (job_refusal bits scene.now)
         (clock_refusal (passes_listing scene.now) (first + length micros.old)))) }
+    ensures small { IfErr result HasSmallCount }
     ensures kept { OnErr result (micros.new ≡ micros.old) }
     ensures length { length micros.new ≡ length micros.old }
 {
@@ -102,6 +104,7 @@ fn drawing_of(alloc: Global, scene: &Scene, bits: u32) -> Result<(Layout, Plan),
     ensures few { OnOk result (length (plan_of scene.now) ≤ MAX_PRODUCTS) }
     ensures ok { OnOk result (job_refusal bits scene.now ≡ None) }
     ensures err { IfErr result (λ fault. IsRefusedBy fault (job_refusal bits scene.now)) }
+    ensures small { IfErr result HasSmallCount }
 {
     let layout = match Layout::of(scene, bits) {
         Ok(layout) => layout,

@@ -3,7 +3,7 @@ ghost use Rattle.std.specs.Prelude.{◌≡◌, ◌⊎◌, ◌≤◌, ◌<◌, �
 ghost use Rattle.px_listing.specs.PassesText.{passes_listing};
 ghost use Rattle.px_control.specs.Program.{IsAt, total};
 ghost use Rattle.px_state.specs.Courses.{IsNext, device_after};
-ghost use Rattle.px_state.specs.Refusals.{IsRefusedBy, course_refusal, job_refusal};
+ghost use Rattle.px_state.specs.Refusals.{HasSmallCount, IsRefusedBy, course_refusal, job_refusal};
 ghost use Rattle.px_array.specs.Slots.{IsRunOnce, array_view};
 ghost use Rattle.px_state.specs.States.{IsDrawn, IsState, LeavesArray};
 ghost use Rattle.px_state.specs.Words.{HasWords};
@@ -34,6 +34,7 @@ pub(crate) fn state_of_scene<A: Operating>(
         (device_after A.BITS (passes_listing scene.now) clock).state words.old words.new) }
     ensures err { IfErr result (λ fault. IsRefusedBy fault (option_or (job_refusal A.BITS scene.now)
         (course_refusal A.BITS (passes_listing scene.now) clock (length words.old)))) }
+    ensures small { IfErr result HasSmallCount }
     ensures kept { OnErr result (words.new ≡ words.old) }
     ensures length { length words.new ≡ length words.old }
     ensures array { OnOk result (IsDrawn A.BITS (passes_listing scene.now) clock
@@ -75,6 +76,7 @@ fn open_job<'s, A: Operating>(
     ensures once { OnOk result (IsRunOnce
         (array_view (A.device array.new) (A.slots array.new) (A.work array.new))) }
     ensures err { IfErr result (λ fault. IsRefusedBy fault (job_refusal A.BITS scene.now)) }
+    ensures small { IfErr result HasSmallCount }
     ensures refused { IfErr result (λ fault. LeavesArray fault A.BITS (passes_listing scene.now)
         (array_view (A.device array.old) (A.slots array.old) (A.work array.old))
         (array_view (A.device array.new) (A.slots array.new) (A.work array.new))) }

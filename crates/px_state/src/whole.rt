@@ -5,7 +5,7 @@ ghost use Rattle.px_listing.specs.PassesText.{passes_listing};
 ghost use Rattle.px_macro.specs.Macros.{IsLawful};
 ghost use Rattle.px_text.specs.declared.text.TheConstants.{MAX_TEXT_BYTES};
 ghost use Rattle.px_state.specs.Packed.{HasMicros};
-ghost use Rattle.px_state.specs.Refusals.{IsRefusedBy, course_of, is_listing, job_refusal, micros_refusal, state_refusal, text_refusal, too_long};
+ghost use Rattle.px_state.specs.Refusals.{HasSmallCount, IsRefusedBy, course_of, is_listing, job_refusal, micros_refusal, state_refusal, text_refusal, too_long};
 ghost use Rattle.px_array.specs.Slots.{array_view};
 ghost use Rattle.px_state.specs.States.{IsCourse, IsDrawn, IsState, KeepsArray, LeavesArray};
 ghost use Rattle.px_state.specs.Words.{HasWords};
@@ -44,6 +44,7 @@ pub fn write_state<A: Operating>(
         (device_after A.BITS (course_of text.now) clock).state words.old words.new) }
     ensures err { IfErr result (λ fault.
         IsRefusedBy fault (state_refusal A.BITS text.now clock (length words.old))) }
+    ensures small { IfErr result HasSmallCount }
     ensures kept { OnErr result (words.new ≡ words.old) }
     ensures length { length words.new ≡ length words.old }
     ensures array { OnOk result (IsDrawn A.BITS (course_of text.now) clock
@@ -88,6 +89,7 @@ pub fn write_micros(
     ensures micros { OnOk result (HasMicros (course_of text.now) first micros.new) }
     ensures err { IfErr result (λ fault.
         IsRefusedBy fault (micros_refusal bits text.now first (length micros.old))) }
+    ensures small { IfErr result HasSmallCount }
     ensures kept { OnErr result (micros.new ≡ micros.old) }
     ensures length { length micros.new ≡ length micros.old }
 {
@@ -118,6 +120,7 @@ fn read_course(alloc: Global, text: &[u8], bits: u32) -> Result<Listing, StateFa
     ensures course { IfOk result (λ listing. course_of text.now ≡ listing) }
     ensures lawful { IfOk result (λ listing. All (λ m. IsLawful m bits) listing.macros) }
     ensures err { IfErr result (λ fault. IsRefusedBy fault (text_refusal bits text.now)) }
+    ensures small { IfErr result HasSmallCount }
     ensures keeps { IfErr result KeepsArray }
 {
     match read_listing(alloc, text, bits) {
@@ -133,6 +136,7 @@ fn read_drawing(alloc: Global, text: &[u8]) -> Result<Scene, StateFault>
     ensures ok { IfOk result (λ scene. (bits : ℕ) → text_refusal bits text.now ≡ job_refusal bits scene) }
     ensures course { IfOk result (λ scene. course_of text.now ≡ passes_listing scene) }
     ensures err { IfErr result (λ fault. (bits : ℕ) → IsRefusedBy fault (text_refusal bits text.now)) }
+    ensures small { IfErr result HasSmallCount }
     ensures keeps { IfErr result KeepsArray }
 {
     match read_scene(alloc, text) {

@@ -1,7 +1,7 @@
 use Rattle.std.proofs.Common.{ap, sym, ◌∙◌}
 use Rattle.std.specs.Option.{option_map}
 use Rattle.px_state.specs.Refusals.{list_fault}
-use Rattle.px_state.proofs.TextLemmas.{list_course, list_keeps, list_refused, list_text}
+use Rattle.px_state.proofs.TextLemmas.{list_course, list_keeps, list_refused, list_small, list_text}
 use Rattle.px_state.proofs.whole.read_course.Goals as goal
 
 pub returns-in-Ok-clause-ok : goal.returns-in-Ok-clause-ok
@@ -19,3 +19,6 @@ returns-in-Err-clause-err c =
 
 pub returns-in-Err-clause-keeps : goal.returns-in-Err-clause-keeps
 returns-in-Err-clause-keeps c = rw c.from.ensures (list_keeps c.in-Err.fault)
+
+pub returns-in-Err-clause-small : goal.returns-in-Err-clause-small
+returns-in-Err-clause-small c = rw c.from.ensures (list_small c.in-Err.fault)

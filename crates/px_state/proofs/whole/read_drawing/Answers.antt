@@ -4,7 +4,7 @@ use Rattle.px_text.specs.Text.{worded}
 use Rattle.px_scene.specs.Reading.{scene_of}
 use Rattle.px_listing.specs.PassesText.{passes_listing}
 use Rattle.px_state.specs.Refusals.{job_refusal, scene_fault}
-use Rattle.px_state.proofs.TextLemmas.{scene_course, scene_keeps, scene_refused, scene_text}
+use Rattle.px_state.proofs.TextLemmas.{scene_course, scene_keeps, scene_refused, scene_small, scene_text}
 use Rattle.px_state.proofs.whole.read_drawing.Goals as goal
 
 pub returns-in-Ok-clause-ok : goal.returns-in-Ok-clause-ok
@@ -23,3 +23,6 @@ returns-in-Err-clause-err c bits =
 
 pub returns-in-Err-clause-keeps : goal.returns-in-Err-clause-keeps
 returns-in-Err-clause-keeps c = rw c.from.ensures (scene_keeps c.in-Err.fault)
+
+pub returns-in-Err-clause-small : goal.returns-in-Err-clause-small
+returns-in-Err-clause-small c = rw c.from.ensures (scene_small c.in-Err.fault)
