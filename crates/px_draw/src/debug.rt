@@ -63,11 +63,7 @@ pub(crate) fn debug<S: Asks<O>, O: Sink, A: Operating>(
 }
 
 /// Reads the input until its scene part is whole, or to its end or its limit.
-fn open_input<S: Asks<O>, O: Sink>(
-    alloc: Global,
-    input: &mut S,
-    out: &O,
-) -> Result<Opening, Stop>
+fn open_input<S: Asks<O>, O: Sink>(alloc: Global, input: &mut S, out: &O) -> Result<Opening, Stop>
     ensures opens { IfOk result (λ o. Opens o (S.rest input.old) (S.rest input.new)) }
     ensures err { IfErr result (λ stop. IsOpenStop stop (S.rest input.old) (S.rest input.new)) }
     ensures most { ConsumesAtMost (S.rest input.old) (S.rest input.new) READ_LIMIT }

@@ -19,9 +19,9 @@ seen_longer : (s : Search) (text more : List ℕ) → HasSeen s text → HasSeen
 seen_longer s text more seen =
     let front : take s.at (text ++ more) ≡ take s.at text = take-append-le s.at text more seen.within in
     let behind : drop s.line (text ++ more) ≡ drop s.line text ++ more =
-        drop-append-le s.line text more (omega (arith, seen.order, seen.within)) in
+    drop-append-le s.line text more (omega (arith, seen.order, seen.within)) in
     let line : take (s.at - s.line) (drop s.line text ++ more) ≡ take (s.at - s.line) (drop s.line text) =
-        take-append-le (s.at - s.line) (drop s.line text) more (omega (arith, seen.within, length-drop s.line text)) in
+    take-append-le (s.at - s.line) (drop s.line text) more (omega (arith, seen.within, length-drop s.line text)) in
     record {
       order = seen.order;
       within = omega (arith, seen.within, length-append text more);
@@ -39,8 +39,8 @@ seen_more s old new limit n seen front =
     let in_front : length (take n new) ≤ n = rw (length-take n new) (min-le_left n (length new)) in
     let below : length (take limit old) ≤ n = omega (arith, in_old, in_front, ap length front) in
     let same : take limit old ≡ take j (take limit new) =
-        sym (take_all j (take limit old) (omega arith)) ∙ take-take j limit old under ∙ ap (take j) (sym front)
-        ∙ take-take j n new below ∙ sym (take-take j limit new under) in
+    sym (take_all j (take limit old) (omega arith)) ∙ take-take j limit old under ∙ ap (take j) (sym front)
+    ∙ take-take j n new below ∙ sym (take-take j limit new under) in
     rw (sym (take-append-drop j (take limit new)))
     (seen_longer s (take j (take limit new)) (drop j (take limit new)) (rw (sym same) seen))
 

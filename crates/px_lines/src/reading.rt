@@ -77,7 +77,7 @@ fn read_piece<S: Asks<O>, O: Sink>(
     ensures heard { (begun : Begun) → Heard begun (S.asks input.old) (S.rest input.old)
         (O.written out.now) bytes.old.items →
         OnOk result (Heard begun (S.asks input.new) (S.rest input.new) (O.written out.now)
-            bytes.new.items) }
+        bytes.new.items) }
     ensures bytes { OnOk result (take (vec_len bytes.old) bytes.new.items ≡ bytes.old.items) }
     ensures failed { (begun : Begun) → Heard begun (S.asks input.old) (S.rest input.old)
         (O.written out.now) bytes.old.items →
@@ -85,7 +85,7 @@ fn read_piece<S: Asks<O>, O: Sink>(
     ensures err { (begun : Begun) → Heard begun (S.asks input.old) (S.rest input.old)
         (O.written out.now) bytes.old.items →
         OnErr result (ConsumesAtMost begun.rest (S.rest input.new)
-            (vec_len bytes.old + length piece.old)) }
+        (vec_len bytes.old + length piece.old)) }
     ensures count { IfOk result (λ n.
         (n ≤ length piece.old) × (vec_len bytes.new ≡ vec_len bytes.old + n)) }
     ensures end { IfOk result (λ n. n ≡ 0 → IsAtEnd (S.rest input.new)) }
@@ -96,7 +96,7 @@ fn read_piece<S: Asks<O>, O: Sink>(
     ensures listened { (begun : Begun) → Heard begun (S.asks input.old) (S.rest input.old)
         (O.written out.now) bytes.old.items →
         OnErr result (ListenedTo begun.asks (S.asks input.new) (O.written out.now) begun.rest
-            (S.rest input.new)) }
+        (S.rest input.new)) }
 {
     let count = input.ask(out, piece)?;
     bytes.extend_from_slice(&piece[..count])?;

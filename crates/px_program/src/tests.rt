@@ -95,9 +95,7 @@ fn three_rows(alloc: Global, command: &str, failing: u64) -> Result<Status, Fail
     words.push(String::from_str(alloc, command)?)?;
     let mut array = PlaneArray::<72>::new(alloc);
     let words = words.as_slice();
-    Ok(run(
-        alloc, words, &mut input, &mut out, &mut notes, &mut array,
-    ))
+    Ok(run(alloc, words, &mut input, &mut out, &mut notes, &mut array))
 }
 
 /// What a command writes goes to its sink in no more calls than this, finishing included: of an image a

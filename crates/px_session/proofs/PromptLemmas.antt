@@ -19,9 +19,12 @@ prompt_more : (bits : ℕ) (s : SessionView) (w : Option (List ℕ)) (text : Lis
     → Appends w a.told (answers bits s (whole_lines (text ++ all_given xs)))
     → has_quit (whole_lines (text ++ all_given xs)) ≡ false → Prompt bits s w text (xs ++ a ∷ [])
 prompt_more bits s w text [] a p q quiet = (rw (append-nil text) at q, rw (append-nil text) at quiet, tt)
-prompt_more bits s w text (x ∷ xs) a p q quiet =
-    (p.0, p.1, prompt_more bits s w (text ++ x.bytes) xs a p.2 (rw (append_assoc text x.bytes (all_given xs)) q)
-    (rw (append_assoc text x.bytes (all_given xs)) quiet))
+prompt_more bits s w text (x ∷ xs) a p q quiet = (
+  p.0,
+  p.1,
+  prompt_more bits s w (text ++ x.bytes) xs a p.2 (rw (append_assoc text x.bytes (all_given xs)) q)
+      (rw (append_assoc text x.bytes (all_given xs)) quiet),
+)
 
 whole_answers : (bits : ℕ) (s : SessionView) (text : List ℕ) → answers bits s (short_ended [] text) ≡ answers bits s (whole_lines text)
 whole_answers bits s text = rw (whole_short text) (answers_short bits s (whole_lines text))
@@ -62,9 +65,9 @@ caught_fed bits b t u h k c d r s w x f g bytes fed caught noted took is answere
     let more = prompts_ask bits b t h c d r s w f bytes caught noted took in
     let text = b.read ++ all_given caught.asks in
     let whole : b.read ++ all_given (caught.asks ++ one ∷ []) ≡ text ++ bytes =
-        rw (given-one caught.asks one) (sym (append_assoc b.read (all_given caught.asks) bytes)) in
+    rw (given-one caught.asks one) (sym (append_assoc b.read (all_given caught.asks) bytes)) in
     let lines : short_ended [] (text ++ bytes) ≡ short_ended [] text ++ short_ended h bytes =
-        rw caught.kept (ended-append [] text bytes) in
+    rw caught.kept (ended-append [] text bytes) in
     record {
       asks = caught.asks ++ one ∷ [];
       asked = more.asked;
