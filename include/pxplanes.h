@@ -171,7 +171,7 @@ struct pxplanes_state {
     uint64_t clocks;          /* clocks that there are */
     uint64_t operation;       /* operation of the broadcast that comes next, from 0; at the end how many there are */
     uint64_t operation_clock; /* which of that operation's clocks it is, from 0; at the end 0 */
-    uint64_t next_micro;      /* what is broadcast then, packed (see pxplanes_micros); at the end 0, which no micro is */
+    uint64_t next_micro;      /* what is broadcast then, packed (see pxplanes_micros); at the end 0 */
 };
 
 /*
@@ -214,8 +214,8 @@ uint32_t pxplanes_state(const uint8_t *text, size_t text_len, uint64_t clock, ui
  *   bits 48, 49    what the tree does: 0 hold, 1 clear, 2 feed
  *   bits 56 to 58  the lines a, b and c of a feed, and else 0
  *
- * All other bits are 0. Texts are read as by pxplanes_state. NO_CLOCK is answered where first + micros_len is past
- * the last clock; then no element is written. NO_ROOM is not answered.
+ * All other bits are 0, and no microinstruction is 0. Texts are read as by pxplanes_state. NO_CLOCK is answered
+ * where first + micros_len is past the last clock; then no element is written. NO_ROOM is not answered.
  */
 uint32_t pxplanes_micros(const uint8_t *text, size_t text_len, uint64_t first, uint64_t *micros, size_t micros_len,
                          struct pxplanes_found *found);
