@@ -3,8 +3,9 @@
  *
  * A scene is a text (docs/SCENES.md). Its picture has, for each pixel, the depth of the first cell that
  * belongs to the shown expression, and the number of the face that shows there (docs/PICTURE.md). These calls
- * read a scene and give its size, its cost, its picture, its colours, or the products that are drawn. Each
- * answers what the program answers for the same text, and that is proved (docs/PROMISES.md).
+ * read a scene and give its size, its cost, its picture, its colours, or the products that are drawn; and, of a
+ * scene or of a listing of operations (docs/LISTINGS.md), the machine after any number of clocks, and what is
+ * broadcast to it (docs/MACHINE.md). What each answers is proved (docs/PROMISES.md).
  *
  * A whole program:
  *
@@ -46,8 +47,8 @@
  *
  * What you owe:
  *   - A pointer to a buffer points to as many elements as its length says. With length 0 it may be null.
- *   - No two buffers of one call overlap, nor the text, nor *found. Nothing else writes to any of them, or reads
- *     what a call writes, before the call returns.
+ *   - No two buffers of one call overlap, nor the text, nor *found, nor *state. Nothing else writes to any of them,
+ *     or reads what a call writes, before the call returns.
  *   - No call is made from a signal handler, nor in the child of a fork of a process with threads, and none is
  *     left by longjmp.
  *   - malloc, realloc and free are those of one allocator.
@@ -57,7 +58,7 @@
  *     independent of one another, so any number of threads may make them at once, each with buffers of its own.
  *   - A call takes memory only by malloc and realloc, and gives all of it back before it returns.
  *   - A buffer is written with PXPLANES_OK alone: its front is what the call says, and what lies behind that stays
- *     as it was. With every other status each buffer is as it was. *found is written on every return.
+ *     as it was. With every other status each buffer is as it was. *found and *state are written on every return.
  *   - The stack that a call needs does not depend on the text. Some 256 KiB are enough.
  */
 #ifndef PXPLANES_H
@@ -72,10 +73,11 @@ extern "C" {
 
 /* How a call ends; the numbers are the program's own, where it has them. */
 #define PXPLANES_OK 0        /* what was asked is in the buffers */
-#define PXPLANES_MALFORMED 3 /* the text is no scene: found.line is its first bad line, found.cause says why */
-#define PXPLANES_LIMIT 4     /* a limit is passed: found.kind, found.number and found.line say which, by how much, where */
+#define PXPLANES_MALFORMED 3 /* no scene, or no listing: found.line is the first bad line, found.cause says why */
+#define PXPLANES_LIMIT 4     /* a limit is passed: found.kind, found.number and found.line say which, how many, where */
 #define PXPLANES_MEMORY 7    /* malloc or realloc gave no memory */
 #define PXPLANES_NO_ROOM 8   /* a buffer is too small: found.room is how many elements it needs. Nothing was drawn */
+#define PXPLANES_NO_CLOCK 9  /* what is asked lies past the last clock: found.clocks is how many there are */
 
 /* A text has at most so many bytes, and a picture at most so many columns and rows. */
 #define PXPLANES_MAX_TEXT 1048576
@@ -89,6 +91,12 @@ extern "C" {
  *   LIMIT      kind, number, and line where the limit is passed in one line
  *   MEMORY     (none)
  *   NO_ROOM    as OK, and room
+ *
+ * Of pxplanes_state and pxplanes_micros, which look at no picture:
+ *
+ *   OK         operations, clocks
+ *   NO_ROOM    room
+ *   NO_CLOCK   clocks
  */
 struct pxplanes_found {
     uint32_t width;      /* columns of the picture, 1 to 512 */
@@ -98,7 +106,7 @@ struct pxplanes_found {
     uint32_t cause;      /* why that line is bad, from 1: pxplanes_cause_name has the word */
     uint32_t kind;       /* which limit is passed, from 1: pxplanes_kind_name has the word */
     int64_t number;      /* what was found there, as the program prints it: a count, or a number of the text */
-    uint64_t operations; /* broadcast operations that draw the picture */
+    uint64_t operations; /* broadcast operations that draw the picture, or of the listing */
     uint64_t clocks;     /* clocks that they take the machine (docs/PASSES.md) */
     uint64_t room;       /* elements that the buffer, or each of the two, has to have */
 };
@@ -148,6 +156,69 @@ uint32_t pxplanes_colour(const uint8_t *text, size_t text_len, uint8_t *rgb, siz
  */
 uint32_t pxplanes_products(const uint8_t *text, size_t text_len, int32_t *literals, size_t literals_len,
                            struct pxplanes_found *found);
+
+/* Memory bits of a pixel of the machine. */
+#define PXPLANES_BITS 72
+
+/* Where the machine stands. pxplanes_state writes all fields on every return; with another status than OK each is 0. */
+struct pxplanes_state {
+    uint32_t grid_width;      /* columns of the grid of pixels: 2, 4, .. 512 */
+    uint32_t grid_height;     /* its rows: 2, 4, .. 512 */
+    uint32_t words_per_row;   /* words that a row of a plane has: one for each 64 columns */
+    uint32_t bits;            /* memory bits of a pixel: PXPLANES_BITS */
+    uint32_t levels;          /* levels of the multiplier tree; level k has 2^k nodes, and the last has one a pixel */
+    uint64_t clock;           /* clocks that were made, as asked */
+    uint64_t clocks;          /* clocks that there are */
+    uint64_t operation;       /* operation of the broadcast that comes next, from 0; at the end how many there are */
+    uint64_t operation_clock; /* which of that operation's clocks it is, from 0; at the end 0 */
+    uint64_t next_micro;      /* what is broadcast then, packed (see pxplanes_micros); at the end 0 */
+};
+
+/*
+ * Finds the machine after the first `clock` clocks of a scene or of a listing: a text whose first word is "pxlist"
+ * is a listing, and every other one a scene. A listing is read for pixels of 72 memory bits. Clock 0 is before the
+ * first broadcast, where every bit is 0, and clock found.clocks is behind the last.
+ *
+ * words: found.room of them, or more: the bits of the machine, all in one list.
+ *   - First PXPLANES_BITS + 4 planes, each of grid_height rows from row 0, each of words_per_row words from column 0:
+ *     the bits of memory from bit 0 on, then enable, carry and latch, and last the leaf, which is what the tree gives
+ *     the pixel. Bit i of word w of a row is the pixel of column 64 * w + i, and 0 past the last column. So memory
+ *     bit b of pixel (x, y) is
+ *         words[((size_t) b * state.grid_height + y) * state.words_per_row + x / 64] >> x % 64 & 1
+ *   - Then the outputs of all nodes of the tree, and behind them their carries, each (2^(levels + 1) + 63) / 64
+ *     words: node i of level k, with levels from 1, is bit (2^k + i) % 64 of word (2^k + i) / 64. Bits 0 and 1 are 0.
+ *
+ * The text is refused as by pxplanes_check, and a listing as docs/LISTINGS.md says, by the same numbers of causes and
+ * by kinds of its own. NO_CLOCK is answered where clock is past the last, and else NO_ROOM. The room does not depend
+ * on the clock. So for the first words of a scene:
+ *
+ *     struct pxplanes_state state;
+ *     uint64_t *words = NULL;
+ *     uint32_t status = pxplanes_state(text, text_len, 40, NULL, 0, &state, &found);
+ *     if (status == PXPLANES_NO_ROOM && (words = malloc((size_t) found.room * sizeof *words)) != NULL)
+ *         status = pxplanes_state(text, text_len, 40, words, (size_t) found.room, &state, &found);
+ */
+uint32_t pxplanes_state(const uint8_t *text, size_t text_len, uint64_t clock, uint64_t *words, size_t words_len,
+                        struct pxplanes_state *state, struct pxplanes_found *found);
+
+/*
+ * Writes what is broadcast in micros_len clocks of a scene or of a listing, from clock `first` on, counted from 0: a
+ * microinstruction in each element. With micros_len 0 nothing but found is written, and found.clocks is how many
+ * there are.
+ *
+ *   bits 0 to 31   the place of memory that the act names, and else 0
+ *   bits 32 to 39  the act: 1 nop, 2 enable-all, 3 enable-carry, 4 enable-tree, 5 enable-bit, 6 set-carry, 7 fetch,
+ *                  8 store-tree, 9 store-latch, 10 store-const, 11 toggle, 12 carry-tree, 13 carry-latch,
+ *                  14 add-tree (docs/MACHINE.md, "The fourteen acts")
+ *   bit 40         the value that it names, and else 0
+ *   bits 48, 49    what the tree does: 0 hold, 1 clear, 2 feed
+ *   bits 56 to 58  the lines a, b and c of a feed, and else 0
+ *
+ * All other bits are 0, and no microinstruction is 0. Texts are read as by pxplanes_state. NO_CLOCK is answered
+ * where first + micros_len is past the last clock; then no element is written. NO_ROOM is not answered.
+ */
+uint32_t pxplanes_micros(const uint8_t *text, size_t text_len, uint64_t first, uint64_t *micros, size_t micros_len,
+                         struct pxplanes_found *found);
 
 /*
  * The word of found.cause, as "unexpected"; of found.kind, as "solids"; and the version of the library, as

@@ -2,11 +2,16 @@
 ghost use Rattle.std.specs.Prelude.{◌≡◌, ◌≤◌, ◌^◌, ℕ};
 ghost use Rattle.px_control.specs.declared.fault.JobFault.{JobFault};
 ghost use Rattle.px_c.specs.Answers.{refused, scene_fault};
+ghost use Rattle.px_state.specs.Refusals.{HasSmallCount};
+ghost use Rattle.px_c.specs.StateAnswers.{list_refused, state_refused};
+ghost use Rattle.px_c.specs.declared.status.TheConstants.{OK};
 
-use crate::found::{Found, cause_number, kind_number, nothing};
-use crate::status::{LIMIT, MALFORMED, MEMORY};
+use crate::found::{Found, cause_number, kind_number, list_number, nothing};
+use crate::status::{LIMIT, MALFORMED, MEMORY, NO_CLOCK, NO_ROOM};
 use px_control::JobFault;
+use px_listing::ListFault;
 use px_scene::{LimitKind, SceneFault};
+use px_state::StateFault;
 
 /// What a call answers.
 #[derive(Clone, Copy, Debug, PartialEq, Eq)]
@@ -72,5 +77,56 @@ pub(crate) fn scene_fault(fault: JobFault) -> SceneFault
             found: count as i64,
         },
         JobFault::Memory => SceneFault::Memory,
+    }
+}
+
+/// The answer to a listing that is refused.
+pub(crate) fn list_refused(fault: ListFault) -> Answer
+    ensures { result ≡ list_refused fault }
+{
+    match fault {
+        ListFault::Malformed { line, cause } => Answer {
+            status: MALFORMED,
+            found: Found {
+                line,
+                cause: cause_number(cause),
+                ..nothing()
+            },
+        },
+        ListFault::Limit { line, kind, found } => Answer {
+            status: LIMIT,
+            found: Found {
+                line,
+                kind: list_number(kind),
+                number: found,
+                ..nothing()
+            },
+        },
+        ListFault::Memory => refused(SceneFault::Memory),
+    }
+}
+
+/// The answer where there is no state, or there are no micros.
+pub(crate) fn state_refused(fault: StateFault) -> Answer
+    requires { HasSmallCount fault }
+    ensures answer { result ≡ state_refused fault }
+    ensures refused { result.status ≡ OK → ⊥ }
+{
+    match fault {
+        StateFault::Scene(fault) => refused(fault),
+        StateFault::Job(fault) => refused(scene_fault(fault)),
+        StateFault::Listing(fault) => list_refused(fault),
+        StateFault::NoClock { clocks } => Answer {
+            status: NO_CLOCK,
+            found: Found {
+                clocks,
+                ..nothing()
+            },
+        },
+        StateFault::NoRoom { room } => Answer {
+            status: NO_ROOM,
+            found: Found { room, ..nothing() },
+        },
+        StateFault::Memory => refused(SceneFault::Memory),
     }
 }

@@ -3,8 +3,9 @@ ghost use Rattle.std.specs.Prelude.{◌≡◌, length};
 ghost use Rattle.px_sched.specs.Passes.{passes};
 ghost use Rattle.px_control.specs.Program.{total};
 ghost use Rattle.px_c.specs.Answers.{cost_found, nothing, scene_found};
-ghost use Rattle.px_c.specs.Numbers.{cause_number, kind_number};
+ghost use Rattle.px_c.specs.Numbers.{cause_number, kind_number, list_number};
 
+use px_listing::ListKind;
 use px_scene::{Cause, LimitKind, Scene};
 
 /// What a call found (include/pxplanes.h, `struct pxplanes_found`). What does not apply is 0.
@@ -76,6 +77,17 @@ pub(crate) fn cost_found(scene: &Scene, operations: u64, clocks: u64) -> Found
     }
 }
 
+/// How many operations a text broadcasts, and how many clocks they take.
+pub(crate) fn course_found(operations: u64, clocks: u64) -> Found
+    ensures { result ≡ record nothing { operations = operations; clocks = clocks } }
+{
+    Found {
+        operations,
+        clocks,
+        ..nothing()
+    }
+}
+
 /// The number of a cause.
 pub(crate) fn cause_number(cause: Cause) -> u32
     ensures { result ≡ cause_number cause }
@@ -114,5 +126,19 @@ pub(crate) fn kind_number(kind: LimitKind) -> u32
         LimitKind::Fraction => 13,
         LimitKind::PixelMemory => 14,
         LimitKind::Products => 15,
+    }
+}
+
+/// The number of what has a limit in a listing.
+pub(crate) fn list_number(kind: ListKind) -> u32
+    ensures { result ≡ list_number kind }
+{
+    match kind {
+        ListKind::Grid => 16,
+        ListKind::Coefficient => 17,
+        ListKind::Length => 18,
+        ListKind::Place => 19,
+        ListKind::Value => 20,
+        ListKind::Overlap => 21,
     }
 }

@@ -1,4 +1,4 @@
-//! Scenes, pictures, colours and products for programs in C, and in what calls C (include/pxplanes.h).
+//! Scenes, pictures, colours, products and states for programs in C, and in what calls C (include/pxplanes.h).
 #![tactic(auto)]
 
 mod answer;
@@ -6,6 +6,7 @@ mod check;
 mod colour;
 mod found;
 mod keys;
+mod micros;
 mod names;
 mod products;
 mod render;
@@ -15,9 +16,11 @@ mod status;
 pub use check::pxplanes_check;
 pub use colour::pxplanes_colour;
 pub use found::Found;
+pub use micros::pxplanes_micros;
 pub use names::{pxplanes_cause_name, pxplanes_kind_name, pxplanes_version};
 pub use products::pxplanes_products;
 pub use render::pxplanes_render;
+pub use state::{State, pxplanes_state};
 
 #[cfg(test)]
 mod tests;

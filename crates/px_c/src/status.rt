@@ -15,5 +15,8 @@ pub const MEMORY: u32 = 7;
 /// A buffer is too small.
 pub const NO_ROOM: u32 = 8;
 
+/// The clocks that are asked for lie past the last.
+pub const NO_CLOCK: u32 = 9;
+
 /// The memory bits of a pixel of the array that draws, as of the program's own but for `shadow`.
 pub const BITS: usize = 72;

@@ -1,6 +1,7 @@
 -- What a state says of a grid after so many clocks. Clauses of public calls stand on it.
 use Rattle.std.specs.Prelude.{◌≡◌, ◌⊎◌, ℕ, IfNone, IfSome, length}
 use Rattle.px_listing.specs.Listings.{ListingView}
+use Rattle.px_tree.specs.Nodes.{IsGrid}
 use Rattle.px_array.specs.Slots.{ArrayView, IsRunOnce, none_open}
 use Rattle.px_state.specs.Courses.{IsNext, device_after, total}
 use Rattle.px_state.specs.declared.fault.StateFault.{StateFault}
@@ -11,6 +12,7 @@ use Rattle.px_state.specs.declared.state.State.{State}
 pub record IsState (bits : ℕ) (l : ListingView) (clock : ℕ) (s : State) : Type 0 where
   pub columns : s.nx ≡ l.nx
   pub rows : s.ny ≡ l.ny
+  pub grid : IsGrid s.nx s.ny
   pub bits_is : s.bits ≡ bits
   pub operations : s.operations ≡ length l.macros
   pub clocks : s.clocks ≡ total l

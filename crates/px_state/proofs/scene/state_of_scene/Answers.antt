@@ -85,6 +85,7 @@ returns-clause-state g c =
     record {
       columns = c.grid-nx.ensures.columns;
       rows = c.grid-nx.ensures.rows;
+      grid = rw (c.grid-nx.ensures.columns, c.grid-nx.ensures.rows) (scene_grid scene c.laws_of_scenes.ensures.scene);
       bits_is = c.BITS-2.ensures;
       operations = c.total_macros.ensures ∙ ap (λ s. length (passes s)) scene_is;
       clocks = c.total_clocks-clocks.ensures.value ∙ (ap program.total job.0 ∙ same_total scene);
