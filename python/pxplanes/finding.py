@@ -14,12 +14,15 @@ HERE = os.path.dirname(os.path.realpath(__file__))
 
 
 def places() -> Iterator[str]:
-    """Where the library may be: as the environment says, beside this module, in the checkout, in the system."""
+    """Where the library may be: as the environment says, beside this module, in the checkout, where
+    tools/install puts it, in the system."""
     if os.environ.get(VARIABLE):
         yield os.environ[VARIABLE]
         return
     yield os.path.join(HERE, LEAF)
-    yield os.path.join(os.path.dirname(os.path.dirname(HERE)), "package", "lib", LEAF)
+    top = os.path.dirname(os.path.dirname(HERE))
+    yield os.path.join(top, "package", "lib", LEAF)
+    yield os.path.join(os.path.dirname(top), LEAF)
     found = ctypes.util.find_library("pxplanes")
     if found:
         yield found

@@ -3,9 +3,11 @@ pub mod AlikeLemmas
 pub mod ComparingLemmas
 pub mod CycleLaws
 pub mod FormRunLemmas
+pub mod KeptLemmas
 pub mod LawLemmas
 pub mod MakingLemmas
 pub mod OperatedLemmas
+pub mod OperationsLemmas
 pub mod PlaceLemmas
 pub mod ProgramLemmas
 pub mod RenewalLemmas

@@ -39,16 +39,16 @@ module _ (part : Known → Bool) (joins : (a b : Known) → part (joined a b) �
   renewed_here : (op : Macro) (k : Known) → part (renewed op none_known) ≡ true → part (renewed op k) ≡ true
   renewed_here op k new = ap part (renewed_joins op k) ∙ (joins (renewed op none_known) k ∙ rw new refl)
 
-  all_keep : (ops : List Macro) (k : Known) → part k ≡ true → part (all_renewed ops k) ≡ true
+  pub all_keep : (ops : List Macro) (k : Known) → part k ≡ true → part (all_renewed ops k) ≡ true
   all_keep [] k known = known
   all_keep (op ∷ ops) k known = all_keep ops (renewed op k) (renewed_keeps op k known)
 
-  all_here : (first rest : List Macro) (op : Macro) (k : Known) → part (renewed op none_known) ≡ true
+  pub all_here : (first rest : List Macro) (op : Macro) (k : Known) → part (renewed op none_known) ≡ true
       → part (all_renewed (first ++ op ∷ rest) k) ≡ true
   all_here [] rest op k new = all_keep rest (renewed op k) (renewed_here op k new)
   all_here (o ∷ first) rest op k new = all_here first rest op (renewed o k) new
 
-  from_there : (ops : List Macro) (n i : ℕ) (op : Macro) → slice_get ops i ≡ Some op → n ≤ i
+  pub from_there : (ops : List Macro) (n i : ℕ) (op : Macro) → slice_get ops i ≡ Some op → n ≤ i
       → drop (i - n) (drop n ops) ≡ op ∷ drop (suc i) ops
   from_there ops n i op here low =
       let inside = slice_get_within ops i op here in

@@ -5,7 +5,9 @@ pub use Rattle.px_macro.specs.Fields
 pub use Rattle.px_macro.specs.Macros
 pub use Rattle.px_pixel.specs.Acts
 pub use Rattle.px_tree.specs.Nodes
+pub mod AtOnce
 pub mod Making
-pub mod Micros
 pub mod Microprograms
+pub mod Micros
 pub mod Operated
+pub mod Operations

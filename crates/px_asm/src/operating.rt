@@ -3,7 +3,7 @@ ghost use Rattle.std.specs.Prelude.{◌≡◌, ◌+◌, ◌-◌, ◌^◌, ◌≤
 ghost use Rattle.px_array.specs.Arrays.{HasGrid};
 ghost use Rattle.px_array.specs.Slots.{worked};
 ghost use Rattle.px_asm.specs.Making.{cycles_on};
-ghost use Rattle.px_asm.specs.Operated.{BecomeTheSame, IsOperated, StayInAgreement, none_known, renewed};
+ghost use Rattle.px_asm.specs.Operated.{BecomeTheSame, BecomeTheSameAgain, IsOperated, StayInAgreement, StayKnown, none_known, renewed};
 ghost use Rattle.px_macro.specs.Macros.{IsLawful};
 ghost use Rattle.px_tree.specs.Nodes.{IsGrid};
 
@@ -13,7 +13,8 @@ use px_array::{Array, PixelArray};
 use px_macro::Macro;
 
 /// An array that makes an operation at once: memory and enable of every pixel are as its micros
-/// leave them, and carries, latches and the tree may be anything.
+/// leave them. What it begins anew of carries, latches and the tree may be anything, and all else is
+/// as it was.
 pub trait Operating: Array {
     /// Makes an operation, which counts as its clocks.
     fn operate(&mut self, m: &Macro)
@@ -36,10 +37,12 @@ impl<const N: usize> Operating for PixelArray<N> {
 }
 
 /// Two arrays that agree in memory and enable of every pixel become the same by operations that
-/// begin all else anew.
+/// begin anew all else that is not known to be the same.
 pub fn law_of_renewal()
     ensures same { BecomeTheSame }
     ensures agreement { StayInAgreement }
+    ensures known { StayKnown }
+    ensures again { BecomeTheSameAgain }
 {
     law_of_microprograms();
 }

@@ -109,7 +109,7 @@ abbrev pub HasSize : Work → Type 0
 HasSize (w.Tile size) = IsSide size.width × IsSide size.height
 HasSize work = ⊤
 
-abbrev pub HasBlocks : Command → Type 0
-HasBlocks (c.Sample n) = (1 ≤ n) × (n ≤ MAX_BLOCKS)
-HasBlocks (c.Make work) = HasSize work
-HasBlocks command = ⊤
+abbrev pub HasLawfulNumbers : Command → Type 0
+HasLawfulNumbers (c.Sample n) = (1 ≤ n) × (n ≤ MAX_BLOCKS)
+HasLawfulNumbers (c.Make work) = HasSize work
+HasLawfulNumbers command = ⊤

@@ -2,7 +2,7 @@
 ghost use Rattle.std.specs.Prelude.{◌≡◌, ◌-◌, ◌≤◌, IfSome, map, string_bytes};
 ghost use Rattle.std.specs.List.{list_all};
 ghost use Rattle.px_command.specs.Commands.{
-  HasBlocks,
+  HasLawfulNumbers,
   IsSide,
   command_of,
   count_in,
@@ -41,7 +41,7 @@ pub fn needs_wide_pixels(words: &[String]) -> bool
 /// Its numbers are within their limits.
 pub fn command_of(words: &[String]) -> Option<Command>
     ensures command { result ≡ command_of (map string_bytes words.now) }
-    ensures blocks { IfSome result HasBlocks }
+    ensures blocks { IfSome result HasLawfulNumbers }
 {
     match words {
         [] => Some(Command::Make(Work::Render)),
@@ -54,7 +54,7 @@ pub fn command_of(words: &[String]) -> Option<Command>
 
 fn of_one(word: &[u8]) -> Option<Command>
     ensures command { result ≡ of_one word.now }
-    ensures blocks { IfSome result HasBlocks }
+    ensures blocks { IfSome result HasLawfulNumbers }
 {
     if word == b"render".as_slice() {
         Some(Command::Make(Work::Render))
@@ -81,7 +81,7 @@ fn of_one(word: &[u8]) -> Option<Command>
 
 fn of_two(word: &[u8], argument: &[u8]) -> Option<Command>
     ensures command { result ≡ of_two word.now argument.now }
-    ensures blocks { IfSome result HasBlocks }
+    ensures blocks { IfSome result HasLawfulNumbers }
 {
     if word == b"sample".as_slice() && is_count(argument) {
         sample_of(count_in(argument))
@@ -94,7 +94,7 @@ fn of_two(word: &[u8], argument: &[u8]) -> Option<Command>
 
 fn of_three(word: &[u8], first: &[u8], second: &[u8]) -> Option<Command>
     ensures command { result ≡ of_three word.now first.now second.now }
-    ensures blocks { IfSome result HasBlocks }
+    ensures blocks { IfSome result HasLawfulNumbers }
 {
     if word == b"tile".as_slice() {
         tiling(side_in(first), side_in(second))
@@ -145,7 +145,7 @@ fn digit(b: u8) -> u32
 /// The sample of so many blocks, where there is one.
 fn sample_of(number: Option<u32>) -> Option<Command>
     ensures command { result ≡ sample_of number }
-    ensures blocks { IfSome result HasBlocks }
+    ensures blocks { IfSome result HasLawfulNumbers }
 {
     match number {
         Some(n) if 1 <= n && n <= MAX_BLOCKS => Some(Command::Sample(n)),
@@ -180,7 +180,7 @@ fn tiling(width: Option<u32>, height: Option<u32>) -> Option<Command>
     requires width { IfSome width IsSide }
     requires height { IfSome height IsSide }
     ensures command { result ≡ tiling width height }
-    ensures blocks { IfSome result HasBlocks }
+    ensures blocks { IfSome result HasLawfulNumbers }
 {
     match (width, height) {
         (Some(width), Some(height)) => Some(Command::Make(Work::Tile(Size { width, height }))),
@@ -203,7 +203,7 @@ fn fineness_of(word: &[u8]) -> Option<Fineness>
 /// The refinement of this fineness, where there is one.
 fn refining(fineness: Option<Fineness>) -> Option<Command>
     ensures command { result ≡ refining fineness }
-    ensures blocks { IfSome result HasBlocks }
+    ensures blocks { IfSome result HasLawfulNumbers }
 {
     match fineness {
         Some(fineness) => Some(Command::Make(Work::Refine(fineness))),

@@ -1,6 +1,5 @@
 pub mod DebugLemmas
 pub mod ErrLemmas
-pub mod ImageLemmas
 pub mod LimitLemmas
 pub mod ListStopLemmas
 pub mod ListedLemmas

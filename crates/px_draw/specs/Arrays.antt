@@ -1,13 +1,8 @@
 -- What a run leaves of the array. Clauses of public calls stand on it.
 use Rattle.std.specs.Prelude.{◌≡◌, ℕ, ◌⊎◌}
-use Rattle.px_array.specs.Arrays.{Device, pixel_of}
 use Rattle.px_array.specs.Slots.{ArrayView, IsRunOnce, none_open}
 use Rattle.px_scene.specs.Scenes.{SceneView}
-use Rattle.px_face.specs.Surfaces.{ShowsBackground}
-use Rattle.px_control.specs.Program.{IsAt, total}
-use Rattle.px_control.specs.Standing.{JobView}
-use Rattle.px_sched.specs.Layouts.{layout_of}
-use Rattle.px_sched.specs.PassesLaw.{ShowsThePicture}
+use Rattle.px_deliver.specs.Drawn.{IsDrawn}
 use Rattle.px_refine.specs.Finer.{fine_scene}
 use Rattle.px_draw.specs.Tiling.{DrawsTiles}
 use Rattle.px_command.specs.Commands.{doublings}
@@ -15,18 +10,6 @@ use Rattle.px_command.specs.declared.command.Work.{Work}
 use Rattle.px_command.specs.declared.command.Work.TheVariants as w
 use Rattle.px_draw.specs.declared.status.Status.{Status}
 use Rattle.px_draw.specs.declared.status.Status.TheVariants as status
-
--- the array is as all broadcasts of the scene leave it, its clocks included, and stores the picture,
--- which has face 0 exactly where no cell is a member
-pub record IsDrawn (bits : ℕ) (scene : SceneView) (device : Device) : Type 0 where
-  pub at : IsAt bits scene (total scene) device
-  pub picture : ShowsThePicture scene (layout_of scene) (λ x y. (pixel_of device.state x y).memory)
-  pub background : (x y : ℕ) → ShowsBackground scene x y
-
--- a job keeps its scene, and has made all clocks of it
-pub record IsFinished (before now : JobView) : Type 0 where
-  pub scene : now.scene ≡ before.scene
-  pub clock : now.place.clock ≡ total before.scene
 
 -- for want of memory the array is as before, or none is open
 abbrev pub IsKeptOrClosed : (before now : ArrayView) → Type 0

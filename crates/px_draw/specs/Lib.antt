@@ -3,7 +3,10 @@ pub use Rattle.px_answers.specs.Plans
 pub use Rattle.px_answers.specs.SampleText
 pub use Rattle.px_command.specs.Commands
 pub use Rattle.px_command.specs.PixelBits
+pub use Rattle.px_deliver.specs.Drawn
+pub use Rattle.px_deliver.specs.Images
 pub use Rattle.px_face.specs.Surfaces
+pub use Rattle.px_words.specs.Words
 pub mod Arrays
 pub mod Countings
 pub mod Debugs

@@ -2,11 +2,7 @@
 use Rattle.std.specs.Prelude.{ℕ, ℤ, List, [], ◌++◌, Option, Some, None, codes, decimal}
 use Rattle.std.specs.Fmt.{signed_decimal}
 use Rattle.px_show.specs.declared.fault.Cause.{Cause}
-use Rattle.px_show.specs.declared.fault.Cause.TheVariants as c
-use Rattle.px_show.specs.declared.fault.LimitKind.{LimitKind}
-use Rattle.px_show.specs.declared.fault.LimitKind.TheVariants as k
-use Rattle.px_listing.specs.declared.limit.ListKind.{ListKind}
-use Rattle.px_listing.specs.declared.limit.ListKind.TheVariants as l
+use Rattle.px_words.specs.Words.{cause_word, list_word, scene_word}
 use Rattle.px_draw.specs.declared.refusal.Kind.{Kind}
 use Rattle.px_draw.specs.declared.refusal.Kind.TheVariants as kinds
 use Rattle.px_draw.specs.declared.refusal.Refusal.{Refusal}
@@ -14,43 +10,6 @@ use Rattle.px_draw.specs.declared.refusal.Refusal.TheVariants as r
 use Rattle.px_draw.specs.declared.status.Status.{Status}
 use Rattle.px_draw.specs.declared.status.Status.TheVariants as status
 use Rattle.px_draw.specs.Outcomes.{Outcome, refusal}
-
-abbrev pub cause_word : Cause → List ℕ
-cause_word c.NotHeader = codes "not-header"
-cause_word c.Unexpected = codes "unexpected"
-cause_word c.WordCount = codes "word-count"
-cause_word c.NotNumber = codes "not-number"
-cause_word c.BadName = codes "bad-name"
-cause_word c.SecondName = codes "second-name"
-cause_word c.BadExpression = codes "bad-expression"
-cause_word c.UnknownName = codes "unknown-name"
-cause_word c.AfterEnd = codes "after-end"
-cause_word c.MissingEnd = codes "missing-end"
-
-abbrev pub scene_word : LimitKind → List ℕ
-scene_word k.Text = codes "text"
-scene_word k.Picture = codes "picture"
-scene_word k.Depth = codes "depth"
-scene_word k.Colour = codes "colour"
-scene_word k.Coefficient = codes "coefficient"
-scene_word k.Solids = codes "solids"
-scene_word k.Fronts = codes "fronts"
-scene_word k.Backs = codes "backs"
-scene_word k.Sides = codes "sides"
-scene_word k.Faces = codes "faces"
-scene_word k.Leaves = codes "leaves"
-scene_word k.Nesting = codes "nesting"
-scene_word k.Fraction = codes "fraction"
-scene_word k.PixelMemory = codes "pixel-memory"
-scene_word k.Products = codes "products"
-
-abbrev pub list_word : ListKind → List ℕ
-list_word l.Grid = codes "grid"
-list_word l.Coefficient = codes "coefficient"
-list_word l.Length = codes "length"
-list_word l.Place = codes "place"
-list_word l.Value = codes "value"
-list_word l.Overlap = codes "overlap"
 
 abbrev pub kind_word : Kind → List ℕ
 kind_word (kinds.Scene kind) = scene_word kind

@@ -1,6 +1,5 @@
 -- What is made of the scene that is the whole input. Clauses of public calls stand on it.
 use Rattle.std.specs.Prelude.{ℕ, List, [], ◌∷◌, length}
-use Rattle.std.specs.List.{flat_map}
 use Rattle.px_scene.specs.Scenes.{names_of, SceneView}
 use Rattle.px_scene.specs.Canonical.{canonical_text}
 use Rattle.px_scene.specs.Text.{worded}
@@ -10,9 +9,8 @@ use Rattle.px_normal.specs.Counting.{capped}
 use Rattle.px_prune.specs.Kept.{plan_of}
 use Rattle.px_sched.specs.Passes.{passes}
 use Rattle.px_control.specs.Program.{total}
-use Rattle.px_frame.specs.Picture.{picture_image}
-use Rattle.px_frame.specs.declared.plane.Plane.{Plane}
 use Rattle.px_frame.specs.declared.plane.Plane.TheVariants as p
+use Rattle.px_deliver.specs.Images.{images}
 use Rattle.px_command.specs.Commands.{doublings}
 use Rattle.px_command.specs.declared.command.Work.{Work}
 use Rattle.px_command.specs.declared.command.Work.TheVariants as w
@@ -23,10 +21,6 @@ use Rattle.px_answers.specs.Plans.{plan_text}
 use Rattle.px_draw.specs.Refining.{refined}
 use Rattle.px_draw.specs.Refusals.{text_refusal}
 use Rattle.px_draw.specs.Tiling.{tiled}
-
--- images of a scene, one after another
-abbrev pub images : SceneView → List Plane → List ℕ
-images scene planes = flat_map (picture_image scene) planes
 
 -- the scene's canonical text
 abbrev pub tidied : SceneView → Outcome

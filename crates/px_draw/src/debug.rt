@@ -18,9 +18,10 @@ use crate::make::{open_job, scene_in};
 use crate::refusal::{READ_LIMIT, too_long};
 use crate::stop::Stop;
 use px_array::Array;
+use px_asked::Asks;
 use px_asm::Operating;
 use px_debug::Session;
-use px_io::{Sink, Source};
+use px_io::Sink;
 use px_lines::{Opening, laws_of_parts, read_part};
 use px_scene::Scene;
 use px_session::{Ending, laws_of_sessions, serve};
@@ -28,7 +29,7 @@ use std::alloc::Global;
 
 /// Reads the scene part and judges it as soon as it is whole, and then answers each command line
 /// before more is read.
-pub(crate) fn debug<S: Source, O: Sink, A: Operating>(
+pub(crate) fn debug<S: Asks<O>, O: Sink, A: Operating>(
     alloc: Global,
     input: &mut S,
     out: &mut O,
@@ -48,7 +49,7 @@ pub(crate) fn debug<S: Source, O: Sink, A: Operating>(
 {
     laws_of_parts();
     laws_of_sessions();
-    let opening = open_input(alloc, input)?;
+    let opening = open_input(alloc, input, out)?;
     let scene = scene_of(alloc, &opening)?;
     let mut session = open_session(alloc, &scene, array)?;
     match opening.part {
@@ -62,7 +63,7 @@ pub(crate) fn debug<S: Source, O: Sink, A: Operating>(
 }
 
 /// Reads the input until its scene part is whole, or to its end or its limit.
-fn open_input<S: Source>(alloc: Global, input: &mut S) -> Result<Opening, Stop>
+fn open_input<S: Asks<O>, O: Sink>(alloc: Global, input: &mut S, out: &O) -> Result<Opening, Stop>
     ensures opens { IfOk result (λ o. Opens o (S.rest input.old) (S.rest input.new)) }
     ensures err { IfErr result (λ stop. IsOpenStop stop (S.rest input.old) (S.rest input.new)) }
     ensures most { ConsumesAtMost (S.rest input.old) (S.rest input.new) READ_LIMIT }
@@ -70,7 +71,7 @@ fn open_input<S: Source>(alloc: Global, input: &mut S) -> Result<Opening, Stop>
     ensures cause { IfErr result (λ stop.
         IsReadStop stop (S.faults input.old) (S.faults input.new)) }
 {
-    match read_part(alloc, input, READ_LIMIT) {
+    match read_part(alloc, input, out, READ_LIMIT) {
         Ok(opening) => Ok(opening),
         Err(fault) => Err(Stop::from(fault)),
     }
@@ -132,7 +133,7 @@ pub(crate) fn behind(bytes: &[u8], count: usize) -> &[u8]
 }
 
 /// Answers command lines up to a quit, the end of the input or its limit.
-fn sit<S: Source, O: Sink, A: Operating>(
+fn sit<S: Asks<O>, O: Sink, A: Operating>(
     session: &mut Session<'_>,
     array: &mut A,
     read: &[u8],

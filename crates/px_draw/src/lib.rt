@@ -1,5 +1,4 @@
-//! What the program does with a scene: a run from words and bytes to a status, and the drawing of an
-//! opened job.
+//! What the program does with a scene: a run from words and bytes to a status.
 #![tactic(auto)]
 
 mod debug;
@@ -9,7 +8,6 @@ mod make;
 mod note;
 mod refine;
 mod refusal;
-mod render;
 mod running;
 mod sample;
 mod shadow;
@@ -19,6 +17,6 @@ mod tile;
 
 pub use law::laws_of_listed_scenes;
 pub use px_command::needs_wide_pixels;
-pub use render::deliver;
+pub use px_deliver::deliver;
 pub use running::run;
 pub use status::Status;

@@ -1,6 +1,6 @@
 //! The line that tells why a run did not do its work.
 ghost use Rattle.std.specs.Prelude.{◌≡◌, ◌≤◌, length};
-ghost use Rattle.px_draw.specs.Notes.{cause_word, kind_word, limit_line, list_word, malformed_line, scene_word};
+ghost use Rattle.px_draw.specs.Notes.{kind_word, limit_line, malformed_line};
 ghost use Rattle.px_draw.specs.Runs.{IsTold};
 ghost use Rattle.px_draw.specs.Stops.{note_of};
 
@@ -9,8 +9,8 @@ use crate::stop::Stop;
 use arrayvec::ArrayString;
 use itoa::Buffer;
 use px_io::{Sink, write_whole};
-use px_listing::ListKind;
-use px_scene::{Cause, LimitKind};
+use px_scene::Cause;
+use px_words::{cause_word, list_word, scene_word};
 
 /// Writes a line and finishes, whatever comes of it.
 pub(crate) fn tell<E: Sink>(line: &[u8], notes: &mut E)
@@ -77,24 +77,6 @@ fn limit_line(line: u32, kind: Kind, found: i64) -> ArrayString<128>
     text
 }
 
-fn cause_word(cause: Cause) -> &'static str
-    ensures word { result.now ≡ cause_word cause }
-    ensures short { length result.now ≤ 14 }
-{
-    match cause {
-        Cause::NotHeader => "not-header",
-        Cause::Unexpected => "unexpected",
-        Cause::WordCount => "word-count",
-        Cause::NotNumber => "not-number",
-        Cause::BadName => "bad-name",
-        Cause::SecondName => "second-name",
-        Cause::BadExpression => "bad-expression",
-        Cause::UnknownName => "unknown-name",
-        Cause::AfterEnd => "after-end",
-        Cause::MissingEnd => "missing-end",
-    }
-}
-
 fn kind_word(kind: Kind) -> &'static str
     ensures word { result.now ≡ kind_word kind }
     ensures short { length result.now ≤ 12 }
@@ -104,42 +86,5 @@ fn kind_word(kind: Kind) -> &'static str
         Kind::Lights => "lights",
         Kind::Tiles => "tiles",
         Kind::List(kind) => list_word(kind),
-    }
-}
-
-fn scene_word(kind: LimitKind) -> &'static str
-    ensures word { result.now ≡ scene_word kind }
-    ensures short { length result.now ≤ 12 }
-{
-    match kind {
-        LimitKind::Text => "text",
-        LimitKind::Picture => "picture",
-        LimitKind::Depth => "depth",
-        LimitKind::Colour => "colour",
-        LimitKind::Coefficient => "coefficient",
-        LimitKind::Solids => "solids",
-        LimitKind::Fronts => "fronts",
-        LimitKind::Backs => "backs",
-        LimitKind::Sides => "sides",
-        LimitKind::Faces => "faces",
-        LimitKind::Leaves => "leaves",
-        LimitKind::Nesting => "nesting",
-        LimitKind::Fraction => "fraction",
-        LimitKind::PixelMemory => "pixel-memory",
-        LimitKind::Products => "products",
-    }
-}
-
-fn list_word(kind: ListKind) -> &'static str
-    ensures word { result.now ≡ list_word kind }
-    ensures short { length result.now ≤ 12 }
-{
-    match kind {
-        ListKind::Grid => "grid",
-        ListKind::Coefficient => "coefficient",
-        ListKind::Length => "length",
-        ListKind::Place => "place",
-        ListKind::Value => "value",
-        ListKind::Overlap => "overlap",
     }
 }

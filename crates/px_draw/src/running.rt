@@ -16,9 +16,10 @@ use crate::sample::sample;
 use crate::shadow::shadow;
 use crate::status::Status;
 use crate::stop::Stop;
+use px_asked::Asks;
 use px_asm::Operating;
 use px_command::{Command, command_of};
-use px_io::{Sink, Source};
+use px_io::Sink;
 use std::alloc::Global;
 
 /// Does what the words ask with the scene that the input writes (docs/SCENES.md).
@@ -32,7 +33,7 @@ use std::alloc::Global;
 /// `debug` holds its session on it. Every other command and every refusal leaves it as it was, its
 /// slots and its work too; for want of memory it may be left closed, with a tile drawn, or opened for
 /// a session.
-pub fn run<S: Source, O: Sink, E: Sink, A: Operating>(
+pub fn run<S: Asks<O>, O: Sink, E: Sink, A: Operating>(
     alloc: Global,
     words: &[String],
     input: &mut S,
@@ -66,7 +67,7 @@ pub fn run<S: Source, O: Sink, E: Sink, A: Operating>(
 }
 
 /// Finds the command, and does it.
-fn perform<S: Source, O: Sink, A: Operating>(
+fn perform<S: Asks<O>, O: Sink, A: Operating>(
     alloc: Global,
     words: &[String],
     input: &mut S,

@@ -36,12 +36,12 @@ ghost use Rattle.px_draw.specs.Stops.{HasStopCauses, Performs, DoesWork, StopsAt
 use crate::debug::behind;
 use crate::make::{open_job, read_text, scene_in};
 use crate::refusal::{Kind, READ_LIMIT, Refusal, short_of_bits, too_long};
-use crate::render::draw;
 use crate::stop::Stop;
 use arrayvec::ArrayVec;
 use px_array::Array;
 use px_asm::Operating;
 use px_control::Job;
+use px_deliver::draw;
 use px_io::{Failed, Sink, Source};
 use px_lines::{laws_of_parts, part_end};
 use px_normal::SolidSet;

@@ -1,12 +1,22 @@
--- Which texts have a picture. Clauses of public calls stand on it.
-use Rattle.std.specs.Prelude.{◌≡◌, ◌≤◌, ℕ, List, None}
-use Rattle.px_prune.specs.Kept.{crowd_of}
-use Rattle.px_sched.specs.Layouts.{layout_of, need_of}
+-- Why a text has no picture. Clauses of public calls stand on it.
+use Rattle.std.specs.Prelude.{ℕ, List, Option, Some, None}
+use Rattle.px_control.specs.declared.fault.JobFault.{JobFault}
+use Rattle.px_deliver.specs.Refusals.{job_refusal}
+use Rattle.px_show.specs.declared.fault.SceneFault.{SceneFault}
 use Rattle.px_scene.specs.Reading.{refusal_of, scene_of}
 use Rattle.px_scene.specs.Text.{worded}
+use Rattle.px_example.specs.declared.NotDrawn.{NotDrawn}
+use Rattle.px_example.specs.declared.NotDrawn.TheVariants as n
 
--- the text writes a scene, which an array with pixels of so many memory bits can draw
-pub record CanBeDrawn (bits : ℕ) (text : List ℕ) : Type 0 where
-  pub accepted : refusal_of text ≡ None
-  pub enough : need_of (layout_of (scene_of (worded text))) ≤ bits
-  pub few : crowd_of (scene_of (worded text)) ≡ None
+abbrev pub by_array : Option JobFault → Option NotDrawn
+by_array None = None
+by_array (Some fault) = Some (n.Array fault)
+
+-- the refusal of the text, or else the array's of the scene
+abbrev pub by_text : Option SceneFault → Option JobFault → Option NotDrawn
+by_text None of_array = by_array of_array
+by_text (Some fault) of_array = Some (n.Text fault)
+
+-- why a text has no picture of an array with pixels of so many memory bits, where it has none
+abbrev pub not_drawn : (bits : ℕ) → List ℕ → Option NotDrawn
+not_drawn bits text = by_text (refusal_of text) (job_refusal bits (scene_of (worded text)))

@@ -1,5 +1,6 @@
 //! A picture that was worked out by hand.
 use crate::{NotDrawn, picture_of};
+use px_scene::{Cause, SceneFault};
 use std::test::Fail;
 
 /// One pixel, with a front of depth 5 and face 2.
@@ -15,11 +16,14 @@ fn one_pixel_shows_its_front(rt: HostRuntime) {
 }
 
 #[test]
-fn a_text_that_is_no_scene_has_no_picture(rt: HostRuntime) {
+fn a_text_without_end_is_refused_at_its_last_line(rt: HostRuntime) {
     assert!(rt;
         matches!(
             picture_of(rt.alloc(), b"pxscene 1\n".as_slice()),
-            Err(NotDrawn::Refused)
+            Err(NotDrawn::Text(SceneFault::Malformed {
+                line: 1,
+                cause: Cause::MissingEnd,
+            }))
         )
     );
 }

@@ -34,7 +34,7 @@ pub record TakesFirst (n : ℕ) (written_old written_new : Option (List ℕ)) (f
   pub front : Appends written_old written_new (take n bytes)
   pub end : Reopens finished_old finished_new n
 
--- a front of these bytes went to a sink, which was not finished after it
+-- a front of these bytes went to a sink, which then is no more finished where one of them did
 abbrev pub TakesFront : (written_old written_new : Option (List ℕ)) (finished_old finished_new : Option Bool) → List ℕ → Type 0
 TakesFront written_old written_new finished_old finished_new bytes =
     (n : ℕ) × TakesFirst n written_old written_new finished_old finished_new bytes

@@ -2,7 +2,7 @@
 ghost use Rattle.std.specs.Prelude.{◌≡◌, ◌<◌, ◌≤◌, ◌^◌, ◌+ℤ◌, pos, ℕ, ℤ, cond, not, if◌then◌else◌, length, slice_index};
 ghost use Rattle.px_num.specs.Bits.{bit_of, majority, nat_bit};
 ghost use Rattle.px_lanes.specs.Lanes.{HasValue};
-ghost use Rattle.px_rows.specs.Words.{HasAll};
+ghost use Rattle.px_rows.specs.Rows.{HasAll};
 
 /// A word of which every bit is `v`.
 #[inline(always)]

@@ -1,4 +1,6 @@
+pub mod Hearings
 pub mod Lines
+pub mod Listenings
 pub mod PartLaws
 pub mod Parts
 pub mod Readings

@@ -3,11 +3,15 @@ ghost use Rattle.std.specs.Prelude.{◌≡◌, ◌+◌, ◌-◌, ◌<◌, ◌≤
 ghost use Rattle.std.specs.Io.KnownBytes.{Consumes, IsAtEnd};
 ghost use Rattle.px_io.specs.Counts.{Rose};
 ghost use Rattle.px_io.specs.Told.{ConsumesAtMost};
+ghost use Rattle.px_asked.specs.Asks.{Ask};
+ghost use Rattle.px_lines.specs.Hearings.{Begun, Heard};
+ghost use Rattle.px_lines.specs.Listenings.{ListenedTo, Listens};
 ghost use Rattle.px_lines.specs.Parts.{part_end};
 ghost use Rattle.px_lines.specs.Readings.{TookNoPart};
 
 use crate::search::Search;
-use px_io::{ReadError, Source};
+use px_asked::Asks;
+use px_io::{ReadError, Sink};
 use std::alloc::Global;
 
 /// What was read of an input, and where its scene part ends in it.
@@ -19,13 +23,15 @@ pub struct Opening {
     pub part: Option<usize>,
 }
 
-/// Reads an input until its scene part is whole, or to its end, in reads of at most 4096 bytes.
+/// Reads an input until its scene part is whole, or to its end, in reads of at most 4096 bytes, each
+/// in the sight of a sink to which nothing is written.
 ///
 /// No more than `limit` bytes are taken, and the part is looked for in all but the last of these.
 /// Once it is whole nothing more is read.
-pub fn read_part<S: Source>(
+pub fn read_part<S: Asks<O>, O: Sink>(
     alloc: Global,
     input: &mut S,
+    out: &O,
     limit: usize,
 ) -> Result<Opening, ReadError>
     requires some { 0 < limit }
@@ -41,13 +47,17 @@ pub fn read_part<S: Source>(
         Rose (S.faults input.old) (S.faults input.new) }
     ensures calm { OnOk result (S.faults input.new ≡ S.faults input.old) }
     ensures memory { IsErrOf result ReadError.Memory → S.faults input.new ≡ S.faults input.old }
+    ensures listens { IfOk result (λ o. Listens (S.asks input.old) (S.asks input.new)
+        (O.written out.now) o.text.items) }
+    ensures listened { OnErr result (ListenedTo (S.asks input.old) (S.asks input.new)
+        (O.written out.now) (S.rest input.old) (S.rest input.new)) }
 {
     let mut text = Vec::new(alloc);
     let mut piece = [0; 4096];
     let mut search = Search::start();
     while text.len() < limit {
         let room = piece.len().min(limit - text.len());
-        let count = read_piece(input, &mut piece[..room], &mut text)?;
+        let count = read_piece(input, out, &mut piece[..room], &mut text)?;
         let part = search.find(&text[..text.len().min(limit - 1)]);
         if count == 0 || part.is_some() {
             return Ok(Opening { text, part });
@@ -57,19 +67,25 @@ pub fn read_part<S: Source>(
 }
 
 /// Makes one read of at most the length of the piece, and adds what it gave to the bytes.
-fn read_piece<S: Source>(
+fn read_piece<S: Asks<O>, O: Sink>(
     input: &mut S,
+    out: &O,
     piece: &mut [u8],
     bytes: &mut Vec<u8>,
 ) -> Result<usize, ReadError>
     requires { 0 < length piece.old }
-    ensures taken { (start : Option (List ℕ)) → Consumes start (S.rest input.old) bytes.old.items →
-        OnOk result (Consumes start (S.rest input.new) bytes.new.items) }
+    ensures heard { (begun : Begun) → Heard begun (S.asks input.old) (S.rest input.old)
+        (O.written out.now) bytes.old.items →
+        OnOk result (Heard begun (S.asks input.new) (S.rest input.new) (O.written out.now)
+        bytes.new.items) }
     ensures bytes { OnOk result (take (vec_len bytes.old) bytes.new.items ≡ bytes.old.items) }
-    ensures failed { (start : Option (List ℕ)) → Consumes start (S.rest input.old) bytes.old.items →
-        IsErrOf result ReadError.Failed → Consumes start (S.rest input.new) bytes.old.items }
-    ensures err { (start : Option (List ℕ)) → Consumes start (S.rest input.old) bytes.old.items →
-        OnErr result (ConsumesAtMost start (S.rest input.new) (vec_len bytes.old + length piece.old)) }
+    ensures failed { (begun : Begun) → Heard begun (S.asks input.old) (S.rest input.old)
+        (O.written out.now) bytes.old.items →
+        IsErrOf result ReadError.Failed → Consumes begun.rest (S.rest input.new) bytes.old.items }
+    ensures err { (begun : Begun) → Heard begun (S.asks input.old) (S.rest input.old)
+        (O.written out.now) bytes.old.items →
+        OnErr result (ConsumesAtMost begun.rest (S.rest input.new)
+        (vec_len bytes.old + length piece.old)) }
     ensures count { IfOk result (λ n.
         (n ≤ length piece.old) × (vec_len bytes.new ≡ vec_len bytes.old + n)) }
     ensures end { IfOk result (λ n. n ≡ 0 → IsAtEnd (S.rest input.new)) }
@@ -77,8 +93,12 @@ fn read_piece<S: Source>(
         Rose (S.faults input.old) (S.faults input.new) }
     ensures calm { OnOk result (S.faults input.new ≡ S.faults input.old) }
     ensures memory { IsErrOf result ReadError.Memory → S.faults input.new ≡ S.faults input.old }
+    ensures listened { (begun : Begun) → Heard begun (S.asks input.old) (S.rest input.old)
+        (O.written out.now) bytes.old.items →
+        OnErr result (ListenedTo begun.asks (S.asks input.new) (O.written out.now) begun.rest
+        (S.rest input.new)) }
 {
-    let count = input.read(piece)?;
+    let count = input.ask(out, piece)?;
     bytes.extend_from_slice(&piece[..count])?;
     Ok(count)
 }

@@ -1,34 +1,27 @@
 -- The clocks of a listing, one operation after another.
-use Rattle.std.proofs.Common.{◌≡◌, ℕ, ◌+◌, ◌*◌, ◌^◌, ◌<◌, List, [], ◌∷◌, length, take, get_or}
-use Rattle.std.proofs.Common.{sym, ap, ◌∙◌, arith}
-use Rattle.std.specs.List.{flat_map, sum_by}
-use Rattle.std.proofs.lemmas.List.{flat_map_more, take_more, get_or-replicate}
+use Rattle.std.proofs.Common.{◌≡◌, ℕ, ◌+◌, ◌*◌, ◌^◌, ◌<◌, List, length}
+use Rattle.std.proofs.Common.{refl, ap, ◌∙◌, arith, length-append}
+use Rattle.px_num.proofs.ListLaws.{length-tabulate}
+use Rattle.std.specs.List.{sum_by}
+use Rattle.std.proofs.lemmas.List.{get_or-replicate}
 use Rattle.std.proofs.lemmas.Nat.{mul-add-lt, pow-add}
-use Rattle.std.proofs.lemmas.List.Sums.{sum_by-append}
-use Rattle.px_array.specs.Arrays.{Device, HasGrid, opened, pixel_of, no_pixel, zero_state}
-use Rattle.px_array.proofs.ClockLaws.{all_clocked-append, grid_after_clocks, grid_of_zero_state}
+use Rattle.std.proofs.lemmas.List.Recursion.{is_sum_by}
+use Rattle.px_array.specs.Arrays.{HasGrid, opened, pixel_of, no_pixel, zero_state}
+use Rattle.px_array.proofs.ClockLaws.{grid_after_clocks, grid_of_zero_state}
 use Rattle.px_array.specs.Clocks.{all_clocked}
 use Rattle.px_array.specs.declared.micro.Micro.{Micro}
-use Rattle.px_asm.specs.Micros.{all_micros, micros}
+use Rattle.px_asm.specs.Micros.{all_micros, cycles, micro_at, micros}
 use Rattle.px_asm.specs.Microprograms.{bits_of}
 use Rattle.px_macro.specs.declared.operation.Macro.{Macro}
 use Rattle.px_pixel.specs.Pixels.{zero_pixel}
 use Rattle.px_listing.specs.Played.{zero_bits}
 
--- one operation more
-pub played_more : (ops : List Macro) (nx ny i : ℕ) (op : Macro) (d : Device) → i < length ops
-    → all_clocked (all_micros (take (i + 1) ops) nx ny) d
-    ≡ all_clocked (micros (get_or ops i op) nx ny) (all_clocked (all_micros (take i ops) nx ny) d)
-played_more ops nx ny i op d within =
-    let each : Macro → List Micro = λ o. micros o nx ny in
-    ap (λ os. all_clocked (flat_map each os) d) (take_more ops i op within)
-    ∙ (ap (λ ms. all_clocked ms d) (sym (flat_map_more each [] (take i ops) (get_or ops i op)))
-    ∙ all_clocked-append (all_micros (take i ops) nx ny) (micros (get_or ops i op) nx ny) d)
-
-pub counted_more : (f : Macro → ℕ) (ops : List Macro) (i : ℕ) (op : Macro) → i < length ops
-    → sum_by f (take (i + 1) ops) ≡ sum_by f (take i ops) + f (get_or ops i op)
-counted_more f ops i op within =
-    ap (sum_by f) (take_more ops i op within) ∙ (sum_by-append f (take i ops) (get_or ops i op ∷ []) ∙ omega arith)
+-- the clocks of operations are the sum of theirs
+pub clocks_of_all : (ops : List Macro) (nx ny : ℕ) → length (all_micros ops nx ny) ≡ sum_by (λ m. cycles m nx ny) ops
+clocks_of_all ops nx ny =
+    is_sum_by (λ os. length (all_micros os nx ny)) (λ m. cycles m nx ny) refl (λ op os.
+    length-append (micros op nx ny) (all_micros os nx ny)
+    ∙ ap (λ n. n + length (all_micros os nx ny)) (length-tabulate (cycles op nx ny) (micro_at op nx ny))) ops
 
 -- a pixel of a new array
 pub zero_in_grid : (bits nx ny x y : ℕ) → x < 2 ^ nx → y < 2 ^ ny → bits_of (pixel_of (zero_state bits nx ny) x y)

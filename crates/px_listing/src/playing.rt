@@ -9,15 +9,14 @@ ghost use Rattle.px_listing.specs.Listings.{IsListing};
 ghost use Rattle.px_listing.specs.Played.{HasPlayed, played_on};
 
 use crate::listing::Listing;
-use px_array::Array;
-use px_asm::{law_of_microprograms, make_operation};
+use px_asm::{Operating, law_of_microprograms, make_operations};
 use px_num::Memory;
 
-/// Opens an array with the grid of a listing and makes the clocks of its operations, one after
-/// another (docs/LISTINGS.md, "Playing").
+/// Opens an array with the grid of a listing and makes its operations, one after another; what is
+/// left is what their clocks leave (docs/LISTINGS.md, "Playing").
 ///
 /// After `Memory` no array is open.
-pub fn play<A: Array>(listing: &Listing, array: &mut A) -> Result<(), Memory>
+pub fn play<A: Operating>(listing: &Listing, array: &mut A) -> Result<(), Memory>
     requires lawful { All (λ m. IsLawful m A.BITS) listing.now.macros }
     ensures device { OnOk result (A.device array.new ≡ played_on A.BITS listing.now) }
     ensures clocks { OnOk result ((A.device array.new).clocks
@@ -31,8 +30,6 @@ pub fn play<A: Array>(listing: &Listing, array: &mut A) -> Result<(), Memory>
 {
     law_of_microprograms();
     array.open(listing.nx, listing.ny)?;
-    for m in listing.macros.iter() {
-        make_operation(array, m);
-    }
+    make_operations(array, listing.macros.as_slice());
     Ok(())
 }

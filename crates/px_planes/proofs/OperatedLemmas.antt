@@ -26,9 +26,9 @@ pub operated_law : (bits : ℕ) (op : Macro) (tree : TreeState) (old new : Plane
     → HasPixels bits (2 ^ (tree.nx + tree.ny)) new
     → ((p : ℕ) → p < 2 ^ (tree.nx + tree.ny) → bits_of (pixel_in new p)
     ≡ after_macro op (p / 2 ^ tree.ny) (p % 2 ^ tree.ny) (bits_of (pixel_in old p)))
-    → now ≡ before + cycles_on (device_of tree old before) op
+    → new.carry ≡ old.carry → new.latch ≡ old.latch → now ≡ before + cycles_on (device_of tree old before) op
     → IsOperated bits op (device_of tree old before) (device_of tree new now)
-operated_law bits op tree old new before now pixels each counted = record {
+operated_law bits op tree old new before now pixels each carry latch counted = record {
   grid = record {
     columns = refl;
     rows = refl;
@@ -46,5 +46,18 @@ operated_law bits op tree old new before now pixels each counted = record {
       ∙ (rw (quotient, rest) at (each p inside)
       ∙ ap (λ (s : PixelState). after_macro op x y (bits_of s))
       (sym (get_or-tabulate (2 ^ (tree.nx + tree.ny)) (pixel_in old) p no_pixel inside)));
+  kept = record {
+    tree = λ e. refl;
+    carry = λ e place inside.
+        ap (λ (x : PixelState). x.carry) (get_or-tabulate (2 ^ (tree.nx + tree.ny)) (pixel_in new) place no_pixel inside)
+        ∙ (ap (λ row. row_bit row place) carry
+        ∙ sym (ap (λ (x : PixelState). x.carry)
+        (get_or-tabulate (2 ^ (tree.nx + tree.ny)) (pixel_in old) place no_pixel inside)));
+    latch = λ e place inside.
+        ap (λ (x : PixelState). x.latch) (get_or-tabulate (2 ^ (tree.nx + tree.ny)) (pixel_in new) place no_pixel inside)
+        ∙ (ap (λ row. row_bit row place) latch
+        ∙ sym (ap (λ (x : PixelState). x.latch)
+        (get_or-tabulate (2 ^ (tree.nx + tree.ny)) (pixel_in old) place no_pixel inside)));
+  };
   clocks = counted;
 }

@@ -29,6 +29,8 @@ pub(crate) fn operate_planes<const N: usize>(
     ensures pixels { HasPixels N (2 ^ (nx + ny)) planes.new }
     ensures each { (p : ℕ) → p < 2 ^ (nx + ny) → bits_of (pixel_in planes.new p)
         ≡ after_macro m.now (p / 2 ^ ny) (p % 2 ^ ny) (bits_of (pixel_in planes.old p)) }
+    ensures carry { planes.new.carry ≡ planes.old.carry }
+    ensures latch { planes.new.latch ≡ planes.old.latch }
     ensures reach { IsReach result planes.new }
 {
     match m {
@@ -40,6 +42,19 @@ pub(crate) fn operate_planes<const N: usize>(
             operate_part(planes, reach, m, ny);
             narrowed(planes, reach)
         }
+    }
+}
+
+/// Whether an operation looks at each word in which a pixel is enabled bit by bit.
+pub(crate) fn is_made_by_words(m: &Macro) -> bool {
+    match m {
+        Macro::LoadLinear(..)
+        | Macro::KeepAtMost(..)
+        | Macro::AddLinear(..)
+        | Macro::LoadConst(..)
+        | Macro::Copy(..)
+        | Macro::KeepLess(..) => true,
+        _ => false,
     }
 }
 

@@ -8,7 +8,7 @@ ghost use Rattle.px_array.specs.Slots.{none_open};
 
 use crate::open_planes::OpenPlanes;
 use px_array::{Array, Micro, Registers};
-use px_asm::Operating;
+use px_asm::{Operating, make_operation};
 use px_macro::Macro;
 use px_num::Memory;
 use std::alloc::Global;
@@ -55,6 +55,14 @@ impl<const N: usize> PlaneArray<N> {
         match &self.array {
             Some(array) => array.grid.row(at),
             None => &[],
+        }
+    }
+
+    /// Whether the clocks of an operation are faster than the operation at once.
+    fn is_faster_by_clocks(&self, m: &Macro) -> bool {
+        match &self.array {
+            Some(array) => array.grid.is_faster_by_clocks(m),
+            None => false,
         }
     }
 }
@@ -151,6 +159,9 @@ impl<const N: usize> Array for PlaneArray<N> {
 
 impl<const N: usize> Operating for PlaneArray<N> {
     fn operate(&mut self, m: &Macro) {
+        if self.is_faster_by_clocks(m) {
+            return make_operation(self, m);
+        }
         if let Some(array) = &mut self.array {
             array.operate(m);
         }

@@ -15,10 +15,10 @@ ghost use Rattle.px_planes.specs.Lent.{memory_bit};
 ghost use Rattle.px_tree.specs.Nodes.{IsGrid, leaf_bit, node_at};
 
 use crate::acts::act_planes;
-use crate::operating::operate_planes;
+use crate::operating::{is_made_by_words, operate_planes};
 use crate::plane_tree::PlaneTree;
 use crate::planes::Planes;
-use crate::reach::{Reach, whole};
+use crate::reach::{Reach, is_crowd, whole};
 use px_array::{Micro, Registers, TreeOp};
 use px_asm::cycles;
 use px_macro::Macro;
@@ -100,6 +100,11 @@ impl<const N: usize> PlaneGrid<N> {
         let (nx, ny) = self.tree.size();
         self.reach = operate_planes::<N>(&mut self.planes, self.reach, m, nx, ny);
         self.clocks += u64::from(cycles(m, nx, ny));
+    }
+
+    /// Whether the clocks of an operation are faster than the operation at once.
+    pub(crate) fn is_faster_by_clocks(&self, m: &Macro) -> bool {
+        is_made_by_words(m) && is_crowd(&self.planes, self.reach)
     }
 
     pub(crate) fn size(&self) -> (u32, u32)

@@ -10,6 +10,17 @@ pub struct Reach {
     pub to: usize,
 }
 
+/// In so few words an operation at once is always the faster.
+const FEW: usize = 256;
+
+/// Whether pixels are enabled in so many words that whole rows are faster than word by word.
+pub(crate) fn is_crowd(planes: &Planes, reach: Reach) -> bool {
+    let words = planes.enable.words();
+    let most = (words.len() / 3).max(FEW);
+    reach.to.saturating_sub(reach.from) > most
+        && words.iter().filter(|word| **word != 0).count() > most
+}
+
 /// All words.
 pub(crate) fn whole(planes: &Planes) -> Reach
     ensures { IsReach result planes.now }

@@ -13,6 +13,9 @@ use std::test::Fail;
 const ONE_SOLID: &[u8] = b"pxscene 1\npicture 1 1\ndepth 4\nsolid a 200 100 50\nfront 0 0 5\n\
 back 0 0 9\nshow a\nend\n";
 
+const THREE_ROWS: &[u8] = b"pxscene 1\npicture 2 3\ndepth 4\nsolid a 200 100 50\nfront 0 0 5\n\
+back 0 0 9\nshow a\nend\n";
+
 const TWO_MAPS: &[u8] = b"P6\n1 1\n255\n\0\0\x05P6\n1 1\n255\n\0\0\x02";
 
 /// What a run left.
@@ -79,6 +82,40 @@ fn a_failing_write_leaves_a_front(rt: HostRuntime) -> Result<(), Fail> {
     assert_eq!(rt; left.status, Status::Done);
     assert_eq!(rt; left.output.as_slice(), TWO_MAPS);
     assert!(rt; left.finished && left.notes.is_empty());
+    Ok(())
+}
+
+/// Runs a command on a scene of three rows, by a sink of which one call fails, with room for all.
+fn three_rows(alloc: Global, command: &str, failing: u64) -> Result<Status, Fail> {
+    let calls = Vec::from_slice(alloc, &[failing])?;
+    let mut input = MemSource::new(THREE_ROWS.to_vec(alloc)?, 4096, Vec::new(alloc));
+    let mut out = MemSink::new(alloc, 4096, 4096, calls)?;
+    let mut notes = MemSink::new(alloc, 100, 100, Vec::new(alloc))?;
+    let mut words: Vec<String> = Vec::new(alloc);
+    words.push(String::from_str(alloc, command)?)?;
+    let mut array = PlaneArray::<72>::new(alloc);
+    let words = words.as_slice();
+    Ok(run(alloc, words, &mut input, &mut out, &mut notes, &mut array))
+}
+
+/// What a command writes goes to its sink in no more calls than this, finishing included: of an image a
+/// head and each row, and of a text all.
+#[test]
+fn how_often_a_sink_is_called(rt: HostRuntime) -> Result<(), Fail> {
+    for (command, calls) in [
+        ("render", 9),
+        ("colour", 5),
+        ("tidy", 2),
+        ("plan", 2),
+        ("cost", 2),
+    ] {
+        for call in 1..=calls {
+            let status = three_rows(rt.alloc(), command, call)?;
+            assert_eq!(rt; status, Status::WriteFault, "{command}, call {call}");
+        }
+        let status = three_rows(rt.alloc(), command, calls + 1)?;
+        assert_eq!(rt; status, Status::Done, "{command}");
+    }
     Ok(())
 }
 

@@ -5,7 +5,8 @@ use Rattle.std.proofs.lemmas.Nat.Bits.{bit_at_ones}
 use Rattle.std.proofs.lemmas.Simd.{get_or-replicate, get_or-zip2, length-replicate, length-zip2}
 use Rattle.std.specs.Simd.Lanes.{zip2}
 use Rattle.px_num.specs.Bits.{majority, nat_bit, xor}
-use Rattle.px_rows.specs.Words.{HasAll, IsAdded, IsCarried, IsChosen, IsKeptWord, IsMajority}
+use Rattle.px_rows.specs.Rows.{HasAll}
+use Rattle.px_rows.specs.Words.{IsAdded, IsCarried, IsChosen, IsKeptWord, IsMajority}
 use Rattle.px_rows.proofs.BitLaws.{bit-and, bit-xor, bit_of_zero}
 
 pub all_ones : HasAll (2 ^ 64 - 1) true

@@ -13,3 +13,7 @@ EachBit words f = (p : ℕ) → p < 64 * length words → row_bit words p ≡ f 
 -- how many words hold so many bits
 abbrev pub words_for : ℕ → ℕ
 words_for n = (n + 63) / 64
+
+-- every bit of a word is v
+pub record HasAll (word : ℕ) (v : Bool) : Type 0 where
+  pub each : (i : ℕ) → i < 64 → nat_bit word i ≡ v

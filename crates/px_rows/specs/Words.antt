@@ -2,10 +2,6 @@
 use Rattle.std.specs.Prelude.{◌≡◌, ℕ, ◌+◌, ◌<◌, ◌≤◌, ◌&&◌, Bool, cond, List, slice_index}
 use Rattle.px_num.specs.Bits.{majority, nat_bit, xor}
 
--- every bit is v
-pub record HasAll (word : ℕ) (v : Bool) : Type 0 where
-  pub each : (i : ℕ) → i < 64 → nat_bit word i ≡ v
-
 pub record IsKeptWord (result mask other turn : ℕ) : Type 0 where
   pub each : (i : ℕ) → i < 64 → nat_bit result i ≡ (nat_bit mask i && xor (nat_bit other i) (nat_bit turn i))
 

@@ -1,7 +1,8 @@
 //! What the calls on rows do to one word.
 ghost use Rattle.std.specs.Prelude.{◌≡◌, ◌<◌, ℕ, cond, not};
 ghost use Rattle.px_num.specs.Bits.{nat_bit};
-ghost use Rattle.px_rows.specs.Words.{HasAll, IsAdded, IsCarried, IsChosen, IsKeptWord, IsMajority};
+ghost use Rattle.px_rows.specs.Rows.{HasAll};
+ghost use Rattle.px_rows.specs.Words.{IsAdded, IsCarried, IsChosen, IsKeptWord, IsMajority};
 
 /// A word of which every bit is `v`.
 #[inline(always)]

@@ -1,3 +1,4 @@
+pub mod PromptLemmas
 pub mod FeedingLemmas
 pub mod ServeLemmas
 pub mod SessionLemmas

@@ -69,7 +69,7 @@ after_short : (s : SessionView) (ls : List (List ℕ)) → after s (map short ls
 after_short s [] = refl
 after_short s (l ∷ ls) = ap (λ x. after x (map short ls)) (line_short s l) ∙ after_short (after_line s l) ls
 
-answers_short : (bits : ℕ) (s : SessionView) (ls : List (List ℕ)) → answers bits s (map short ls) ≡ answers bits s ls
+pub answers_short : (bits : ℕ) (s : SessionView) (ls : List (List ℕ)) → answers bits s (map short ls) ≡ answers bits s ls
 answers_short bits s [] = refl
 answers_short bits s (l ∷ ls) =
     ap (λ x. answer_line bits s (short l) ++ answers bits x (map short ls)) (line_short s l)

@@ -20,7 +20,7 @@ seen_both limit xs ys some =
     let n : limit - 1 ≡ length xs + (limit - length xs - 1) = omega arith in
     rw (n, take-append-add) refl
 
-seen_all : (limit : ℕ) (xs : List ℕ) → length xs < limit → seen limit xs ≡ xs
+pub seen_all : (limit : ℕ) (xs : List ℕ) → length xs < limit → seen limit xs ≡ xs
 seen_all limit xs some = take_all (limit - 1) xs (omega arith)
 
 pub seen_none : (limit : ℕ) → seen limit [] ≡ []
@@ -198,3 +198,11 @@ ended_quit limit n bits h buf fed s t x y a b p q within few taken is answered q
   taken = taken;
   answered = (rw (← is) answered, rw (← is) quits);
 }
+
+-- a write failed in the answer to the last piece, at the end of the input
+pub ended_last : (limit bits count : ℕ) (h buf : List ℕ) (s t : Stand) (x y a b : Option (List ℕ)) (p q : Option Bool)
+    → count ≡ 0 → Consumes x y (take count buf) → Broke bits s t a b p q (until_quit (last_of h))
+    → Ended e.WriteFault limit bits h s t x y a b p q
+ended_last limit bits count h buf s t x y a b p q none taken broke =
+    let nothing = seen_none limit in
+    record { bytes = []; few = omega arith; taken = rw none at taken; answered = rw nothing broke }

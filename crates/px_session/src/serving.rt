@@ -4,15 +4,18 @@ ghost use Rattle.std.specs.Io.KnownBytes.{Keeps};
 ghost use Rattle.px_io.specs.Counts.{Rose};
 ghost use Rattle.px_io.specs.Told.{Tells};
 ghost use Rattle.px_debug.specs.Moves.{Fits};
+ghost use Rattle.px_session.specs.Catching.{Begun, Caught, PromptsFrom};
+ghost use Rattle.px_session.specs.Prompts.{Prompts};
 ghost use Rattle.px_session.specs.Servings.{HasCauses, Serves};
 ghost use Rattle.px_session.specs.Sessions.{stand};
 ghost use Rattle.px_session.specs.Turns.{Ended, Stopped, Went};
 
 use crate::feed::{Line, feed, finish_line};
 use arrayvec::ArrayVec;
+use px_asked::Asks;
 use px_asm::Operating;
 use px_debug::{Going, Session};
-use px_io::{Sink, Source};
+use px_io::Sink;
 
 /// Why no more lines are answered.
 #[derive(Clone, Copy, Debug, PartialEq, Eq)]
@@ -35,7 +38,7 @@ pub enum Ending {
 /// The bytes of `read` were read before. At most `more` bytes are read, in reads of at most 4096, and
 /// no line ends with the last of them. A last piece without a line feed is a line; a line is handed on
 /// by its first 256 bytes. After a `quit` nothing is read. Takes no memory.
-pub fn serve<S: Source, O: Sink, A: Operating>(
+pub fn serve<S: Asks<O>, O: Sink, A: Operating>(
     session: &mut Session<'_>,
     array: &mut A,
     read: &[u8],
@@ -52,6 +55,9 @@ pub fn serve<S: Source, O: Sink, A: Operating>(
         (O.finished out.old) (O.finished out.new) }
     ensures causes { HasCauses result (S.faults input.old) (S.faults input.new)
         (O.faults out.old) (O.faults out.new) }
+    ensures prompt { Prompts A.BITS session.old read.now
+        (S.asks input.old) (S.asks input.new)
+        (S.rest input.old) (S.rest input.new) (O.written out.old) }
 {
     match answer_all(session, array, read, input, more, out) {
         Ending::Quit => finish(out, Ending::Quit),
@@ -74,7 +80,7 @@ fn finish<O: Sink>(out: &mut O, ending: Ending) -> Ending
 }
 
 /// Has the lines answered that the bytes end, and reads on.
-fn answer_all<S: Source, O: Sink, A: Operating>(
+fn answer_all<S: Asks<O>, O: Sink, A: Operating>(
     session: &mut Session<'_>,
     array: &mut A,
     read: &[u8],
@@ -91,6 +97,9 @@ fn answer_all<S: Source, O: Sink, A: Operating>(
         (O.finished out.old) (O.finished out.new) }
     ensures causes { HasCauses result (S.faults input.old) (S.faults input.new)
         (O.faults out.old) (O.faults out.new) }
+    ensures prompt { Prompts A.BITS session.old read.now
+        (S.asks input.old) (S.asks input.new)
+        (S.rest input.old) (S.rest input.new) (O.written out.old) }
 {
     let mut held = ArrayVec::new();
     match feed(session, &mut held, array, read, out) {
@@ -101,7 +110,7 @@ fn answer_all<S: Source, O: Sink, A: Operating>(
 }
 
 /// Reads on, where some of a line is held.
-fn read_on<S: Source, O: Sink, A: Operating>(
+fn read_on<S: Asks<O>, O: Sink, A: Operating>(
     session: &mut Session<'_>,
     held: &mut Line,
     array: &mut A,
@@ -118,6 +127,10 @@ fn read_on<S: Source, O: Sink, A: Operating>(
         (O.finished out.old) (O.finished out.new) }
     ensures causes { HasCauses result (S.faults input.old) (S.faults input.new)
         (O.faults out.old) (O.faults out.new) }
+    ensures prompt { (b : Begun) → Caught A.BITS b
+        (stand session.old (A.work array.old)) held.old.items (S.asks input.old) (S.rest input.old)
+        (O.written out.old) (O.finished out.old)
+        → PromptsFrom A.BITS b (S.asks input.new) (S.rest input.new) }
 {
     let mut piece = [0; 4096];
     let mut more = limit;
@@ -131,7 +144,7 @@ fn read_on<S: Source, O: Sink, A: Operating>(
 }
 
 /// One read, and the answers to the lines that it ends.
-fn turn<S: Source, O: Sink, A: Operating>(
+fn turn<S: Asks<O>, O: Sink, A: Operating>(
     session: &mut Session<'_>,
     held: &mut Line,
     array: &mut A,
@@ -159,9 +172,19 @@ fn turn<S: Source, O: Sink, A: Operating>(
         (O.written out.old) (O.written out.new) (O.finished out.old) (O.finished out.new)) }
     ensures causes { IfErr result (λ ending. HasCauses ending
         (S.faults input.old) (S.faults input.new) (O.faults out.old) (O.faults out.new)) }
+    ensures prompt { (b : Begun) → Caught A.BITS b
+        (stand session.old (A.work array.old)) held.old.items (S.asks input.old) (S.rest input.old)
+        (O.written out.old) (O.finished out.old)
+        → PromptsFrom A.BITS b (S.asks input.new) (S.rest input.new) }
+    ensures caught { IfOk result (λ count. (b : Begun) → Caught A.BITS b
+        (stand session.old (A.work array.old)) held.old.items (S.asks input.old) (S.rest input.old)
+        (O.written out.old) (O.finished out.old)
+        → count < limit → Caught A.BITS b
+        (stand session.new (A.work array.new)) held.new.items (S.asks input.new) (S.rest input.new)
+        (O.written out.new) (O.finished out.new)) }
 {
     let room = piece.len().min(limit);
-    let Ok(count) = input.read(&mut piece[..room]) else {
+    let Ok(count) = input.ask(out, &mut piece[..room]) else {
         return Err(Ending::ReadFault);
     };
     if count == 0 {

@@ -15,12 +15,11 @@ use Rattle.px_array.specs.Slots.{worked}
 use Rattle.px_num.proofs.ListLaws.{length-tabulate}
 use Rattle.px_tree.specs.Nodes.{IsGrid}
 use Rattle.px_asm.proofs.CycleLaws.{few_cycles}
-use Rattle.px_asm.specs.Making.{cycles_on, micros_on}
 use Rattle.px_asm.specs.Micros.{all_micros, cycles, micro_at, micros}
 use Rattle.px_macro.specs.Macros.{IsLawful}
 use Rattle.px_macro.specs.declared.operation.Macro.{Macro}
-use Rattle.px_macro.specs.declared.operation.Macro.TheVariants as m
 use Rattle.px_control.specs.GridLaw.{IsSizedArray}
+use Rattle.px_asm.specs.Operations.{CanMake, all_made}
 use Rattle.px_shadow.specs.Carrying.{CanCarryOut, CarriesOut, IsRestOf, carried_out}
 
 pub carried_none : (d : Device) → carried_out [] d ≡ d
@@ -38,10 +37,6 @@ carried_both ms ns d =
     ∙ ap (λ k. all_clocked (all_micros ns k ny) mid) (sym (nx-after_clocks (all_micros ms nx ny) d.state))
     ∙ ap (λ k. all_clocked (all_micros ns mid.state.tree.nx k) mid)
     (sym (ny-after_clocks (all_micros ms nx ny) d.state))
-
-pub carried_one : (m : Macro) (d : Device) → carried_out (m ∷ []) d ≡ all_clocked (micros_on d m) d
-unfolding carried_out
-carried_one m d = ap (λ ms. all_clocked ms d) (append-nil (micros_on d m))
 
 -- the array keeps its size
 sized_with : (bits nx ny a b : ℕ) (s : State) → a ≡ nx → b ≡ ny → IsGrid nx ny → HasGrid bits nx ny s
@@ -114,6 +109,16 @@ pub rest_of : (xs ys : List Macro) (d now : Device) → now ≡ carried_out xs d
     ≡ carried_out (xs ++ ys) d
 rest_of xs ys d now is = ap (carried_out ys) is ∙ sym (carried_both xs ys d)
 
+-- an array that can carry operations out can make them
+pub can_make : (bits : ℕ) (ms : List Macro) (d : Device) → CanCarryOut bits ms d → CanMake bits ms d
+can_make bits ms d can = record {
+  grid = can.sized.grid;
+  pixels = can.sized.pixels;
+  lawful = can.lawful;
+  places = can.places;
+  counted = can.counted;
+}
+
 -- an array with what is told of it
 module _ {A : Type 0} (bits : ℕ) (device : A → Device) (slots : A → List (Option Device)) (work : A → ℕ) where
   pub all_left : (whole : List Macro) (start : A) → CanCarryOut bits whole (device start)
@@ -150,24 +155,14 @@ module _ {A : Type 0} (bits : ℕ) (device : A → Device) (slots : A → List (
   last_made whole ms start before now left made =
       none_left whole start now (left_next whole ms [] start before now (rw (append-nil ms) left) made)
 
-  -- one operation
-  pub one_made : (whole ms : List Macro) (i : ℕ) (start before now : A) → i < length ms
-      → IsRestOf bits device slots work whole (drop i ms) start before →
-      device now ≡ all_clocked (micros_on (device before) (get_or ms i m.All)) (device before)
-      → slots now ≡ slots before →
-      work now ≡ worked (cycles_on (device before) (get_or ms i m.All)) (work before)
-      → IsRestOf bits device slots work whole (drop (i + 1) ms) start now
-  one_made whole ms i start before now there left is same grown =
-      let next : suc i ≡ i + 1 = omega arith in
-      let one = get_or ms i m.All in
-      let cut : drop i ms ≡ one ∷ drop (i + 1) ms = drop-cons ms i m.All there ∙ ap (λ k. one ∷ drop k ms) next in
-      let out : device now ≡ carried_out (one ∷ []) (device before) = is ∙ sym (carried_one one (device before)) in
-      let count : (device now).clocks ≡ (device before).clocks + cycles_on (device before) one =
-      ap (λ (d : Device). d.clocks) is
-      ∙ ap (λ n. (device before).clocks + n) (length-tabulate (cycles_on (device before) one)
-      (micro_at one (device before).state.tree.nx (device before).state.tree.ny)) in
-      left_next whole (one ∷ []) (drop (i + 1) ms) start before now (rw cut at left)
-      (record { device = out; clocks = omega (arith, count); slots = same; work = omega (arith, grown, count) })
+  -- they are made
+  pub made_out : (ms : List Macro) (before now : A) → device now ≡ all_made ms (device before)
+      → (device before).clocks ≤ (device now).clocks → slots now ≡ slots before
+      → work now ≡ worked ((device now).clocks - (device before).clocks) (work before)
+      → CarriesOut device slots work ms before now
+  unfolding carried_out
+  made_out ms before now is clocks same grown =
+      record { device = is; clocks = clocks; slots = same; work = grown }
 
   -- some operations for each element of a list
   cut_each : {X : Type 0} (f : X → List Macro) (xs : List X) (i : ℕ) (x d : X) → i < length xs → get_or xs i d ≡ x →

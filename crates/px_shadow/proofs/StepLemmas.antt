@@ -1,6 +1,7 @@
 -- The steps of the shadow passes as the functions make them, one after another.
-use Rattle.std.proofs.Common.{◌≡◌, ◌<◌, ◌+◌, ◌-◌, ◌∙◌, ℕ, false, List, [], ◌∷◌, ◌++◌, drop, length, map, ap, arith}
-use Rattle.std.proofs.Common.{sym}
+use Rattle.std.proofs.Common.{◌≡◌, ◌<◌, ◌+◌, ◌∙◌, ℕ, false, List, [], ◌∷◌, ◌++◌, drop, length, map, ap, arith}
+use Rattle.std.proofs.Common.{◌≤◌, append_assoc, length-set, set, sym, take}
+use Rattle.std.proofs.lemmas.List.{map-append, take_all, take_more}
 use Rattle.std.specs.List.{flat_map, range_with_len}
 use Rattle.std.proofs.lemmas.List.Concat.{flat_map_single}
 use Rattle.std.proofs.lemmas.List.FromFn.{get_or-range_with_len}
@@ -11,7 +12,7 @@ use Rattle.px_normal.specs.declared.set.SolidSet.{SolidSet}
 use Rattle.px_normal.specs.SetLaws.{LawsOfSets}
 use Rattle.px_normal.specs.Sets.{IsBelow, solids}
 use Prim.Native.Nat.{suc}
-use Rattle.std.proofs.Math.Seq.{drop-cons}
+use Rattle.std.proofs.Math.Seq.{drop-cons, take-suc-set}
 use Rattle.px_model.specs.Scenes.{SceneView, SolidView}
 use Rattle.px_shadow.specs.ShadowPasses.{light_passes, passes_from, solid_passes}
 use Rattle.px_num.specs.declared.linear.Linear.{Linear}
@@ -23,10 +24,6 @@ use Rattle.px_sched.specs.Layouts.{LayoutView, number_part}
 -- the test of a bit of the stored face number
 abbrev pub bit_test : LayoutView → (t : ℕ) → List Macro
 bit_test l t = m.KeepBit ((number_part l l.key_b).at + t) false ∷ []
-
--- the test of an edge
-abbrev pub edge_test : Linear → List Macro
-edge_test form = m.KeepSign form ∷ []
 
 pub tests_are : {X : Type 0} (f : X → Macro) (xs : List X) (tail : List Macro) → map f xs ++ tail
     ≡ flat_map (λ x. f x ∷ []) xs ++ tail
@@ -57,3 +54,34 @@ next_lights scene l sets i there =
     let next : suc i ≡ i + 1 = omega arith in
     ap (passes_from scene l (i + 1)) (drop-cons sets i no_light there
     ∙ ap (λ k. get_or sets i no_light ∷ drop k sets) next)
+
+-- ---- the operations of a face, stored one after another
+
+pub turn_more : (xs : List Linear) (i : ℕ) (d e : Linear) (ops : List Macro)
+    → take (i + 1) ops ≡ m.All ∷ map m.KeepSign (take i xs) → e ≡ get_or xs i d → i < length xs → i + 1 < length ops
+    → take (i + 1 + 1) (set ops (i + 1) (m.KeepSign e)) ≡ m.All ∷ map m.KeepSign (take (i + 1) xs)
+turn_more xs i d e ops so_far is there inside =
+    let next : i + 1 + 1 ≡ suc (i + 1) = omega arith in
+    let more : map m.KeepSign (take (i + 1) xs) ≡ map m.KeepSign (take i xs) ++ m.KeepSign e ∷ [] =
+    ap (map m.KeepSign) (take_more xs i d there)
+    ∙ (map-append m.KeepSign (take i xs) (get_or xs i d ∷ [])
+    ∙ ap (λ (f : Linear). map m.KeepSign (take i xs) ++ m.KeepSign f ∷ []) (sym is)) in
+    ap (λ n. take n (set ops (i + 1) (m.KeepSign e))) next
+    ∙ (take-suc-set ops (i + 1) (m.KeepSign e) inside
+    ∙ (ap (λ ys. ys ++ m.KeepSign e ∷ []) so_far ∙ ap (λ ys. m.All ∷ ys) (sym more)))
+
+pub turn_all : (xs : List Linear) (n : ℕ) (a b : Macro) (ops : List Macro)
+    → take (n + 1) ops ≡ m.All ∷ map m.KeepSign (take n xs) → length xs ≤ n → n + 2 < length ops
+    → take (n + 3) (set (set ops (n + 1) a) (n + 2) b) ≡ m.All ∷ map m.KeepSign xs ++ a ∷ b ∷ []
+turn_all xs n a b ops so_far past inside =
+    let one = set ops (n + 1) a in
+    let size = length-set ops (n + 1) a in
+    let first : n + 2 ≡ suc (n + 1) = omega arith in
+    let second : n + 3 ≡ suc (n + 2) = omega arith in
+    let front : take (n + 2) one ≡ m.All ∷ (map m.KeepSign xs ++ a ∷ []) =
+    ap (λ k. take k one) first
+    ∙ (take-suc-set ops (n + 1) a (omega arith)
+    ∙ (ap (λ ys. ys ++ a ∷ []) so_far ∙ ap (λ ys. m.All ∷ (map m.KeepSign ys ++ a ∷ [])) (take_all n xs past))) in
+    ap (λ k. take k (set one (n + 2) b)) second
+    ∙ (take-suc-set one (n + 2) b (omega (arith, size))
+    ∙ (ap (λ ys. ys ++ b ∷ []) front ∙ ap (λ ys. m.All ∷ ys) (append_assoc (map m.KeepSign xs) (a ∷ []) (b ∷ []))))

@@ -1,6 +1,7 @@
 //! The shadow passes, made on an array that stores the picture of a scene.
-ghost use Rattle.std.specs.Prelude.{◌≡◌, ◌+◌, ◌-◌, ◌<◌, ◌≤◌, All, length};
+ghost use Rattle.std.specs.Prelude.{◌≡◌, ◌+◌, ◌-◌, ◌<◌, ◌≤◌, All, length, take};
 ghost use Rattle.px_array.specs.Slots.{IsRunOnce, array_view, worked};
+ghost use Rattle.px_face.specs.Edges.{edge_count};
 ghost use Rattle.px_face.specs.Faces.{face_count};
 ghost use Rattle.px_normal.specs.Sets.{IsBelow};
 ghost use Rattle.px_model.specs.Cells.{depths_of, end_of};
@@ -26,7 +27,7 @@ ghost use Rattle.px_shadow.specs.ShadowPasses.{
 use crate::carrying::carry_out;
 use crate::law::{law_of_shadow_passes, laws_of_shadows};
 use arrayvec::ArrayVec;
-use px_array::Array;
+use px_asm::Operating;
 use px_control::{law_of_clocks, law_of_sizes};
 use px_face::{edge_at, edge_count, face_count, laws_of_edges, plane_of};
 use px_macro::{Macro, laws_of_operations};
@@ -36,6 +37,9 @@ use px_sched::{Layout, laws_of_passes};
 
 /// A scene is lit by at most so many lights.
 pub const MAX_LIGHTS: usize = 8;
+
+/// A face has at most 97 edges, and three operations beside those of its edges.
+const TURN_OPERATIONS: usize = 100;
 
 /// How many memory bits a pixel needs for the keys of a layout and so many lights, at most
 /// `MAX_LIGHTS` (docs/SHADOWS.md, "Memory").
@@ -52,7 +56,7 @@ pub fn need(layout: &Layout, lights: usize) -> u32
 /// Each light is the set of its shadow solids. Light `l`, counted from 1, has bit `par + l` of
 /// each pixel's memory. The layout is that of `Layout::of`, and the array is the one that the whole
 /// program of the scene leaves.
-pub fn shade<A: Array>(
+pub fn shade<A: Operating>(
     scene: &Scene,
     layout: &Layout,
     lights: &ArrayVec<SolidSet, MAX_LIGHTS>,
@@ -86,7 +90,7 @@ pub fn shade<A: Array>(
 }
 
 /// The passes of all lights.
-fn all_lights<A: Array>(array: &mut A, scene: &Scene, layout: &Layout, lights: &[SolidSet])
+fn all_lights<A: Operating>(array: &mut A, scene: &Scene, layout: &Layout, lights: &[SolidSet])
     requires few { length lights.now ≤ MAX_LIGHTS }
     requires known { All (IsBelow (length scene.now.solids)) lights.now }
     requires can { CanCarryOut A.BITS (shadow_passes scene.now layout.now lights.now)
@@ -100,7 +104,13 @@ fn all_lights<A: Array>(array: &mut A, scene: &Scene, layout: &Layout, lights: &
 }
 
 /// The passes of a light.
-fn one_light<A: Array>(array: &mut A, scene: &Scene, layout: &Layout, light: u32, solids: &SolidSet)
+fn one_light<A: Operating>(
+    array: &mut A,
+    scene: &Scene,
+    layout: &Layout,
+    light: u32,
+    solids: &SolidSet,
+)
     requires number { light ≤ MAX_LIGHTS }
     requires known { IsBelow (length scene.now.solids) solids.now }
     requires can { CanCarryOut A.BITS (light_passes scene.now layout.now light solids.now)
@@ -121,7 +131,7 @@ fn one_light<A: Array>(array: &mut A, scene: &Scene, layout: &Layout, light: u32
 }
 
 /// The passes of a solid of a light, which put the light out where the stored cell is inside it.
-fn one_solid<A: Array>(array: &mut A, layout: &Layout, end: u32, light: u32, solid: &Solid)
+fn one_solid<A: Operating>(array: &mut A, layout: &Layout, end: u32, light: u32, solid: &Solid)
     requires number { light ≤ MAX_LIGHTS }
     requires can { CanCarryOut A.BITS (solid_passes layout.now end light solid.now)
         (A.device array.old) }
@@ -142,31 +152,37 @@ fn one_solid<A: Array>(array: &mut A, layout: &Layout, end: u32, light: u32, sol
     );
 }
 
-/// The passes of a face, which turn the parity where it is not behind the stored cell.
-fn one_face<A: Array>(array: &mut A, layout: &Layout, end: u32, solid: &Solid, face: usize)
+/// The passes of a face, which turn the parity where it is not behind the stored cell: its edges at
+/// once, so that the clocks are those of one comparison.
+fn one_face<A: Operating>(array: &mut A, layout: &Layout, end: u32, solid: &Solid, face: usize)
     requires face { face < face_count solid.now }
     requires can { CanCarryOut A.BITS (stored_turn layout.now end solid.now face)
         (A.device array.old) }
     ensures { CarriesOut A.device A.slots A.work (stored_turn layout.now end solid.now face)
         array.old array.new }
 {
+    let operations = turn_of(layout, end, solid, face);
+    carry_out(array, &operations[..edge_count(solid) + 3]);
+}
+
+/// The operations of a face, one for each edge and three, and others behind them.
+fn turn_of(layout: &Layout, end: u32, solid: &Solid, face: usize) -> [Macro; TURN_OPERATIONS]
+    requires face { face < face_count solid.now }
+    ensures { take (edge_count solid.now + 3) result ≡ stored_turn layout.now end solid.now face }
+{
     laws_of_edges();
-    carry_out(array, &[Macro::All]);
-    for place in 0..edge_count(solid) {
-        carry_out(array, &[Macro::KeepSign(edge_at(solid, end, face, place))]);
+    let mut operations = [Macro::All; TURN_OPERATIONS];
+    let edges = edge_count(solid);
+    for place in 0..edges {
+        operations[place + 1] = Macro::KeepSign(edge_at(solid, end, face, place));
     }
-    let plane = plane_of(solid, end, face);
-    carry_out(
-        array,
-        &[
-            Macro::KeepAtMost(plane, layout.b_deep()),
-            Macro::Toggle(layout.par),
-        ],
-    );
+    operations[edges + 1] = Macro::KeepAtMost(plane_of(solid, end, face), layout.b_deep());
+    operations[edges + 2] = Macro::Toggle(layout.par);
+    operations
 }
 
 /// The passes that put a light out where no face is stored.
-fn background<A: Array>(array: &mut A, layout: &Layout, light: u32)
+fn background<A: Operating>(array: &mut A, layout: &Layout, light: u32)
     requires number { light ≤ MAX_LIGHTS }
     requires can { CanCarryOut A.BITS (background_passes layout.now light) (A.device array.old) }
     ensures { CarriesOut A.device A.slots A.work (background_passes layout.now light)

@@ -1,5 +1,5 @@
 use Rattle.px_draw.specs.Outcomes.{done}
-use Rattle.px_draw.specs.Works.{images}
+use Rattle.px_deliver.specs.Images.{images}
 use Rattle.px_draw.proofs.WorkLemmas.{serves_front}
 use Rattle.px_draw.proofs.make.draw.Goals as goal
 

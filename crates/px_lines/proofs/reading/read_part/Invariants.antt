@@ -1,12 +1,13 @@
 use Rattle.std.proofs.Common.{◌-◌, ◌≡◌, ◌≤◌, length, take, vec_len}
-use Rattle.std.specs.Io.KnownBytes.{Consumes}
+use Rattle.px_lines.specs.Hearings.{Heard}
 use Rattle.px_lines.specs.Searches.{HasSeen}
 use Rattle.px_lines.proofs.reading.read_part.Given as goal
 
 abbrev pub invariant-loop-piece : goal.invariant-loop-piece
 invariant-loop-piece g l = record {
   within : vec_len l.text ≤ l.limit;
-  taken : Consumes (g.S.Source.rest l.fn.input) (g.S.Source.rest l.input) l.text.items;
+  heard : Heard (record { asks = g.S.Asks.asks l.fn.input; rest = g.S.Source.rest l.fn.input }) (g.S.Asks.asks l.input)
+      (g.S.Source.rest l.input) (g.O.Sink.written l.out) l.text.items;
   calm : g.S.Source.faults l.input ≡ g.S.Source.faults l.fn.input;
   seen : HasSeen l.search (take (l.limit - 1) l.text.items);
   all : l.search.at ≡ length (take (l.limit - 1) l.text.items);

@@ -1,10 +1,25 @@
 use Rattle.std.proofs.Common.{arith}
 use Rattle.std.proofs.lemmas.Grind.{common_steps}
-use Rattle.px_io.proofs.ToldLaws.{consumes_both}
+use Rattle.px_io.proofs.ToldLaws.{consumes_both, on_err}
+use Rattle.px_asked.proofs.AskLaws.{read_gave}
+use Rattle.px_lines.proofs.ListenLemmas.{heard_more, listened_more}
 use Rattle.px_lines.proofs.ReadLemmas.{on_err_consumed}
 use Rattle.px_lines.proofs.reading.read_piece.Goals as goal
 
 pub returns-in_err-extend_from_slice-clause-err : goal.returns-in_err-extend_from_slice-clause-err
-returns-in_err-extend_from_slice-clause-err g c start before =
-    on_err_consumed _ _ _ _ _ (consumes_both _ _ _ _ _ before c.in_ok-count.ensures.bytes.0)
+returns-in_err-extend_from_slice-clause-err g c begun heard =
+    on_err_consumed _ _ _ _ _ (consumes_both _ _ _ _ _ heard.taken c.in_ok-count.ensures.bytes.0)
     (grind (arith, common_steps, c.in_ok-count.ensures.bound))
+
+pub returns-in_err-count-clause-listened : goal.returns-in_err-count-clause-listened
+returns-in_err-count-clause-listened g c begun heard =
+    on_err _ (listened_more _ _ _ _ _ _ _ _ heard c.ask.ensures.noted (read_gave _ _ _ _ c.ask.ensures.bytes))
+
+pub returns-in_err-extend_from_slice-clause-listened : goal.returns-in_err-extend_from_slice-clause-listened
+returns-in_err-extend_from_slice-clause-listened g c begun heard =
+    on_err _ (listened_more _ _ _ _ _ _ _ _ heard c.ask.ensures.noted (read_gave _ _ _ _ c.ask.ensures.bytes))
+
+pub returns-clause-heard : goal.returns-clause-heard
+returns-clause-heard g c begun heard =
+    rw c.in_ok-extend_from_slice.ensures.items
+    (heard_more _ _ _ _ _ _ _ _ heard c.in_ok-count.ensures.noted c.in_ok-count.ensures.bytes.0)

@@ -1,5 +1,6 @@
 use Rattle.std.proofs.Common.{◌≡◌, ◌+◌, ◌-◌, ◌≤◌, ◌<◌, ◌^◌}
 use Rattle.px_debug.specs.Moves.{Fits}
+use Rattle.px_session.specs.Catching.{Begun, Caught, PromptsFrom}
 use Rattle.px_session.specs.Sessions.{stand}
 use Rattle.px_session.specs.Turns.{Went}
 use Rattle.px_session.proofs.serving.read_on.Given as goal
@@ -13,6 +14,13 @@ invariant-loop-more g l = record {
       (g.S.Source.rest l.fn.input) (g.S.Source.rest l.input) (g.O.Sink.written l.fn.out) (g.O.Sink.written l.out)
       (g.O.Sink.finished l.fn.out) (g.O.Sink.finished l.out);
   few : l.session.lines + l.more < 2 ^ 64 - 1;
+  prompt : (b : Begun) → Caught g.A.Array.BITS b (stand l.fn.session (g.A.Array.work l.fn.array)) l.fn.held.items (g.S.Asks.asks l.fn.input) (g.S.Source.rest l.fn.input)
+      (g.O.Sink.written l.fn.out) (g.O.Sink.finished l.fn.out)
+      → PromptsFrom g.A.Array.BITS b (g.S.Asks.asks l.input) (g.S.Source.rest l.input);
+  caught : (b : Begun) → Caught g.A.Array.BITS b (stand l.fn.session (g.A.Array.work l.fn.array)) l.fn.held.items (g.S.Asks.asks l.fn.input) (g.S.Source.rest l.fn.input)
+      (g.O.Sink.written l.fn.out) (g.O.Sink.finished l.fn.out)
+      → 0 < l.more → Caught g.A.Array.BITS b (stand l.session (g.A.Array.work l.array)) l.held.items (g.S.Asks.asks l.input) (g.S.Source.rest l.input)
+      (g.O.Sink.written l.out) (g.O.Sink.finished l.out);
   calm_in : g.S.Source.faults l.input ≡ g.S.Source.faults l.fn.input;
   calm_out : g.O.Sink.faults l.out ≡ g.O.Sink.faults l.fn.out;
 }

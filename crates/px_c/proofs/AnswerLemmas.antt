@@ -1,0 +1,30 @@
+-- What a call answers, step by step.
+use Rattle.std.proofs.Common.{ℕ, ◌≡◌, ◌⊎◌, ◌<◌, ◌≤◌, inl, inr, true, false, Option, Some, None, refl, arith, nat_lt}
+use Rattle.std.proofs.lemmas.Bool.Decides.{nat_tests}
+use Rattle.px_show.specs.declared.fault.SceneFault.{SceneFault}
+use Rattle.px_show.specs.declared.fault.SceneFault.TheVariants as f
+use Rattle.px_c.specs.declared.answer.Answer.{Answer}
+use Rattle.px_c.specs.declared.found.Found.{Found}
+use Rattle.px_c.specs.declared.status.TheConstants.{NO_ROOM, OK}
+use Rattle.px_c.specs.Answers.{Answers, refused, unless_refused, within_room}
+
+-- a fault that is want of memory, or the refusal that is due
+pub refuses : (refusal : Option SceneFault) (due : Answer) (fault : SceneFault)
+    → (fault ≡ f.Memory) ⊎ (refusal ≡ Some fault) → Answers (unless_refused refusal due) (refused fault)
+refuses refusal due fault (inl none) = rw none (inr refl)
+refuses refusal due fault (inr is) = rw is (inl refl)
+
+pub accepts : (refusal : Option SceneFault) (due answer : Answer) → refusal ≡ None → Answers due answer
+    → Answers (unless_refused refusal due) answer
+accepts refusal due answer none answers = rw none answers
+
+pub roomy : (room due : ℕ) (found : Found) → due ≤ room → within_room room due found ≡ record { status = OK; found = found }
+roomy room due found enough =
+    let test : nat_lt room due ≡ false = grind (arith, nat_tests) in
+    rw test refl
+
+pub scant : (room due : ℕ) (found : Found) → room < due
+    → within_room room due found ≡ record { status = NO_ROOM; found = record found { room = due } }
+scant room due found short =
+    let test : nat_lt room due ≡ true = grind (arith, nat_tests) in
+    rw test refl

@@ -1,0 +1,11 @@
+pub use Rattle.px_control.specs.Program
+pub use Rattle.px_deliver.specs.Refusals
+pub use Rattle.px_frame.specs.Picture
+pub use Rattle.px_prune.specs.Kept
+pub use Rattle.px_scene.specs.Reading
+pub use Rattle.px_words.specs.Words
+pub mod Answers
+pub mod Buffers
+pub mod Literals
+pub mod Names
+pub mod Numbers

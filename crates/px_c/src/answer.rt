@@ -1,0 +1,76 @@
+//! What a call answers: its status, and what it found.
+ghost use Rattle.std.specs.Prelude.{◌≡◌, ◌≤◌, ◌^◌, ℕ};
+ghost use Rattle.px_control.specs.declared.fault.JobFault.{JobFault};
+ghost use Rattle.px_c.specs.Answers.{refused, scene_fault};
+
+use crate::found::{Found, cause_number, kind_number, nothing};
+use crate::status::{LIMIT, MALFORMED, MEMORY};
+use px_control::JobFault;
+use px_scene::{LimitKind, SceneFault};
+
+/// What a call answers.
+#[derive(Clone, Copy, Debug, PartialEq, Eq)]
+pub(crate) struct Answer {
+    pub(crate) status: u32,
+    pub(crate) found: Found,
+}
+
+impl Answer {
+    /// Writes down what was found, and gives the status.
+    pub(crate) fn give(self, found: &mut Found) -> u32
+        ensures status { result ≡ self.status }
+        ensures found { found.new ≡ self.found }
+    {
+        *found = self.found;
+        self.status
+    }
+}
+
+/// The answer to a text that is refused.
+pub(crate) fn refused(fault: SceneFault) -> Answer
+    ensures { result ≡ refused fault }
+{
+    match fault {
+        SceneFault::Malformed { line, cause } => Answer {
+            status: MALFORMED,
+            found: Found {
+                line,
+                cause: cause_number(cause),
+                ..nothing()
+            },
+        },
+        SceneFault::Limit { line, kind, found } => Answer {
+            status: LIMIT,
+            found: Found {
+                line,
+                kind: kind_number(kind),
+                number: found,
+                ..nothing()
+            },
+        },
+        SceneFault::Memory => Answer {
+            status: MEMORY,
+            found: nothing(),
+        },
+    }
+}
+
+/// A refusal of the array, as one of the text.
+pub(crate) fn scene_fault(fault: JobFault) -> SceneFault
+    requires { (count : ℕ) → fault ≡ JobFault.Products count → count ≤ 2 ^ 21 }
+    ensures { result ≡ scene_fault fault }
+{
+    match fault {
+        JobFault::PixelMemory { need } => SceneFault::Limit {
+            line: 0,
+            kind: LimitKind::PixelMemory,
+            found: i64::from(need),
+        },
+        JobFault::Products { count } => SceneFault::Limit {
+            line: 0,
+            kind: LimitKind::Products,
+            found: count as i64,
+        },
+        JobFault::Memory => SceneFault::Memory,
+    }
+}

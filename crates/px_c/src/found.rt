@@ -1,0 +1,118 @@
+//! What a call found, as C has it.
+ghost use Rattle.std.specs.Prelude.{◌≡◌, length};
+ghost use Rattle.px_sched.specs.Passes.{passes};
+ghost use Rattle.px_control.specs.Program.{total};
+ghost use Rattle.px_c.specs.Answers.{cost_found, nothing, scene_found};
+ghost use Rattle.px_c.specs.Numbers.{cause_number, kind_number};
+
+use px_scene::{Cause, LimitKind, Scene};
+
+/// What a call found (include/pxplanes.h, `struct pxplanes_found`). What does not apply is 0.
+#[repr(C)]
+#[derive(Clone, Copy, Debug, PartialEq, Eq)]
+pub struct Found {
+    /// The columns of the picture.
+    pub width: u32,
+    /// Its rows.
+    pub height: u32,
+    /// How many faces the scene has.
+    pub faces: u32,
+    /// The first bad line, counted from 1.
+    pub line: u32,
+    /// Why its words are bad.
+    pub cause: u32,
+    /// What has the limit that is passed.
+    pub kind: u32,
+    /// How many were found, past the limit.
+    pub number: i64,
+    /// How many operations the passes of the scene have.
+    pub operations: u64,
+    /// How many clocks they take.
+    pub clocks: u64,
+    /// How many elements a buffer has to have.
+    pub room: u64,
+}
+
+/// Nothing.
+pub(crate) fn nothing() -> Found
+    ensures { result ≡ nothing }
+{
+    Found {
+        width: 0,
+        height: 0,
+        faces: 0,
+        line: 0,
+        cause: 0,
+        kind: 0,
+        number: 0,
+        operations: 0,
+        clocks: 0,
+        room: 0,
+    }
+}
+
+/// The picture's size, and how many faces its scene has.
+pub(crate) fn scene_found(scene: &Scene) -> Found
+    ensures { result ≡ scene_found scene.now }
+{
+    Found {
+        width: scene.width(),
+        height: scene.height(),
+        faces: scene.faces(),
+        ..nothing()
+    }
+}
+
+/// The same, with how many operations the passes of the scene have and how many clocks they take.
+pub(crate) fn cost_found(scene: &Scene, operations: u64, clocks: u64) -> Found
+    requires operations { operations ≡ length (passes scene.now) }
+    requires clocks { clocks ≡ total scene.now }
+    ensures { result ≡ cost_found scene.now }
+{
+    Found {
+        operations,
+        clocks,
+        ..scene_found(scene)
+    }
+}
+
+/// The number of a cause.
+pub(crate) fn cause_number(cause: Cause) -> u32
+    ensures { result ≡ cause_number cause }
+{
+    match cause {
+        Cause::NotHeader => 1,
+        Cause::Unexpected => 2,
+        Cause::WordCount => 3,
+        Cause::NotNumber => 4,
+        Cause::BadName => 5,
+        Cause::SecondName => 6,
+        Cause::BadExpression => 7,
+        Cause::UnknownName => 8,
+        Cause::AfterEnd => 9,
+        Cause::MissingEnd => 10,
+    }
+}
+
+/// The number of what has a limit.
+pub(crate) fn kind_number(kind: LimitKind) -> u32
+    ensures { result ≡ kind_number kind }
+{
+    match kind {
+        LimitKind::Text => 1,
+        LimitKind::Picture => 2,
+        LimitKind::Depth => 3,
+        LimitKind::Colour => 4,
+        LimitKind::Coefficient => 5,
+        LimitKind::Solids => 6,
+        LimitKind::Fronts => 7,
+        LimitKind::Backs => 8,
+        LimitKind::Sides => 9,
+        LimitKind::Faces => 10,
+        LimitKind::Leaves => 11,
+        LimitKind::Nesting => 12,
+        LimitKind::Fraction => 13,
+        LimitKind::PixelMemory => 14,
+        LimitKind::Products => 15,
+    }
+}

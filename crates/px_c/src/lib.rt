@@ -1,0 +1,23 @@
+//! Scenes, pictures, colours and products for programs in C, and in what calls C (include/pxplanes.h).
+#![tactic(auto)]
+
+mod answer;
+mod check;
+mod colour;
+mod found;
+mod keys;
+mod names;
+mod products;
+mod render;
+mod state;
+mod status;
+
+pub use check::pxplanes_check;
+pub use colour::pxplanes_colour;
+pub use found::Found;
+pub use names::{pxplanes_cause_name, pxplanes_kind_name, pxplanes_version};
+pub use products::pxplanes_products;
+pub use render::pxplanes_render;
+
+#[cfg(test)]
+mod tests;

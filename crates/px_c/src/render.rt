@@ -1,0 +1,123 @@
+//! `pxplanes_render`: the depth and the face number of each pixel of a picture.
+ghost use Rattle.std.specs.Prelude.{◌≡◌, ◌<◌, ◌≤◌, ℕ, length, min};
+ghost use Rattle.px_scene.specs.Reading.{scene_of};
+ghost use Rattle.px_scene.specs.Text.{worded};
+ghost use Rattle.px_frame.specs.Picture.{depth_at, face_at};
+ghost use Rattle.px_c.specs.Answers.{Answers, Tells, drawn_answer, pixels_of, render_answer};
+ghost use Rattle.px_c.specs.Buffers.{HoldsNumbers};
+ghost use Rattle.px_c.specs.declared.status.TheConstants.{OK};
+
+use crate::answer::{Answer, refused, scene_fault};
+use crate::check::found_in;
+use crate::found::{Found, cost_found};
+use crate::keys::{pixels_of, write_keys};
+use crate::status::{BITS, NO_ROOM, OK};
+use px_deliver::{draw, open_job};
+use px_planes::PlaneArray;
+use px_scene::{Scene, read_scene};
+use std::alloc::Global;
+
+/// Draws a text's picture: the depth of each pixel in `depths`, and the number of its face in `faces`,
+/// the rows from the top and each from the left.
+///
+/// Each of the two has an element a pixel, or more, which stay as they are.
+#[unsafe(no_mangle)]
+pub extern "C" fn pxplanes_render(
+    alloc: Global,
+    text: &[u8],
+    depths: &mut [u32],
+    faces: &mut [u32],
+    found: &mut Found,
+) -> u32
+    ensures answer { Tells (render_answer text.now (length depths.old) (length faces.old))
+        result found.new }
+    ensures depths { result ≡ OK → HoldsNumbers (scene_of (worded text.now)).width
+        (scene_of (worded text.now)).height (depth_at (scene_of (worded text.now)))
+        depths.old depths.new }
+    ensures faces { result ≡ OK → HoldsNumbers (scene_of (worded text.now)).width
+        (scene_of (worded text.now)).height (face_at (scene_of (worded text.now)))
+        faces.old faces.new }
+    ensures kept { (result ≡ OK → ⊥) → (depths.new ≡ depths.old) × (faces.new ≡ faces.old) }
+{
+    render(alloc, text, depths, faces).give(found)
+}
+
+#[tactic(auto, using(crate::proofs::AnswerLemmas::refuses, crate::proofs::AnswerLemmas::accepts))]
+fn render(alloc: Global, text: &[u8], depths: &mut [u32], faces: &mut [u32]) -> Answer
+    ensures answer { Answers (render_answer text.now (length depths.old) (length faces.old)) result }
+    ensures depths { result.status ≡ OK → HoldsNumbers (scene_of (worded text.now)).width
+        (scene_of (worded text.now)).height (depth_at (scene_of (worded text.now)))
+        depths.old depths.new }
+    ensures faces { result.status ≡ OK → HoldsNumbers (scene_of (worded text.now)).width
+        (scene_of (worded text.now)).height (face_at (scene_of (worded text.now)))
+        faces.old faces.new }
+    ensures kept { (result.status ≡ OK → ⊥)
+        → (depths.new ≡ depths.old) × (faces.new ≡ faces.old) }
+{
+    match read_scene(alloc, text) {
+        Ok(scene) => render_scene(alloc, &scene, depths, faces),
+        Err(fault) => refused(fault),
+    }
+}
+
+#[tactic(auto, using(crate::proofs::AnswerLemmas::roomy))]
+fn render_scene(alloc: Global, scene: &Scene, depths: &mut [u32], faces: &mut [u32]) -> Answer
+    ensures answer { Answers (drawn_answer (min (length depths.old) (length faces.old))
+        (pixels_of scene.now) scene.now) result }
+    ensures depths { result.status ≡ OK → HoldsNumbers scene.now.width scene.now.height
+        (depth_at scene.now) depths.old depths.new }
+    ensures faces { result.status ≡ OK → HoldsNumbers scene.now.width scene.now.height
+        (face_at scene.now) faces.old faces.new }
+    ensures kept { (result.status ≡ OK → ⊥)
+        → (depths.new ≡ depths.old) × (faces.new ≡ faces.old) }
+{
+    let due = pixels_of(scene) as usize;
+    if depths.len().min(faces.len()) < due {
+        return short_of_room(alloc, scene, due);
+    }
+    render_within(alloc, scene, depths, faces)
+}
+
+/// The answer where a buffer has fewer elements than are due: nothing is drawn.
+#[tactic(auto, using(crate::proofs::AnswerLemmas::refuses, crate::proofs::AnswerLemmas::accepts, crate::proofs::AnswerLemmas::scant))]
+pub(crate) fn short_of_room(alloc: Global, scene: &Scene, due: usize) -> Answer
+    ensures answer { (room : ℕ) → room < due → Answers (drawn_answer room due scene.now) result }
+    ensures refused { result.status ≡ OK → ⊥ }
+{
+    match found_in(alloc, scene) {
+        Ok(found) => Answer {
+            status: NO_ROOM,
+            found: Found {
+                room: due as u64,
+                ..found
+            },
+        },
+        Err(fault) => refused(fault),
+    }
+}
+
+/// The picture of a scene in buffers that have room for it.
+#[tactic(auto, using(crate::proofs::AnswerLemmas::refuses, crate::proofs::AnswerLemmas::accepts))]
+fn render_within(alloc: Global, scene: &Scene, depths: &mut [u32], faces: &mut [u32]) -> Answer
+    requires depths { pixels_of scene.now ≤ length depths.old }
+    requires faces { pixels_of scene.now ≤ length faces.old }
+    ensures answer { Answers (drawn_answer 0 0 scene.now) result }
+    ensures depths { result.status ≡ OK → HoldsNumbers scene.now.width scene.now.height
+        (depth_at scene.now) depths.old depths.new }
+    ensures faces { result.status ≡ OK → HoldsNumbers scene.now.width scene.now.height
+        (face_at scene.now) faces.old faces.new }
+    ensures kept { (result.status ≡ OK → ⊥)
+        → (depths.new ≡ depths.old) × (faces.new ≡ faces.old) }
+{
+    let mut array = PlaneArray::<BITS>::new(alloc);
+    let mut job = match open_job(alloc, scene, &mut array) {
+        Ok(job) => job,
+        Err(fault) => return refused(scene_fault(fault)),
+    };
+    let layout = draw(&mut job, scene, &mut array);
+    write_keys(&array, &layout, scene, depths, faces);
+    Answer {
+        status: OK,
+        found: cost_found(scene, job.total_macros(), job.total_clocks()),
+    }
+}

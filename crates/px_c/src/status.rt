@@ -1,0 +1,19 @@
+//! How a call ends. The numbers are those of include/pxplanes.h, and of the program where it has them.
+
+/// What was asked is in the buffers.
+pub const OK: u32 = 0;
+
+/// The words of a line are bad, or the text has no `end`.
+pub const MALFORMED: u32 = 3;
+
+/// A number or a count passes its limit.
+pub const LIMIT: u32 = 4;
+
+/// Memory was wanted and not given.
+pub const MEMORY: u32 = 7;
+
+/// A buffer is too small.
+pub const NO_ROOM: u32 = 8;
+
+/// The memory bits of a pixel of the array that draws, as of the program's own but for `shadow`.
+pub const BITS: usize = 72;

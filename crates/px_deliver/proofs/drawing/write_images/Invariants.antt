@@ -1,0 +1,12 @@
+use Rattle.std.proofs.Common.{◌≡◌, take}
+use Rattle.px_io.specs.Told.{TakesAll}
+use Rattle.px_deliver.specs.Images.{images}
+use Rattle.px_deliver.proofs.drawing.write_images.Given as goal
+
+abbrev pub invariant-loop-plane : goal.invariant-loop-plane
+invariant-loop-plane g l = record {
+  taken : TakesAll (g.O.Sink.written l.fn.out) (g.O.Sink.written l.out) (g.O.Sink.finished l.fn.out)
+      (g.O.Sink.finished l.out)
+      (images l.scene (take l.plane-index l.planes));
+  calm : g.O.Sink.faults l.out ≡ g.O.Sink.faults l.fn.out;
+}

@@ -1,0 +1,148 @@
+//! Drawing an opened job on its array, and writing the images that the array then stores.
+ghost use Rattle.std.specs.Prelude.{◌≡◌, ◌++◌, ◌-◌, ◌≤◌, ℕ, Err, true, IfErr, IfOk, OnOk, OnErr};
+ghost use Rattle.std.specs.Io.KnownBytes.{Appends};
+ghost use Rattle.px_io.specs.Counts.{HasCause};
+ghost use Rattle.px_io.specs.Told.{TakesAll, TakesFront, Tells};
+ghost use Rattle.px_array.specs.Slots.{IsRunOnce, array_view, worked};
+ghost use Rattle.px_sched.specs.Layouts.{layout_of};
+ghost use Rattle.px_control.specs.Program.{IsAt, total};
+ghost use Rattle.px_frame.specs.Picture.{depth_image, face_image, picture_image};
+ghost use Rattle.px_deliver.specs.Drawn.{IsDrawn, IsFinished};
+ghost use Rattle.px_deliver.specs.Images.{images};
+
+use px_array::Array;
+use px_asm::Operating;
+use px_control::{Job, law_of_grids};
+use px_face::laws_of_surfaces;
+use px_frame::{Plane, laws_of_images, write_picture};
+use px_io::{Failed, Sink};
+use px_scene::{Scene, laws_of_scenes};
+use px_sched::Layout;
+
+/// Makes the clocks that are left of a job, writes the depth image and the face image that the
+/// array then stores, and finishes.
+///
+/// The scene is the job's. However writing ends, the array is drawn, its slots are as before and its
+/// work has grown by the clocks that were left, and the job has made all its clocks. Takes no memory.
+pub fn deliver<A: Operating, O: Sink>(
+    job: &mut Job<'_>,
+    scene: &Scene,
+    array: &mut A,
+    out: &mut O,
+) -> Result<(), Failed>
+    requires scene { scene.now ≡ job.old.scene }
+    requires at { IsAt A.BITS scene.now job.old.place.clock (A.device array.old) }
+    ensures ok { OnOk result (Appends (O.written out.old) (O.written out.new)
+        (depth_image scene.now ++ face_image scene.now)) }
+    ensures end { OnOk result (Tells (O.finished out.new) true) }
+    ensures err { OnErr result (TakesFront (O.written out.old) (O.written out.new)
+        (O.finished out.old) (O.finished out.new)
+        (depth_image scene.now ++ face_image scene.now)) }
+    ensures cause { HasCause (O.faults out.old) (O.faults out.new) result }
+    ensures drawn { IsDrawn A.BITS scene.now (A.device array.new) }
+    ensures slots { A.slots array.new ≡ A.slots array.old }
+    ensures work { A.work array.new
+        ≡ worked (total scene.now - job.old.place.clock) (A.work array.old) }
+    ensures once { IsRunOnce
+        (array_view (A.device array.old) (A.slots array.old) (A.work array.old))
+        → IsRunOnce (array_view (A.device array.new) (A.slots array.new) (A.work array.new)) }
+    ensures job { IsFinished job.old job.new }
+{
+    deliver_images(job, scene, array, &[Plane::Depth, Plane::Face], out)
+}
+
+/// The same with other images.
+pub fn deliver_images<A: Operating, O: Sink>(
+    job: &mut Job<'_>,
+    scene: &Scene,
+    array: &mut A,
+    planes: &[Plane],
+    out: &mut O,
+) -> Result<(), Failed>
+    requires scene { scene.now ≡ job.old.scene }
+    requires at { IsAt A.BITS scene.now job.old.place.clock (A.device array.old) }
+    ensures ok { OnOk result (Appends (O.written out.old) (O.written out.new)
+        (images scene.now planes.now)) }
+    ensures end { OnOk result (Tells (O.finished out.new) true) }
+    ensures err { OnErr result (TakesFront (O.written out.old) (O.written out.new)
+        (O.finished out.old) (O.finished out.new) (images scene.now planes.now)) }
+    ensures cause { HasCause (O.faults out.old) (O.faults out.new) result }
+    ensures drawn { IsDrawn A.BITS scene.now (A.device array.new) }
+    ensures slots { A.slots array.new ≡ A.slots array.old }
+    ensures work { A.work array.new
+        ≡ worked (total scene.now - job.old.place.clock) (A.work array.old) }
+    ensures once { IsRunOnce
+        (array_view (A.device array.old) (A.slots array.old) (A.work array.old))
+        → IsRunOnce (array_view (A.device array.new) (A.slots array.new) (A.work array.new)) }
+    ensures job { IsFinished job.old job.new }
+{
+    let layout = draw(job, scene, array);
+    write_images(array, &layout, scene, planes, out)?;
+    out.finish()
+}
+
+/// Makes the clocks that are left, and answers where the picture then stands in a pixel's memory.
+pub fn draw<A: Operating>(job: &mut Job<'_>, scene: &Scene, array: &mut A) -> Layout
+    requires scene { scene.now ≡ job.old.scene }
+    requires at { IsAt A.BITS scene.now job.old.place.clock (A.device array.old) }
+    ensures layout { result ≡ layout_of scene.now }
+    ensures drawn { IsDrawn A.BITS scene.now (A.device array.new) }
+    ensures slots { A.slots array.new ≡ A.slots array.old }
+    ensures work { A.work array.new
+        ≡ worked (total scene.now - job.old.place.clock) (A.work array.old) }
+    ensures once { IsRunOnce
+        (array_view (A.device array.old) (A.slots array.old) (A.work array.old))
+        → IsRunOnce (array_view (A.device array.new) (A.slots array.new) (A.work array.new)) }
+    ensures job { IsFinished job.old job.new }
+{
+    job.finish(array);
+    laws_of_scenes(scene);
+    laws_of_surfaces();
+    job.layout()
+}
+
+/// Writes images of a drawn array, one after another.
+fn write_images<A: Array, O: Sink>(
+    array: &A,
+    layout: &Layout,
+    scene: &Scene,
+    planes: &[Plane],
+    out: &mut O,
+) -> Result<(), Failed>
+    requires layout { layout.now ≡ layout_of scene.now }
+    requires drawn { IsDrawn A.BITS scene.now (A.device array.now) }
+    ensures ok { OnOk result (TakesAll (O.written out.old) (O.written out.new)
+        (O.finished out.old) (O.finished out.new) (images scene.now planes.now)) }
+    ensures err { OnErr result (TakesFront (O.written out.old) (O.written out.new)
+        (O.finished out.old) (O.finished out.new) (images scene.now planes.now)) }
+    ensures cause { HasCause (O.faults out.old) (O.faults out.new) result }
+{
+    for plane in planes {
+        write_image(array, layout, scene, *plane, out)?;
+    }
+    Ok(())
+}
+
+/// Writes one image of a drawn array.
+fn write_image<A: Array, O: Sink>(
+    array: &A,
+    layout: &Layout,
+    scene: &Scene,
+    plane: Plane,
+    out: &mut O,
+) -> Result<(), Failed>
+    requires layout { layout.now ≡ layout_of scene.now }
+    requires drawn { IsDrawn A.BITS scene.now (A.device array.now) }
+    ensures ok { OnOk result (TakesAll (O.written out.old) (O.written out.new)
+        (O.finished out.old) (O.finished out.new)
+        (picture_image scene.now plane)) }
+    ensures err { OnErr result (TakesFront (O.written out.old) (O.written out.new)
+        (O.finished out.old) (O.finished out.new)
+        (picture_image scene.now plane)) }
+    ensures cause { HasCause (O.faults out.old) (O.faults out.new) result }
+{
+    laws_of_scenes(scene);
+    law_of_grids();
+    laws_of_images();
+    write_picture(array, layout, scene, plane, out)
+}

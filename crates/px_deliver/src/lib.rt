@@ -1,0 +1,8 @@
+//! The drawing of an opened job, and the images that the array then stores.
+#![tactic(auto)]
+
+mod drawing;
+mod opening;
+
+pub use drawing::{deliver, deliver_images, draw};
+pub use opening::open_job;

@@ -1,0 +1,39 @@
+//! Opening an array for a scene, with why it cannot.
+ghost use Rattle.std.specs.Prelude.{◌≡◌, ◌⊎◌, ◌≤◌, ◌^◌, ℕ, Err, IfErr, IfOk, None, OnOk, Some};
+ghost use Rattle.px_array.specs.Slots.{IsRunOnce, array_view, no_slots};
+ghost use Rattle.px_control.specs.Program.{IsAt};
+ghost use Rattle.px_control.specs.Standing.{LeavesOnRefusal};
+ghost use Rattle.px_control.specs.declared.fault.JobFault.{JobFault};
+ghost use Rattle.px_deliver.specs.Refusals.{job_refusal};
+
+use px_array::Array;
+use px_control::{Job, JobFault};
+use px_scene::Scene;
+use std::alloc::Global;
+
+/// Opens an array for a scene: `Job::open`, whose refusals it tells as one value of the scene and the
+/// memory bits of a pixel.
+pub fn open_job<'s, A: Array>(
+    alloc: Global,
+    scene: &'s Scene,
+    array: &mut A,
+) -> Result<Job<'s>, JobFault>
+    ensures ok { OnOk result (job_refusal A.BITS scene.now ≡ None) }
+    ensures err { IfErr result (λ fault. (fault ≡ JobFault.Memory)
+        ⊎ (job_refusal A.BITS scene.now ≡ Some fault)) }
+    ensures small { (count : ℕ) → result ≡ Err (JobFault.Products count) → count ≤ 2 ^ 21 }
+    ensures job { IfOk result (λ job. (job.scene ≡ scene.now) × (job.place.clock ≡ 0)) }
+    ensures at { OnOk result (IsAt A.BITS scene.now 0 (A.device array.new)) }
+    ensures slots { OnOk result (A.slots array.new ≡ no_slots) }
+    ensures work { OnOk result (A.work array.new ≡ 0) }
+    ensures once { OnOk result (IsRunOnce
+        (array_view (A.device array.new) (A.slots array.new) (A.work array.new))) }
+    ensures array { IfErr result (λ fault. LeavesOnRefusal fault
+        (array_view (A.device array.old) (A.slots array.old) (A.work array.old))
+        (array_view (A.device array.new) (A.slots array.new) (A.work array.new))) }
+{
+    match Job::open(alloc, scene, array) {
+        Ok(job) => Ok(job),
+        Err(fault) => Err(fault),
+    }
+}

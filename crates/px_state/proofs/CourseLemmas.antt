@@ -1,0 +1,154 @@
+-- The broadcasts of operations, one operation after another.
+use Rattle.std.proofs.Common.{◌≡◌, ℕ, suc, ◌+◌, ◌-◌, ◌*◌, ◌<◌, ◌≤◌, min, List, ◌∷◌, ◌++◌, length, take, drop, get_or, Some, sym, ap, ◌∙◌, arith}
+use Rattle.std.proofs.Common.{inl, inr, length-append}
+use Rattle.std.specs.List.{between, flat_map, slice_get}
+use Rattle.std.proofs.Math.Seq.{drop-cons, take-append-add, take-append_seam}
+use Rattle.std.proofs.lemmas.Bool.{cases_lt}
+use Rattle.std.proofs.lemmas.List.{length-take-le, take-append-drop, take-append-le, take_all}
+use Rattle.std.proofs.lemmas.List.Concat.{flat_map-append, flat_map-cons}
+use Rattle.std.proofs.lemmas.Option.{get_or_from_slice_get, slice_get-get_or, slice_get_within}
+use Rattle.std.proofs.lemmas.Slice.{between_from_start}
+use Rattle.px_num.proofs.ListLaws.{length-tabulate}
+use Rattle.px_array.specs.Arrays.{Device, zero_state}
+use Rattle.px_array.specs.Clocks.{after_clocks, all_clocked}
+use Rattle.px_array.specs.declared.micro.Micro.{Micro}
+use Rattle.px_array.proofs.ClockLaws.{after_clocks-append, nx-after_clocks, ny-after_clocks}
+use Rattle.px_asm.specs.Micros.{all_micros, cycles, micro_at, micros}
+use Rattle.px_macro.specs.declared.operation.Macro.{Macro}
+use Rattle.px_macro.specs.declared.operation.Macro.TheVariants as op
+use Rattle.px_listing.specs.Listings.{ListingView}
+use Rattle.px_control.proofs.StepLemmas.{below_total, micro_here, start_more}
+use Rattle.px_state.specs.Courses.{IsNext, broadcasts, device_after, start_of, total}
+
+-- the micro of a cycle is the broadcast at its clock
+pub broadcast_here : (l : ListingView) (k i : ℕ) (m : Macro) → slice_get l.macros k ≡ Some m → i < cycles m l.nx l.ny
+    → slice_get (broadcasts l) (start_of l k + i) ≡ Some (micro_at m l.nx l.ny i)
+broadcast_here l k i m here within =
+    let d = micro_at m l.nx l.ny i in
+    slice_get-get_or (broadcasts l) (start_of l k + i) d (below_total l.macros l.nx l.ny k i m here within)
+    ∙ ap (λ x. Some x) (micro_here l.macros l.nx l.ny k i m d here within)
+
+pub next_here : (l : ListingView) (n k i : ℕ) (m : Macro) (micro : Micro) → slice_get l.macros k ≡ Some m
+    → i < cycles m l.nx l.ny → n ≡ start_of l k + i → micro ≡ micro_at m l.nx l.ny i → IsNext l n k i micro
+next_here l n k i m micro here within at is = record {
+  clock = at;
+  has = record { m = m; is = here; within = within };
+  broadcast = ap (slice_get (broadcasts l)) at ∙ (broadcast_here l k i m here within ∙ ap (λ x. Some x) (sym is));
+}
+
+-- operation k of a list, and where the next begins
+pub begins : (l : ListingView) (k : ℕ) (m : Macro) → slice_get l.macros k ≡ Some m
+    → start_of l (k + 1) ≡ start_of l k + cycles m l.nx l.ny
+begins l k m here = start_more l.macros l.nx l.ny k m here
+
+-- behind the last operation all is broadcast
+pub begins_all : (l : ListingView) (k : ℕ) → length l.macros ≤ k → start_of l k ≡ total l
+begins_all l k past = ap (λ ms. length (all_micros ms l.nx l.ny)) (take_all k l.macros past)
+
+-- an operation ends by the end of all
+pub ends_within : (l : ListingView) (k : ℕ) (m : Macro) → slice_get l.macros k ≡ Some m
+    → start_of l k + cycles m l.nx l.ny ≤ total l
+ends_within l k m here =
+    let f : Macro → List Micro = λ m. micros m l.nx l.ny in
+    let parts = sym (ap (flat_map f) (take-append-drop (k + 1) l.macros))
+    ∙ flat_map-append f (take (k + 1) l.macros) (drop (k + 1) l.macros) in
+    let count = ap length parts ∙ length-append (all_micros (take (k + 1) l.macros) l.nx l.ny)
+    (all_micros (drop (k + 1) l.macros) l.nx l.ny) in
+    omega (arith, begins l k m here, count)
+
+-- the broadcasts up to a cycle of an operation
+pub front_with : (l : ListingView) (k i : ℕ) (m : Macro) → slice_get l.macros k ≡ Some m → i ≤ cycles m l.nx l.ny →
+    take (start_of l k + i) (broadcasts l) ≡ take (start_of l k) (broadcasts l) ++ take i (micros m l.nx l.ny)
+front_with l k i m here within =
+    let f : Macro → List Micro = λ m. micros m l.nx l.ny in
+    let inside = slice_get_within l.macros k m here in
+    let before = all_micros (take k l.macros) l.nx l.ny in
+    let rest = all_micros (drop (suc k) l.macros) l.nx l.ny in
+    let cut : drop k l.macros ≡ m ∷ drop (suc k) l.macros =
+    rw (get_or_from_slice_get l.macros k m m here) at (drop-cons l.macros k m inside) in
+    let parts : broadcasts l ≡ before ++ (micros m l.nx l.ny ++ rest) =
+    ap (flat_map f) (sym (take-append-drop k l.macros))
+    ∙ (flat_map-append f (take k l.macros) (drop k l.macros)
+    ∙ ap (λ ms. before ++ ms) (ap (flat_map f) cut ∙ flat_map-cons f m (drop (suc k) l.macros))) in
+    let count : i ≤ length (micros m l.nx l.ny) =
+    omega (arith, length-tabulate (cycles m l.nx l.ny) (micro_at m l.nx l.ny), within) in
+    let front : take (length before) (broadcasts l) ≡ before =
+    ap (take (length before)) parts ∙ take-append_seam before (micros m l.nx l.ny ++ rest) in
+    ap (take (length before + i)) parts
+    ∙ (take-append-add before (micros m l.nx l.ny ++ rest) i
+    ∙ (ap (λ ms. before ++ ms) (take-append-le i (micros m l.nx l.ny) rest count)
+    ∙ ap (λ ms. ms ++ take i (micros m l.nx l.ny)) (sym front)))
+
+-- a new array goes on by the first cycles of an operation
+pub device_with : (bits : ℕ) (l : ListingView) (k i : ℕ) (m : Macro) → slice_get l.macros k ≡ Some m
+    → i ≤ cycles m l.nx l.ny →
+    all_clocked (between 0 i (micros m l.nx l.ny)) (device_after bits l (start_of l k)) ≡ device_after bits l (start_of l k + i)
+device_with bits l k i m here within =
+    let zeros = zero_state bits l.nx l.ny in
+    let ms = take i (micros m l.nx l.ny) in
+    let front = between_from_start (micros m l.nx l.ny) i in
+    let count : length ms ≡ i =
+    length-take-le i (micros m l.nx l.ny) (omega (arith, length-tabulate (cycles m l.nx l.ny) (micro_at m l.nx l.ny), within)) in
+    let state : after_clocks (take (start_of l k + i) (broadcasts l)) zeros
+    ≡ after_clocks ms (after_clocks (take (start_of l k) (broadcasts l)) zeros) =
+    ap (λ ms. after_clocks ms zeros) (front_with l k i m here within)
+    ∙ after_clocks-append (take (start_of l k) (broadcasts l)) ms zeros in
+    ap (λ ms. all_clocked ms (device_after bits l (start_of l k))) front
+    ∙ (ap (λ s. record { state = s; clocks = start_of l k + length ms }) (sym state)
+    ∙ ap (λ n. record {
+      state = after_clocks (take (start_of l k + i) (broadcasts l)) zeros;
+      clocks = start_of l k + n;
+    }) count)
+
+-- the clocks of some operations are few
+pub few_before : (l : ListingView) (k : ℕ) (m : Macro) (clocks : ℕ) → slice_get l.macros k ≡ Some m → cycles m l.nx l.ny ≤ 82
+    → clocks ≤ 82 * k → clocks + cycles m l.nx l.ny ≤ 82 * (k + 1)
+few_before l k m clocks here few before = omega (arith, few, before)
+
+-- the operation at a place
+pub here_in : (ms : List Macro) (i : ℕ) → i < length ms → slice_get ms i ≡ Some (get_or ms i op.All)
+here_in ms i within = slice_get-get_or ms i op.All within
+
+pub start_within : (l : ListingView) (k : ℕ) → start_of l k ≤ total l
+start_within l k =
+    let f : Macro → List Micro = λ m. micros m l.nx l.ny in
+    let parts = sym (ap (flat_map f) (take-append-drop k l.macros)) ∙ flat_map-append f (take k l.macros) (drop k l.macros) in
+    let count = ap length parts ∙ length-append (all_micros (take k l.macros) l.nx l.ny) (all_micros (drop k l.macros) l.nx l.ny) in
+    omega (arith, count)
+
+-- the grid is that of the listing
+pub columns_are : (bits : ℕ) (l : ListingView) (n : ℕ) (device : Device) → device ≡ device_after bits l n
+    → device.state.tree.nx ≡ l.nx
+columns_are bits l n device is =
+    ap (λ (d : Device). d.state.tree.nx) is ∙ nx-after_clocks (take n (broadcasts l)) (zero_state bits l.nx l.ny)
+
+pub rows_are : (bits : ℕ) (l : ListingView) (n : ℕ) (device : Device) → device ≡ device_after bits l n
+    → device.state.tree.ny ≡ l.ny
+rows_are bits l n device is =
+    ap (λ (d : Device). d.state.tree.ny) is ∙ ny-after_clocks (take n (broadcasts l)) (zero_state bits l.nx l.ny)
+
+-- no clock changes nothing
+none_made : (ms : List Micro) (d : Device) → all_clocked (between 0 0 ms) d ≡ d
+none_made ms d =
+    ap (λ ms. all_clocked ms d) (between_from_start ms 0)
+    ∙ ap (λ n. record { state = d.state; clocks = n }) (let none : d.clocks + 0 ≡ d.clocks = omega arith in none)
+
+-- an array goes on by an operation, as far as clocks are left
+pub goes_on : (bits : ℕ) (l : ListingView) (i : ℕ) (m : Macro) (clock left made : ℕ) (d new : Device)
+    → slice_get l.macros i ≡ Some m → d ≡ device_after bits l (clock - left) → clock - left ≡ min clock (start_of l i)
+    → left ≤ clock → made ≡ min left (cycles m l.nx l.ny) → new ≡ all_clocked (between 0 made (micros m l.nx l.ny)) d
+    → new ≡ device_after bits l (clock - (left - made))
+goes_on bits l i m clock left made d new here at so_far low is clocked = elim (cases_lt 0 left) [
+  | inl some ↦
+      let begun : clock - left ≡ start_of l i = omega (arith, so_far, some, low) in
+      let end : start_of l i + made ≡ clock - (left - made) = omega (arith, begun, is, low) in
+      clocked
+      ∙ (ap (all_clocked (between 0 made (micros m l.nx l.ny))) (at ∙ ap (device_after bits l) begun)
+      ∙ (device_with bits l i made m here (omega (arith, is)) ∙ ap (device_after bits l) end))
+  | inr none ↦
+      let zero_made : made ≡ 0 = omega (arith, none, is) in
+      let end : clock - left ≡ clock - (left - made) = omega (arith, none) in
+      clocked
+      ∙ (ap (λ n. all_clocked (between 0 n (micros m l.nx l.ny)) d) zero_made
+      ∙ (none_made (micros m l.nx l.ny) d ∙ (at ∙ ap (device_after bits l) end)))
+]

@@ -1,0 +1,73 @@
+-- What a text broadcasts, or why it is refused, by its first word.
+use Rattle.std.proofs.Common.{◌≡◌, ℕ, ◌<◌, ◌≤◌, ◌⊎◌, true, false, List, length, Option, Some, inl, inr, refl, ap}
+use Rattle.std.specs.Option.{option_map, option_or}
+use Rattle.px_num.proofs.TruthLaws.{lt_false}
+use Rattle.std.proofs.lemmas.Bool.{lt-ltb}
+use Rattle.px_text.specs.declared.text.TheConstants.{MAX_TEXT_BYTES}
+use Rattle.px_text.specs.Text.{worded}
+use Rattle.px_scene.specs.Reading.{scene_of}
+use Rattle.px_scene.specs.Reading as reading
+use Rattle.px_show.specs.declared.fault.SceneFault.{SceneFault}
+use Rattle.px_show.specs.declared.fault.SceneFault.TheVariants as scene
+use Rattle.px_listing.specs.PassesText.{passes_listing}
+use Rattle.px_listing.specs.Reading.{listing_of}
+use Rattle.px_listing.specs.Reading as listing
+use Rattle.px_listing.specs.declared.read.ListFault.{ListFault}
+use Rattle.px_listing.specs.declared.read.ListFault.TheVariants as list
+use Rattle.px_state.specs.Refusals.{HasSmallCount, IsRefusedBy, course_of, is_listing, job_refusal, list_fault, scene_fault, text_refusal, too_long}
+use Rattle.px_state.specs.States.{KeepsArray}
+use Rattle.px_state.specs.declared.fault.StateFault.{StateFault}
+
+pub long_text : (bits : ℕ) (text : List ℕ) → MAX_TEXT_BYTES < length text → text_refusal bits text ≡ Some too_long
+unfolding text_refusal
+long_text bits text long = rw (lt-ltb MAX_TEXT_BYTES (length text) long) refl
+
+pub list_text : (bits : ℕ) (text : List ℕ) → length text ≤ MAX_TEXT_BYTES → is_listing text ≡ true
+    → text_refusal bits text ≡ option_map list_fault (listing.refusal_of bits text)
+unfolding text_refusal
+list_text bits text short flagged = rw (lt_false MAX_TEXT_BYTES (length text) short, flagged) refl
+
+pub scene_text : (bits : ℕ) (text : List ℕ) → length text ≤ MAX_TEXT_BYTES → is_listing text ≡ false
+    → text_refusal bits text
+    ≡ option_or (option_map scene_fault (reading.refusal_of text)) (job_refusal bits (scene_of (worded text)))
+unfolding text_refusal
+scene_text bits text short flagged = rw (lt_false MAX_TEXT_BYTES (length text) short, flagged) refl
+
+pub list_course : (text : List ℕ) → is_listing text ≡ true → course_of text ≡ listing_of (worded text)
+unfolding course_of
+list_course text flagged = rw flagged refl
+
+pub scene_course : (text : List ℕ) → is_listing text ≡ false → course_of text ≡ passes_listing (scene_of (worded text))
+unfolding course_of
+scene_course text flagged = rw flagged refl
+
+pub list_refused : (fault : ListFault) (refusal : Option ListFault) → (fault ≡ list.Memory) ⊎ (refusal ≡ Some fault)
+    → IsRefusedBy (list_fault fault) (option_map list_fault refusal)
+list_refused fault refusal (inl memory) = inl (ap list_fault memory)
+list_refused fault refusal (inr is) = inr (ap (option_map list_fault) is)
+
+pub scene_refused : (fault : SceneFault) (refusal : Option SceneFault) (job : Option StateFault)
+    → (fault ≡ scene.Memory) ⊎ (refusal ≡ Some fault)
+    → IsRefusedBy (scene_fault fault) (option_or (option_map scene_fault refusal) job)
+scene_refused fault refusal job (inl memory) = inl (ap scene_fault memory)
+scene_refused fault refusal job (inr is) = inr (rw is refl)
+
+pub list_small : (fault : ListFault) → HasSmallCount (list_fault fault)
+list_small (list.Malformed line cause) = tt
+list_small (list.Limit line kind found) = tt
+list_small list.Memory = tt
+
+pub scene_small : (fault : SceneFault) → HasSmallCount (scene_fault fault)
+scene_small (scene.Malformed line cause) = tt
+scene_small (scene.Limit line kind found) = tt
+scene_small scene.Memory = tt
+
+pub list_keeps : (fault : ListFault) → KeepsArray (list_fault fault)
+list_keeps (list.Malformed line cause) bits l array = refl
+list_keeps (list.Limit line kind found) bits l array = refl
+list_keeps list.Memory bits l array = inl refl
+
+pub scene_keeps : (fault : SceneFault) → KeepsArray (scene_fault fault)
+scene_keeps (scene.Malformed line cause) bits l array = refl
+scene_keeps (scene.Limit line kind found) bits l array = refl
+scene_keeps scene.Memory bits l array = inl refl

@@ -1,0 +1,11 @@
+pub use Rattle.px_array.specs.Arrays
+pub use Rattle.px_asm.specs.Micros
+pub use Rattle.px_listing.specs.Listings
+pub use Rattle.px_listing.specs.PassesText
+pub mod Courses
+pub mod Packed
+pub mod Packing
+pub mod Parts
+pub mod Refusals
+pub mod States
+pub mod Words

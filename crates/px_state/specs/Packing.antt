@@ -1,0 +1,92 @@
+-- A micro in one word: the place in its bits 0 to 31, then bytes: the act, its value, what the tree does, and the lines.
+-- Clauses of public calls stand on it.
+use Rattle.std.specs.Prelude.{◌≡◌, ℕ, ◌+◌, ◌*◌, ◌/◌, ◌%◌, ◌^◌, Bool, false, if◌then◌else◌}
+use Rattle.px_pixel.specs.declared.act.Act.{Act}
+use Rattle.px_pixel.specs.declared.act.Act.TheVariants as act
+use Rattle.px_array.specs.declared.micro.Micro.{Micro}
+use Rattle.px_array.specs.declared.micro.TreeOp.{TreeOp}
+use Rattle.px_array.specs.declared.micro.TreeOp.TheVariants as tree
+
+-- the number of an act, counted from 1
+abbrev pub act_number : Act → ℕ
+act_number act.Nop = 1
+act_number act.EnableAll = 2
+act_number (act.EnableCarry v) = 3
+act_number (act.EnableTree v) = 4
+act_number (act.EnableBit at v) = 5
+act_number (act.SetCarry v) = 6
+act_number (act.Fetch at) = 7
+act_number (act.StoreTree at) = 8
+act_number (act.StoreLatch at) = 9
+act_number (act.StoreConst at v) = 10
+act_number (act.Toggle at) = 11
+act_number (act.CarryTree at) = 12
+act_number (act.CarryLatch at) = 13
+act_number (act.AddTree at) = 14
+
+-- the value that an act names, and else 0
+abbrev pub value_of : Act → Bool
+value_of act.Nop = false
+value_of act.EnableAll = false
+value_of (act.EnableCarry v) = v
+value_of (act.EnableTree v) = v
+value_of (act.EnableBit at v) = v
+value_of (act.SetCarry v) = v
+value_of (act.Fetch at) = false
+value_of (act.StoreTree at) = false
+value_of (act.StoreLatch at) = false
+value_of (act.StoreConst at v) = v
+value_of (act.Toggle at) = false
+value_of (act.CarryTree at) = false
+value_of (act.CarryLatch at) = false
+value_of (act.AddTree at) = false
+
+-- the place of memory that an act names, and else 0
+abbrev pub place_of : Act → ℕ
+place_of act.Nop = 0
+place_of act.EnableAll = 0
+place_of (act.EnableCarry v) = 0
+place_of (act.EnableTree v) = 0
+place_of (act.EnableBit at v) = at
+place_of (act.SetCarry v) = 0
+place_of (act.Fetch at) = at
+place_of (act.StoreTree at) = at
+place_of (act.StoreLatch at) = at
+place_of (act.StoreConst at v) = at
+place_of (act.Toggle at) = at
+place_of (act.CarryTree at) = at
+place_of (act.CarryLatch at) = at
+place_of (act.AddTree at) = at
+
+-- what the tree does: nothing, a clear, or a feed
+abbrev pub tree_number : TreeOp → ℕ
+tree_number tree.Hold = 0
+tree_number tree.Clear = 1
+tree_number (tree.Feed a b c) = 2
+
+abbrev pub bit_number : Bool → ℕ
+bit_number v = if v then 1 else 0
+
+-- the lines a, b and c of a feed, in bits 0, 1 and 2
+abbrev pub lines_number : TreeOp → ℕ
+lines_number tree.Hold = 0
+lines_number tree.Clear = 0
+lines_number (tree.Feed a b c) = bit_number a + 2 * bit_number b + 4 * bit_number c
+
+-- the word of a micro
+unfoldable pub packed : Micro → ℕ
+packed m =
+    place_of m.act + 2 ^ 32 * (act_number m.act + 256 * (bit_number (value_of m.act)
+    + 256 * (tree_number m.tree + 256 * lines_number m.tree)))
+
+-- a word has the fields of a micro, each in its bits
+pub record HasFields (word : ℕ) (m : Micro) : Type 0 where
+  pub place : word % 2 ^ 32 ≡ place_of m.act
+  pub number : word / 2 ^ 32 % 256 ≡ act_number m.act
+  pub value : word / 2 ^ 40 % 256 ≡ bit_number (value_of m.act)
+  pub tree : word / 2 ^ 48 % 256 ≡ tree_number m.tree
+  pub lines : word / 2 ^ 56 ≡ lines_number m.tree
+
+-- words that are the same have the fields of one micro alone
+abbrev pub FieldsTellTheMicro : Type 0
+FieldsTellTheMicro = (word : ℕ) (m n : Micro) → HasFields word m → HasFields word n → m ≡ n

@@ -1,0 +1,118 @@
+-- Why a text has no state and no micros, where it has none. Clauses of public calls stand on it.
+use Rattle.std.specs.Prelude.{◌≡◌, ℕ, ◌+◌, ◌≤◌, ◌^◌, ◌⊎◌, ⊤, Bool, true, false, pos, List, [], ◌∷◌, length, nat_lt, if◌then◌else◌, Option, Some, None, codes, unwrap_or, ◌==◌}
+use Rattle.std.specs.List.{filter_map, slice_get, slice_split}
+use Rattle.std.specs.Option.{option_map, option_or}
+use Rattle.std.specs.Str.{bytes_eq}
+use Rattle.px_text.specs.declared.text.TheConstants.{MAX_TEXT_BYTES}
+use Rattle.px_text.specs.Text.{Words, words_of, worded}
+use Rattle.px_model.specs.Scenes.{SceneView}
+use Rattle.px_show.specs.declared.fault.LimitKind.TheVariants as kind
+use Rattle.px_show.specs.declared.fault.SceneFault.{SceneFault}
+use Rattle.px_show.specs.declared.fault.SceneFault.TheVariants as scene
+use Rattle.px_scene.specs.Reading.{scene_of}
+use Rattle.px_scene.specs.Reading as reading
+use Rattle.px_prune.specs.Kept.{crowd_of}
+use Rattle.px_sched.specs.Layouts.{layout_of, need_of}
+use Rattle.px_control.specs.declared.fault.JobFault.{JobFault}
+use Rattle.px_control.specs.declared.fault.JobFault.TheVariants as job
+use Rattle.px_listing.specs.Listings.{ListingView}
+use Rattle.px_listing.specs.PassesText.{passes_listing}
+use Rattle.px_listing.specs.Reading.{listing_of}
+use Rattle.px_listing.specs.Reading as listing
+use Rattle.px_listing.specs.declared.read.ListFault.{ListFault}
+use Rattle.px_listing.specs.declared.read.ListFault.TheVariants as list
+use Rattle.px_state.specs.Courses.{total}
+use Rattle.px_state.specs.Words.{room_of}
+use Rattle.px_state.specs.declared.fault.StateFault.{StateFault}
+use Rattle.px_state.specs.declared.fault.StateFault.TheVariants as f
+
+-- the faults of the parts; the want of memory is one for all
+abbrev pub scene_fault : SceneFault → StateFault
+scene_fault (scene.Malformed line cause) = f.Scene (scene.Malformed line cause)
+scene_fault (scene.Limit line kind found) = f.Scene (scene.Limit line kind found)
+scene_fault scene.Memory = f.Memory
+
+abbrev pub job_fault : JobFault → StateFault
+job_fault (job.PixelMemory need) = f.Job (job.PixelMemory need)
+job_fault (job.Products count) = f.Job (job.Products count)
+job_fault job.Memory = f.Memory
+
+abbrev pub list_fault : ListFault → StateFault
+list_fault (list.Malformed line cause) = f.Listing (list.Malformed line cause)
+list_fault (list.Limit line kind found) = f.Listing (list.Limit line kind found)
+list_fault list.Memory = f.Memory
+
+-- whether the first word of a line is `pxlist`, where it has one
+abbrev pub starts_listing : Words → Option Bool
+starts_listing [] = None
+starts_listing (w ∷ ws) = Some (bytes_eq w (codes "pxlist"))
+
+-- a text whose first word is `pxlist` is to be a listing, and every other one a scene
+unfoldable pub is_listing : List ℕ → Bool
+is_listing text =
+    unwrap_or (slice_get (filter_map (λ line. starts_listing (words_of line)) (slice_split (λ b. b == 10) text)) 0) false
+
+-- more bytes than a text may have
+abbrev pub too_long : StateFault
+too_long = f.Scene (scene.Limit 0 kind.Text (pos (MAX_TEXT_BYTES + 1)))
+
+abbrev pub refused_where : Bool → StateFault → Option StateFault
+refused_where true fault = Some fault
+refused_where false fault = None
+
+-- pixels of so many memory bits must have those that the scene needs, and then its products must be few enough
+abbrev pub job_refusal : (bits : ℕ) → SceneView → Option StateFault
+job_refusal bits scene =
+    let need = need_of (layout_of scene) in
+    option_or (refused_where (nat_lt bits need) (f.Job (job.PixelMemory need)))
+    (option_map (λ count. f.Job (job.Products count)) (crowd_of scene))
+
+-- a text is too long, or no listing, or no scene that such pixels can hold
+unfoldable pub text_refusal : (bits : ℕ) → List ℕ → Option StateFault
+text_refusal bits text =
+    if nat_lt MAX_TEXT_BYTES (length text) then Some too_long else
+    if is_listing text then option_map list_fault (listing.refusal_of bits text) else
+    option_or (option_map scene_fault (reading.refusal_of text)) (job_refusal bits (scene_of (worded text)))
+
+-- what a text broadcasts
+unfoldable pub course_of : List ℕ → ListingView
+course_of text = if is_listing text then listing_of (worded text) else passes_listing (scene_of (worded text))
+
+-- a clock must not be past the last
+abbrev pub clock_refusal : ListingView → (clock : ℕ) → Option StateFault
+clock_refusal l clock = refused_where (nat_lt (total l) clock) (f.NoClock (total l))
+
+-- and then there must be as many words as are due
+abbrev pub refused_by : (clock clocks words due : ℕ) → Option StateFault
+refused_by clock clocks words due =
+    option_or (refused_where (nat_lt clocks clock) (f.NoClock clocks)) (refused_where (nat_lt words due) (f.NoRoom due))
+
+abbrev pub course_refusal : (bits : ℕ) → ListingView → (clock words : ℕ) → Option StateFault
+course_refusal bits l clock words = refused_by clock (total l) words (room_of bits l.nx l.ny)
+
+-- why there is no state of a text after so many clocks, in a list of so many words
+abbrev pub state_refusal : (bits : ℕ) → List ℕ → (clock room : ℕ) → Option StateFault
+state_refusal bits text clock room = option_or (text_refusal bits text) (course_refusal bits (course_of text) clock room)
+
+-- why a text has not so many micros from a clock on
+abbrev pub micros_refusal : (bits : ℕ) → List ℕ → (first count : ℕ) → Option StateFault
+micros_refusal bits text first count = option_or (text_refusal bits text) (clock_refusal (course_of text) (first + count))
+
+-- a list of products that is past the limit has at most so many
+abbrev pub HasFewProducts : JobFault → Type 0
+HasFewProducts (job.PixelMemory need) = ⊤
+HasFewProducts (job.Products count) = count ≤ 2 ^ 21
+HasFewProducts job.Memory = ⊤
+
+-- and so of a fault that tells its length
+abbrev pub HasSmallCount : StateFault → Type 0
+HasSmallCount (f.Scene fault) = ⊤
+HasSmallCount (f.Job fault) = HasFewProducts fault
+HasSmallCount (f.Listing fault) = ⊤
+HasSmallCount (f.NoClock clocks) = ⊤
+HasSmallCount (f.NoRoom room) = ⊤
+HasSmallCount f.Memory = ⊤
+
+-- a fault is the want of memory, or else exactly the refusal
+abbrev pub IsRefusedBy : StateFault → Option StateFault → Type 0
+IsRefusedBy fault refusal = (fault ≡ f.Memory) ⊎ (refusal ≡ Some fault)

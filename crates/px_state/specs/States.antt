@@ -1,0 +1,42 @@
+-- What a state says of a grid after so many clocks. Clauses of public calls stand on it.
+use Rattle.std.specs.Prelude.{◌≡◌, ◌⊎◌, ℕ, IfNone, IfSome, length}
+use Rattle.px_listing.specs.Listings.{ListingView}
+use Rattle.px_array.specs.Slots.{ArrayView, IsRunOnce, none_open}
+use Rattle.px_state.specs.Courses.{IsNext, device_after, total}
+use Rattle.px_state.specs.declared.fault.StateFault.{StateFault}
+use Rattle.px_state.specs.declared.fault.StateFault.TheVariants as f
+use Rattle.px_state.specs.declared.state.Course.{Course}
+use Rattle.px_state.specs.declared.state.State.{State}
+
+pub record IsState (bits : ℕ) (l : ListingView) (clock : ℕ) (s : State) : Type 0 where
+  pub columns : s.nx ≡ l.nx
+  pub rows : s.ny ≡ l.ny
+  pub bits_is : s.bits ≡ bits
+  pub operations : s.operations ≡ length l.macros
+  pub clocks : s.clocks ≡ total l
+  pub clock_is : s.clock ≡ clock
+  pub next : IfSome s.next (λ n. IsNext l clock n.operation n.cycle n.micro)
+  pub end : IfNone s.next (clock ≡ total l)
+
+pub record IsCourse (l : ListingView) (c : Course) : Type 0 where
+  pub operations : c.operations ≡ length l.macros
+  pub clocks : c.clocks ≡ total l
+
+-- the array was opened for it, and each clock made once
+pub record IsDrawn (bits : ℕ) (l : ListingView) (clock : ℕ) (now : ArrayView) : Type 0 where
+  pub device : now.device ≡ device_after bits l clock
+  pub once : IsRunOnce now
+
+-- what an error leaves of the array, of its slots and its work too: a refusal of the text as it was; want of memory as it was,
+-- or none open; and where only clock or room are refused, it was opened
+abbrev pub LeavesArray : StateFault → (bits : ℕ) → ListingView → (before now : ArrayView) → Type 0
+LeavesArray (f.Scene fault) bits l before now = now ≡ before
+LeavesArray (f.Job fault) bits l before now = now ≡ before
+LeavesArray (f.Listing fault) bits l before now = now ≡ before
+LeavesArray (f.NoClock clocks) bits l before now = IsDrawn bits l 0 now
+LeavesArray (f.NoRoom room) bits l before now = IsDrawn bits l 0 now
+LeavesArray f.Memory bits l before now = (now ≡ before) ⊎ (now ≡ none_open)
+
+-- a fault with which the array is as it was
+abbrev pub KeepsArray : StateFault → Type 0
+KeepsArray fault = (bits : ℕ) (l : ListingView) (array : ArrayView) → LeavesArray fault bits l array array

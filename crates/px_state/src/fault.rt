@@ -1,0 +1,91 @@
+//! Why there is no state, or no micros.
+ghost use Rattle.std.specs.Prelude.{◌≡◌};
+
+use px_control::JobFault;
+use px_listing::ListFault;
+use px_normal::NormalFault;
+use px_num::Memory;
+use px_scene::SceneFault;
+use thiserror::Error;
+
+/// Why there is no state, or no micros.
+#[derive(Clone, Copy, Debug, PartialEq, Eq, Error)]
+pub enum StateFault {
+    /// The text is no scene, and no listing (docs/SCENES.md, "Refusals"), or it is too long.
+    #[error("{0}")]
+    Scene(SceneFault),
+    /// The pixels have too few memory bits for the scene, or its products are too many.
+    #[error("{0}")]
+    Job(JobFault),
+    /// The text begins as a listing, and is none (docs/LISTINGS.md, "Refusals").
+    #[error("{0}")]
+    Listing(ListFault),
+    /// The clocks that are asked for lie past the last.
+    #[error("past clock {clocks}, the last")]
+    NoClock {
+        /// How many clocks there are.
+        clocks: u64,
+    },
+    /// The list of words is too short.
+    #[error("{room} words are due")]
+    NoRoom {
+        /// How many words are due.
+        room: u64,
+    },
+    /// Memory was wanted and not given.
+    #[error("out of memory")]
+    Memory,
+}
+
+impl From<Memory> for StateFault {
+    ghost use Rattle.std.specs.Prelude.{◌≡◌};
+    ghost use Rattle.px_state.specs.declared.fault.StateFault.TheVariants.{Memory};
+
+    ghost from_gives = { λ cause fault. fault ≡ Memory };
+
+    fn from(_: Memory) -> Self {
+        StateFault::Memory
+    }
+}
+
+impl From<SceneFault> for StateFault {
+    ghost use Rattle.std.specs.Prelude.{◌≡◌};
+    ghost use Rattle.px_state.specs.Refusals.{scene_fault};
+
+    ghost from_gives = { λ cause fault. fault ≡ scene_fault cause };
+
+    fn from(cause: SceneFault) -> Self {
+        match cause {
+            SceneFault::Memory => StateFault::Memory,
+            SceneFault::Malformed { .. } | SceneFault::Limit { .. } => StateFault::Scene(cause),
+        }
+    }
+}
+
+impl From<JobFault> for StateFault {
+    ghost use Rattle.std.specs.Prelude.{◌≡◌};
+    ghost use Rattle.px_state.specs.Refusals.{job_fault};
+
+    ghost from_gives = { λ cause fault. fault ≡ job_fault cause };
+
+    fn from(cause: JobFault) -> Self {
+        match cause {
+            JobFault::Memory => StateFault::Memory,
+            JobFault::PixelMemory { .. } | JobFault::Products { .. } => StateFault::Job(cause),
+        }
+    }
+}
+
+impl From<ListFault> for StateFault {
+    ghost use Rattle.std.specs.Prelude.{◌≡◌};
+    ghost use Rattle.px_state.specs.Refusals.{list_fault};
+
+    ghost from_gives = { λ cause fault. fault ≡ list_fault cause };
+
+    fn from(cause: ListFault) -> Self {
+        match cause {
+            ListFault::Memory => StateFault::Memory,
+            ListFault::Malformed { .. } | ListFault::Limit { .. } => StateFault::Listing(cause),
+        }
+    }
+}

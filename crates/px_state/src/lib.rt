@@ -1,0 +1,22 @@
+//! The state of a scene or of a listing after so many clocks, as data, and what is broadcast to it.
+#![tactic(auto)]
+
+mod fault;
+mod listing;
+mod micros;
+mod packing;
+mod room;
+mod scene;
+mod state;
+#[cfg(test)]
+mod tests;
+mod text;
+mod whole;
+mod words;
+
+pub use fault::StateFault;
+pub use packing::{law_of_packing, packed};
+pub use state::{Course, Next, State};
+pub use text::is_listing;
+pub use whole::{write_micros, write_state};
+pub use words::{room_of, row_words, write_words};

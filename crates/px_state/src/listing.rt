@@ -1,0 +1,111 @@
+//! The state of a listing after so many clocks.
+ghost use Rattle.std.specs.Prelude.{◌≡◌, ◌⊎◌, ◌≤◌, ◌<◌, ◌^◌, All, IfErr, IfOk, IfSome, IfNone, None, OnErr, OnOk, Some, length};
+ghost use Rattle.px_array.specs.Arrays.{opened};
+ghost use Rattle.px_macro.specs.Macros.{IsLawful};
+ghost use Rattle.px_state.specs.Courses.{IsNext, device_after, total};
+ghost use Rattle.px_state.specs.Refusals.{HasSmallCount, IsRefusedBy, course_refusal};
+ghost use Rattle.px_array.specs.Slots.{array_view, worked};
+ghost use Rattle.px_state.specs.States.{IsDrawn, IsState, LeavesArray};
+ghost use Rattle.px_state.specs.Words.{HasWords};
+
+use crate::fault::StateFault;
+use crate::room::judge;
+use crate::state::{Next, State};
+use crate::words::{room_of, write_words};
+use px_array::Array;
+use px_asm::{Operating, cycles, make_micros, micro_at};
+use px_listing::Listing;
+
+/// Plays the first clocks of a listing on an array, and writes the words of its state.
+pub(crate) fn state_of_listing<A: Operating>(
+    listing: &Listing,
+    clock: u64,
+    words: &mut [u64],
+    array: &mut A,
+) -> Result<State, StateFault>
+    requires bits { A.BITS ≤ 256 }
+    requires lawful { All (λ m. IsLawful m A.BITS) listing.now.macros }
+    ensures ok { OnOk result (course_refusal A.BITS listing.now clock (length words.old) ≡ None) }
+    ensures state { IfOk result (λ s. IsState A.BITS listing.now clock s) }
+    ensures words { OnOk result (HasWords A.BITS
+        (device_after A.BITS listing.now clock).state words.old words.new) }
+    ensures err { IfErr result (λ fault.
+        IsRefusedBy fault (course_refusal A.BITS listing.now clock (length words.old))) }
+    ensures small { IfErr result HasSmallCount }
+    ensures kept { OnErr result (words.new ≡ words.old) }
+    ensures length { length words.new ≡ length words.old }
+    ensures array { OnOk result (IsDrawn A.BITS listing.now clock
+        (array_view (A.device array.new) (A.slots array.new) (A.work array.new))) }
+    ensures refused { IfErr result (λ fault. LeavesArray fault A.BITS listing.now
+        (array_view (A.device array.old) (A.slots array.old) (A.work array.old))
+        (array_view (A.device array.new) (A.slots array.new) (A.work array.new))) }
+{
+    array.open(listing.nx, listing.ny)?;
+    let clocks = clocks_of(listing);
+    let due = room_of(A::BITS, listing.nx, listing.ny);
+    judge(clock, clocks, words.len(), due)?;
+    play_to(listing, array, clock);
+    write_words(array, words);
+    Ok(State {
+        nx: listing.nx,
+        ny: listing.ny,
+        bits: A::BITS as u32,
+        operations: listing.macros.len() as u64,
+        clocks,
+        clock,
+        next: next_of(listing, clock),
+    })
+}
+
+/// How many clocks a listing takes.
+pub(crate) fn clocks_of(listing: &Listing) -> u64
+    ensures clocks { result ≡ total listing.now }
+    ensures few { result < 2 ^ 43 }
+{
+    let mut clocks = 0;
+    for m in listing.macros.iter() {
+        clocks += u64::from(cycles(m, listing.nx, listing.ny));
+    }
+    clocks
+}
+
+/// Makes the first clocks of a listing on a new array.
+fn play_to<A: Array>(listing: &Listing, array: &mut A, clock: u64)
+    requires lawful { All (λ m. IsLawful m A.BITS) listing.now.macros }
+    requires new { A.device array.old ≡ opened A.BITS listing.now.nx listing.now.ny }
+    requires within { clock ≤ total listing.now }
+    ensures device { A.device array.new ≡ device_after A.BITS listing.now clock }
+    ensures slots { A.slots array.new ≡ A.slots array.old }
+    ensures work { A.work array.new ≡ worked clock (A.work array.old) }
+{
+    let mut left = clock;
+    for m in listing.macros.iter() {
+        let cycles = cycles(m, listing.nx, listing.ny);
+        let made = left.min(u64::from(cycles)) as u32;
+        make_micros(array, m, 0, made);
+        left -= u64::from(made);
+    }
+}
+
+/// The broadcast behind the first clocks of a listing.
+fn next_of(listing: &Listing, clock: u64) -> Option<Next>
+    requires within { clock ≤ total listing.now }
+    ensures some { IfSome result (λ n. IsNext listing.now clock n.operation n.cycle n.micro) }
+    ensures end { IfNone result (clock ≡ total listing.now) }
+{
+    let mut start = 0;
+    for (operation, m) in listing.macros.iter().enumerate() {
+        let cycles = cycles(m, listing.nx, listing.ny);
+        let end = start + u64::from(cycles);
+        if clock < end {
+            let cycle = (clock - start) as u32;
+            return Some(Next {
+                operation: operation as u64,
+                cycle,
+                micro: micro_at(m, listing.nx, listing.ny, cycle),
+            });
+        }
+        start = end;
+    }
+    None
+}

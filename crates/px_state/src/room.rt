@@ -1,0 +1,44 @@
+//! What a state and micros are refused for, once the text is read.
+ghost use Rattle.std.specs.Prelude.{◌≡◌, ◌+◌, ◌^◌, ◌<◌, ◌≤◌, ℕ, IfErr, None, OnOk, Some, nat_lt};
+ghost use Rattle.px_array.specs.Slots.{ArrayView};
+ghost use Rattle.px_listing.specs.Listings.{ListingView};
+ghost use Rattle.px_state.specs.Refusals.{HasSmallCount, refused_by, refused_where};
+ghost use Rattle.px_state.specs.States.{IsDrawn, LeavesArray};
+ghost use Rattle.px_state.specs.declared.fault.StateFault.{StateFault};
+
+use crate::fault::StateFault;
+
+/// Whether a clock is not past the last, and so many words are as many as are due.
+pub(crate) fn judge(clock: u64, clocks: u64, words: usize, due: usize) -> Result<(), StateFault>
+    ensures ok { OnOk result (refused_by clock clocks words due ≡ None) }
+    ensures clock { OnOk result (clock ≤ clocks) }
+    ensures room { OnOk result (due ≤ words) }
+    ensures err { IfErr result (λ fault. refused_by clock clocks words due ≡ Some fault) }
+    ensures small { IfErr result HasSmallCount }
+    ensures opened { IfErr result (λ fault. (bits : ℕ) (l : ListingView) (before now : ArrayView)
+        → IsDrawn bits l 0 now → LeavesArray fault bits l before now) }
+{
+    if clocks < clock {
+        return Err(StateFault::NoClock { clocks });
+    }
+    if words < due {
+        return Err(StateFault::NoRoom { room: due as u64 });
+    }
+    Ok(())
+}
+
+/// Whether there are so many clocks from one on.
+pub(crate) fn judge_stretch(first: u64, count: usize, clocks: u64) -> Result<(), StateFault>
+    ensures ok { OnOk result (refused_where (nat_lt clocks (first + count)) (StateFault.NoClock clocks)
+        ≡ None) }
+    ensures within { OnOk result (first + count ≤ clocks) }
+    ensures err { IfErr result (λ fault.
+        refused_where (nat_lt clocks (first + count)) (StateFault.NoClock clocks) ≡ Some fault) }
+    ensures small { IfErr result HasSmallCount }
+{
+    if clocks < first || clocks - first < count as u64 {
+        Err(StateFault::NoClock { clocks })
+    } else {
+        Ok(())
+    }
+}

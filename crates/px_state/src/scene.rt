@@ -1,0 +1,106 @@
+//! The state of a scene after so many clocks.
+ghost use Rattle.std.specs.Prelude.{◌≡◌, ◌⊎◌, ◌≤◌, ◌<◌, ◌^◌, IfErr, IfOk, IfSome, IfNone, None, OnErr, OnOk, Some, length};
+ghost use Rattle.px_listing.specs.PassesText.{passes_listing};
+ghost use Rattle.px_control.specs.Program.{IsAt, total};
+ghost use Rattle.px_state.specs.Courses.{IsNext, device_after};
+ghost use Rattle.px_state.specs.Refusals.{HasSmallCount, IsRefusedBy, course_refusal, job_refusal};
+ghost use Rattle.px_array.specs.Slots.{IsRunOnce, array_view};
+ghost use Rattle.px_state.specs.States.{IsDrawn, IsState, LeavesArray};
+ghost use Rattle.px_state.specs.Words.{HasWords};
+ghost use Rattle.std.specs.Option.{option_or};
+
+use crate::fault::StateFault;
+use crate::room::judge;
+use crate::state::{Next, State};
+use crate::words::{room_of, write_words};
+use px_asm::Operating;
+use px_control::Job;
+use px_model::{Scene, laws_of_scenes};
+use std::alloc::Global;
+
+/// Draws the first clocks of a scene on an array, and writes the words of its state.
+pub(crate) fn state_of_scene<A: Operating>(
+    alloc: Global,
+    scene: &Scene,
+    clock: u64,
+    words: &mut [u64],
+    array: &mut A,
+) -> Result<State, StateFault>
+    requires bits { A.BITS ≤ 256 }
+    ensures ok { OnOk result (option_or (job_refusal A.BITS scene.now)
+        (course_refusal A.BITS (passes_listing scene.now) clock (length words.old)) ≡ None) }
+    ensures state { IfOk result (λ s. IsState A.BITS (passes_listing scene.now) clock s) }
+    ensures words { OnOk result (HasWords A.BITS
+        (device_after A.BITS (passes_listing scene.now) clock).state words.old words.new) }
+    ensures err { IfErr result (λ fault. IsRefusedBy fault (option_or (job_refusal A.BITS scene.now)
+        (course_refusal A.BITS (passes_listing scene.now) clock (length words.old)))) }
+    ensures small { IfErr result HasSmallCount }
+    ensures kept { OnErr result (words.new ≡ words.old) }
+    ensures length { length words.new ≡ length words.old }
+    ensures array { OnOk result (IsDrawn A.BITS (passes_listing scene.now) clock
+        (array_view (A.device array.new) (A.slots array.new) (A.work array.new))) }
+    ensures refused { IfErr result (λ fault. LeavesArray fault A.BITS (passes_listing scene.now)
+        (array_view (A.device array.old) (A.slots array.old) (A.work array.old))
+        (array_view (A.device array.new) (A.slots array.new) (A.work array.new))) }
+{
+    laws_of_scenes(scene);
+    let mut job = open_job(alloc, scene, array)?;
+    let (nx, ny) = scene.grid();
+    let clocks = job.total_clocks();
+    let due = room_of(A::BITS, nx, ny);
+    if let Err(fault) = judge(clock, clocks, words.len(), due) {
+        return Err(fault);
+    }
+    job.advance(array, clock);
+    write_words(array, words);
+    Ok(State {
+        nx,
+        ny,
+        bits: A::BITS as u32,
+        operations: job.total_macros(),
+        clocks,
+        clock,
+        next: next_of(&job),
+    })
+}
+
+/// Opens an array for a scene.
+fn open_job<'s, A: Operating>(
+    alloc: Global,
+    scene: &'s Scene,
+    array: &mut A,
+) -> Result<Job<'s>, StateFault>
+    ensures job { IfOk result (λ job. (job.scene ≡ scene.now) × (job.place.clock ≡ 0)) }
+    ensures at { OnOk result (IsAt A.BITS scene.now 0 (A.device array.new)) }
+    ensures ok { OnOk result (job_refusal A.BITS scene.now ≡ None) }
+    ensures once { OnOk result (IsRunOnce
+        (array_view (A.device array.new) (A.slots array.new) (A.work array.new))) }
+    ensures err { IfErr result (λ fault. IsRefusedBy fault (job_refusal A.BITS scene.now)) }
+    ensures small { IfErr result HasSmallCount }
+    ensures refused { IfErr result (λ fault. LeavesArray fault A.BITS (passes_listing scene.now)
+        (array_view (A.device array.old) (A.slots array.old) (A.work array.old))
+        (array_view (A.device array.new) (A.slots array.new) (A.work array.new))) }
+{
+    match Job::open(alloc, scene, array) {
+        Ok(job) => Ok(job),
+        Err(fault) => Err(StateFault::from(fault)),
+    }
+}
+
+/// The broadcast before which a job stands.
+fn next_of(job: &Job<'_>) -> Option<Next>
+    ensures some { IfSome result (λ n. IsNext (passes_listing job.now.scene) job.now.place.clock
+        n.operation n.cycle n.micro) }
+    ensures end { IfNone result (job.now.place.clock ≡ total job.now.scene) }
+{
+    // Its place is that of its clock, by the clause of `place`.
+    job.place();
+    if job.now() == job.total_clocks() {
+        return None;
+    }
+    Some(Next {
+        operation: job.macro_now(),
+        cycle: job.micro_now(),
+        micro: job.next_micro(),
+    })
+}

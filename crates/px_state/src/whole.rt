@@ -1,0 +1,157 @@
+//! The state and the micros of a text.
+ghost use Rattle.std.specs.Prelude.{◌≡◌, ◌≤◌, ℕ, All, true, false, IfErr, IfOk, None, OnErr, OnOk, length};
+ghost use Rattle.px_state.specs.Courses.{device_after};
+ghost use Rattle.px_listing.specs.PassesText.{passes_listing};
+ghost use Rattle.px_macro.specs.Macros.{IsLawful};
+ghost use Rattle.px_text.specs.declared.text.TheConstants.{MAX_TEXT_BYTES};
+ghost use Rattle.px_state.specs.Packed.{HasMicros};
+ghost use Rattle.px_state.specs.Refusals.{HasSmallCount, IsRefusedBy, course_of, is_listing, job_refusal, micros_refusal, state_refusal, text_refusal, too_long};
+ghost use Rattle.px_array.specs.Slots.{array_view};
+ghost use Rattle.px_state.specs.States.{IsCourse, IsDrawn, IsState, KeepsArray, LeavesArray};
+ghost use Rattle.px_state.specs.Words.{HasWords};
+
+use crate::fault::StateFault;
+use crate::listing::state_of_listing;
+use crate::micros::{micros_of_listing, micros_of_scene};
+use crate::scene::state_of_scene;
+use crate::state::{Course, State};
+use crate::text::is_listing;
+use px_asm::Operating;
+use px_listing::{Listing, read_listing};
+use px_model::Scene;
+use px_scene::{LimitKind, SceneFault, read_scene};
+use px_text::MAX_TEXT_BYTES;
+use std::alloc::Global;
+
+/// Finds the state of a scene or of a listing after so many clocks, and writes its words to the front
+/// of a list.
+///
+/// A text whose first word is `pxlist` is a listing, and every other one a scene. `NoClock` comes
+/// where the clock lies past the last, and `NoRoom` where the list has fewer words than `room_of`
+/// says. After an error the list is as it was; after `Ok` so is what lies behind the words of the
+/// state. The array is then the one after these clocks, and a refusal of the text leaves it as it was.
+pub fn write_state<A: Operating>(
+    alloc: Global,
+    text: &[u8],
+    clock: u64,
+    words: &mut [u64],
+    array: &mut A,
+) -> Result<State, StateFault>
+    requires bits { A.BITS ≤ 256 }
+    ensures ok { OnOk result (state_refusal A.BITS text.now clock (length words.old) ≡ None) }
+    ensures state { IfOk result (λ s. IsState A.BITS (course_of text.now) clock s) }
+    ensures words { OnOk result (HasWords A.BITS
+        (device_after A.BITS (course_of text.now) clock).state words.old words.new) }
+    ensures err { IfErr result (λ fault.
+        IsRefusedBy fault (state_refusal A.BITS text.now clock (length words.old))) }
+    ensures small { IfErr result HasSmallCount }
+    ensures kept { OnErr result (words.new ≡ words.old) }
+    ensures length { length words.new ≡ length words.old }
+    ensures array { OnOk result (IsDrawn A.BITS (course_of text.now) clock
+        (array_view (A.device array.new) (A.slots array.new) (A.work array.new))) }
+    ensures refused { IfErr result (λ fault. LeavesArray fault A.BITS (course_of text.now)
+        (array_view (A.device array.old) (A.slots array.old) (A.work array.old))
+        (array_view (A.device array.new) (A.slots array.new) (A.work array.new))) }
+{
+    if text.len() > MAX_TEXT_BYTES {
+        return Err(too_long());
+    }
+    if is_listing(text) {
+        let listing = match read_course(alloc, text, A::BITS as u32) {
+            Ok(listing) => listing,
+            Err(fault) => return Err(fault),
+        };
+        state_of_listing(&listing, clock, words, array)
+    } else {
+        let scene = match read_drawing(alloc, text) {
+            Ok(scene) => scene,
+            Err(fault) => return Err(fault),
+        };
+        state_of_scene(alloc, &scene, clock, words, array)
+    }
+}
+
+/// Writes the micros of a scene or of a listing from a clock on, each packed into a word, as many as
+/// the list has (`packed` has the form).
+///
+/// The text is read as by `write_state`, for pixels of so many memory bits, 1 to 256. `NoClock` comes
+/// where there are not so many. After an error the list is as it was.
+pub fn write_micros(
+    alloc: Global,
+    text: &[u8],
+    bits: u32,
+    first: u64,
+    micros: &mut [u64],
+) -> Result<Course, StateFault>
+    requires bits { bits ≤ 256 }
+    ensures ok { OnOk result (micros_refusal bits text.now first (length micros.old) ≡ None) }
+    ensures course { IfOk result (λ c. IsCourse (course_of text.now) c) }
+    ensures micros { OnOk result (HasMicros (course_of text.now) first micros.new) }
+    ensures err { IfErr result (λ fault.
+        IsRefusedBy fault (micros_refusal bits text.now first (length micros.old))) }
+    ensures small { IfErr result HasSmallCount }
+    ensures kept { OnErr result (micros.new ≡ micros.old) }
+    ensures length { length micros.new ≡ length micros.old }
+{
+    if text.len() > MAX_TEXT_BYTES {
+        return Err(too_long());
+    }
+    if is_listing(text) {
+        let listing = match read_course(alloc, text, bits) {
+            Ok(listing) => listing,
+            Err(fault) => return Err(fault),
+        };
+        micros_of_listing(&listing, first, micros)
+    } else {
+        let scene = match read_drawing(alloc, text) {
+            Ok(scene) => scene,
+            Err(fault) => return Err(fault),
+        };
+        micros_of_scene(alloc, &scene, bits, first, micros)
+    }
+}
+
+/// The listing that a text writes, whose first word says so.
+fn read_course(alloc: Global, text: &[u8], bits: u32) -> Result<Listing, StateFault>
+    requires bits { bits ≤ 256 }
+    requires short { length text.now ≤ MAX_TEXT_BYTES }
+    requires flagged { is_listing text.now ≡ true }
+    ensures ok { OnOk result (text_refusal bits text.now ≡ None) }
+    ensures course { IfOk result (λ listing. course_of text.now ≡ listing) }
+    ensures lawful { IfOk result (λ listing. All (λ m. IsLawful m bits) listing.macros) }
+    ensures err { IfErr result (λ fault. IsRefusedBy fault (text_refusal bits text.now)) }
+    ensures small { IfErr result HasSmallCount }
+    ensures keeps { IfErr result KeepsArray }
+{
+    match read_listing(alloc, text, bits) {
+        Ok(listing) => Ok(listing),
+        Err(fault) => Err(StateFault::from(fault)),
+    }
+}
+
+/// The scene that a text writes, whose first word does not say otherwise.
+fn read_drawing(alloc: Global, text: &[u8]) -> Result<Scene, StateFault>
+    requires short { length text.now ≤ MAX_TEXT_BYTES }
+    requires flagged { is_listing text.now ≡ false }
+    ensures ok { IfOk result (λ scene. (bits : ℕ) → text_refusal bits text.now ≡ job_refusal bits scene) }
+    ensures course { IfOk result (λ scene. course_of text.now ≡ passes_listing scene) }
+    ensures err { IfErr result (λ fault. (bits : ℕ) → IsRefusedBy fault (text_refusal bits text.now)) }
+    ensures small { IfErr result HasSmallCount }
+    ensures keeps { IfErr result KeepsArray }
+{
+    match read_scene(alloc, text) {
+        Ok(scene) => Ok(scene),
+        Err(fault) => Err(StateFault::from(fault)),
+    }
+}
+
+/// The refusal of a text that has more bytes than it may have.
+fn too_long() -> StateFault
+    ensures { result ≡ too_long }
+{
+    StateFault::Scene(SceneFault::Limit {
+        line: 0,
+        kind: LimitKind::Text,
+        found: MAX_TEXT_BYTES as i64 + 1,
+    })
+}

@@ -1,0 +1,471 @@
+/*
+ * Calls the library over texts, and compares each answer with the program's.
+ *
+ * Use: check_library FOLDER
+ *
+ * FOLDER/list names texts, one a line. Beside it lie for each NAME.text, and what the program answered for it:
+ * NAME.COMMAND, NAME.COMMAND.note and NAME.COMMAND.status, where COMMAND is render, colour, plan and cost.
+ *
+ * Each buffer ends where a page begins that nobody may touch, and is filled before a call. For each text: check,
+ * render, colour and products with buffers of no element, one too few, as many as are due, and one more; each
+ * with each allocation refused in turn (some of the later ones); and all of it in four threads at once. Linked
+ * with --wrap for malloc, realloc and free. Prints a line for each difference, and last how much was compared.
+ */
+#define _DEFAULT_SOURCE
+#include <pthread.h>
+#include <stdarg.h>
+#include <stdatomic.h>
+#include <stdio.h>
+#include <stdlib.h>
+#include <string.h>
+#include <sys/mman.h>
+#include <unistd.h>
+#include "pxplanes.h"
+
+#define FILL 0xa5
+#define THREADS 4
+#define STACK (256 * 1024)
+
+/* Memory: counted and refused for the thread that asks for it, while it is inside a call. */
+
+void *__real_malloc(size_t size);
+void *__real_realloc(void *old, size_t size);
+void __real_free(void *old);
+
+static _Thread_local int inside;
+static _Thread_local long asked, refuse_at, held;
+
+static int is_refused(void)
+{
+    return inside && ++asked == refuse_at;
+}
+
+void *__wrap_malloc(size_t size)
+{
+    void *got = is_refused() ? NULL : __real_malloc(size);
+    held += inside && got != NULL;
+    return got;
+}
+
+void *__wrap_realloc(void *old, size_t size)
+{
+    void *got = is_refused() ? NULL : __real_realloc(old, size);
+    held += inside && old == NULL && got != NULL;
+    return got;
+}
+
+void __wrap_free(void *old)
+{
+    held -= inside && old != NULL;
+    __real_free(old);
+}
+
+/* What is compared. */
+
+static atomic_long differences, calls;
+
+static void differs(const char *name, const char *form, ...)
+{
+    va_list words;
+    va_start(words, form);
+    flockfile(stdout);
+    printf("%s: ", name);
+    vprintf(form, words);
+    printf("\n");
+    funlockfile(stdout);
+    va_end(words);
+    atomic_fetch_add(&differences, 1);
+}
+
+struct bytes {
+    uint8_t *at;
+    size_t len;
+};
+
+struct answer {
+    struct bytes output, note;
+    long status;
+};
+
+enum { RENDER, COLOUR, PLAN, COST, COMMANDS };
+static const char *const commands[COMMANDS] = {"render", "colour", "plan", "cost"};
+
+struct text {
+    char name[256];
+    struct bytes bytes;
+    struct answer answer[COMMANDS];
+};
+
+/* A buffer of so many elements of so many bytes, with its end at a page that may not be touched. */
+
+struct buffer {
+    uint8_t *pages, *at;
+    size_t span, bytes, len;
+};
+
+static struct buffer made(size_t len, size_t each)
+{
+    size_t page = (size_t) sysconf(_SC_PAGESIZE);
+    struct buffer buffer = {NULL, NULL, 0, len * each, len};
+    buffer.span = (buffer.bytes + page - 1) / page * page + page;
+    buffer.pages = mmap(NULL, buffer.span, PROT_READ | PROT_WRITE, MAP_PRIVATE | MAP_ANONYMOUS, -1, 0);
+    if (buffer.pages == MAP_FAILED || mprotect(buffer.pages + buffer.span - page, page, PROT_NONE) != 0) {
+        perror("mmap");
+        exit(2);
+    }
+    memset(buffer.pages, FILL, buffer.span - page);
+    if (len > 0)
+        buffer.at = buffer.pages + buffer.span - page - buffer.bytes;
+    return buffer;
+}
+
+static void let_go(struct buffer *buffer)
+{
+    munmap(buffer->pages, buffer->span);
+}
+
+/* Whether all is as it was filled, from a byte on. */
+static int is_untouched(const struct buffer *buffer, size_t from)
+{
+    size_t page = (size_t) sysconf(_SC_PAGESIZE), end = buffer->span - page;
+    for (size_t i = 0; i < end - buffer->bytes; i++)
+        if (buffer->pages[i] != FILL)
+            return 0;
+    for (size_t i = from; i < buffer->bytes; i++)
+        if (buffer->at[i] != FILL)
+            return 0;
+    return 1;
+}
+
+static int is_nothing(const struct pxplanes_found *found)
+{
+    static const struct pxplanes_found none;
+    return memcmp(found, &none, sizeof none) == 0;
+}
+
+/* The note that the program writes for what was found. */
+static void note_of(uint32_t status, const struct pxplanes_found *found, char *note, size_t size)
+{
+    uint8_t word[17] = {0};
+    size_t len = 0;
+    if (status == PXPLANES_MALFORMED)
+        len = pxplanes_cause_name(found->cause, word, 16);
+    if (status == PXPLANES_LIMIT)
+        len = pxplanes_kind_name(found->kind, word, 16);
+    word[len <= 16 ? len : 16] = 0;
+    note[0] = 0;
+    if (status == PXPLANES_MALFORMED)
+        snprintf(note, size, "malformed line %u: %s\n", (unsigned) found->line, word);
+    if (status == PXPLANES_LIMIT)
+        snprintf(note, size, "limit line %u: %s %lld\n", (unsigned) found->line, word, (long long) found->number);
+}
+
+/* The calls, in one form: two buffers where there are two, else one. */
+
+enum call { CHECK, DRAW, PAINT, LIST, CALLS };
+static const struct {
+    const char *name;
+    int command, buffers;
+    size_t each;
+} kinds[CALLS] = {{"check", RENDER, 0, 0}, {"render", RENDER, 2, 4}, {"colour", COLOUR, 1, 1}, {"products", PLAN, 1, 4}};
+
+static uint32_t called(enum call call, const struct text *text, struct buffer *b, struct pxplanes_found *found, long refuse)
+{
+    uint32_t status = 0;
+    memset(found, FILL, sizeof *found);
+    atomic_fetch_add(&calls, 1);
+    asked = held = 0;
+    refuse_at = refuse;
+    inside = 1;
+    switch (call) {
+    case CHECK:
+        status = pxplanes_check(text->bytes.at, text->bytes.len, found);
+        break;
+    case DRAW:
+        status = pxplanes_render(text->bytes.at, text->bytes.len, (uint32_t *) b[0].at, b[0].len, (uint32_t *) b[1].at, b[1].len,
+                                 found);
+        break;
+    case PAINT:
+        status = pxplanes_colour(text->bytes.at, text->bytes.len, b[0].at, b[0].len, found);
+        break;
+    default:
+        status = pxplanes_products(text->bytes.at, text->bytes.len, (int32_t *) b[0].at, b[0].len, found);
+    }
+    inside = 0;
+    if (held != 0)
+        differs(text->name, "%s keeps %ld blocks of memory", kinds[call].name, held);
+    return status;
+}
+
+/* A pixel map of the program: its bytes, or nothing. */
+static const uint8_t *map_at(const struct bytes *output, size_t number, uint32_t width, uint32_t height)
+{
+    char header[64];
+    size_t head = (size_t) snprintf(header, sizeof header, "P6\n%u %u\n255\n", (unsigned) width, (unsigned) height);
+    size_t one = head + 3 * (size_t) width * height;
+    if (output->len < (number + 1) * one || memcmp(output->at + number * one, header, head) != 0)
+        return NULL;
+    return output->at + number * one + head;
+}
+
+static void compare_numbers(const struct text *text, const char *what, const struct buffer *buffer, const uint8_t *map, size_t pixels)
+{
+    const uint32_t *numbers = (const uint32_t *) buffer->at;
+    for (size_t i = 0; map != NULL && i < pixels; i++)
+        if (numbers[i] != ((uint32_t) map[3 * i] << 16 | (uint32_t) map[3 * i + 1] << 8 | map[3 * i + 2])) {
+            differs(text->name, "%s of pixel %zu is %u", what, i, (unsigned) numbers[i]);
+            return;
+        }
+    if (map == NULL)
+        differs(text->name, "the program has no map of %s", what);
+}
+
+/* The names of a scene's solids, and the lines of `plan` written by them. */
+static size_t named(const struct text *text, size_t solid, const char **name)
+{
+    const char *at = (const char *) text->bytes.at, *end = at + text->bytes.len;
+    while (at < end) {
+        const char *stop = memchr(at, '\n', (size_t) (end - at));
+        stop = stop ? stop : end;
+        while (at < stop && (*at == ' ' || *at == '\t' || *at == '\r'))
+            at++;
+        if (stop - at > 6 && memcmp(at, "solid", 5) == 0 && strchr(" \t\r", at[5]) && --solid == 0) {
+            for (at += 5; *at == ' ' || *at == '\t' || *at == '\r'; at++)
+                ;
+            *name = at;
+            return strcspn(at, " \t\r\n#");
+        }
+        at = stop + 1;
+    }
+    return 0;
+}
+
+static void compare_products(const struct text *text, const struct buffer *buffer)
+{
+    const struct bytes *output = &text->answer[PLAN].output;
+    const int32_t *literals = (const int32_t *) buffer->at;
+    const uint8_t *due = memchr(output->at, '\n', output->len), *end = output->at + output->len;
+    int first = 1;
+    due = due ? due + 1 : end;
+    for (size_t i = 0; i < buffer->len; i++) {
+        const char *name = "", *sign = first ? "" : " * ";
+        size_t len = 0, behind;
+        if (literals[i] < 0)
+            sign = " - ";
+        if (literals[i] == 0) {
+            sign = "\n";
+        } else {
+            len = named(text, (size_t) labs((long) literals[i]), &name);
+        }
+        behind = strlen(sign);
+        if ((size_t) (end - due) < behind + len || memcmp(due, sign, behind) != 0 || memcmp(due + behind, name, len) != 0) {
+            differs(text->name, "number %zu of the products is %d", i, (int) literals[i]);
+            return;
+        }
+        due += behind + len;
+        first = literals[i] == 0;
+    }
+    if (due != end)
+        differs(text->name, "the program lists more products");
+}
+
+/* What was found by a call that drew. */
+static void compare_found(enum call call, const struct text *text, const struct pxplanes_found *found)
+{
+    struct pxplanes_found plain = *found;
+    char cost[100];
+    plain.width = plain.height = plain.faces = 0;
+    plain.operations = plain.clocks = plain.room = 0;
+    if (!is_nothing(&plain))
+        differs(text->name, "%s finds what does not apply", kinds[call].name);
+    snprintf(cost, sizeof cost, "macros %llu\nclocks %llu\n", (unsigned long long) found->operations,
+             (unsigned long long) found->clocks);
+    if (call == LIST ? found->operations || found->clocks
+                     : strlen(cost) != text->answer[COST].output.len || memcmp(cost, text->answer[COST].output.at, strlen(cost)))
+        differs(text->name, "%s finds another cost: %s", kinds[call].name, cost);
+}
+
+/* One call with buffers of so many elements more or less than are due. */
+static uint32_t tried(enum call call, const struct text *text, size_t due, const long more[2], long refuse)
+{
+    struct buffer b[2] = {{0}};
+    struct pxplanes_found found;
+    const struct answer *answer = &text->answer[kinds[call].command];
+    char note[200];
+    int short_of = 0;
+    for (int i = 0; i < kinds[call].buffers; i++) {
+        size_t len = more[i] < -1 || (more[i] < 0 && due == 0) ? 0 : due + (size_t) more[i];
+        b[i] = made(len, kinds[call].each);
+        short_of |= len < due;
+    }
+    uint32_t status = called(call, text, b, &found, refuse);
+    uint32_t wanted = refuse ? PXPLANES_MEMORY : answer->status ? (uint32_t) answer->status : short_of ? PXPLANES_NO_ROOM : PXPLANES_OK;
+    if (status != wanted)
+        differs(text->name, "%s gives status %u in place of %u (refused: %ld)", kinds[call].name, (unsigned) status,
+                (unsigned) wanted, refuse);
+    if (status == PXPLANES_MEMORY && !is_nothing(&found))
+        differs(text->name, "%s finds something without memory", kinds[call].name);
+    if (status == PXPLANES_MALFORMED || status == PXPLANES_LIMIT) {
+        note_of(status, &found, note, sizeof note);
+        if (strlen(note) != answer->note.len || memcmp(note, answer->note.at, answer->note.len))
+            differs(text->name, "%s finds %s", kinds[call].name, note);
+        found.line = found.cause = found.kind = 0;
+        found.number = 0;
+        if (!is_nothing(&found))
+            differs(text->name, "%s finds what does not apply", kinds[call].name);
+    }
+    if (status == PXPLANES_OK || status == PXPLANES_NO_ROOM) {
+        compare_found(call, text, &found);
+        if (found.room != (status == PXPLANES_NO_ROOM ? due : 0))
+            differs(text->name, "%s finds room %llu", kinds[call].name, (unsigned long long) found.room);
+    }
+    for (int i = 0; i < kinds[call].buffers; i++)
+        if (!is_untouched(&b[i], status == PXPLANES_OK ? due * kinds[call].each : 0))
+            differs(text->name, "%s touches what it is to leave (status %u)", kinds[call].name, (unsigned) status);
+    if (status == PXPLANES_OK && due > 0) {
+        size_t pixels = (size_t) found.width * found.height;
+        const struct bytes *output = &answer->output;
+        if (call == DRAW) {
+            compare_numbers(text, "the depth", &b[0], map_at(output, 0, found.width, found.height), pixels);
+            compare_numbers(text, "the face", &b[1], map_at(output, 1, found.width, found.height), pixels);
+        }
+        if (call == PAINT) {
+            const uint8_t *map = map_at(output, 0, found.width, found.height);
+            if (map == NULL || memcmp(map, b[0].at, due))
+                differs(text->name, "other colours");
+        }
+        if (call == LIST && more[0] == 0)
+            compare_products(text, &b[0]);
+    }
+    for (int i = 0; i < kinds[call].buffers; i++)
+        let_go(&b[i]);
+    return status;
+}
+
+/* How many elements are due: what the program drew, by the size that `check` finds. */
+static size_t due_of(enum call call, const struct text *text)
+{
+    struct pxplanes_found found;
+    struct buffer none[2] = {{0}};
+    uint32_t status = called(call, text, none, &found, 0);
+    return status == PXPLANES_NO_ROOM ? (size_t) found.room : 0;
+}
+
+static void compare(const struct text *text)
+{
+    static const long sizes[][2] = {{-2, -2}, {-1, 0}, {0, -1}, {0, 0}, {1, 1}};
+    for (enum call call = CHECK; call < CALLS; call++) {
+        size_t due = due_of(call, text);
+        for (size_t i = 0; i < sizeof sizes / sizeof *sizes; i++)
+            if (call == DRAW || sizes[i][1] == sizes[i][0] || (sizes[i][0] == -1))
+                tried(call, text, due, sizes[i], 0);
+        long all = asked;
+        for (long at = 1; at <= all; at += 1 + at / 8)
+            tried(call, text, due, sizes[3], at);
+    }
+}
+
+static struct text *texts;
+static size_t count;
+
+static void *compare_all(void *start)
+{
+    for (size_t i = 0; i < count; i++)
+        compare(&texts[(i + *(size_t *) start) % count]);
+    return NULL;
+}
+
+/* Reading what was prepared. */
+
+static struct bytes content(const char *folder, const char *name, const char *end)
+{
+    char path[1024];
+    struct bytes bytes = {NULL, 0};
+    snprintf(path, sizeof path, "%s/%s%s", folder, name, end);
+    FILE *file = fopen(path, "rb");
+    if (file == NULL) {
+        perror(path);
+        exit(2);
+    }
+    fseek(file, 0, SEEK_END);
+    long len = ftell(file);
+    rewind(file);
+    bytes.at = malloc((size_t) len + 1);
+    if (bytes.at == NULL || fread(bytes.at, 1, (size_t) len, file) != (size_t) len)
+        exit(2);
+    bytes.at[len] = 0;
+    bytes.len = (size_t) len;
+    fclose(file);
+    return bytes;
+}
+
+static void read_texts(const char *folder)
+{
+    struct bytes list = content(folder, "list", "");
+    for (size_t i = 0; i < list.len; i++)
+        count += list.at[i] == '\n';
+    texts = calloc(count + 1, sizeof *texts);
+    if (texts == NULL)
+        exit(2);
+    char *line = (char *) list.at;
+    for (size_t i = 0; i < count; i++) {
+        struct text *text = &texts[i];
+        size_t len = strcspn(line, "\n");
+        snprintf(text->name, sizeof text->name, "%.*s", (int) len, line);
+        line += len + 1;
+        text->bytes = content(folder, text->name, ".text");
+        for (int c = 0; c < COMMANDS; c++) {
+            char end[64];
+            snprintf(end, sizeof end, ".%s", commands[c]);
+            text->answer[c].output = content(folder, text->name, end);
+            snprintf(end, sizeof end, ".%s.note", commands[c]);
+            text->answer[c].note = content(folder, text->name, end);
+            snprintf(end, sizeof end, ".%s.status", commands[c]);
+            struct bytes status = content(folder, text->name, end);
+            text->answer[c].status = atol((const char *) status.at);
+            free(status.at);
+        }
+    }
+    free(list.at);
+}
+
+static void compare_names(void)
+{
+    uint8_t word[17];
+    for (uint32_t number = 0; number < 40; number++)
+        for (size_t room = 0; room <= 16; room++)
+            for (int kind = 0; kind < 2; kind++) {
+                memset(word, FILL, sizeof word);
+                size_t len = kind ? pxplanes_kind_name(number, room ? word : NULL, room)
+                                  : pxplanes_cause_name(number, room ? word : NULL, room);
+                size_t written = len <= room ? len : 0;
+                for (size_t i = 0; i < sizeof word; i++)
+                    if (i < written ? !(word[i] == '-' || (word[i] >= 'a' && word[i] <= 'z')) : word[i] != FILL)
+                        differs("names", "%s %u with room %zu", kind ? "kind" : "cause", (unsigned) number, room);
+                if ((len > 0) != (number > 0 && number <= (kind ? 21 : 10)) || len > 16)
+                    differs("names", "%s %u has %zu letters", kind ? "kind" : "cause", (unsigned) number, len);
+            }
+}
+
+int main(int words, char **word)
+{
+    pthread_t threads[THREADS];
+    size_t starts[THREADS];
+    pthread_attr_t small;
+    if (words != 2)
+        return 2;
+    read_texts(word[1]);
+    compare_names();
+    pthread_attr_init(&small);
+    pthread_attr_setstacksize(&small, STACK);
+    for (size_t i = 0; i < THREADS; i++) {
+        starts[i] = i * count / THREADS;
+        if (pthread_create(&threads[i], &small, compare_all, &starts[i]) != 0)
+            return 2;
+    }
+    for (size_t i = 0; i < THREADS; i++)
+        pthread_join(threads[i], NULL);
+    printf("%s texts, %s calls, %ld differences\n", count > 100 ? "enough" : "too few",
+           atomic_load(&calls) > 40 * (long) count ? "enough" : "too few", atomic_load(&differences));
+    return atomic_load(&differences) != 0;
+}
