@@ -164,6 +164,10 @@ at("gallery").addEventListener("change", () => {
   at("gallery").blur();
   if (name) openFromGallery(name).catch(tell);
 });
+at("file").addEventListener("change", () => {
+  const file = at("file").files[0];
+  if (file) dropped(file).catch(tell).then(() => { at("file").value = ""; });
+});
 at("save").addEventListener("click", () => save().catch(tell));
 at("smaller").addEventListener("click", () => letters(-1));
 at("larger").addEventListener("click", () => letters(1));
