@@ -14,12 +14,21 @@ import netpbm
 import program
 import sessions
 
-sys.path.insert(0, os.path.join(ends.TOP, "python"))
-import pxplanes
-
 NUMBER = re.compile(rb"\d{1,18}\Z")
 # The line of a listing that `list` writes in which its first operation stands.
 FIRST_LINE = 3
+
+
+def library():
+    """The Python module, which a tool for scenes does without."""
+    sys.path.insert(0, os.path.join(ends.TOP, "python"))
+    try:
+        import pxplanes
+    except ImportError:
+        raise netpbm.Bad("there is no python/pxplanes beside the tools")
+    finally:
+        del sys.path[0]
+    return pxplanes
 
 
 def is_listing(text):
@@ -35,10 +44,10 @@ class Listing:
     """A listing that the program accepts: its grid, its operations, and at which clock each ends."""
 
     def __init__(self, text):
-        self.text = text
+        self.text, self.library = text, library()
         try:
-            pxplanes.state(text, 0)
-        except (pxplanes.Refused, pxplanes.NoLibrary) as error:
+            self.library.state(text, 0)
+        except (self.library.Refused, self.library.NoLibrary) as error:
             raise netpbm.Bad(error)
         self.nx, self.ny, self.operations = micros.read_listing(text)
         lines = [number for number, line in enumerate(text.split(b"\n"), 1) if sessions.words_of(line.split(b"#")[0])]
@@ -56,6 +65,9 @@ class Listing:
             return None
         number = bisect.bisect_right(self.ends, clock)
         return number, clock - (self.ends[number - 1] if number else 0)
+
+    def state(self, clock):
+        return self.library.state(self.text, clock)
 
     def bits(self):
         """How many memory bits its operations name, from bit 0 on."""
@@ -97,7 +109,7 @@ class Session:
 
     def state(self):
         if self.seen is None or self.seen.clock != self.now:
-            self.seen = pxplanes.state(self.listing.text, self.now)
+            self.seen = self.listing.state(self.now)
         return self.seen
 
     def to(self, clock):
@@ -140,7 +152,7 @@ class Session:
 
     def trace(self):
         first = max(0, self.now - sessions.KEPT)
-        made = pxplanes.micros(self.listing.text, first, self.now - first)
+        made = self.listing.library.micros(self.listing.text, first, self.now - first)
         return ["%d: %s" % told for told in enumerate(map(str, made), first)]
 
 
