@@ -15,7 +15,7 @@ use Rattle.px_listing.specs.Reading as listing
 use Rattle.px_listing.specs.declared.read.ListFault.{ListFault}
 use Rattle.px_listing.specs.declared.read.ListFault.TheVariants as list
 use Rattle.px_state.specs.Refusals.{HasSmallCount, IsRefusedBy, course_of, is_listing, job_refusal, list_fault, scene_fault, text_refusal, too_long}
-use Rattle.px_state.specs.States.{KeepsArray}
+use Rattle.px_state.specs.Keeping.{KeepsArray}
 use Rattle.px_state.specs.declared.fault.StateFault.{StateFault}
 
 pub long_text : (bits : ℕ) (text : List ℕ) → MAX_TEXT_BYTES < length text → text_refusal bits text ≡ Some too_long

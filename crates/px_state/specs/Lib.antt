@@ -3,6 +3,7 @@ pub use Rattle.px_asm.specs.Micros
 pub use Rattle.px_listing.specs.Listings
 pub use Rattle.px_listing.specs.PassesText
 pub mod Courses
+pub mod Keeping
 pub mod Packed
 pub mod Packing
 pub mod Parts

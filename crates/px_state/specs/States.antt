@@ -38,7 +38,3 @@ LeavesArray (f.Listing fault) bits l before now = now ≡ before
 LeavesArray (f.NoClock clocks) bits l before now = IsDrawn bits l 0 now
 LeavesArray (f.NoRoom room) bits l before now = IsDrawn bits l 0 now
 LeavesArray f.Memory bits l before now = (now ≡ before) ⊎ (now ≡ none_open)
-
--- a fault with which the array is as it was
-abbrev pub KeepsArray : StateFault → Type 0
-KeepsArray fault = (bits : ℕ) (l : ListingView) (array : ArrayView) → LeavesArray fault bits l array array

@@ -7,7 +7,8 @@ ghost use Rattle.px_text.specs.declared.text.TheConstants.{MAX_TEXT_BYTES};
 ghost use Rattle.px_state.specs.Packed.{HasMicros};
 ghost use Rattle.px_state.specs.Refusals.{HasSmallCount, IsRefusedBy, course_of, is_listing, job_refusal, micros_refusal, state_refusal, text_refusal, too_long};
 ghost use Rattle.px_array.specs.Slots.{array_view};
-ghost use Rattle.px_state.specs.States.{IsCourse, IsDrawn, IsState, KeepsArray, LeavesArray};
+ghost use Rattle.px_state.specs.Keeping.{KeepsArray};
+ghost use Rattle.px_state.specs.States.{IsCourse, IsDrawn, IsState, LeavesArray};
 ghost use Rattle.px_state.specs.Words.{HasWords};
 
 use crate::fault::StateFault;
