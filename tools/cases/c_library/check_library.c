@@ -4,11 +4,12 @@
  * Use: check_library FOLDER
  *
  * FOLDER/list names texts, one a line. Beside it lie for each NAME.text, and what the program answered for it:
- * NAME.COMMAND, NAME.COMMAND.note and NAME.COMMAND.status, where COMMAND is render, colour, plan and cost.
+ * NAME.COMMAND, NAME.COMMAND.note and NAME.COMMAND.status, where COMMAND is render, colour, plan, cost and play.
  *
  * Each buffer ends where a page begins that nobody may touch, and is filled before a call. For each text: check,
- * render, colour and products with buffers of no element, one too few, as many as are due, and one more; each
- * with each allocation refused in turn (some of the later ones); and all of it in four threads at once. Linked
+ * render, colour and products with buffers of no element, one too few, as many as are due, and one more; state and
+ * micros so too, at the first, a middle and the last clock, and past it; each with each allocation refused in turn
+ * (some of the later ones); and all of it in four threads at once. Linked
  * with --wrap for malloc, realloc and free. Prints a line for each difference, and last how much was compared.
  */
 #define _DEFAULT_SOURCE
@@ -87,8 +88,8 @@ struct answer {
     long status;
 };
 
-enum { RENDER, COLOUR, PLAN, COST, COMMANDS };
-static const char *const commands[COMMANDS] = {"render", "colour", "plan", "cost"};
+enum { RENDER, COLOUR, PLAN, COST, PLAY, COMMANDS };
+static const char *const commands[COMMANDS] = {"render", "colour", "plan", "cost", "play"};
 
 struct text {
     char name[256];
@@ -162,14 +163,22 @@ static void note_of(uint32_t status, const struct pxplanes_found *found, char *n
 
 /* The calls, in one form: two buffers where there are two, else one. */
 
-enum call { CHECK, DRAW, PAINT, LIST, CALLS };
+enum call { CHECK, DRAW, PAINT, LIST, CALLS, STATE = CALLS, MICROS, ALL };
 static const struct {
     const char *name;
     int command, buffers;
     size_t each;
-} kinds[CALLS] = {{"check", RENDER, 0, 0}, {"render", RENDER, 2, 4}, {"colour", COLOUR, 1, 1}, {"products", PLAN, 1, 4}};
+} kinds[ALL] = {{"check", RENDER, 0, 0}, {"render", RENDER, 2, 4}, {"colour", COLOUR, 1, 1}, {"products", PLAN, 1, 4},
+                {"state", COST, 1, 8}, {"micros", COST, 1, 8}};
 
-static uint32_t called(enum call call, const struct text *text, struct buffer *b, struct pxplanes_found *found, long refuse)
+/* What the calls of the machine take beside: a clock, and where the state is told. */
+struct moment {
+    uint64_t clock;
+    struct pxplanes_state state;
+};
+
+static uint32_t called(enum call call, const struct text *text, struct buffer *b, struct moment *moment,
+                       struct pxplanes_found *found, long refuse)
 {
     uint32_t status = 0;
     memset(found, FILL, sizeof *found);
@@ -187,6 +196,13 @@ static uint32_t called(enum call call, const struct text *text, struct buffer *b
         break;
     case PAINT:
         status = pxplanes_colour(text->bytes.at, text->bytes.len, b[0].at, b[0].len, found);
+        break;
+    case STATE:
+        status = pxplanes_state(text->bytes.at, text->bytes.len, moment->clock, (uint64_t *) b[0].at, b[0].len, &moment->state,
+                                found);
+        break;
+    case MICROS:
+        status = pxplanes_micros(text->bytes.at, text->bytes.len, moment->clock, (uint64_t *) b[0].at, b[0].len, found);
         break;
     default:
         status = pxplanes_products(text->bytes.at, text->bytes.len, (int32_t *) b[0].at, b[0].len, found);
@@ -285,35 +301,42 @@ static void compare_found(enum call call, const struct text *text, const struct 
         differs(text->name, "%s finds another cost: %s", kinds[call].name, cost);
 }
 
+/* What was found by a call that is refused, or has no memory. */
+static void compare_refusal(enum call call, const struct text *text, const struct answer *answer, uint32_t status,
+                            struct pxplanes_found found)
+{
+    char note[200];
+    if (status == PXPLANES_MEMORY && !is_nothing(&found))
+        differs(text->name, "%s finds something without memory", kinds[call].name);
+    if (status != PXPLANES_MALFORMED && status != PXPLANES_LIMIT)
+        return;
+    note_of(status, &found, note, sizeof note);
+    if (strlen(note) != answer->note.len || memcmp(note, answer->note.at, answer->note.len))
+        differs(text->name, "%s finds %s", kinds[call].name, note);
+    found.line = found.cause = found.kind = 0;
+    found.number = 0;
+    if (!is_nothing(&found))
+        differs(text->name, "%s finds what does not apply", kinds[call].name);
+}
+
 /* One call with buffers of so many elements more or less than are due. */
 static uint32_t tried(enum call call, const struct text *text, size_t due, const long more[2], long refuse)
 {
     struct buffer b[2] = {{0}};
     struct pxplanes_found found;
     const struct answer *answer = &text->answer[kinds[call].command];
-    char note[200];
     int short_of = 0;
     for (int i = 0; i < kinds[call].buffers; i++) {
         size_t len = more[i] < -1 || (more[i] < 0 && due == 0) ? 0 : due + (size_t) more[i];
         b[i] = made(len, kinds[call].each);
         short_of |= len < due;
     }
-    uint32_t status = called(call, text, b, &found, refuse);
+    uint32_t status = called(call, text, b, NULL, &found, refuse);
     uint32_t wanted = refuse ? PXPLANES_MEMORY : answer->status ? (uint32_t) answer->status : short_of ? PXPLANES_NO_ROOM : PXPLANES_OK;
     if (status != wanted)
         differs(text->name, "%s gives status %u in place of %u (refused: %ld)", kinds[call].name, (unsigned) status,
                 (unsigned) wanted, refuse);
-    if (status == PXPLANES_MEMORY && !is_nothing(&found))
-        differs(text->name, "%s finds something without memory", kinds[call].name);
-    if (status == PXPLANES_MALFORMED || status == PXPLANES_LIMIT) {
-        note_of(status, &found, note, sizeof note);
-        if (strlen(note) != answer->note.len || memcmp(note, answer->note.at, answer->note.len))
-            differs(text->name, "%s finds %s", kinds[call].name, note);
-        found.line = found.cause = found.kind = 0;
-        found.number = 0;
-        if (!is_nothing(&found))
-            differs(text->name, "%s finds what does not apply", kinds[call].name);
-    }
+    compare_refusal(call, text, answer, status, found);
     if (status == PXPLANES_OK || status == PXPLANES_NO_ROOM) {
         compare_found(call, text, &found);
         if (found.room != (status == PXPLANES_NO_ROOM ? due : 0))
@@ -347,7 +370,7 @@ static size_t due_of(enum call call, const struct text *text)
 {
     struct pxplanes_found found;
     struct buffer none[2] = {{0}};
-    uint32_t status = called(call, text, none, &found, 0);
+    uint32_t status = called(call, text, none, NULL, &found, 0);
     return status == PXPLANES_NO_ROOM ? (size_t) found.room : 0;
 }
 
@@ -365,13 +388,172 @@ static void compare(const struct text *text)
     }
 }
 
+/* The machine: its state and its micros, of a scene or of a listing. */
+
+/* Whether the first word of a text is `pxlist`. */
+static int is_listing(const struct text *text)
+{
+    const char *at = (const char *) text->bytes.at;
+    for (at += strspn(at, " \t\r\n"); *at == '#'; at += strspn(at, " \t\r\n"))
+        at += strcspn(at, "\n");
+    return strncmp(at, "pxlist", 6) == 0 && strchr(" \t\r\n#", at[6]) != NULL;
+}
+
+static int is_no_state(const struct pxplanes_state *s)
+{
+    return (s->grid_width | s->grid_height | s->words_per_row | s->bits | s->levels) == 0 &&
+           (s->clock | s->clocks | s->operation | s->operation_clock | s->next_micro) == 0;
+}
+
+/* One call from a clock on with a buffer of so many elements, which is to have this status; what it wrote. */
+static struct buffer told(enum call call, const struct text *text, struct moment *moment, size_t len, size_t due, uint32_t wanted,
+                          struct pxplanes_found *found, long refuse)
+{
+    const struct answer *answer = &text->answer[is_listing(text) ? PLAY : COST];
+    struct buffer buffer = made(len, 8);
+    memset(&moment->state, FILL, sizeof moment->state);
+    uint32_t status = called(call, text, &buffer, moment, found, refuse);
+    if (status != wanted)
+        differs(text->name, "%s at clock %llu with %zu elements gives status %u in place of %u", kinds[call].name,
+                (unsigned long long) moment->clock, len, (unsigned) status, (unsigned) wanted);
+    if (!is_untouched(&buffer, status == PXPLANES_OK ? due * 8 : 0))
+        differs(text->name, "%s touches what it is to leave (status %u)", kinds[call].name, (unsigned) status);
+    if (call == STATE && status != PXPLANES_OK && !is_no_state(&moment->state))
+        differs(text->name, "a state is told with status %u", (unsigned) status);
+    compare_refusal(call, text, answer, status, *found);
+    return buffer;
+}
+
+/* The same where no more is asked than whether only these of what is found are there. */
+static void tried_at(enum call call, const struct text *text, uint64_t clock, size_t len, size_t due, uint32_t wanted,
+                     struct pxplanes_found wants, long refuse)
+{
+    struct moment moment = {.clock = clock};
+    struct pxplanes_found found;
+    struct buffer buffer = told(call, text, &moment, len, due, wanted, &found, refuse);
+    if (wanted != PXPLANES_MALFORMED && wanted != PXPLANES_LIMIT && memcmp(&found, &wants, sizeof found))
+        differs(text->name, "%s finds other numbers with status %u", kinds[call].name, (unsigned) wanted);
+    let_go(&buffer);
+}
+
+/* A bit of a pixel in the words of a state. */
+static unsigned bit_of(const struct pxplanes_state *s, const uint64_t *words, size_t plane, size_t x, size_t y)
+{
+    return words[(plane * s->grid_height + y) * s->words_per_row + x / 64] >> x % 64 & 1;
+}
+
+/* The last state of a listing, beside the lines that `play` prints of its pixels. */
+static void compare_memory(const struct text *text, const struct pxplanes_state *s, const uint64_t *words)
+{
+    const struct bytes *output = &text->answer[PLAY].output;
+    const char *due = (const char *) output->at, *end = due + output->len;
+    char line[PXPLANES_BITS + 100];
+    for (size_t y = 0; y < s->grid_height; y++)
+        for (size_t x = 0; x < s->grid_width; x++) {
+            int at = sprintf(line, "pixel %zu %zu m ", x, y);
+            for (size_t bit = 0; bit < s->bits; bit++)
+                line[at++] = (char) ('0' + bit_of(s, words, bit, x, y));
+            at += sprintf(line + at, " e %u\n", bit_of(s, words, s->bits, x, y));
+            if (end - due < at || memcmp(due, line, (size_t) at)) {
+                differs(text->name, "the last state has another pixel %zu %zu", x, y);
+                return;
+            }
+            due += at;
+        }
+    if (due != end)
+        differs(text->name, "the program plays more pixels");
+}
+
+/* A state by itself, and beside the micros of all clocks. */
+static void compare_state(const struct text *text, const struct moment *moment, const struct buffer *buffer,
+                          const struct pxplanes_found *found, const uint64_t *micros)
+{
+    const struct pxplanes_state *s = &moment->state;
+    const uint64_t *words = (const uint64_t *) buffer->at;
+    size_t planes = (size_t) (s->bits + 4) * s->grid_height * s->words_per_row, nodes = ((2ull << s->levels) + 63) / 64;
+    int ended = moment->clock == found->clocks;
+    if (s->bits != PXPLANES_BITS || s->words_per_row != (s->grid_width + 63) / 64 || s->clock != moment->clock ||
+        1ull << s->levels != (uint64_t) s->grid_width * s->grid_height || s->clocks != found->clocks ||
+        planes + 2 * nodes != buffer->len)
+        differs(text->name, "a state of another form");
+    if (s->next_micro != (ended ? 0 : micros[moment->clock]) || (s->operation == found->operations) != ended ||
+        (ended && s->operation_clock != 0) || (moment->clock == 0 && (s->operation != 0 || s->operation_clock != 0)))
+        differs(text->name, "another broadcast at clock %llu", (unsigned long long) moment->clock);
+    for (size_t i = 0; moment->clock == 0 && i < buffer->len; i++)
+        if (words[i] != 0) {
+            differs(text->name, "word %zu of the first state is not 0", i);
+            break;
+        }
+    if (ended && is_listing(text))
+        compare_memory(text, s, words);
+}
+
+/* Each state call of a text that is good: at the first, a middle and the last clock, and past it. */
+static void compare_states(const struct text *text, const struct pxplanes_found *found, const uint64_t *micros)
+{
+    struct pxplanes_found room = {0}, past = {.clocks = found->clocks}, wants = *found;
+    struct moment moment = {.clock = 0};
+    struct buffer buffer = told(STATE, text, &moment, 0, 0, PXPLANES_NO_ROOM, &room, 0);
+    size_t due = (size_t) room.room;
+    let_go(&buffer);
+    tried_at(STATE, text, found->clocks, 0, 0, PXPLANES_NO_ROOM, (struct pxplanes_found){.room = due}, 0);
+    tried_at(STATE, text, found->clocks / 2, due - 1, 0, PXPLANES_NO_ROOM, (struct pxplanes_found){.room = due}, 0);
+    tried_at(STATE, text, found->clocks / 3, due + 1, due, PXPLANES_OK, wants, 0);
+    tried_at(STATE, text, found->clocks + 1, due, 0, PXPLANES_NO_CLOCK, past, 0);
+    tried_at(STATE, text, UINT64_MAX, 0, 0, PXPLANES_NO_CLOCK, past, 0);
+    for (uint64_t half = 0; half < 3; half++) {
+        moment.clock = half == 2 ? found->clocks : half * (found->clocks / 2);
+        buffer = told(STATE, text, &moment, due, due, PXPLANES_OK, &wants, 0);
+        if (memcmp(&wants, found, sizeof wants))
+            differs(text->name, "a state finds other numbers");
+        compare_state(text, &moment, &buffer, found, micros);
+        let_go(&buffer);
+    }
+    long all = asked;
+    for (long at = 1; at <= all; at += 1 + at / 4)
+        tried_at(STATE, text, found->clocks, due, 0, PXPLANES_MEMORY, (struct pxplanes_found){0}, at);
+}
+
+static void compare_machine(const struct text *text)
+{
+    const struct answer *answer = &text->answer[is_listing(text) ? PLAY : COST];
+    struct pxplanes_found none = {0}, found;
+    struct moment start = {.clock = 0};
+    uint32_t wanted = answer->status ? (uint32_t) answer->status : PXPLANES_OK;
+    struct buffer buffer = told(MICROS, text, &start, 0, 0, wanted, &found, 0);
+    let_go(&buffer);
+    if (wanted != PXPLANES_OK) {
+        tried_at(STATE, text, UINT64_MAX, 0, 0, wanted, none, 0);
+        tried_at(MICROS, text, UINT64_MAX, 1, 0, wanted, none, 0);
+        return;
+    }
+    if (!is_listing(text))
+        compare_found(MICROS, text, &found);
+    struct pxplanes_found wants = found, past = {.clocks = found.clocks};
+    size_t clocks = (size_t) found.clocks;
+    tried_at(MICROS, text, found.clocks, 0, 0, PXPLANES_OK, wants, 0);
+    tried_at(MICROS, text, found.clocks, 1, 0, PXPLANES_NO_CLOCK, past, 0);
+    tried_at(MICROS, text, found.clocks + 1, 0, 0, PXPLANES_NO_CLOCK, past, 0);
+    tried_at(MICROS, text, UINT64_MAX, 1, 0, PXPLANES_NO_CLOCK, past, 0);
+    tried_at(MICROS, text, 0, clocks + 1, 0, PXPLANES_NO_CLOCK, past, 0);
+    tried_at(MICROS, text, clocks > 0, clocks - (clocks > 0), clocks - (clocks > 0), PXPLANES_OK, wants, 0);
+    buffer = told(MICROS, text, &start, clocks, clocks, PXPLANES_OK, &found, 0);
+    long all = asked;
+    for (long at = 1; at <= all; at += 1 + at / 4)
+        tried_at(MICROS, text, 0, clocks, 0, PXPLANES_MEMORY, none, at);
+    compare_states(text, &wants, (const uint64_t *) buffer.at);
+    let_go(&buffer);
+}
+
 static struct text *texts;
 static size_t count;
 
 static void *compare_all(void *start)
 {
-    for (size_t i = 0; i < count; i++)
+    for (size_t i = 0; i < count; i++) {
         compare(&texts[(i + *(size_t *) start) % count]);
+        compare_machine(&texts[(i + *(size_t *) start) % count]);
+    }
     return NULL;
 }
 
@@ -429,6 +611,26 @@ static void read_texts(const char *folder)
     free(list.at);
 }
 
+/* One pixel (docs/ARCHITECTURE.md counts its clocks), as the oracle has it: after 40 clocks memory bits 2 to 5, enable and the leaf
+   of each of the four pixels are 1, and no other bit of a plane. Clock 0 is an enable-all. */
+static void compare_one_pixel(void)
+{
+    static const char scene[] = "pxscene 1\npicture 1 1\ndepth 4\nsolid a 200 100 50\nfront 0 0 5\nback 0 0 9\nshow a\nend\n";
+    const uint8_t *text = (const uint8_t *) scene;
+    uint64_t words[154], micros[317];
+    struct pxplanes_state state;
+    struct pxplanes_found found;
+    if (pxplanes_state(text, sizeof scene - 1, 40, words, 154, &state, &found) != PXPLANES_OK || state.clocks != 317 ||
+        found.operations != 22 || state.grid_width != 2 || state.grid_height != 2)
+        differs("one pixel", "another state");
+    for (size_t plane = 0; plane < 76; plane++)
+        for (size_t y = 0; y < 2; y++)
+            if (words[2 * plane + y] != ((plane >= 2 && plane < 6) || plane == 72 || plane == 75 ? 3 : 0))
+                differs("one pixel", "row %zu of plane %zu is %llx", y, plane, (unsigned long long) words[2 * plane + y]);
+    if (pxplanes_micros(text, sizeof scene - 1, 0, micros, 317, &found) != PXPLANES_OK || micros[0] != 2ull << 32)
+        differs("one pixel", "other micros");
+}
+
 static void compare_names(void)
 {
     uint8_t word[17];
@@ -456,6 +658,7 @@ int main(int words, char **word)
         return 2;
     read_texts(word[1]);
     compare_names();
+    compare_one_pixel();
     pthread_attr_init(&small);
     pthread_attr_setstacksize(&small, STACK);
     for (size_t i = 0; i < THREADS; i++) {
