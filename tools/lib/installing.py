@@ -12,6 +12,7 @@ import re
 import shutil
 
 import ends
+import lessons
 import netpbm
 import program
 
@@ -57,6 +58,7 @@ def sources():
         yield os.path.join("tools", name)
     for folder in FOLDERS:
         yield from inside(folder)
+    yield from (path for path in lessons.paths() if not path.startswith(FOLDERS))
 
 
 def links():
