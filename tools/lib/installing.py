@@ -17,9 +17,11 @@ import netpbm
 import program
 
 TREE = os.path.join("lib", "pxplanes")
-FOLDERS = ("docs", "editors", "gallery", "man", "python", "rtl", "suite", os.path.join("tools", "lib"),
+FOLDERS = ("docs", "editors", "examples", "gallery", "man", "python", "rtl", "suite", os.path.join("tools", "lib"),
            os.path.join("tools", "studio_page"))
 FILES = ("CHANGES.md", "README.md", "pxplanes", os.path.join("tools", "README.md"))
+# What the examples are built to.
+BUILT = ("draw",)
 # Of no use without the checkout.
 OF_CHECKOUTS = ("check", "install", "package")
 LISTED = os.path.join(TREE, "installed")
@@ -47,7 +49,8 @@ def inside(folder):
     for place, folders, leaves in os.walk(os.path.join(ends.TOP, folder)):
         folders[:] = sorted(name for name in folders if name != "__pycache__")
         for leaf in sorted(leaves):
-            yield os.path.relpath(os.path.join(place, leaf), ends.TOP)
+            if leaf not in BUILT:
+                yield os.path.relpath(os.path.join(place, leaf), ends.TOP)
 
 
 def sources():
