@@ -22,5 +22,3 @@ pub use products::pxplanes_products;
 pub use render::pxplanes_render;
 pub use state::{State, pxplanes_state};
 
-#[cfg(test)]
-mod tests;

@@ -8,8 +8,7 @@ use Rattle.px_command.specs.declared.command.Command.{Command}
 use Rattle.px_command.specs.declared.command.Command.TheVariants as c
 use Rattle.px_command.specs.declared.command.Fineness.{Fineness}
 use Rattle.px_command.specs.declared.command.Fineness.TheVariants as f
-use Rattle.px_scene.specs.declared.sample.TheConstants.{MAX_BLOCKS}
-use Rattle.px_tile.specs.declared.tiling.TheConstants.{MAX_SIDE}
+use Rattle.px_model.specs.declared.limits.TheConstants.{MAX_BLOCKS, MAX_WIDE_PICTURE_SIZE}
 use Rattle.px_command.specs.declared.command.Work.{Work}
 use Rattle.px_command.specs.declared.command.Work.TheVariants as w
 
@@ -69,10 +68,10 @@ of_two word argument =
     else if bytes_eq word (codes "refine") then refining (fineness_of argument)
     else None
 
--- a side of a wide picture has at least one pixel, and as many as MAX_SIDE at most
+-- a side of a wide picture has at least one pixel, and as many as MAX_WIDE_PICTURE_SIZE at most
 abbrev pub side_within : Option ℕ → Option ℕ
 side_within None = None
-side_within (Some n) = if nat_le 1 n && nat_le n MAX_SIDE then Some n else None
+side_within (Some n) = if nat_le 1 n && nat_le n MAX_WIDE_PICTURE_SIZE then Some n else None
 
 abbrev pub side_in : List ℕ → Option ℕ
 side_in word = if is_count word then side_within (count_in word) else None
@@ -103,7 +102,7 @@ needs_wide_pixels command = false
 
 -- the numbers of a command are within their limits
 abbrev pub IsSide : ℕ → Type 0
-IsSide n = (1 ≤ n) × (n ≤ MAX_SIDE)
+IsSide n = (1 ≤ n) × (n ≤ MAX_WIDE_PICTURE_SIZE)
 
 abbrev pub HasSize : Work → Type 0
 HasSize (w.Tile size) = IsSide size.width × IsSide size.height

@@ -9,7 +9,7 @@ pub enum Command {
     Make(Work),
     /// Answers command lines in a session over the scene before them.
     Debug,
-    /// Draws the sample of so many blocks, 1 to `px_scene::MAX_BLOCKS`, and prints four numbers of it.
+    /// Draws the sample of so many blocks, 1 to `px_model::MAX_BLOCKS`, and prints four numbers of it.
     Sample(u32),
     /// Draws the image of the lights that the lines behind the scene name.
     Shadow,
@@ -47,7 +47,7 @@ pub enum Fineness {
     Four,
 }
 
-/// The size of a wide picture in pixels, each side of 1 to `px_tile::MAX_SIDE`.
+/// The size of a wide picture in pixels, each side of 1 to `px_model::MAX_WIDE_PICTURE_SIZE`.
 #[derive(Clone, Copy, Debug, PartialEq, Eq)]
 pub struct Size {
     /// The pixels of a row.

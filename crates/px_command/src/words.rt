@@ -21,9 +21,8 @@ ghost use Rattle.px_command.specs.Commands.{
 ghost use Rattle.px_text.specs.Text.{is_digit};
 
 use crate::command::{Command, Fineness, Size, Work};
-use px_scene::MAX_BLOCKS;
+use px_model::{MAX_BLOCKS, MAX_WIDE_PICTURE_SIZE};
 use px_text::is_digit;
-use px_tile::MAX_SIDE;
 
 /// Whether what the words ask wants pixels of 80 bits; else 72 are wanted (docs/SHADOWS.md,
 /// "Memory").
@@ -170,7 +169,7 @@ fn side_of(number: Option<u32>) -> Option<u32>
     ensures some { IfSome result IsSide }
 {
     match number {
-        Some(n) if 1 <= n && n <= MAX_SIDE => Some(n),
+        Some(n) if 1 <= n && n <= MAX_WIDE_PICTURE_SIZE => Some(n),
         _ => None,
     }
 }

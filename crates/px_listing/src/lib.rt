@@ -9,12 +9,12 @@ mod limit;
 mod line;
 mod listing;
 mod memory;
+mod of_numbers;
 mod operation;
 mod passes;
 mod piece;
 mod playing;
 mod read;
-mod reading;
 mod write;
 
 pub use law::laws_of_listings;

@@ -3,6 +3,9 @@
 /// A picture is at most so many pixels wide, and so many high.
 pub const MAX_PICTURE_SIZE: u32 = 512;
 
+/// A wide picture, which is drawn in tiles, is at most so many pixels wide, and so many high (docs/PICTURE.md, "Tiles").
+pub const MAX_WIDE_PICTURE_SIZE: u32 = 4096;
+
 /// A depth and its fraction have at most so many bits together.
 pub const MAX_DEPTH_BITS: u32 = 24;
 
@@ -23,3 +26,6 @@ pub const MAX_PLANES_OF_A_KIND: u32 = 32;
 
 /// The greatest face number that a scene may have.
 pub const MAX_FACES: u32 = 4095;
+
+/// A sample has at most so many blocks (docs/SCENES.md, "The sample").
+pub const MAX_BLOCKS: u32 = 200;

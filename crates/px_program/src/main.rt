@@ -10,11 +10,6 @@ ghost use Rattle.px_draw.specs.Commands.{command_of};
 ghost use Rattle.px_draw.specs.PixelBits.{pixel_bits};
 ghost use Rattle.px_draw.specs.Statuses.{code};
 
-#[cfg(test)]
-mod session_tests;
-#[cfg(test)]
-mod tests;
-
 use px_draw::needs_wide_pixels;
 pub use px_draw::{Status, deliver, run};
 use px_io::{StdSink, StdSource};

@@ -32,7 +32,7 @@ ghost use Rattle.px_prune.specs.Bounding.{bounding_box, IsBoundingBox, IsBoxOf};
 
 use crate::CellBox;
 use crate::block::Block;
-use crate::cell_box::{hull, is_covered};
+use crate::hull::{hull, is_covered};
 use px_model::{Face, Scene, Solid};
 use px_num::{Linear, power};
 use std::alloc::{AllocError, Global};

@@ -3,7 +3,7 @@
 
 mod block;
 mod bounds;
-mod cell_box;
+mod hull;
 mod plan;
 
 pub use bounds::{box_of, boxes_of};

@@ -12,7 +12,7 @@ use Rattle.px_scene.specs.declared.line.Due.TheVariants as d
 use Rattle.px_scene.specs.declared.line.Keyword.{Keyword}
 use Rattle.px_scene.specs.declared.line.Keyword.TheVariants as k
 use Rattle.px_show.specs.Versions.{version_or_first}
-use Rattle.px_show.specs.declared.version.Version.{Version}
+use Rattle.px_show.specs.declared.scene_version.Version.{Version}
 use Rattle.px_expr.specs.Tree.{HasLeavesBelow}
 use Rattle.px_show.specs.Expressions.{show_cause, show_tree}
 use Rattle.px_show.proofs.ShowLaws.{shown_lawful, named_show}

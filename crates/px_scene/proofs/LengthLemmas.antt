@@ -20,8 +20,8 @@ use Rattle.px_model.specs.Scenes.{SceneView, IsLawfulScene, IsNumberedFrom, AreN
 use Rattle.px_show.specs.Printed.{printed, named_by}
 use Rattle.px_show.specs.Versions.{sign_byte, version_word}
 use Rattle.px_scene.specs.Writable.{IsWritable}
-use Rattle.px_show.specs.declared.version.Version.{Version}
-use Rattle.px_show.specs.declared.version.Version.TheVariants as v
+use Rattle.px_show.specs.declared.scene_version.Version.{Version}
+use Rattle.px_show.specs.declared.scene_version.Version.TheVariants as v
 use Rattle.px_scene.specs.Canonical.{version_for, depth_words, written_line, plane_words, colour_words, face_line}
 use Rattle.px_scene.specs.Canonical.{side_line, face_lines_at, lines_of_number, face_lines, solid_lines, first_lines}
 use Rattle.px_scene.specs.Canonical.{show_line, canonical_text}

@@ -5,7 +5,7 @@ use Rattle.std.specs.Option.{option_or}
 use Rattle.px_model.specs.Scenes.{names_of}
 use Rattle.px_text.specs.Text.{Words}
 use Rattle.px_text.specs.LentWords.{now_of}
-use Rattle.px_show.specs.declared.version.Version.{Version}
+use Rattle.px_show.specs.declared.scene_version.Version.{Version}
 use Rattle.px_show.specs.declared.fault.Cause.{Cause}
 use Rattle.px_scene.specs.declared.line.Due.{Due}
 use Rattle.px_scene.specs.declared.line.Keyword.{Keyword}
@@ -14,7 +14,7 @@ use Rattle.px_scene.specs.Lines.{keyword_of, is_due, form_of, due_form, cause_of
 use Rattle.px_scene.specs.Lines.{limit_on, due_after}
 use Rattle.px_scene.specs.declared.parse.Line.TheVariants as l
 use Rattle.px_scene.specs.declared.line.Keyword.TheVariants as k
-use Rattle.px_show.specs.declared.version.Version.TheVariants as v
+use Rattle.px_show.specs.declared.scene_version.Version.TheVariants as v
 use Rattle.px_show.specs.Expressions.{judged, show_cause, show_limit, show_tree}
 use Rattle.px_show.specs.Versions.{version_word, version_or_first}
 use Rattle.px_show.proofs.FaultLaws.{good_form, within_limits}

@@ -18,8 +18,8 @@ use Rattle.px_show.specs.declared.fault.LineFault.{LineFault}
 use Rattle.px_expr.specs.Tree.{Tree, HasLeavesBelow, IsLawfulTree}
 use Rattle.px_show.specs.Expressions.{has_signs, judged, is_among}
 use Rattle.px_show.specs.Versions.{version_word}
-use Rattle.px_show.specs.declared.version.Version.{Version}
-use Rattle.px_show.specs.declared.version.Version.TheVariants as v
+use Rattle.px_show.specs.declared.scene_version.Version.{Version}
+use Rattle.px_show.specs.declared.scene_version.Version.TheVariants as v
 use Rattle.px_show.specs.Printed.{AreDistinctNames, printed, named_by}
 use Rattle.px_show.proofs.PrintedLaws.{printed_tree, printed_good}
 use Rattle.px_scene.specs.Lines.{numeric, solid_form, three_past, fault_of, are_numbers, numbers_of, past, most}

@@ -21,7 +21,7 @@ use Rattle.px_model.proofs.FaceLaws.{faces_of-cons}
 use Rattle.px_scene.specs.Writable.{IsWritable}
 use Rattle.px_scene.specs.Drafts.{DraftView, fresh_solid}
 use Rattle.px_show.specs.Versions.{has_difference, version_word, has_differ}
-use Rattle.px_show.specs.declared.version.Version.TheVariants as v
+use Rattle.px_show.specs.declared.scene_version.Version.TheVariants as v
 use Rattle.px_scene.specs.Canonical.{version_for, depth_words, plane_words, colour_words}
 use Rattle.px_scene.proofs.CutLemmas.{below, none_below, all_below}
 use Rattle.px_scene.proofs.TellsLemmas.{blank}

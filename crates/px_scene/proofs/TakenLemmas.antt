@@ -12,7 +12,7 @@ use Rattle.px_scene.specs.declared.line.Due.{Due}
 use Rattle.px_scene.specs.declared.line.Due.TheVariants as d
 use Rattle.px_scene.specs.declared.line.Keyword.{Keyword}
 use Rattle.px_scene.specs.declared.line.Keyword.TheVariants as k
-use Rattle.px_show.specs.declared.version.Version.{Version}
+use Rattle.px_show.specs.declared.scene_version.Version.{Version}
 use Rattle.px_show.specs.declared.fault.Cause.{Cause}
 use Rattle.px_show.specs.declared.fault.Cause.TheVariants as cause
 use Rattle.px_text.specs.Text.{Words, is_name, number_of}

@@ -21,8 +21,8 @@ use Rattle.px_model.specs.declared.solid.Colour.{Colour}
 use Rattle.px_expr.specs.Tree.{Tree}
 use Rattle.px_show.specs.Expressions.{show_tree}
 use Rattle.px_show.specs.Versions.{version_or_first}
-use Rattle.px_show.specs.declared.version.Version.{Version}
-use Rattle.px_show.specs.declared.version.Version.TheVariants as v
+use Rattle.px_show.specs.declared.scene_version.Version.{Version}
+use Rattle.px_show.specs.declared.scene_version.Version.TheVariants as v
 use Rattle.px_model.specs.Scenes.{SolidView, names_of}
 use Rattle.px_show.proofs.FaultLaws.{good_form}
 use Rattle.px_scene.specs.Drafts.{DraftView, IsLawfulDraft, IsGoodForm, with_front, with_back, with_side, and_front}

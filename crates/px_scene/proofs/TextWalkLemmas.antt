@@ -11,8 +11,8 @@ use Rattle.px_text.specs.Text.{Words, words_of, lines_of, worded, is_name}
 use Rattle.px_model.specs.Scenes.{SolidView, IsColour, IsLawfulSolid, IsPlane, names_of, SceneView, IsLawfulScene}
 use Rattle.px_scene.specs.Writable.{IsWritable, IsReadAs}
 use Rattle.px_show.specs.Versions.{version_word}
-use Rattle.px_show.specs.declared.version.Version.{Version}
-use Rattle.px_show.specs.declared.version.Version.TheVariants as v
+use Rattle.px_show.specs.declared.scene_version.Version.{Version}
+use Rattle.px_show.specs.declared.scene_version.Version.TheVariants as v
 use Rattle.px_scene.specs.Canonical.{version_for, depth_words, plane_words, colour_words, written_line, first_lines}
 use Rattle.px_scene.specs.Canonical.{solid_lines, show_line, canonical_text}
 use Rattle.px_text.specs.Written.{is_plain, are_plain, is_no_feed, fed}

@@ -10,8 +10,8 @@ use Rattle.px_text.specs.Written.{spaced}
 use Rattle.px_show.specs.Printed.{printed, named_by}
 use Rattle.px_model.specs.Scenes.{SolidView, names_of, SceneView}
 use Rattle.px_show.specs.Versions.{has_difference, version_word}
-use Rattle.px_show.specs.declared.version.Version.{Version}
-use Rattle.px_show.specs.declared.version.Version.TheVariants as v
+use Rattle.px_show.specs.declared.scene_version.Version.{Version}
+use Rattle.px_show.specs.declared.scene_version.Version.TheVariants as v
 
 -- a line: its first word, the words after it, and the line feed
 unfoldable pub written_line : List ℕ → Words → List ℕ

@@ -16,7 +16,7 @@ use Rattle.px_expr.specs.Tree.{Tree, leaf, HasLeavesBelow}
 use Rattle.px_show.specs.Expressions.{show_tree}
 use Rattle.px_show.specs.Versions.{version_or_first}
 use Rattle.px_scene.specs.Reading.{first_word}
-use Rattle.px_show.specs.declared.version.Version.{Version}
+use Rattle.px_show.specs.declared.scene_version.Version.{Version}
 use Rattle.px_model.specs.Scenes.{SolidView, names_of, SceneView, AreNumberedFrom, faces_of}
 use Rattle.px_scene.specs.Lines.{size_of, depth_of, fraction_of, colour_of, face_of, side_of}
 use Rattle.px_scene.specs.Lines.{keyword_of, due_after, numbers_of, figures, is_due, form_of, fault_of}

@@ -12,7 +12,7 @@ use Rattle.px_model.specs.declared.limits.TheConstants.{MAX_CONSTANT, MAX_DEPTH_
 use Rattle.px_text.specs.Text.{Words, number_of, is_name}
 use Rattle.px_show.specs.Expressions.{judged, is_among, show_cause, show_limit}
 use Rattle.px_show.specs.Versions.{depth_count, version_of}
-use Rattle.px_show.specs.declared.version.Version.{Version}
+use Rattle.px_show.specs.declared.scene_version.Version.{Version}
 use Rattle.px_scene.specs.declared.line.Keyword.{Keyword}
 use Rattle.px_scene.specs.declared.line.Due.{Due}
 use Rattle.px_show.specs.declared.fault.Cause.{Cause}

@@ -9,7 +9,7 @@ use Rattle.px_scene.specs.Lines.{keyword_of, is_due, numeric, numbers_of, figure
 use Rattle.px_scene.specs.Drafts.{DraftView, tally_of}
 use Rattle.px_scene.specs.Reading.{first_word}
 use Rattle.px_model.specs.Scenes.{names_of}
-use Rattle.px_show.specs.declared.version.Version.{Version}
+use Rattle.px_show.specs.declared.scene_version.Version.{Version}
 use Rattle.px_show.specs.declared.fault.Cause.{Cause}
 use Rattle.px_show.specs.declared.fault.Cause.TheVariants as c
 use Rattle.px_show.specs.declared.fault.LineFault.{LineFault}

@@ -16,7 +16,7 @@ use Rattle.px_scene.specs.Lines.{size_of, depth_of, fraction_of, colour_of, face
 use Rattle.px_model.specs.Scenes.{SolidView, SceneView, black}
 use Rattle.px_show.specs.Expressions.{show_tree}
 use Rattle.px_show.specs.Versions.{version_or_first}
-use Rattle.px_show.specs.declared.version.Version.{Version}
+use Rattle.px_show.specs.declared.scene_version.Version.{Version}
 use Rattle.px_show.specs.declared.fault.SceneFault.{SceneFault}
 use Rattle.px_text.specs.declared.text.TheConstants.{MAX_TEXT_BYTES}
 use Rattle.px_scene.specs.declared.line.Keyword.TheVariants as k

@@ -13,7 +13,7 @@ ghost use Rattle.px_model.specs.declared.limits.TheConstants.{MAX_FACES, MAX_PLA
 ghost use Rattle.px_model.specs.Scenes.{IsPlane, SolidView, faces_in, names_of, AreNumberedFrom, faces_of};
 ghost use Rattle.px_scene.specs.Drafts.{fresh_solid, with_line, with_depth, taken, with_last, in_last, with_front, with_back, with_side, CanTakeFace, CanBeTaken, IsLawfulDraft, tally_of, fault_in, drawn};
 ghost use Rattle.px_scene.specs.declared.line.Due.TheVariants as Due;
-ghost use Rattle.px_show.specs.declared.version.Version.TheVariants as Version;
+ghost use Rattle.px_show.specs.declared.scene_version.Version.TheVariants as Version;
 ghost use Rattle.px_show.specs.declared.fault.LineFault.{LineFault};
 
 use crate::figure::{colour_of, face_of};

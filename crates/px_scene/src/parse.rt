@@ -4,7 +4,7 @@ ghost use Rattle.std.specs.Prelude.{◌≡◌, Some, true, false, ◌∷◌, [],
 ghost use Rattle.px_text.specs.LentWords.{now_of};
 ghost use Rattle.px_scene.specs.Lines.{are_numbers, due_after};
 ghost use Rattle.px_scene.specs.Parsed.{keyword_in, WriteThree, ParsesTo, IsParsed, FaceForms, HeaderForms, DepthForms};
-ghost use Rattle.px_show.specs.declared.version.Version.{Version as AnyVersion};
+ghost use Rattle.px_show.specs.declared.scene_version.Version.{Version as AnyVersion};
 ghost use Rattle.px_scene.specs.declared.line.Keyword.TheVariants as Kind;
 
 use crate::line::{Due, Keyword, keyword_of};

@@ -1,7 +1,7 @@
 //! The sample: a scene of so many blocks with one cut through all of them, the program's own measure of work.
 ghost use Rattle.std.specs.Prelude.{◌≡◌, ◌+◌, ◌/◌, ◌<◌, ◌≤◌, ◌++◌, ◌∷◌, [], ℕ, codes, IfOk, OnOk};
 ghost use Rattle.px_scene.specs.Canonical.{written_line};
-ghost use Rattle.px_scene.specs.declared.sample.TheConstants.{MAX_BLOCKS};
+ghost use Rattle.px_model.specs.declared.limits.TheConstants.{MAX_BLOCKS};
 ghost use Rattle.px_scene.specs.Sample.{
   block_faces,
   block_line,
@@ -26,9 +26,6 @@ use px_model::Colour;
 use px_num::{Linear, Memory};
 use px_show::Version;
 use std::alloc::Global;
-
-/// A sample has at most so many blocks (docs/SCENES.md, "The sample").
-pub const MAX_BLOCKS: u32 = 200;
 
 /// How many blocks stand in a row.
 const COLUMNS: u32 = 16;

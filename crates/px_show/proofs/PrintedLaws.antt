@@ -19,7 +19,7 @@ use Rattle.px_show.specs.Expressions.{is_among, judged}
 use Rattle.px_show.specs.Expressions.{place_of, over_places, are_known, cause_in, limit_in, count_past, show_tree}
 use Rattle.px_show.specs.Expressions.{show_fault}
 use Rattle.px_show.specs.Versions.{has_differ, sign_byte, is_sign, is_differ, has_difference}
-use Rattle.px_show.specs.declared.version.Version.{Version}
+use Rattle.px_show.specs.declared.scene_version.Version.{Version}
 use Rattle.px_show.specs.declared.fault.LimitKind.{LimitKind}
 use Rattle.px_show.specs.declared.fault.LimitKind.TheVariants as kind
 use Rattle.px_show.specs.Printed.{AreDistinctNames, printed, named_by}

@@ -12,7 +12,7 @@ use Rattle.px_show.specs.Expressions.{is_among, tokens_of, Named, leaf, join, le
 use Rattle.px_show.specs.Expressions.{place_of, over_places, are_known, cause_in, limit_in, count_past, counts_past}
 use Rattle.px_show.specs.Expressions.{show_cause}
 use Rattle.px_show.specs.Expressions.{show_fault, show_tree}
-use Rattle.px_show.specs.declared.version.Version.{Version}
+use Rattle.px_show.specs.declared.scene_version.Version.{Version}
 use Rattle.px_show.specs.declared.fault.Cause.TheVariants as cause
 use Rattle.px_show.specs.declared.fault.LimitKind.{LimitKind}
 use Rattle.px_show.specs.declared.fault.LimitKind.TheVariants as kind

@@ -13,7 +13,7 @@ use Rattle.px_text.specs.Written.{is_plain_byte}
 use Rattle.px_show.specs.Versions.{sign_byte, is_sign, is_differ, has_difference}
 use Rattle.px_show.specs.Differences.{has_differ_sign, is_difference}
 use Rattle.px_show.specs.Expressions.{sign, mark}
-use Rattle.px_show.specs.declared.version.Version.{Version}
+use Rattle.px_show.specs.declared.scene_version.Version.{Version}
 
 -- a sign is read as its operator's, where the version has it
 pub sign_marked : (version : Version) (op : Op) → is_sign version op ≡ true → mark version (sign_byte op) ≡ sign op

@@ -6,7 +6,7 @@ use Rattle.std.specs.List.{prefix_len}
 use Rattle.px_expr.specs.declared.node.Op.{Op}
 use Rattle.px_text.specs.Text.{is_name_byte}
 use Rattle.px_show.specs.Versions.{is_sign, op_of}
-use Rattle.px_show.specs.declared.version.Version.{Version}
+use Rattle.px_show.specs.declared.scene_version.Version.{Version}
 use Rattle.px_show.specs.Expressions.{Token, name, opens, closes, sign, other, sign_in, mark, with_name_byte, tokens_in}
 
 -- a mark is no part of a name

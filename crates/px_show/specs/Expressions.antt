@@ -8,7 +8,7 @@ use Rattle.std.specs.List.{flat_map, list_any}
 use Rattle.px_expr.specs.declared.node.Op.{Op}
 use Rattle.px_text.specs.Text.{Words, is_name_byte, is_name}
 use Rattle.px_show.specs.Versions.{is_sign, op_of}
-use Rattle.px_show.specs.declared.version.Version.{Version}
+use Rattle.px_show.specs.declared.scene_version.Version.{Version}
 use Rattle.std.specs.Str.{bytes_eq}
 use Rattle.px_show.specs.declared.fault.Cause.{Cause}
 use Rattle.px_show.specs.declared.fault.LineFault.{LineFault}

@@ -3,14 +3,14 @@
 
 mod fault;
 mod print;
+mod scene_version;
 mod show;
 mod sign;
 mod stack;
 mod token;
-mod version;
 
 pub use fault::{Cause, LimitKind, LineError, LineFault, SceneFault};
 pub use print::put_expression;
+pub use scene_version::Version;
 pub use show::{expression_law, printed_law, read_show};
 pub use sign::has_difference;
-pub use version::Version;

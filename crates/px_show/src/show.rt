@@ -11,12 +11,12 @@ ghost use Rattle.px_show.specs.Expressions.{Token, tokens_of, show_fault, show_t
 ghost use Rattle.px_show.specs.Printed.{AreDistinctNames, printed, named_by};
 ghost use Rattle.px_show.specs.Expressions.{Named, has_names, has_signs, written, expression_of, IsExpressionOf};
 ghost use Rattle.px_show.specs.Stacks.{tree_steps};
-ghost use Rattle.px_show.specs.declared.version.Version.{Version as AnyVersion};
+ghost use Rattle.px_show.specs.declared.scene_version.Version.{Version as AnyVersion};
 
 use crate::fault::{LineError, LineFault};
 use crate::stack::{Stack, Step};
 use crate::token::tokens_of;
-use crate::version::Version;
+use crate::scene_version::Version;
 use px_expr::{Expr, ExprBuilder, ExprFault};
 use px_model::Solid;
 use std::alloc::Global;

@@ -5,7 +5,7 @@ ghost use Rattle.px_expr.specs.Shapes.{shape_of};
 ghost use Rattle.px_show.specs.Versions.{sign_byte, op_of, is_differ, is_sign, has_difference};
 ghost use Rattle.px_show.specs.Differences.{has_differ_sign, is_difference};
 
-use crate::version::Version;
+use crate::scene_version::Version;
 use px_expr::{Expr, Node, Op, Shape};
 
 /// The byte of an operator's sign.

@@ -7,7 +7,7 @@ ghost use Rattle.px_show.specs.Expressions.{mark, sign_in, tokens_in, tokens_of}
 ghost use Rattle.px_show.specs.Stacks.{token_of};
 
 use crate::sign::{is_sign, op_of};
-use crate::version::Version;
+use crate::scene_version::Version;
 use px_expr::Op;
 use px_text::is_name_byte;
 use std::alloc::{AllocError, Global};

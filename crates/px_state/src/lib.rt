@@ -8,8 +8,6 @@ mod packing;
 mod room;
 mod scene;
 mod state;
-#[cfg(test)]
-mod tests;
 mod text;
 mod whole;
 mod words;

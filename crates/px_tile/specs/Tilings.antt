@@ -2,15 +2,15 @@
 use Rattle.std.specs.Prelude.{ℕ, ◌+◌, ◌-◌, ◌*◌, ◌/◌, ◌%◌, ◌≤◌, min}
 use Rattle.px_model.specs.declared.limits.TheConstants.{MAX_PICTURE_SIZE}
 use Rattle.px_model.specs.Scenes.{SceneView}
-use Rattle.px_tile.specs.declared.tiling.TheConstants.{MAX_SIDE}
+use Rattle.px_model.specs.declared.limits.TheConstants.{MAX_WIDE_PICTURE_SIZE}
 use Rattle.px_tile.specs.Tiles.{tile_scene}
 
--- a wide picture is 1 to MAX_SIDE pixels wide, and so high
+-- a wide picture is 1 to MAX_WIDE_PICTURE_SIZE pixels wide, and so high
 pub record IsWideSize (columns rows : ℕ) : Type 0 where
   pub some_width : 1 ≤ columns
-  pub width : columns ≤ MAX_SIDE
+  pub width : columns ≤ MAX_WIDE_PICTURE_SIZE
   pub some_height : 1 ≤ rows
-  pub height : rows ≤ MAX_SIDE
+  pub height : rows ≤ MAX_WIDE_PICTURE_SIZE
 
 -- a tile is 1 to MAX_PICTURE_SIZE pixels wide, and so high
 pub record IsTileSize (columns rows : ℕ) : Type 0 where

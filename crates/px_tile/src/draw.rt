@@ -33,7 +33,7 @@ use std::alloc::Global;
 /// A picture that is drawn has at most so many tiles.
 pub const MAX_TILES: u32 = 1024;
 
-/// Whether a picture of `width` by `height` pixels, each from 1 to `MAX_SIDE`, can be drawn tile by tile
+/// Whether a picture of `width` by `height` pixels, each from 1 to `MAX_WIDE_PICTURE_SIZE`, can be drawn tile by tile
 /// on an array with pixels of so many memory bits, each tile of the size of the scene's picture, or
 /// why not (docs/PICTURE.md, "Tiles").
 ///
@@ -150,7 +150,7 @@ fn scene_of_tile(
     moved_scene(alloc, scene, tile.x0, tile.y0, tile.width, tile.height)
 }
 
-/// Draws a picture of `width` by `height` pixels, each from 1 to `MAX_SIDE`, tile by tile on one array,
+/// Draws a picture of `width` by `height` pixels, each from 1 to `MAX_WIDE_PICTURE_SIZE`, tile by tile on one array,
 /// each tile of the size of the scene's picture (docs/PICTURE.md, "Tiles").
 ///
 /// Ok has a number for each pixel, row by row: `depth * 2^32 + face`. Every refusal but the want of

@@ -13,6 +13,6 @@ pub use draw::{MAX_TILES, check_tiles, render_tiles};
 pub use fault::{TileFault, WideFault};
 pub use image::write_wide;
 pub use law::laws_of_tiles;
+pub use px_model::MAX_WIDE_PICTURE_SIZE;
 pub use render::render_tile;
 pub use tile::tile_scene;
-pub use tiling::MAX_SIDE;

@@ -1,7 +1,7 @@
 //! The tiles of a wide picture: how many there are, and where each of them begins and ends.
 ghost use Rattle.std.specs.Prelude.{◌≡◌, ◌-◌, ◌<◌, ◌≤◌, ◌*◌, ◌+◌, min};
 ghost use Rattle.px_model.specs.declared.limits.TheConstants.{MAX_PICTURE_SIZE};
-ghost use Rattle.px_tile.specs.declared.tiling.TheConstants.{MAX_SIDE};
+ghost use Rattle.px_model.specs.declared.limits.TheConstants.{MAX_WIDE_PICTURE_SIZE};
 ghost use Rattle.px_tile.specs.Tilings.{
   IsTileSize,
   IsWideSize,
@@ -12,9 +12,6 @@ ghost use Rattle.px_tile.specs.Tilings.{
 };
 
 use px_model::Scene;
-
-/// A wide picture has at most so many pixels on a side (docs/PICTURE.md, "Tiles").
-pub const MAX_SIDE: u32 = 4096;
 
 /// A tile: its first pixel in the wide picture, and its size.
 #[derive(Clone, Copy, Debug, PartialEq, Eq)]
@@ -37,9 +34,9 @@ pub(crate) fn tile_count(scene: &Scene, width: u32, height: u32) -> u32
 fn tiles_across(size: u32, pixels: u32) -> u32
     requires some { 1 ≤ size }
     requires size { size ≤ MAX_PICTURE_SIZE }
-    requires pixels { pixels ≤ MAX_SIDE }
+    requires pixels { pixels ≤ MAX_WIDE_PICTURE_SIZE }
     ensures value { result ≡ tiles_across size pixels }
-    ensures few { result ≤ MAX_SIDE }
+    ensures few { result ≤ MAX_WIDE_PICTURE_SIZE }
 {
     (pixels + (size - 1)) / size
 }
@@ -73,7 +70,7 @@ pub(crate) fn tile_at(scene: &Scene, width: u32, height: u32, tile: u32) -> Tile
 fn span(size: u32, pixels: u32, tile: u32) -> (u32, u32)
     requires some { 1 ≤ size }
     requires size { size ≤ MAX_PICTURE_SIZE }
-    requires pixels { pixels ≤ MAX_SIDE }
+    requires pixels { pixels ≤ MAX_WIDE_PICTURE_SIZE }
     requires tile { tile < tiles_across size pixels }
     ensures start { result.0 ≡ tile * size }
     ensures length { result.1 ≡ min size (pixels - tile * size) }

@@ -1,0 +1,10 @@
+use Rattle.std.proofs.Common.{◌≡◌}
+use Rattle.px_array.specs.Arrays.{IsOpen}
+use Rattle.px_machine_tests.proofs.clocks.go_on.Given as goal
+
+abbrev pub invariant-loop-k : goal.invariant-loop-k
+invariant-loop-k g l = record {
+  is_open : IsOpen l.array.device;
+  plain : IsOpen l.plain.device;
+  slots : l.array.slots ≡ l.fn.array.slots;
+}

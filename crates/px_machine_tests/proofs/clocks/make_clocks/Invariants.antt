@@ -1,0 +1,6 @@
+use Rattle.std.proofs.Common.{◌≡◌}
+use Rattle.px_array.specs.Arrays.{IsOpen}
+use Rattle.px_machine_tests.proofs.clocks.make_clocks.Given as goal
+
+abbrev pub invariant-loop-k : goal.invariant-loop-k
+invariant-loop-k g l = record { is_open : IsOpen l.array.device; slots : l.array.slots ≡ l.fn.array.slots }

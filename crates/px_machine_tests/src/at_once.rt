@@ -1,0 +1,154 @@
+//! Each operation at once beside its micros, from one random state to the next.
+ghost use Rattle.std.specs.Prelude.{◌≡◌, ◌≤◌};
+ghost use Rattle.px_array.specs.Arrays.{IsOpen};
+ghost use Rattle.px_machine_tests.specs.Ready.{IsReady};
+
+use crate::compared::{compare, compare_memories};
+use crate::drawn::operation;
+use crate::numbers::Numbers;
+use px_array::{Array, PixelArray};
+use px_asm::{Operating, cycles, make_micros};
+use px_macro::{Field, Macro, lawful};
+use px_num::{Linear, Memory};
+use px_planes::PlaneArray;
+use std::alloc::Global;
+use std::process::Abort;
+use std::test::Fail;
+
+/// `(nx, ny)` of grids of less than a word, of one word and of many.
+const GRIDS: [(u32, u32); 10] = [
+    (1, 1),
+    (2, 1),
+    (1, 3),
+    (3, 3),
+    (4, 4),
+    (6, 1),
+    (1, 6),
+    (9, 1),
+    (1, 9),
+    (5, 6),
+];
+
+/// More clocks than a test makes.
+const MANY: u64 = 1 << 40;
+
+const LOW: Field = Field { at: 0, len: 2 };
+
+const HIGH: Field = Field { at: 2, len: 2 };
+
+const SLOPE: Linear = Linear { a: 3, b: -2, c: 5 };
+
+#[test]
+fn five_bits(rt: HostRuntime) -> Result<(), Fail> {
+    try_grids::<5>(&rt, rt.alloc(), 60)?;
+    Ok(())
+}
+
+#[test]
+fn seventy_two_bits(rt: HostRuntime) -> Result<(), Fail> {
+    try_grids::<72>(&rt, rt.alloc(), 60)?;
+    Ok(())
+}
+
+#[test]
+fn the_most_bits(rt: HostRuntime) -> Result<(), Fail> {
+    try_grids::<256>(&rt, rt.alloc(), 20)?;
+    Ok(())
+}
+
+/// So many random operations on each grid.
+fn try_grids<const N: usize>(rt: &impl Abort, alloc: Global, count: u32) -> Result<(), Memory>
+    requires bits { N ≤ 256 }
+{
+    for (nx, ny) in GRIDS {
+        try_grid::<N>(rt, alloc, nx, ny, count)?;
+    }
+    Ok(())
+}
+
+fn try_grid<const N: usize>(
+    rt: &impl Abort,
+    alloc: Global,
+    nx: u32,
+    ny: u32,
+    count: u32,
+) -> Result<(), Memory>
+    requires bits { N ≤ 256 }
+{
+    assert!(rt; 1 <= nx && nx <= 9 && 1 <= ny && ny <= 9);
+    let mut planes = PlaneArray::<N>::new(alloc);
+    let mut pixels = PixelArray::<N>::new(alloc);
+    planes.open(nx, ny)?;
+    pixels.open(nx, ny)?;
+    let mut numbers = Numbers::from(u64::from(8 * nx + ny));
+    for _ in 0..count {
+        let m = operation(&mut numbers, N as u32);
+        operate_both(rt, &mut planes, &mut pixels, &m);
+        renew_both(rt, &mut planes, &mut pixels);
+    }
+    Ok(())
+}
+
+/// Makes an operation at once on one array and by its micros on the other.
+fn operate_both<const N: usize>(
+    rt: &impl Abort,
+    planes: &mut PlaneArray<N>,
+    pixels: &mut PixelArray<N>,
+    m: &Macro,
+)
+    requires planes { IsReady N planes.old }
+    requires pixels { IsReady N pixels.old }
+    ensures planes { IsReady N planes.new }
+    ensures pixels { IsReady N pixels.new }
+{
+    assert!(rt; N <= 256 && planes.clocks() < MANY && pixels.clocks() < MANY);
+    if lawful(m, N as u32) && lawful(m, 256) {
+        planes.operate(m);
+        pixels.operate(m);
+    }
+    compare_memories(rt, pixels, planes);
+}
+
+/// Makes operations by their micros that begin the tree, the carry and the latch anew, and takes
+/// both arrays back.
+fn renew_both<const N: usize>(
+    rt: &impl Abort,
+    planes: &mut PlaneArray<N>,
+    pixels: &mut PixelArray<N>,
+)
+    requires planes { IsReady N planes.old }
+    requires pixels { IsReady N pixels.old }
+    ensures planes { IsReady N planes.new }
+    ensures pixels { IsReady N pixels.new }
+{
+    planes.save(0);
+    pixels.save(0);
+    renew(rt, planes);
+    renew(rt, pixels);
+    compare(rt, pixels, planes);
+    planes.restore(0);
+    pixels.restore(0);
+}
+
+fn renew<A: Array>(rt: &impl Abort, array: &mut A)
+    requires { IsOpen (A.device array.old) }
+    ensures is_open { IsOpen (A.device array.new) }
+    ensures slots { A.slots array.new ≡ A.slots array.old }
+{
+    clock(rt, array, &Macro::AddLinear(SLOPE, LOW));
+    clock(rt, array, &Macro::Copy(HIGH, LOW));
+    clock(rt, array, &Macro::KeepLess(LOW, HIGH));
+}
+
+/// Makes the clocks of an operation.
+fn clock<A: Array>(rt: &impl Abort, array: &mut A, m: &Macro)
+    requires { IsOpen (A.device array.old) }
+    ensures is_open { IsOpen (A.device array.new) }
+    ensures slots { A.slots array.new ≡ A.slots array.old }
+{
+    assert!(rt; A::BITS <= 256 && array.clocks() < MANY);
+    assert!(rt; lawful(m, A::BITS as u32) && lawful(m, 256));
+    let (nx, ny) = array.size();
+    make_micros(array, m, 0, cycles(m, nx, ny));
+    assert!(rt; array.size().0 >= 1);
+}

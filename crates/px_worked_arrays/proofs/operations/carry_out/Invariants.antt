@@ -1,9 +1,0 @@
-use Rattle.std.proofs.Common.{◌≡◌, ◌+◌}
-use Rattle.px_worked_arrays.proofs.operations.carry_out.Given as goal
-
-abbrev pub invariant-loop-i : goal.invariant-loop-i
-invariant-loop-i g l = record {
-  columns : l.array.device.state.tree.nx ≡ 1;
-  rows : l.array.device.state.tree.ny ≡ 1;
-  clocks : l.array.device.clocks ≡ l.initial.array.device.clocks + l.i;
-}
