@@ -8,6 +8,7 @@ use Rattle.px_scene.specs.Text.{worded}
 use Rattle.px_example.specs.declared.NotDrawn.{NotDrawn}
 use Rattle.px_example.specs.declared.NotDrawn.TheVariants as n
 
+-- the refusal of the array, where it has one
 abbrev pub by_array : Option JobFault → Option NotDrawn
 by_array None = None
 by_array (Some fault) = Some (n.Array fault)

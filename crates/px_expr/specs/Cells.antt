@@ -19,6 +19,7 @@ combination_of o.Meet = Both Plain Plain
 combination_of o.Minus = Both Plain Complement
 combination_of o.Differ = EitherWay Complement
 
+-- the other sense
 abbrev pub opposite : Sense → Sense
 opposite Plain = Complement
 opposite Complement = Plain
@@ -34,6 +35,7 @@ abbrev pub truth_in : Sense → Bool → Bool
 truth_in Plain side = side
 truth_in Complement side = not side
 
+-- whether a cell is in a combination, by whether it is in each side
 abbrev pub truth_when : Combination → Bool → Bool → Bool
 truth_when (Both first second) left right = truth_in first left && truth_in second right
 truth_when (Either first second) left right = truth_in first left || truth_in second right
@@ -59,6 +61,7 @@ pub record Cell : Type 0 where
   pub shown : List ℕ
   pub hidden : List ℕ
 
+-- the faces, where the test holds
 abbrev pub where_true : Bool → List ℕ → List ℕ
 where_true test faces = if test then faces else []
 
@@ -90,6 +93,7 @@ combined op left right = record {
   hidden = shown_when (complement_of (combination_of op)) left right;
 }
 
+-- an expression at a cell: a solid as it is there, and else its sides combined
 abbrev pub cell : (ℕ → Cell) → Tree → Cell
 cell solid_at (leaf solid) = solid_at solid
 cell solid_at (join op left right) = combined op (cell solid_at left) (cell solid_at right)

@@ -3,6 +3,7 @@ use Rattle.std.specs.Prelude.{ℕ, ◌+◌, ◌<◌, ◌≤◌, max}
 use Rattle.px_expr.specs.declared.node.Op.{Op}
 use Rattle.px_expr.specs.declared.node.TheConstants.{MAX_LEAVES, MAX_NESTING}
 
+-- an expression: a solid by its index, or an operator between two expressions
 pub data Tree : Type 0 where
   leaf : ℕ → Tree
   join : Op → Tree → Tree → Tree

@@ -40,18 +40,22 @@ colour_pixel colour x y = colour_bytes (colour x y)
 abbrev pub image_of : (width height : ℕ) → (number : (x y : ℕ) → ℕ) → List ℕ
 image_of width height number = image_of_pixels width height (number_pixel number)
 
+-- the depth that a pixel of the picture shows
 abbrev pub depth_at : SceneView → (x y : ℕ) → ℕ
 depth_at scene x y = (picture scene x y).depth
 
+-- the number of the face that it shows
 abbrev pub face_at : SceneView → (x y : ℕ) → ℕ
 face_at scene x y = (picture scene x y).face
 
 abbrev pub colour_at : SceneView → (x y : ℕ) → Colour
 colour_at scene x y = colour_in_scene scene.solids (face_at scene x y)
 
+-- the image of the depths
 abbrev pub depth_image : SceneView → List ℕ
 depth_image scene = image_of scene.width scene.height (depth_at scene)
 
+-- the image of the face numbers
 abbrev pub face_image : SceneView → List ℕ
 face_image scene = image_of scene.width scene.height (face_at scene)
 

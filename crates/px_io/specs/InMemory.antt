@@ -8,6 +8,8 @@ pub record SourceView : Type 0 where
   pub calls : ℕ
   pub faults : ℕ
 
+-- what was written, the room, the bytes a call takes at most, the calls that fail, the calls and faults so far, and
+-- whether it is finished
 pub record SinkView : Type 0 where
   pub written : List ℕ
   pub room : ℕ

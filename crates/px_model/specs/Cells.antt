@@ -17,6 +17,7 @@ pub record Depths : Type 0 where
   pub far : ℕ
   pub fraction_bits : ℕ
 
+-- depths of so many cells and fraction bits
 abbrev pub depths : (far fraction_bits : ℕ) → Depths
 depths far fraction_bits = record { far = far; fraction_bits = fraction_bits }
 
@@ -45,6 +46,7 @@ is_inside_at s end x y v =
 abbrev pub is_inside : SolidView → Depths → (x y z : ℕ) → Bool
 is_inside s d x y z = is_inside_at s (end_of d) x y (value_of d z)
 
+-- whether the cell before is inside; there is none before the first
 abbrev pub is_inside_before : SolidView → Depths → (x y z : ℕ) → Bool
 is_inside_before s d x y zero = false
 is_inside_before s d x y (suc z) = is_inside s d x y z
@@ -80,6 +82,7 @@ backs_at s d x y z =
 abbrev pub solid_cell : Depths → (x y z : ℕ) → SolidView → Cell
 solid_cell d x y z s = record { member = is_inside s d x y z; shown = fronts_at s d x y z; hidden = backs_at s d x y z }
 
+-- a cell that is in nothing and shows nothing
 abbrev pub no_cell : Cell
 no_cell = record { member = false; shown = []; hidden = [] }
 
@@ -87,9 +90,11 @@ no_cell = record { member = false; shown = []; hidden = [] }
 abbrev pub leaf_cell : List SolidView → Depths → (x y z solid : ℕ) → Cell
 leaf_cell solids d x y z solid = option_map_or (solid_cell d x y z) (slice_get solids solid) no_cell
 
+-- the depth of the background, and how many cells a ray of the scene has
 abbrev pub far_of : SceneView → ℕ
 far_of scene = 2 ^ scene.depth_bits - 1
 
+-- the depths of a scene
 abbrev pub depths_of : SceneView → Depths
 depths_of scene = depths (far_of scene) scene.fraction_bits
 
@@ -97,9 +102,11 @@ depths_of scene = depths (far_of scene) scene.fraction_bits
 abbrev pub scene_cell : SceneView → ℕ → ℕ → ℕ → Cell
 scene_cell scene x y z = cell (leaf_cell scene.solids (depths_of scene) x y z) scene.show
 
+-- whether a cell of a pixel belongs to the shown expression
 abbrev pub is_member_at : SceneView → ℕ → ℕ → ℕ → Bool
 is_member_at scene x y z = (scene_cell scene x y z).member
 
+-- what was found, or else the number itself, where it passes the test
 abbrev pub first_or : (ℕ → Bool) → ℕ → Option ℕ → Option ℕ
 first_or test n (Some z) = Some z
 first_or test n None = if test n then Some n else None
@@ -124,6 +131,7 @@ pub record Sight : Type 0 where
   pub depth : ℕ
   pub face : ℕ
 
+-- what a pixel with this first cell shows: its depth and the lowest-numbered face, or else the background
 abbrev pub sight_at : SceneView → ℕ → ℕ → Option ℕ → Sight
 sight_at scene x y None = record { depth = far_of scene; face = 0 }
 sight_at scene x y (Some z) = record { depth = z; face = least (scene_cell scene x y z).shown }

@@ -10,6 +10,7 @@ use Rattle.std.specs.List.{list_any, AllPass}
 use Rattle.px_expr.specs.Tree.{Tree, HasLeavesBelow}
 use Rattle.px_text.specs.Text.{is_name}
 
+-- a solid: its name and colour, the number of its near face, and its planes by their kinds
 pub record SolidView : Type 0 where
   pub name : List ℕ
   pub colour : Colour
@@ -66,6 +67,8 @@ colour_in s number =
 abbrev pub faces_in : SolidView → ℕ
 faces_in s = 1 + length s.fronts + length s.backs
 
+-- a scene: its picture's size, the bits of its depths, its solids in their order, and the expression over their
+-- indices
 pub record SceneView : Type 0 where
   pub width : ℕ
   pub height : ℕ
@@ -114,6 +117,7 @@ pub record IsGridExponent (size n : ℕ) : Type 0 where
   pub enough : size ≤ 2 ^ n
   pub least : (m : ℕ) → 1 ≤ m → size ≤ 2 ^ m → n ≤ m
 
+-- no light
 abbrev pub black : Colour
 black = record { red = 0; green = 0; blue = 0 }
 

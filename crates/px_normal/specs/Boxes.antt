@@ -9,6 +9,7 @@ lies_in b x y z =
     && nat_le b.y0 y && nat_le y b.y1
     && nat_le b.z0 z && nat_le z b.z1
 
+-- whether a box has a cell
 abbrev pub has_cell : CellBox → Bool
 has_cell b = nat_le b.x0 b.x1 && nat_le b.y0 b.y1 && nat_le b.z0 b.z1
 

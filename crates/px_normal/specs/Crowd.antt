@@ -30,23 +30,27 @@ abbrev pub wanted_in : Sense → Wanted → Wanted
 wanted_in Plain wanted = wanted
 wanted_in Complement wanted = record { products = wanted.complement; complement = wanted.products }
 
--- the lists of a left and of a right side that a node's lists are made of
+-- the lists of a left side that a node's lists are made of
 abbrev pub left_when : Combination → Wanted → Wanted
 left_when (Both first second) wanted = wanted_in first wanted
 left_when (Either first second) wanted = wanted_in first wanted
 left_when (EitherWay sense) wanted = of_either wanted
 
+-- those of a right side
 abbrev pub right_when : Combination → Wanted → Wanted
 right_when (Both first second) wanted = wanted_in second wanted
 right_when (Either first second) wanted = wanted_in second wanted
 right_when (EitherWay sense) wanted = of_either wanted
 
+-- the lists that an operator needs of its left side
 abbrev pub of_left : Op → Wanted → Wanted
 of_left op wanted = left_when (combination_of op) wanted
 
+-- and those of its right side
 abbrev pub of_right : Op → Wanted → Wanted
 of_right op wanted = right_when (combination_of op) wanted
 
+-- the list, where it is wanted
 abbrev pub where_wanted : Bool → List Product → List Product
 where_wanted wanted list = if wanted then list else []
 
@@ -57,6 +61,7 @@ wanted_forms boxes wanted forms = record {
   complement = where_wanted wanted.complement (live boxes forms).complement;
 }
 
+-- the products of a node, and then those of its complement
 abbrev pub both_lists : Forms → List (List Product)
 both_lists forms = forms.products ∷ forms.complement ∷ []
 
@@ -73,5 +78,6 @@ first_past_limit [] = None
 first_past_limit (list ∷ lists) =
     if nat_lt MAX_PRODUCTS (length list) then Some (length list) else first_past_limit lists
 
+-- the length of the first wanted list past the limit, where there is one
 abbrev pub crowd : (ℕ → Option CellBox) → Tree → Option ℕ
 crowd boxes tree = first_past_limit (wanted_lists boxes of_root tree)

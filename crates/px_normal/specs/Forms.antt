@@ -10,9 +10,11 @@ use Rattle.px_expr.specs.declared.node.Combination.TheVariants.{Both, Either, Ei
 use Rattle.px_normal.specs.declared.product.Product.{Product}
 use Rattle.px_normal.specs.Sets.{empty, one, sets_joined, solids, IsBelow}
 
+-- the cells inside one solid
 abbrev pub plain_one : ℕ → Product
 plain_one solid = record { plain = one solid; barred = empty }
 
+-- the cells outside of one solid
 abbrev pub barred_one : ℕ → Product
 barred_one solid = record { plain = empty; barred = one solid }
 
@@ -43,12 +45,14 @@ sum_when (Either first second) x y = sum_in first x ++ sum_in second y
 sum_when (EitherWay sense) x y =
     crossed x.products (sum_in sense y) ++ crossed x.complement (sum_in (opposite sense) y)
 
+-- the lists of two sides under an operator
 abbrev pub combined : Op → Forms → Forms → Forms
 combined op x y = record {
   products = sum_when (combination_of op) x y;
   complement = sum_when (complement_of (combination_of op)) x y;
 }
 
+-- the lists of an expression: a solid is inside of itself, and its complement outside of it
 abbrev pub forms : Tree → Forms
 forms (leaf solid) = record {
   products = plain_one solid ∷ [];

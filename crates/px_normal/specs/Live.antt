@@ -20,6 +20,7 @@ is_void product = list_any (λ q. has product.barred q) (solids product.plain)
 abbrev pub box_of_all : (ℕ → Option CellBox) → List ℕ → Option CellBox
 box_of_all boxes plain = fold (λ part q. narrowed part (boxes q)) (Some everything) plain
 
+-- whether a box is there and has a cell
 abbrev pub has_some_cell : Option CellBox → Bool
 has_some_cell None = false
 has_some_cell (Some box) = has_cell box

@@ -8,20 +8,25 @@ use Rattle.px_normal.specs.declared.set.SolidSet.{SolidSet}
 abbrev pub has : SolidSet → ℕ → Bool
 has set solid = bit_at (slice_index set.words (solid / 64)) (solid % 64) == 1
 
+-- the set of no solid
 abbrev pub empty : SolidSet
 empty = record { words = 0 ∷ 0 ∷ 0 ∷ 0 ∷ [] }
 
+-- the set of one solid
 abbrev pub one : ℕ → SolidSet
 one solid = record { words = slice_set (0 ∷ 0 ∷ 0 ∷ 0 ∷ []) (solid / 64) (2 ^ (solid % 64)) }
 
+-- the bits of two sets in their words of one place
 abbrev pub joined_word : SolidSet → SolidSet → ℕ → ℕ
 joined_word a b place = bit_or (slice_index a.words place) (slice_index b.words place)
 
+-- the solids that are in one set or the other
 abbrev pub sets_joined : SolidSet → SolidSet → SolidSet
 sets_joined a b = record {
   words = joined_word a b 0 ∷ joined_word a b 1 ∷ joined_word a b 2 ∷ joined_word a b 3 ∷ [];
 }
 
+-- the numbers below another, in their order
 abbrev pub below : ℕ → List ℕ
 below zero = []
 below (suc n) = below n ++ n ∷ []

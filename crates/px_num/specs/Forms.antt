@@ -6,6 +6,7 @@ use Rattle.px_num.specs.declared.linear.Linear.{Linear}
 abbrev pub IsWithin : ℕ → ℤ → Type 0
 IsWithin n z = ((pos 0 -ℤ pos n) ≤ℤ z) × (z ≤ℤ pos n)
 
+-- the value of a form at a pixel
 abbrev pub value_at : Linear → ℕ → ℕ → ℤ
 value_at form x y = (form.a *ℤ pos x) +ℤ (form.b *ℤ pos y) +ℤ form.c
 

@@ -30,15 +30,17 @@ abbrev pub cell_box : (ℕ → ℕ → ℕ → Bool) → ℕ → ℕ → ℕ →
 cell_box cells x y z =
     if cells x y z then Some (record { x0 = x; x1 = x; y0 = y; y1 = y; z0 = z; z1 = z }) else None
 
--- the boxes of cells, joined: of the first ones at a pixel, of the first pixels of a row, of the first rows
+-- the boxes of the first cells at a pixel, joined
 abbrev pub pixel_hull : (ℕ → ℕ → ℕ → Bool) → ℕ → ℕ → ℕ → Option CellBox
 pixel_hull cells x y zero = None
 pixel_hull cells x y (suc z) = hull (pixel_hull cells x y z) (cell_box cells x y z)
 
+-- the boxes of the first pixels of a row, joined
 abbrev pub row_hull : (ℕ → ℕ → ℕ → Bool) → ℕ → ℕ → ℕ → Option CellBox
 row_hull cells far y zero = None
 row_hull cells far y (suc x) = hull (row_hull cells far y x) (pixel_hull cells x y far)
 
+-- the boxes of the first rows, joined
 abbrev pub rows_hull : (ℕ → ℕ → ℕ → Bool) → ℕ → ℕ → ℕ → Option CellBox
 rows_hull cells far width zero = None
 rows_hull cells far width (suc y) = hull (rows_hull cells far width y) (row_hull cells far y width)

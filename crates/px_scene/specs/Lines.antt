@@ -30,19 +30,22 @@ abbrev pub size_of : ℤ → ℕ
 size_of (pos n) = n
 size_of (negsuc n) = 0
 
--- the bits of a depth, and those of its fraction
+-- the bits of a depth
 abbrev pub depth_of : List ℤ → ℕ
 depth_of (bits ∷ []) = size_of bits
 depth_of (bits ∷ fraction ∷ []) = size_of bits
 depth_of zs = 1
 
+-- the bits of its fraction, none where the line has but one number
 abbrev pub fraction_of : List ℤ → ℕ
 fraction_of (bits ∷ fraction ∷ []) = size_of fraction
 fraction_of zs = 0
 
+-- a colour by its three numbers
 abbrev pub colour_of : ℤ → ℤ → ℤ → Colour
 colour_of red green blue = record { red = size_of red; green = size_of green; blue = size_of blue }
 
+-- a plane by its three coefficients
 abbrev pub plane_of : ℤ → ℤ → ℤ → Linear
 plane_of a b c = record { a = a; b = b; c = c }
 
@@ -57,6 +60,7 @@ abbrev pub side_of : List ℤ → Option Linear
 side_of (a ∷ b ∷ c ∷ []) = Some (plane_of a b c)
 side_of zs = None
 
+-- what a line that begins with this word says
 abbrev pub keyword_of : List ℕ → Keyword
 keyword_of w =
     if bytes_eq w (codes "pxscene") then k.Pxscene
@@ -98,12 +102,15 @@ is_due d.Plane k.Show = true
 is_due d.End k.End = true
 is_due w v = false
 
+-- whether a line begins with the word of a header and names a version
 abbrev pub is_header : List ℕ → Words → Bool
 is_header w ws = bytes_eq w (codes "pxscene") && is_some (version_of ws)
 
+-- whether each word is a number
 abbrev pub are_numbers : Words → Bool
 are_numbers ws = list_all (λ w. is_some (number_of w)) ws
 
+-- the numbers that words write
 abbrev pub numbers_of : Words → List ℤ
 numbers_of ws = map (λ w. unwrap_or (number_of w) (pos 0)) ws
 
@@ -111,6 +118,7 @@ numbers_of ws = map (λ w. unwrap_or (number_of w) (pos 0)) ws
 abbrev pub numeric : Bool → Words → Option Cause
 numeric has_count ws = if not has_count then Some c.WordCount else if are_numbers ws then None else Some c.NotNumber
 
+-- why the words of a solid's line are bad: a new name and three numbers are due
 abbrev pub solid_form : Words → Words → Option Cause
 solid_form names (name ∷ red ∷ green ∷ blue ∷ []) =
     if not (is_name name) then Some c.BadName
@@ -132,6 +140,7 @@ form_of version k.End names ws = numeric (length ws == 0) ws
 form_of version k.Pxscene names ws = None
 form_of version k.Other names ws = None
 
+-- why the words of a line are bad where no header is due: it is not due itself, or its form is bad
 abbrev pub due_form : Version → Due → Keyword → Words → Words → Option Cause
 due_form version due keyword names ws =
     if is_due due keyword then form_of version keyword names ws else Some c.Unexpected
@@ -150,12 +159,14 @@ past limit low high found = if le_z low found && le_z found high then None else 
 abbrev pub most : LimitKind → ℕ → ℕ → Option LineFault
 most limit high found = past limit (pos 0) (pos high) (pos found)
 
+-- the first side of a picture past its limit
 abbrev pub picture_past : ℤ → ℤ → Option LineFault
 picture_past width height =
     option_or
     (past kind.Picture (pos 1) (pos MAX_PICTURE_SIZE) width)
     (past kind.Picture (pos 1) (pos MAX_PICTURE_SIZE) height)
 
+-- the first part of a colour past its limit
 abbrev pub colour_past : ℤ → ℤ → ℤ → Option LineFault
 colour_past red green blue =
     option_or (option_or (past kind.Colour (pos 0) (pos 255) red) (past kind.Colour (pos 0) (pos 255) green)) (past kind.Colour (pos 0) (pos 255) blue)
@@ -164,14 +175,17 @@ colour_past red green blue =
 abbrev pub size_past : ℕ → ℤ → Option LineFault
 size_past n z = past kind.Coefficient (pos 0 -ℤ pos n) (pos n) z
 
+-- the first coefficient of a plane past its limit
 abbrev pub plane_past : ℤ → ℤ → ℤ → Option LineFault
 plane_past a b c = option_or (option_or (size_past MAX_SLOPE a) (size_past MAX_SLOPE b)) (size_past MAX_CONSTANT c)
 
+-- the first number of a face's line past its limit: its plane's, and then its colour's
 abbrev pub face_past : List ℤ → Option LineFault
 face_past (a ∷ b ∷ c ∷ []) = plane_past a b c
 face_past (a ∷ b ∷ c ∷ red ∷ green ∷ blue ∷ []) = option_or (plane_past a b c) (colour_past red green blue)
 face_past zs = None
 
+-- the words behind a solid's name
 abbrev pub behind_name : Words → Words
 behind_name [] = []
 behind_name (name ∷ ws) = ws
@@ -189,6 +203,7 @@ figures k.Show ws = []
 figures k.End ws = []
 figures k.Other ws = []
 
+-- the first number of a picture's line past its limit
 abbrev pub two_past : List ℤ → Option LineFault
 two_past (width ∷ height ∷ []) = picture_past width height
 two_past zs = None
@@ -198,12 +213,14 @@ abbrev pub fraction_past : ℤ → ℤ → Option LineFault
 fraction_past bits fraction =
     past kind.Fraction (pos 0) (pos (min MAX_FRACTION_BITS (MAX_DEPTH_BITS - size_of bits))) fraction
 
+-- the first number of a depth's line past its limit
 abbrev pub depth_past : List ℤ → Option LineFault
 depth_past (bits ∷ []) = past kind.Depth (pos 1) (pos MAX_DEPTH_BITS) bits
 depth_past (bits ∷ fraction ∷ []) =
     option_or (past kind.Depth (pos 1) (pos MAX_DEPTH_BITS) bits) (fraction_past bits fraction)
 depth_past zs = None
 
+-- the first number of a solid's line past its limit
 abbrev pub three_past : List ℤ → Option LineFault
 three_past (red ∷ green ∷ blue ∷ []) = colour_past red green blue
 three_past zs = None
@@ -231,6 +248,7 @@ limit_of k.Show t zs = None
 limit_of k.End t zs = None
 limit_of k.Other t zs = None
 
+-- the first limit that a line passes: an expression's, or a number's or a count's
 abbrev pub limit_on : Version → Keyword → Tally → Words → Option LineFault
 limit_on version k.Show t ws = show_limit version ws
 limit_on version keyword t ws = limit_of keyword t (numbers_of (figures keyword ws))

@@ -26,34 +26,42 @@ use Rattle.px_show.specs.declared.fault.Cause.TheVariants as c
 use Rattle.px_show.specs.declared.fault.LimitKind.TheVariants as kind
 use Rattle.px_show.specs.declared.fault.SceneFault.TheVariants as fault
 
+-- the header
 abbrev pub is_pxscene : Keyword → Bool
 is_pxscene k.Pxscene = true
 is_pxscene keyword = false
 
+-- the line of the picture's size
 abbrev pub is_picture : Keyword → Bool
 is_picture k.Picture = true
 is_picture keyword = false
 
+-- the line of the depth
 abbrev pub is_depth : Keyword → Bool
 is_depth k.Depth = true
 is_depth keyword = false
 
+-- the line that begins a solid
 abbrev pub is_solid : Keyword → Bool
 is_solid k.Solid = true
 is_solid keyword = false
 
+-- the line of a front
 abbrev pub is_front : Keyword → Bool
 is_front k.Front = true
 is_front keyword = false
 
+-- the line of a back
 abbrev pub is_back : Keyword → Bool
 is_back k.Back = true
 is_back keyword = false
 
+-- the line of a side
 abbrev pub is_side : Keyword → Bool
 is_side k.Side = true
 is_side keyword = false
 
+-- the line of the shown expression
 abbrev pub is_shown : Keyword → Bool
 is_shown k.Show = true
 is_shown keyword = false
@@ -70,10 +78,12 @@ abbrev pub begins : (Keyword → Bool) → Words → Bool
 begins kind [] = false
 begins kind (w ∷ ws) = kind (keyword_of w)
 
+-- the first word of a line
 abbrev pub first_word : Words → List ℕ
 first_word [] = []
 first_word (w ∷ ws) = w
 
+-- the words behind it
 abbrev pub words_behind : Words → Words
 words_behind [] = []
 words_behind (w ∷ ws) = ws
@@ -89,9 +99,11 @@ due_from due [] = due
 due_from due ([] ∷ ls) = due_from due ls
 due_from due ((w ∷ ws) ∷ ls) = due_from (due_after (keyword_of w)) ls
 
+-- what is due behind lines, of which a header is the first
 abbrev pub due_behind : List Words → Due
 due_behind lines = due_from d.Header lines
 
+-- how many lines of a kind there are
 abbrev pub count_of : (Keyword → Bool) → List Words → ℕ
 count_of kind lines = count_by (begins kind) lines
 
@@ -99,6 +111,7 @@ count_of kind lines = count_by (begins kind) lines
 abbrev pub count_since : (Keyword → Bool) → List Words → ℕ
 count_since kind lines = count_of kind (after_last (begins is_solid) lines)
 
+-- what is counted over lines: all solids and face numbers, and the planes since the last solid
 abbrev pub tally_behind : List Words → Tally
 tally_behind lines = record {
   solids = count_of is_solid lines;
@@ -108,6 +121,7 @@ tally_behind lines = record {
   sides = count_since is_side lines;
 }
 
+-- the names of the solids of lines
 abbrev pub names_in : List Words → Words
 names_in lines = map (λ l. first_word (words_behind l)) (filter (begins is_solid) lines)
 
@@ -116,6 +130,7 @@ abbrev pub line_from : (Keyword → Bool) → Words → List Words → Words
 line_from kind found [] = found
 line_from kind found (l ∷ ls) = line_from kind (if begins kind l then l else found) ls
 
+-- the last line of a kind, or else one without words
 abbrev pub line_of : (Keyword → Bool) → List Words → Words
 line_of kind lines = line_from kind [] lines
 
@@ -127,6 +142,7 @@ version_in lines = version_or_first (words_behind (line_of is_pxscene lines))
 abbrev pub fault_behind : List Words → Words → Option LineFault
 fault_behind before line = fault_of (version_in before) (due_behind before) (names_in before) (tally_behind before) line
 
+-- the fault of this line, or else a later one
 abbrev pub at_line : ℕ → Option LineFault → Option (ℕ × LineFault) → Option (ℕ × LineFault)
 at_line number (Some fault) later = Some (number, fault)
 at_line number None later = later
@@ -157,6 +173,7 @@ face_said kind solid colour position =
     then face_of colour (count_of is_numbered position.before + 1) (figures_in position.line)
     else None
 
+-- a side of the solid of this number
 abbrev pub side_at : ℕ → Position → Option Linear
 side_at solid position =
     if begins is_side position.line && count_of is_solid position.before == solid
@@ -169,10 +186,12 @@ pub record Head : Type 0 where
   pub colour : Colour
   pub number : ℕ
 
+-- the colour of a solid's line
 abbrev pub head_colour : List ℤ → Colour
 head_colour (red ∷ green ∷ blue ∷ []) = colour_of red green blue
 head_colour zs = black
 
+-- the line of a solid, with the face number of its near face
 abbrev pub head_at : Position → Option Head
 head_at position =
     if begins is_solid position.line
@@ -190,17 +209,21 @@ solid_with_head lines solid head = record {
   sides = said (side_at solid) lines;
 }
 
+-- the solids of these lines, numbered from one on
 abbrev pub solids_from : List Words → ℕ → List Head → List SolidView
 solids_from lines solid [] = []
 solids_from lines solid (head ∷ heads) = solid_with_head lines solid head ∷ solids_from lines (solid + 1) heads
 
+-- the solids of a text in their order
 abbrev pub solids_of : List Words → List SolidView
 solids_of lines = solids_from lines 1 (said head_at lines)
 
+-- the width of a picture by its line
 abbrev pub width_of : List ℤ → ℕ
 width_of (width ∷ height ∷ []) = size_of width
 width_of zs = 1
 
+-- and its height
 abbrev pub height_of : List ℤ → ℕ
 height_of (width ∷ height ∷ []) = size_of height
 height_of zs = 1
@@ -220,10 +243,12 @@ scene_of lines = record {
   show = unwrap_or (expression_in lines) (leaf 0);
 }
 
+-- a line's fault, as the text's
 abbrev pub fault_at : ℕ → LineFault → SceneFault
 fault_at line (f.Malformed cause) = fault.Malformed line cause
 fault_at line (f.Limit kind found) = fault.Limit line kind found
 
+-- whether nothing more is due, as behind the end
 abbrev pub is_nothing : Due → Bool
 is_nothing d.Nothing = true
 is_nothing due = false

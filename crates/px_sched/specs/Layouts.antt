@@ -14,6 +14,7 @@ pub record LayoutView : Type 0 where
   pub alive : ℕ
   pub par : ℕ
 
+-- a field from a bit on, of so many bits
 abbrev pub field : (at len : ℕ) → Field
 field at len = record { at = at; len = len }
 

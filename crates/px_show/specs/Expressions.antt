@@ -21,6 +21,7 @@ use Rattle.px_expr.specs.Tree as tree
 use Rattle.px_show.specs.declared.fault.Cause.TheVariants as c
 use Rattle.px_show.specs.declared.fault.LimitKind.TheVariants as kind
 
+-- a name, a bracket, the sign of an operator, or anything else
 pub data Token : Type 0 where
   name : List ℕ → Token
   opens : Token
@@ -49,9 +50,11 @@ tokens_in version [] = []
 tokens_in version (b ∷ bs) =
     if is_name_byte b then with_name_byte b (tokens_in version bs) else mark version b ∷ tokens_in version bs
 
+-- the tokens of words, one after another
 abbrev pub tokens_of : Version → Words → List Token
 tokens_of version ws = flat_map (tokens_in version) ws
 
+-- an expression as it is written: a name, or an operator between two expressions
 pub data Named : Type 0 where
   leaf : List ℕ → Named
   join : Op → Named → Named → Named
@@ -72,6 +75,7 @@ has_signs version (leaf n) = true
 has_signs version (join op left right) =
     is_sign version op && has_signs version left && has_signs version right
 
+-- how many leaves an expression has
 abbrev pub leaves : Named → ℕ
 leaves (leaf n) = 1
 leaves (join op left right) = leaves left + leaves right
@@ -103,6 +107,7 @@ with_token before other = token other ∷ before
 abbrev pub parts_of : List Token → List Part
 parts_of ts = fold with_token [] ts
 
+-- the expression, where the parts are one side alone
 abbrev pub whole : List Part → Option Named
 whole (side tree ∷ []) = Some tree
 whole parts = None
@@ -116,10 +121,12 @@ pub record IsExpressionOf (ts : List Token) (tree : Named) : Type 0 where
   pub text : written tree ≡ ts
   pub names : has_names tree ≡ true
 
+-- a cause, or else a limit that is passed
 abbrev pub judged : Option Cause → Option LineFault → Option LineFault
 judged (Some cause) limit = Some (f.Malformed cause)
 judged None limit = limit
 
+-- whether a word is one of the names
 abbrev pub is_among : Words → List ℕ → Bool
 is_among names word = list_any (λ n. bytes_eq n word) names
 
@@ -138,6 +145,7 @@ abbrev pub over_places : Words → Named → Tree
 over_places names (leaf word) = tree.leaf (place_of names word)
 over_places names (join op left right) = tree.join op (over_places names left) (over_places names right)
 
+-- why an expression is bad: there is none, or a name is no solid's
 abbrev pub cause_in : Words → Option Named → Option Cause
 cause_in names None = Some c.BadExpression
 cause_in names (Some tree) = if are_known names tree then None else Some c.UnknownName
@@ -150,13 +158,16 @@ count_past kind limit found = if nat_le found limit then None else Some (f.Limit
 abbrev pub counts_past : ℕ → ℕ → Option LineFault
 counts_past leaves nesting = option_or (count_past kind.Leaves MAX_LEAVES leaves) (count_past kind.Nesting MAX_NESTING nesting)
 
+-- the first limit that an expression passes
 abbrev pub limit_in : Option Named → Option LineFault
 limit_in None = None
 limit_in (Some tree) = counts_past (leaves tree) (nesting tree)
 
+-- why the words of a show line are bad
 abbrev pub show_cause : Version → Words → Words → Option Cause
 show_cause version names ws = cause_in names (expression_of (tokens_of version ws))
 
+-- the first limit that their expression passes
 abbrev pub show_limit : Version → Words → Option LineFault
 show_limit version ws = limit_in (expression_of (tokens_of version ws))
 
@@ -164,5 +175,6 @@ show_limit version ws = limit_in (expression_of (tokens_of version ws))
 abbrev pub show_fault : Version → Words → Words → Option LineFault
 show_fault version names ws = judged (show_cause version names ws) (show_limit version ws)
 
+-- their expression, over the places of the solids
 abbrev pub show_tree : Version → Words → Words → Option Tree
 show_tree version names ws = option_map (over_places names) (expression_of (tokens_of version ws))

@@ -15,6 +15,7 @@ version_word v.One = codes "1"
 version_word v.Two = codes "2"
 version_word v.Three = codes "3"
 
+-- the version that a word names
 abbrev pub version_named : List ℕ → Option Version
 version_named w =
     if bytes_eq w (codes "1") then Some v.One

@@ -9,16 +9,20 @@ use lib.IntN.{neg_ℤ}
 abbrev pub Words : Type 0
 Words = List (List ℕ)
 
+-- a space, a tab or a carriage return
 abbrev pub is_blank : ℕ → Bool
 is_blank b = b == 32 || b == 9 || b == 13
 
+-- whether there is a byte
 abbrev pub is_some_byte : List ℕ → Bool
 is_some_byte [] = false
 is_some_byte (b ∷ bs) = true
 
+-- whether a text ends in a line feed
 abbrev pub ends_with_feed : List ℕ → Bool
 ends_with_feed text = option_map_or (λ b. b == 10) (slice_get text (length text - 1)) false
 
+-- the text without a line feed at its end
 abbrev pub without_last_feed : List ℕ → List ℕ
 without_last_feed text = if ends_with_feed text then take (length text - 1) text else text
 
@@ -34,6 +38,7 @@ words_of line = filter is_some_byte (slice_split is_blank (before_first (λ b. b
 abbrev pub worded : List ℕ → List Words
 worded text = map words_of (lines_of text)
 
+-- a digit, `0` to `9`
 abbrev pub is_digit : ℕ → Bool
 is_digit b = nat_le 48 b && nat_le b 57
 
@@ -41,10 +46,12 @@ is_digit b = nat_le 48 b && nat_le b 57
 abbrev pub size_of_digits : List ℕ → Option ℕ
 size_of_digits ds = if is_some_byte ds && list_all is_digit ds then Some (min (number_from_digits 10 (map (λ b. b - 48) ds)) (10 ^ 18)) else None
 
+-- a size behind a `-`
 abbrev pub negative : Option ℕ → Option ℤ
 negative None = None
 negative (Some n) = Some (neg_ℤ (pos n))
 
+-- a size as a number from 0 on
 abbrev pub positive : Option ℕ → Option ℤ
 positive None = None
 positive (Some n) = Some (pos n)
@@ -54,9 +61,11 @@ abbrev pub number_of : List ℕ → Option ℤ
 number_of [] = None
 number_of (b ∷ bs) = if b == 45 then negative (size_of_digits bs) else positive (size_of_digits (b ∷ bs))
 
+-- a letter, or `_`
 abbrev pub is_letter : ℕ → Bool
 is_letter b = (nat_le 97 b && nat_le b 122) || (nat_le 65 b && nat_le b 90) || b == 95
 
+-- a byte of a name
 abbrev pub is_name_byte : ℕ → Bool
 is_name_byte b = is_letter b || is_digit b
 
