@@ -1,4 +1,5 @@
 """What the tools share: their words, files and standard streams, and one line for a bad file."""
+import argparse
 import importlib.machinery
 import importlib.util
 import os
@@ -80,20 +81,20 @@ def jobs(word):
     return int(word)
 
 
+class Words(argparse.ArgumentParser):
+    """The words of a tool; bad ones are told in one line, as all else that goes wrong."""
+
+    def error(self, message):
+        raise netpbm.Bad("%s; --help says more" % message)
+
+
 def options(words, flags, with_word):
     """Splits words into the others and what the options say; `with_word` take the word behind."""
-    said, others = {}, []
-    words = list(words)
-    while words:
-        word = words.pop(0)
-        if word in flags:
-            said[word] = True
-        elif word in with_word:
-            if not words:
-                raise netpbm.Bad("%s wants a word behind it" % word)
-            said[word] = words.pop(0)
-        elif word.startswith("-") and word != "-":
-            raise netpbm.Bad("%s is no option; --help says more" % word)
-        else:
-            others.append(word)
-    return others, said
+    parser = Words(add_help=False, allow_abbrev=False, argument_default=argparse.SUPPRESS)
+    for flag in flags:
+        parser.add_argument(flag, dest=flag, action="store_true")
+    for option in with_word:
+        parser.add_argument(option, dest=option, metavar="WORD")
+    parser.add_argument("others", nargs="*")
+    said = vars(parser.parse_intermixed_args(list(words)))
+    return said.pop("others", []), said

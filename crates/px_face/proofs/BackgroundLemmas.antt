@@ -159,7 +159,7 @@ module _ (surfaces : ScenesHaveSurfaces) (scene : SceneView) (lawful : IsLawfulS
   before_first (suc z) r = r.none_before z (omega arith)
 
   -- the first cell shows a face
-  begins : (z : ℕ) → IsFirst test far z → 0 < length (scene_cell scene x y z).shown
+  pub begins : (z : ℕ) → IsFirst test far z → 0 < length (scene_cell scene x y z).shown
   begins z r = (surfaces scene lawful x y z r.below).first (before_first z r) r.passes
 
   face_below : (found : Option ℕ) → IsFirstOf test far found → (sight_at scene x y found).face ≤ faces_of scene.solids

@@ -7,5 +7,6 @@ pub mod ParityLaws
 pub mod ParityLemmas
 pub mod PlaceLemmas
 pub mod RangeLemmas
+pub mod SeenLemmas
 pub mod SurfaceLemmas
 pub mod WholeLemmas

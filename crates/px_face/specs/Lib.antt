@@ -6,5 +6,6 @@ pub mod EdgeLaws
 pub mod Edges
 pub mod Faces
 pub mod Orders
+pub mod Seen
 pub mod Surfaces
 pub mod WholeLaws

@@ -1,4 +1,5 @@
 //! Where solids and scenes begin and end along a ray, and where a picture has its background.
+ghost use Rattle.px_face.specs.Seen.{PicturesShowFirstCells};
 ghost use Rattle.px_face.specs.Surfaces.{
   FirstCellsAreFirst,
   NoMemberBehind,
@@ -12,7 +13,8 @@ use px_expr::{member_law, surface_law};
 
 /// Where a solid or a scene begins along a ray it shows a face, and just behind its end, before the
 /// far limit, it hides one (docs/PICTURE.md, "What a pixel shows"). A pixel shows face 0, and the
-/// far limit's depth, exactly where no cell of it is a member.
+/// far limit's depth, exactly where no cell of it is a member; else its first cell that is one, and the
+/// lowest-numbered face shown there.
 pub fn laws_of_surfaces()
     ensures solids { SolidsHaveSurfaces }
     ensures scenes { ScenesHaveSurfaces }
@@ -20,6 +22,7 @@ pub fn laws_of_surfaces()
     ensures first { FirstCellsAreFirst }
     ensures faces { PicturesShowFaces }
     ensures background { PicturesShowBackground }
+    ensures seen { PicturesShowFirstCells }
 {
     surface_law();
     member_law();

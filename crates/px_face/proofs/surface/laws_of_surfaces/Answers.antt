@@ -1,5 +1,6 @@
 use Rattle.px_face.proofs.SurfaceLemmas.{none_behind, scene_surface, solid_surface}
 use Rattle.px_face.proofs.BackgroundLemmas.{first_cells, shows_background, shows_faces}
+use Rattle.px_face.proofs.SeenLemmas.{shows_first_cells}
 use Rattle.px_face.proofs.surface.laws_of_surfaces.Goals as goal
 
 pub returns-clause-solids : goal.returns-clause-solids
@@ -19,3 +20,6 @@ returns-clause-faces c = shows_faces (scene_surface c.surface_law.ensures c.memb
 
 pub returns-clause-background : goal.returns-clause-background
 returns-clause-background c = shows_background (scene_surface c.surface_law.ensures c.member_law.ensures)
+
+pub returns-clause-seen : goal.returns-clause-seen
+returns-clause-seen c = shows_first_cells (scene_surface c.surface_law.ensures c.member_law.ensures)

@@ -1,0 +1,83 @@
+-- What `render` is to write for a text, from what a run is to answer.
+use Rattle.std.proofs.Common.{ℕ, ◌≡◌, ◌++◌, List, [], ◌∷◌, Bool, true, false, Option, Some, None, refl, ap, length, pos, ◌+◌}
+use Rattle.std.proofs.Common.{append-nil, nat_lt, if◌then◌else◌}
+use Rattle.px_model.specs.Scenes.{SceneView}
+use Rattle.px_model.specs.Cells.{picture}
+use Rattle.px_control.specs.declared.fault.JobFault.{JobFault}
+use Rattle.px_control.specs.declared.fault.JobFault.TheVariants as f
+use Rattle.px_deliver.specs.Refusals.{job_refusal, too_many_of}
+use Rattle.px_face.specs.Seen.{PicturesShowFirstCells}
+use Rattle.px_frame.specs.Picture.{depth_image, face_image}
+use Rattle.px_prune.specs.Kept.{crowd_of}
+use Rattle.px_scene.specs.Text.{worded}
+use Rattle.px_scene.specs.Reading.{first_bad, refusal_of, refused, scene_of}
+use Rattle.px_scene.specs.AcceptedLaw.{AcceptedIsLawful}
+use Rattle.px_sched.specs.Layouts.{layout_of, need_of}
+use Rattle.px_show.specs.declared.fault.SceneFault.{SceneFault}
+use Rattle.px_show.specs.declared.fault.SceneFault.TheVariants as s
+use Rattle.px_draw.specs.Outcomes.{Outcome, done, drawable, refused_past, unless_refused}
+use Rattle.px_draw.specs.Outcomes as o
+use Rattle.px_draw.specs.Refusals.{refusal_by, short_of_bits, too_many}
+use Rattle.px_draw.specs.RenderLaw.{AcceptedIsRendered, AreMapsOf, RenderedIsAccepted}
+
+abbrev maps_of : SceneView → List ℕ
+maps_of scene = depth_image scene ++ (face_image scene ++ [])
+
+-- where the array can draw the scene, its outcome comes
+drawn : (bits : ℕ) (scene : SceneView) (o : Outcome) → job_refusal bits scene ≡ None → drawable bits scene o ≡ o
+drawn bits scene o = by_bits (nat_lt bits (need_of (layout_of scene))) (need_of (layout_of scene)) (crowd_of scene) o where
+  by_bits : (short : Bool) (need : ℕ) (crowd : Option ℕ) (o : Outcome)
+      → (if short then Some (f.PixelMemory need) else too_many_of crowd) ≡ None
+      → (if short then o.refused (short_of_bits need) else refused_past crowd o) ≡ o
+  by_bits true need crowd o e = absurd cc
+  by_bits false need None o e = refl
+  by_bits false need (Some n) o e = absurd cc
+
+-- and where it comes whole, the array can
+drawn_back : (bits : ℕ) (scene : SceneView) (maps rest : List ℕ) → drawable bits scene (done maps) ≡ done rest
+    → job_refusal bits scene ≡ None
+drawn_back bits scene maps rest =
+    by_bits (nat_lt bits (need_of (layout_of scene))) (need_of (layout_of scene)) (crowd_of scene) where
+  by_bits : (short : Bool) (need : ℕ) (crowd : Option ℕ)
+      → (if short then o.refused (short_of_bits need) else refused_past crowd (done maps)) ≡ done rest
+      → (if short then Some (f.PixelMemory need) else too_many_of crowd) ≡ None
+  by_bits true need crowd e = absurd cc
+  by_bits false need None e = refl
+  by_bits false need (Some n) e = absurd cc
+
+pub accepted_is_rendered : AcceptedIsLawful → PicturesShowFirstCells → AcceptedIsRendered
+accepted_is_rendered lawful seen text bits good fits =
+    let scene = scene_of (worded text) in
+    (maps_of scene, rw good (drawn bits scene (done (maps_of scene)) fits), record {
+      sights = picture scene;
+      written = ap (λ more. depth_image scene ++ more) (append-nil (face_image scene));
+      shown = λ x y. seen scene (lawful text good).scene_is x y;
+    })
+
+-- a text is never refused for want of memory
+never_memory : (text : List ℕ) → refusal_of text ≡ Some s.Memory → ⊥
+never_memory text = by_length (nat_lt MAX_TEXT_BYTES (length text)) where
+  by_fault : (bad : Option (ℕ × LineFault)) (ended : Bool) (count : ℕ) → refused bad ended count ≡ Some s.Memory → ⊥
+  by_fault (Some (line, l.Malformed cause)) ended count e = absurd cc
+  by_fault (Some (line, l.Limit kind found)) ended count e = absurd cc
+  by_fault None true count e = absurd cc
+  by_fault None false count e = absurd cc
+
+  by_length : (long : Bool)
+      → (if long then Some (s.Limit 0 kind.Text (pos (MAX_TEXT_BYTES + 1)))
+      else refused (first_bad [] (worded text)) (is_nothing (due_behind (worded text))) (length (lines_of text))) ≡ Some s.Memory → ⊥
+  by_length true e = absurd cc
+  by_length false e = by_fault (first_bad [] (worded text)) (is_nothing (due_behind (worded text))) (length (lines_of text)) e
+
+pub rendered_is_accepted : RenderedIsAccepted
+rendered_is_accepted text bits maps e = by_refusal (refusal_of text) refl e where
+  scene : SceneView
+  scene = scene_of (worded text)
+
+  by_refusal : (why : Option SceneFault) → refusal_of text ≡ why
+      → unless_refused (refusal_by why) (drawable bits scene (done (maps_of scene))) ≡ done maps
+      → (refusal_of text ≡ None) × (job_refusal bits scene ≡ None)
+  by_refusal None same out = (same, drawn_back bits scene (maps_of scene) maps out)
+  by_refusal (Some (s.Malformed line cause)) same out = absurd cc
+  by_refusal (Some (s.Limit line kind found)) same out = absurd cc
+  by_refusal (Some s.Memory) same out = absurd (never_memory text same)
