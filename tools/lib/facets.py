@@ -4,13 +4,12 @@ out of the solid, and its distance from the origin. Points are as exact as six d
 them, which is what OpenSCAD does."""
 import math
 
+import limits
 from netpbm import Bad
 
 SIX_DIGITS = 5e-6
 NEAR = 6
 SLIM = 0.02
-MOST_PLANES = 4095
-MOST_PARTS = 255
 TRIED = 24
 JUDGES = 60
 MOST_EFFORT = 1000000
@@ -113,8 +112,8 @@ def planes(points, facets, numbers=None):
         if min(rooms) < -give:
             raise Bad("is not convex: a point is %.2g before its facet %s" % (-min(rooms), number))
         found.add(number, (normal, far))
-        if len(found.planes) > MOST_PLANES:
-            raise Bad("has more than %d planes" % MOST_PLANES)
+        if len(found.planes) > limits.MAX_FACES:
+            raise Bad("has more than %d planes" % limits.MAX_FACES)
     if len(found.planes) < 4:
         raise Bad("has fewer than four planes")
     by_number = [plane for _, plane in sorted(found.planes)]
@@ -251,8 +250,8 @@ def cells(points, facets):
         else:
             cell = bounded(path + [plane], near)
             out += [cell] if cell else []
-        if len(out) > MOST_PARTS:
-            raise Bad("is not convex, and has more than %d convex parts" % MOST_PARTS)
+        if len(out) > limits.MAX_SOLIDS:
+            raise Bad("is not convex, and has more than %d convex parts" % limits.MAX_SOLIDS)
     return out
 
 

@@ -3,14 +3,13 @@ line: the word, what was due there, the limit, the cure. What `explain` and `com
 import difflib
 import re
 
-TEXT_LIMIT = 1048576
+import limits
+
 NAME = re.compile(rb"[A-Za-z_][A-Za-z0-9_]{0,31}\Z")
 NUMBER = re.compile(rb"-?[0-9]+\Z")
 WORD = re.compile(rb"[^ \t\r]+")
 TOKEN = re.compile(rb"[A-Za-z0-9_]+|[^ \t\r]")
-LEAVES, NESTING, SOLIDS, OF_A_KIND, FACES = 512, 64, 255, 32, 4095
-BITS, PRODUCTS = 72, 1024
-A_AND_B, ONLY_C = 8388608, 8589934592
+BITS = 72
 KINDS = (b"front", b"back", b"side")
 FORMS = {b"picture": ["picture WIDTH HEIGHT"], b"depth": ["depth W"],
          b"solid": ["solid NAME R G B"], b"front": ["front A B C", "front A B C R G B"],
@@ -18,8 +17,8 @@ FORMS = {b"picture": ["picture WIDTH HEIGHT"], b"depth": ["depth W"],
          b"show": ["show EXPRESSION"], b"end": ["end"]}
 DUE = {1: [], 2: [b"picture"], 3: [b"depth"], 4: [b"solid", b"show"],
        5: [b"front", b"back", b"side", b"solid", b"show"], 6: [b"end"], 7: []}
-RANGES = {"picture": "width and height are from 1 to 512",
-          "depth": "the bits of a depth are from 1 to 24",
+RANGES = {"picture": "width and height are from 1 to %d" % limits.MAX_PICTURE_SIZE,
+          "depth": "the bits of a depth are from 1 to %d" % limits.MAX_DEPTH_BITS,
           "colour": "red, green and blue are from 0 to 255"}
 
 
@@ -207,15 +206,15 @@ class Reader:
 
     def take_picture(self, first, words, numbers):
         for number in numbers:
-            self.within("picture", number, 1, 512, "draw a smaller picture, or parts of it")
+            self.within("picture", number, 1, limits.MAX_PICTURE_SIZE, "draw a smaller picture, or parts of it")
         self.scene.width, self.scene.height = (found for found, _ in numbers)
         self.step = 3
 
     def take_depth(self, first, words, numbers):
-        self.within("depth", numbers[0], 1, 24, "24 bits give depths to 16777214")
+        self.within("depth", numbers[0], 1, limits.MAX_DEPTH_BITS, "24 bits give depths to 16777214")
         depth_bits = numbers[0][0]
         if len(numbers) == 2:
-            most = min(8, 24 - depth_bits)
+            most = min(limits.MAX_FRACTION_BITS, limits.MAX_DEPTH_BITS - depth_bits)
             self.within("fraction", numbers[1], 0, most, "take fewer bits for one of the two",
                         "fraction bits are from 0 to 8, and both together at most 24: "
                         "%d is the most here" % most)
@@ -228,8 +227,8 @@ class Reader:
         self.numbered += 1
         name, span = words[1]
         solids = len(self.scene.solids) + 1
-        if solids > SOLIDS:
-            raise self.over("solids", solids, span, "a scene has at most %d solids" % SOLIDS,
+        if solids > limits.MAX_SOLIDS:
+            raise self.over("solids", solids, span, "a scene has at most %d solids" % limits.MAX_SOLIDS,
                             "draw the scene in parts, and keep the nearer depths")
         self.count_faces(words[0][1])
         self.names[name] = len(self.scene.solids)
@@ -242,23 +241,23 @@ class Reader:
         return tuple(found for found, _ in numbers)
 
     def count_faces(self, span):
-        if self.numbered > FACES:
+        if self.numbered > limits.MAX_FACES:
             raise self.over("faces", self.numbered, span, "a scene has at most %d faces: the near "
-                            "face of each solid, its fronts and its backs" % FACES,
+                            "face of each solid, its fronts and its backs" % limits.MAX_FACES,
                             "leave out planes that never show")
 
     def plane(self, first, words, numbers):
         for place, number in zip("ABC", numbers[:3]):
-            most = ONLY_C if place == "C" else A_AND_B
+            most = limits.MAX_CONSTANT if place == "C" else limits.MAX_SLOPE
             self.within("coefficient", number, -most, most,
                         "scale the planes down; with fewer bits of depth all three get smaller",
                         "%s of a plane is from -%d to %d" % (place, most, most))
         colour = self.colour(numbers[3:]) or self.scene.solids[-1].colour
         kind = text_of(first) + "s"
         of_kind = getattr(self.scene.solids[-1], kind)
-        if len(of_kind) + 1 > OF_A_KIND:
+        if len(of_kind) + 1 > limits.MAX_PLANES_OF_A_KIND:
             raise self.over(kind, len(of_kind) + 1, words[0][1], "a solid has at most %d %s"
-                            % (OF_A_KIND, kind), "make two solids of it, and show (ONE * OTHER)")
+                            % (limits.MAX_PLANES_OF_A_KIND, kind), "make two solids of it, and show (ONE * OTHER)")
         self.numbered += first != b"side"
         if first != b"side":
             self.count_faces(words[0][1])
@@ -282,11 +281,11 @@ class Reader:
                     ("write %s, or " % close[0] if close else "") + "add a line solid %s R G B"
                     % text_of(name))
         whole = (tokens[0][1][0], tokens[-1][1][1])
-        if len(leaves) > LEAVES:
+        if len(leaves) > limits.MAX_LEAVES:
             raise self.over("leaves", len(leaves), whole, "an expression has at most %d names"
-                            % LEAVES, "make convex parts one solid, with more planes")
-        if nesting > NESTING:
-            raise self.over("nesting", nesting, whole, "brackets nest at most %d deep" % NESTING,
+                            % limits.MAX_LEAVES, "make convex parts one solid, with more planes")
+        if nesting > limits.MAX_NESTING:
+            raise self.over("nesting", nesting, whole, "brackets nest at most %d deep" % limits.MAX_NESTING,
                             "join halves: ((a + b) + (c + d)) in place of (((a + b) + c) + d)")
         self.scene.show = [self.names.get(token, text_of(token)) for token, _ in nodes]
         self.step = 6
@@ -346,9 +345,9 @@ class Reader:
 
 def read(text):
     """The scene of a text; `Refusal` for its first bad line. The count of products is not taken."""
-    if len(text) > TEXT_LIMIT:
-        raise Refusal("limit line 0: text %d" % (TEXT_LIMIT + 1), None, None,
-                      "a text has at most %d bytes" % TEXT_LIMIT, "leave out comments and blanks")
+    if len(text) > limits.MAX_TEXT_BYTES:
+        raise Refusal("limit line 0: text %d" % (limits.MAX_TEXT_BYTES + 1), None, None,
+                      "a text has at most %d bytes" % limits.MAX_TEXT_BYTES, "leave out comments and blanks")
     reader = Reader()
     lines = cut_lines(text)
     for raw in lines:

@@ -2,10 +2,10 @@
 It is no tool itself."""
 import re
 
+import limits
 import netpbm
 import program
 
-TEXT_LIMIT = 1048576
 LONGEST = 255
 KEPT = 32
 WORDS = re.compile(rb"[^ \t\r]+")
@@ -60,8 +60,8 @@ class Answers:
 def held(built, scene, commands):
     """The answers of a session to its commands, each a list of lines; of those behind a `quit` none."""
     text = scene + b"".join(command + b"\n" for command in commands)
-    if len(text) > TEXT_LIMIT:
-        raise netpbm.Bad("this takes more command lines than a text of %d bytes has" % TEXT_LIMIT)
+    if len(text) > limits.MAX_TEXT_BYTES:
+        raise netpbm.Bad("this takes more command lines than a text of %d bytes has" % limits.MAX_TEXT_BYTES)
     status, output, note = program.answer(built, ["debug"], text)
     if status != 0:
         raise netpbm.Bad(note or "the program ends with status %d" % status)

@@ -12,6 +12,7 @@ import csg
 import cures
 import ends
 import lessons
+import limits
 import looks
 import micros
 import mesh_files
@@ -262,8 +263,8 @@ class Studio:
     def save(self, asked, text):
         if self.path is None:
             raise netpbm.Bad("no scene was named when the studio was started")
-        if len(text) > scenes.TEXT_LIMIT:
-            raise netpbm.Bad("a text has at most %d bytes" % scenes.TEXT_LIMIT)
+        if len(text) > limits.MAX_TEXT_BYTES:
+            raise netpbm.Bad("a text has at most %d bytes" % limits.MAX_TEXT_BYTES)
         with open(self.path, "wb") as file:
             file.write(text)
         return {"saved": os.path.basename(self.path)}, []

@@ -2,8 +2,8 @@
 keeps its values where the pixels are the same (docs/PICTURE.md, "Refinement" and "Tiles")."""
 import copy
 
+import limits
 import rays
-import scenes
 
 
 def expression(scene):
@@ -45,7 +45,7 @@ def within(number, most):
 def coarser(scene, factor):
     """The scene with the pixels alone whose column and row are multiples of the factor; a slope that
     is past a scene's limits ends there."""
-    most = scenes.A_AND_B
+    most = limits.MAX_SLOPE
     return changed(scene, -(-scene.width // factor), -(-scene.height // factor),
                    lambda a, b, c: (within(factor * a, most), within(factor * b, most), c))
 
