@@ -4,6 +4,7 @@
 mod draft;
 mod judge;
 mod keyword;
+mod kind;
 mod law;
 mod limit;
 mod line;
@@ -14,7 +15,6 @@ mod passes;
 mod piece;
 mod playing;
 mod read;
-mod reading;
 mod write;
 
 pub use law::laws_of_listings;
