@@ -91,17 +91,7 @@ grid_said k.Grid (nx ∷ ny ∷ []) g good grid =
     (first, second)
 grid_said k.Grid (nx ∷ ny ∷ z ∷ zs) g good grid = grid
 grid_said k.Pxlist zs g good grid = grid
-grid_said k.All zs g good grid = grid
-grid_said k.KeepSign zs g good grid = grid
-grid_said k.KeepBit zs g good grid = grid
-grid_said k.LoadLinear zs g good grid = grid
-grid_said k.KeepAtMost zs g good grid = grid
-grid_said k.AddLinear zs g good grid = grid
-grid_said k.LoadConst zs g good grid = grid
-grid_said k.SetBit zs g good grid = grid
-grid_said k.Toggle zs g good grid = grid
-grid_said k.Copy zs g good grid = grid
-grid_said k.KeepLess zs g good grid = grid
+grid_said (k.Operation kind) zs g good grid = grid
 grid_said k.End zs g good grid = grid
 grid_said k.Other zs g good grid = grid
 

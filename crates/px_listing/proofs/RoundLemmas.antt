@@ -1,21 +1,36 @@
 -- What is read of the canonical text of a listing.
-use Rattle.std.proofs.Common.{◌≡◌, ℕ, ℤ, pos, ◌+◌, ◌-◌, ◌^◌, ◌<◌, ◌≤◌, ◌≤ℤ◌, ◌∷◌, Bool}
-use Rattle.std.proofs.Common.{true, false, Some, None, map}
+use Rattle.std.proofs.Common.{◌≡◌, ℕ, ℤ, pos, ◌+◌, ◌-◌, ◌^◌, ◌<◌, ◌≤◌, ◌≤ℤ◌, List, [], ◌∷◌, Bool, ◌==◌}
+use Rattle.std.proofs.Common.{true, false, Some, None, map, length, if◌then◌else◌, ◌∙◌}
 use Rattle.std.proofs.Common.{inl, inr, ◌⊎◌, refl, ap, arith}
 use Rattle.std.proofs.Math.Pow.{pow_mono}
 use Rattle.std.proofs.lemmas.Int.{ints}
+use Rattle.std.proofs.lemmas.List.{length-map}
+use Rattle.std.specs.Bool.{⊤}
 use Rattle.std.specs.Fmt.{signed_decimal}
-use Rattle.px_macro.specs.Macros.{IsLawful}
+use Rattle.px_macro.specs.Macros.{IsField, IsLawful}
+use Rattle.px_macro.specs.declared.field.Field.{Field}
 use Rattle.px_macro.specs.declared.operation.Macro.{Macro}
 use Rattle.px_macro.specs.declared.operation.Macro.TheVariants as m
-use Rattle.px_num.specs.Forms.{IsWithin}
+use Rattle.px_num.specs.Forms.{IsInTreeRange, IsWithin}
+use Rattle.px_num.specs.declared.linear.Linear.{Linear}
+use Rattle.px_num.proofs.TruthLaws.{same_true}
+use Rattle.px_scene.specs.Lines.{are_numbers, numbers_of}
+use Rattle.px_show.specs.declared.fault.Cause.TheVariants as c
 use Rattle.px_text.specs.Text.{Words, number_of}
 use Rattle.px_text.specs.Written.{are_plain, is_plain}
 use Rattle.px_text.proofs.LineLaws.{small_size}
-use Rattle.px_listing.specs.Limits.{end_past, field_past, form_past, overlap, past}
-use Rattle.px_listing.specs.Operations.{bit_number, is_set, operands_of, word_of}
-use Rattle.px_listing.specs.Reading.{due_behind_line, fault_of, grid_in}
-use Rattle.px_listing.specs.Reading.{operation_in}
+use Rattle.px_listing.specs.Keywords.{due_after, is_due, keyword_of}
+use Rattle.px_listing.specs.Kinds.{kind_of, number_count, shape_of, word_of}
+use Rattle.px_listing.specs.Limits.{end_past, field_past, form_past, limit_of, overlap, past, shape_past}
+use Rattle.px_listing.specs.Lines.{form_of}
+use Rattle.px_listing.specs.Operations.{bit_number, is_set, operands_of, operation_of, operation_with}
+use Rattle.px_listing.specs.Reading.{due_behind_line, exponents_of, fault_of, grid_in, line_judged, operation_in}
+use Rattle.px_listing.specs.declared.keyword.Keyword.{Keyword}
+use Rattle.px_listing.specs.declared.keyword.Keyword.TheVariants as k
+use Rattle.px_listing.specs.declared.kind.Kind.{Kind}
+use Rattle.px_listing.specs.declared.kind.Kind.TheVariants as n
+use Rattle.px_listing.specs.declared.kind.Shape.{Shape}
+use Rattle.px_listing.specs.declared.kind.Shape.TheVariants as s
 use Rattle.px_listing.specs.declared.keyword.Due.TheVariants as d
 use Rattle.px_listing.specs.declared.limit.ListKind.{ListKind}
 use Rattle.px_listing.specs.declared.limit.ListKind.TheVariants as kind
@@ -69,7 +84,205 @@ apart_none at len to (inr behind) = grind (arith, ints)
 
 -- the words of an operation's line
 abbrev pub op_words : Macro → Words
-op_words op = word_of op ∷ map signed_decimal (operands_of op)
+op_words op = word_of (kind_of op) ∷ map signed_decimal (operands_of op)
+
+-- numbers of fewer than 19 digits
+abbrev AreShort : List ℤ → Type 0
+AreShort [] = ⊤
+AreShort (z ∷ zs) = (mag z < 10 ^ 18) × AreShort zs
+
+pub plain_number : NumbersAreRead → (z : ℤ) → mag z < 10 ^ 18 → is_plain (signed_decimal z) ≡ true
+plain_number law z few = number_plain (signed_decimal z) z (law z few)
+
+are_read : NumbersAreRead → (zs : List ℤ) → AreShort zs → numbers_of (map signed_decimal zs) ≡ zs
+are_read law [] short = refl
+are_read law (z ∷ zs) short = rw (law z short.0, are_read law zs short.1) refl
+
+are_numeric : NumbersAreRead → (zs : List ℤ) → AreShort zs → are_numbers (map signed_decimal zs) ≡ true
+are_numeric law [] short = refl
+are_numeric law (z ∷ zs) short = rw (law z short.0, are_numeric law zs short.1) refl
+
+plain_numbers : NumbersAreRead → (zs : List ℤ) → AreShort zs → are_plain (map signed_decimal zs) ≡ true
+plain_numbers law [] short = refl
+plain_numbers law (z ∷ zs) short = rw (plain_number law z short.0, plain_numbers law zs short.1) refl
+
+-- numbers that write a shape, within its limits
+record Fits (bits : ℕ) (shape : Shape) (zs : List ℤ) : Type 0 where
+  count : length zs ≡ number_count shape
+  short : AreShort zs
+  good : shape_past bits shape zs ≡ None
+
+module _ (bits : ℕ) (most : bits ≤ 256) where
+  form_fits : (form : Linear) → IsInTreeRange form → Fits bits s.Form (form.a ∷ form.b ∷ form.c ∷ [])
+  form_fits form range = record {
+    count = refl;
+    short = (
+      small_size (2 ^ 27) form.a (omega arith) range.a,
+      (
+        small_size (2 ^ 27) form.b (omega arith) range.b,
+        (
+          small_size (2 ^ 38) form.c (omega arith) range.c,
+          tt,
+        ),
+      ),
+    );
+    good = form_none form.a form.b form.c range.a range.b range.c;
+  }
+
+  place_fits : (at : ℕ) → at < bits → Fits bits s.Place (pos at ∷ [])
+  place_fits at within = record {
+    count = refl;
+    short = (small_place at (omega (arith, within, most)), tt);
+    good = end_none bits at 1 (omega (arith, within));
+  }
+
+  bit_fits : (at : ℕ) (v : Bool) → at < bits → Fits bits s.Bit (pos at ∷ bit_number v ∷ [])
+  bit_fits at v within = record {
+    count = refl;
+    short = (small_place at (omega (arith, within, most)), (bit_small v, tt));
+    good = rw (end_none bits at 1 (omega (arith, within)), bit_none v) refl;
+  }
+
+  linear_fits : (form : Linear) (f : Field) → IsInTreeRange form → IsField f bits
+      → Fits bits s.FormAndField (form.a ∷ form.b ∷ form.c ∷ pos f.at ∷ pos f.len ∷ [])
+  linear_fits form f range is = record {
+    count = refl;
+    short = (
+      small_size (2 ^ 27) form.a (omega arith) range.a,
+      (
+        small_size (2 ^ 27) form.b (omega arith) range.b,
+        (
+          small_size (2 ^ 38) form.c (omega arith) range.c,
+          (
+            small_place f.at (omega (arith, is.within, most)),
+            (
+              small_place f.len (omega (arith, is.to_forty)),
+              tt,
+            ),
+          ),
+        ),
+      ),
+    );
+    good = rw (form_none form.a form.b form.c range.a range.b range.c)
+        (field_none bits f.at f.len is.from_one is.to_forty is.within);
+  }
+
+  constant_fits : (f : Field) (number : ℕ) → IsField f bits → number < 2 ^ f.len
+      → Fits bits s.Constant (pos f.at ∷ pos f.len ∷ pos number ∷ [])
+  constant_fits f number is below =
+      let top : 2 ^ f.len ≤ 2 ^ 40 = pow_mono is.to_forty in
+      record {
+        count = refl;
+        short = (
+          small_place f.at (omega (arith, is.within, most)),
+          (
+            small_place f.len (omega (arith, is.to_forty)),
+            (
+              small_place number (omega (arith, below, top)),
+              tt,
+            ),
+          ),
+        );
+        good = rw (field_none bits f.at f.len is.from_one is.to_forty is.within)
+            (past_none kind.Value (pos 0) (pos (2 ^ f.len - 1)) (pos number) (omega (arith, ints))
+            (omega (arith, ints, below)));
+      }
+
+  fields_fit : (f g : Field) → IsField f bits → IsField g bits → f.len ≡ g.len
+      → Fits bits s.Fields (pos f.at ∷ pos f.len ∷ pos g.at ∷ [])
+  fields_fit f g first second same = record {
+    count = refl;
+    short = (
+      small_place f.at (omega (arith, first.within, most)),
+      (
+        small_place f.len (omega (arith, first.to_forty)),
+        (
+          small_place g.at (omega (arith, second.within, most)),
+          tt,
+        ),
+      ),
+    );
+    good = rw (
+      field_none bits f.at f.len first.from_one first.to_forty first.within,
+      end_none bits g.at f.len (omega (arith, second.within, same)),
+    ) refl;
+  }
+
+  apart_fit : (f g : Field) → IsField f bits → IsField g bits → f.len ≡ g.len
+      → (f.at + f.len ≤ g.at) ⊎ (g.at + f.len ≤ f.at) → Fits bits s.FieldsApart (pos f.at ∷ pos f.len ∷ pos g.at ∷ [])
+  apart_fit f g first second same apart =
+      let both = fields_fit f g first second same in
+      record {
+        count = refl;
+        short = both.short;
+        good = rw (
+          field_none bits f.at f.len first.from_one first.to_forty first.within,
+          end_none bits g.at f.len (omega (arith, second.within, same)),
+        ) (apart_none f.at f.len g.at apart);
+      }
+
+  fits : (op : Macro) → IsLawful op bits → Fits bits (shape_of (kind_of op)) (operands_of op)
+  fits m.All lawful = record { count = refl; short = tt; good = refl }
+  fits (m.KeepSign form) lawful = form_fits form lawful
+  fits (m.KeepBit at v) lawful = bit_fits at v lawful
+  fits (m.SetBit at v) lawful = bit_fits at v lawful
+  fits (m.Toggle at) lawful = place_fits at lawful
+  fits (m.LoadLinear form f) lawful = linear_fits form f lawful.0 lawful.1
+  fits (m.KeepAtMost form f) lawful = linear_fits form f lawful.0 lawful.1
+  fits (m.AddLinear form f) lawful = linear_fits form f lawful.0 lawful.1
+  fits (m.LoadConst f number) lawful = constant_fits f number lawful.0 lawful.1
+  fits (m.Copy f g) lawful =
+      let apart : (f.at + f.len ≤ g.at) ⊎ (g.at + f.len ≤ f.at) = rw lawful.0.length (rw lawful.0.length at lawful.1) in
+      apart_fit f g lawful.0.fields.0 lawful.0.fields.1 lawful.0.length apart
+  fits (m.KeepLess f g) lawful = fields_fit f g lawful.fields.0 lawful.fields.1 lawful.length
+
+  -- the numbers of an operation write it
+  written : (op : Macro) → IsLawful op bits → operation_with (kind_of op) (operands_of op) ≡ Some op
+  written m.All lawful = refl
+  written (m.KeepSign form) lawful = refl
+  written (m.KeepBit at v) lawful = rw (bit_read v) refl
+  written (m.SetBit at v) lawful = rw (bit_read v) refl
+  written (m.Toggle at) lawful = refl
+  written (m.LoadLinear form f) lawful = refl
+  written (m.KeepAtMost form f) lawful = refl
+  written (m.AddLinear form f) lawful = refl
+  written (m.LoadConst f number) lawful = refl
+  written (m.Copy f g) lawful = ap (λ len. Some (m.Copy f (record { at = g.at; len = len }))) lawful.0.length
+  written (m.KeepLess f g) lawful = ap (λ len. Some (m.KeepLess f (record { at = g.at; len = len }))) lawful.length
+
+  good_line : (keyword : Keyword) (kind : Kind) (ws : Words) (zs : List ℤ) → keyword ≡ k.Operation kind
+      → (length ws == number_count (shape_of kind)) ≡ true → are_numbers ws ≡ true → numbers_of ws ≡ zs
+      → shape_past bits (shape_of kind) zs ≡ None
+      → line_judged (if is_due d.Operation keyword then form_of keyword ws else Some c.Unexpected)
+      (limit_of bits keyword (numbers_of ws)) ≡ None
+  good_line keyword kind ws zs is count numeric read good = rw (is, count, numeric, read) good
+
+-- the word of an operation is its own, and plain
+word_is : (kind : Kind) → keyword_of (word_of kind) ≡ k.Operation kind
+word_is n.All = refl
+word_is n.KeepSign = refl
+word_is n.KeepBit = refl
+word_is n.LoadLinear = refl
+word_is n.KeepAtMost = refl
+word_is n.AddLinear = refl
+word_is n.LoadConst = refl
+word_is n.SetBit = refl
+word_is n.Toggle = refl
+word_is n.Copy = refl
+word_is n.KeepLess = refl
+
+plain_word : (kind : Kind) → is_plain (word_of kind) ≡ true
+plain_word n.All = refl
+plain_word n.KeepSign = refl
+plain_word n.KeepBit = refl
+plain_word n.LoadLinear = refl
+plain_word n.KeepAtMost = refl
+plain_word n.AddLinear = refl
+plain_word n.LoadConst = refl
+plain_word n.SetBit = refl
+plain_word n.Toggle = refl
+plain_word n.Copy = refl
+plain_word n.KeepLess = refl
 
 -- a line of an operation that such pixels can carry out is good, and is read as it
 pub record IsRead (bits : ℕ) (op : Macro) : Type 0 where
@@ -77,221 +290,24 @@ pub record IsRead (bits : ℕ) (op : Macro) : Type 0 where
   pub due : due_behind_line (op_words op) ≡ Some d.Operation
   pub grid : grid_in (op_words op) ≡ None
   pub read : operation_in (op_words op) ≡ Some op
-  pub word : is_plain (word_of op) ≡ true
+  pub word : is_plain (word_of (kind_of op)) ≡ true
   pub plain : are_plain (map signed_decimal (operands_of op)) ≡ true
 
-pub plain_number : NumbersAreRead → (z : ℤ) → mag z < 10 ^ 18 → is_plain (signed_decimal z) ≡ true
-plain_number law z few = number_plain (signed_decimal z) z (law z few)
-
 pub op_read : NumbersAreRead → (bits : ℕ) → bits ≤ 256 → (op : Macro) → IsLawful op bits → IsRead bits op
-op_read law bits most m.All lawful =
-    record { good = refl; due = refl; grid = refl; read = refl; word = refl; plain = refl }
-op_read law bits most (m.KeepSign form) lawful =
-    let a = small_size (2 ^ 27) form.a (omega arith) lawful.a in
-    let b = small_size (2 ^ 27) form.b (omega arith) lawful.b in
-    let c = small_size (2 ^ 38) form.c (omega arith) lawful.c in
+op_read law bits most op lawful =
+    let kind = kind_of op in
+    let zs = operands_of op in
+    let ws = map signed_decimal zs in
+    let fit = fits bits most op lawful in
+    let is = word_is kind in
+    let read = are_read law zs fit.short in
+    let count = same_true (length ws) (number_count (shape_of kind)) (length-map zs signed_decimal ∙ fit.count) in
     record {
-      good = rw (law form.a a, law form.b b, law form.c c) (form_none form.a form.b form.c lawful.a lawful.b lawful.c);
-      due = refl;
-      grid = refl;
-      read = rw (law form.a a, law form.b b, law form.c c) refl;
-      word = refl;
-      plain = rw (plain_number law form.a a, plain_number law form.b b, plain_number law form.c c) refl;
-    }
-op_read law bits most (m.KeepBit at v) lawful =
-    let place = small_place at (omega (arith, lawful, most)) in
-    record {
-      good = rw (
-        law (pos at) place,
-        law (bit_number v) (bit_small v),
-        end_none bits at 1 (omega (arith, lawful)),
-        bit_none v,
-      ) refl;
-      due = refl;
-      grid = refl;
-      read = rw (law (pos at) place, law (bit_number v) (bit_small v), bit_read v) refl;
-      word = refl;
-      plain = rw (plain_number law (pos at) place, plain_number law (bit_number v) (bit_small v)) refl;
-    }
-op_read law bits most (m.SetBit at v) lawful =
-    let place = small_place at (omega (arith, lawful, most)) in
-    record {
-      good = rw (
-        law (pos at) place,
-        law (bit_number v) (bit_small v),
-        end_none bits at 1 (omega (arith, lawful)),
-        bit_none v,
-      ) refl;
-      due = refl;
-      grid = refl;
-      read = rw (law (pos at) place, law (bit_number v) (bit_small v), bit_read v) refl;
-      word = refl;
-      plain = rw (plain_number law (pos at) place, plain_number law (bit_number v) (bit_small v)) refl;
-    }
-op_read law bits most (m.Toggle at) lawful =
-    let place = small_place at (omega (arith, lawful, most)) in
-    record {
-      good = rw (law (pos at) place) (end_none bits at 1 (omega (arith, lawful)));
-      due = refl;
-      grid = refl;
-      read = rw (law (pos at) place) refl;
-      word = refl;
-      plain = rw (plain_number law (pos at) place) refl;
-    }
-op_read law bits most (m.LoadLinear form f) lawful =
-    let a = small_size (2 ^ 27) form.a (omega arith) lawful.0.a in
-    let b = small_size (2 ^ 27) form.b (omega arith) lawful.0.b in
-    let c = small_size (2 ^ 38) form.c (omega arith) lawful.0.c in
-    let at = small_place f.at (omega (arith, lawful.1.within, most)) in
-    let len = small_place f.len (omega (arith, lawful.1.to_forty)) in
-    record {
-      good = rw (
-        law form.a a,
-        law form.b b,
-        law form.c c,
-        law (pos f.at) at,
-        law (pos f.len) len,
-        form_none form.a form.b form.c lawful.0.a lawful.0.b lawful.0.c,
-      ) (field_none bits f.at f.len lawful.1.from_one lawful.1.to_forty lawful.1.within);
-      due = refl;
-      grid = refl;
-      read = rw (law form.a a, law form.b b, law form.c c, law (pos f.at) at, law (pos f.len) len) refl;
-      word = refl;
-      plain = rw (
-        plain_number law form.a a,
-        plain_number law form.b b,
-        plain_number law form.c c,
-        plain_number law (pos f.at) at,
-        plain_number law (pos f.len) len,
-      ) refl;
-    }
-op_read law bits most (m.KeepAtMost form f) lawful =
-    let a = small_size (2 ^ 27) form.a (omega arith) lawful.0.a in
-    let b = small_size (2 ^ 27) form.b (omega arith) lawful.0.b in
-    let c = small_size (2 ^ 38) form.c (omega arith) lawful.0.c in
-    let at = small_place f.at (omega (arith, lawful.1.within, most)) in
-    let len = small_place f.len (omega (arith, lawful.1.to_forty)) in
-    record {
-      good = rw (
-        law form.a a,
-        law form.b b,
-        law form.c c,
-        law (pos f.at) at,
-        law (pos f.len) len,
-        form_none form.a form.b form.c lawful.0.a lawful.0.b lawful.0.c,
-      ) (field_none bits f.at f.len lawful.1.from_one lawful.1.to_forty lawful.1.within);
-      due = refl;
-      grid = refl;
-      read = rw (law form.a a, law form.b b, law form.c c, law (pos f.at) at, law (pos f.len) len) refl;
-      word = refl;
-      plain = rw (
-        plain_number law form.a a,
-        plain_number law form.b b,
-        plain_number law form.c c,
-        plain_number law (pos f.at) at,
-        plain_number law (pos f.len) len,
-      ) refl;
-    }
-op_read law bits most (m.AddLinear form f) lawful =
-    let a = small_size (2 ^ 27) form.a (omega arith) lawful.0.a in
-    let b = small_size (2 ^ 27) form.b (omega arith) lawful.0.b in
-    let c = small_size (2 ^ 38) form.c (omega arith) lawful.0.c in
-    let at = small_place f.at (omega (arith, lawful.1.within, most)) in
-    let len = small_place f.len (omega (arith, lawful.1.to_forty)) in
-    record {
-      good = rw (
-        law form.a a,
-        law form.b b,
-        law form.c c,
-        law (pos f.at) at,
-        law (pos f.len) len,
-        form_none form.a form.b form.c lawful.0.a lawful.0.b lawful.0.c,
-      ) (field_none bits f.at f.len lawful.1.from_one lawful.1.to_forty lawful.1.within);
-      due = refl;
-      grid = refl;
-      read = rw (law form.a a, law form.b b, law form.c c, law (pos f.at) at, law (pos f.len) len) refl;
-      word = refl;
-      plain = rw (
-        plain_number law form.a a,
-        plain_number law form.b b,
-        plain_number law form.c c,
-        plain_number law (pos f.at) at,
-        plain_number law (pos f.len) len,
-      ) refl;
-    }
-op_read law bits most (m.LoadConst f c) lawful =
-    let at = small_place f.at (omega (arith, lawful.0.within, most)) in
-    let len = small_place f.len (omega (arith, lawful.0.to_forty)) in
-    let top : 2 ^ f.len ≤ 2 ^ 40 = pow_mono lawful.0.to_forty in
-    let value = small_place c (omega (arith, lawful.1, top)) in
-    record {
-      good = rw (
-        law (pos f.at) at,
-        law (pos f.len) len,
-        law (pos c) value,
-        field_none bits f.at f.len lawful.0.from_one lawful.0.to_forty lawful.0.within,
-      ) (past_none kind.Value (pos 0) (pos (2 ^ f.len - 1)) (pos c) (omega (arith, ints))
-          (omega (arith, ints, lawful.1)));
-      due = refl;
-      grid = refl;
-      read = rw (law (pos f.at) at, law (pos f.len) len, law (pos c) value) refl;
-      word = refl;
-      plain = rw (
-        plain_number law (pos f.at) at,
-        plain_number law (pos f.len) len,
-        plain_number law (pos c) value,
-      ) refl;
-    }
-op_read law bits most (m.Copy f g) lawful =
-    let first = lawful.0.fields.0 in
-    let second = lawful.0.fields.1 in
-    let at = small_place f.at (omega (arith, first.within, most)) in
-    let len = small_place f.len (omega (arith, first.to_forty)) in
-    let to = small_place g.at (omega (arith, second.within, most)) in
-    let within : g.at + f.len ≤ bits = omega (arith, second.within, lawful.0.length) in
-    let apart : (f.at + f.len ≤ g.at) ⊎ (g.at + f.len ≤ f.at) = rw lawful.0.length (rw lawful.0.length at lawful.1) in
-    record {
-      good = rw (
-        law (pos f.at) at,
-        law (pos f.len) len,
-        law (pos g.at) to,
-        field_none bits f.at f.len first.from_one first.to_forty first.within,
-        end_none bits g.at f.len within,
-      ) (apart_none f.at f.len g.at apart);
-      due = refl;
-      grid = refl;
-      read = rw (law (pos f.at) at, law (pos f.len) len, law (pos g.at) to)
-          (ap (λ n. Some (m.Copy f (record { at = g.at; len = n }))) lawful.0.length);
-      word = refl;
-      plain = rw (
-        plain_number law (pos f.at) at,
-        plain_number law (pos f.len) len,
-        plain_number law (pos g.at) to,
-      ) refl;
-    }
-op_read law bits most (m.KeepLess f g) lawful =
-    let first = lawful.fields.0 in
-    let second = lawful.fields.1 in
-    let at = small_place f.at (omega (arith, first.within, most)) in
-    let len = small_place f.len (omega (arith, first.to_forty)) in
-    let to = small_place g.at (omega (arith, second.within, most)) in
-    let within : g.at + f.len ≤ bits = omega (arith, second.within, lawful.length) in
-    record {
-      good = rw (
-        law (pos f.at) at,
-        law (pos f.len) len,
-        law (pos g.at) to,
-        field_none bits f.at f.len first.from_one first.to_forty first.within,
-        end_none bits g.at f.len within,
-      ) refl;
-      due = refl;
-      grid = refl;
-      read = rw (law (pos f.at) at, law (pos f.len) len, law (pos g.at) to)
-          (ap (λ n. Some (m.KeepLess f (record { at = g.at; len = n }))) lawful.length);
-      word = refl;
-      plain = rw (
-        plain_number law (pos f.at) at,
-        plain_number law (pos f.len) len,
-        plain_number law (pos g.at) to,
-      ) refl;
+      good = good_line bits most (keyword_of (word_of kind)) kind ws zs is count (are_numeric law zs fit.short) read fit.good;
+      due = ap (λ keyword. Some (due_after keyword)) is;
+      grid = ap (λ keyword. exponents_of keyword (numbers_of ws)) is;
+      read = ap (λ keyword. operation_of keyword (numbers_of ws)) is
+          ∙ (ap (operation_with kind) read ∙ written bits most op lawful);
+      word = plain_word kind;
+      plain = plain_numbers law zs fit.short;
     }

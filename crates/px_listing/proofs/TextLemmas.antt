@@ -13,7 +13,8 @@ use Rattle.px_text.specs.Written.{are_plain, fed, is_no_feed, is_plain, spaced}
 use Rattle.px_tree.specs.Nodes.{IsGrid}
 use Rattle.px_listing.specs.Lines.{number_line}
 use Rattle.px_listing.specs.Listings.{ListingView, canonical_text, end_line, header_line, macro_line}
-use Rattle.px_listing.specs.Operations.{operands_of, word_of}
+use Rattle.px_listing.specs.Kinds.{kind_of, word_of}
+use Rattle.px_listing.specs.Operations.{operands_of}
 use Rattle.px_listing.specs.Reading.{Exponents, at_line, due_behind, due_behind_line, fault_of, first_bad, grid_in}
 use Rattle.px_listing.specs.Reading.{last_or, least_grid, listing_of, operation_in}
 use Rattle.px_listing.specs.RoundTrip.{TextsAreReadBack}
@@ -85,7 +86,7 @@ fed_from law bits most [] lawful = refl
 fed_from law bits most (op ∷ ops) lawful =
     let is = op_read law bits most op (first_of bits op ops lawful) in
     rw (
-      line_fed (word_of op) (map signed_decimal (operands_of op)) is.word is.plain,
+      line_fed (word_of (kind_of op)) (map signed_decimal (operands_of op)) is.word is.plain,
       fed_from law bits most ops (rest_of bits op ops lawful),
     ) refl
 
@@ -95,7 +96,7 @@ read_from law words bits most [] lawful = ap (λ ws. ws ∷ []) (words (codes "e
 read_from law words bits most (op ∷ ops) lawful =
     let is = op_read law bits most op (first_of bits op ops lawful) in
     rw (
-      words (word_of op) (map signed_decimal (operands_of op)) is.word is.plain,
+      words (word_of (kind_of op)) (map signed_decimal (operands_of op)) is.word is.plain,
       read_from law words bits most ops (rest_of bits op ops lawful),
     ) refl
 

@@ -10,6 +10,7 @@ pub use Rattle.px_sched.specs.PassesLaw
 pub use Rattle.px_text.specs.Text
 pub mod Drafts
 pub mod Keywords
+pub mod Kinds
 pub mod Laws
 pub mod Limits
 pub mod Lines

@@ -3,6 +3,9 @@ use Rattle.std.specs.Prelude.{ℕ, ◌-◌, ◌^◌, ℤ, pos, ◌+ℤ◌, ◌-�
 use lib.Signed.{le_z}
 use Rattle.std.specs.Option.{option_or}
 use Rattle.px_scene.specs.Lines.{size_of}
+use Rattle.px_listing.specs.Kinds.{shape_of}
+use Rattle.px_listing.specs.declared.kind.Shape.{Shape}
+use Rattle.px_listing.specs.declared.kind.Shape.TheVariants as s
 use Rattle.px_listing.specs.declared.keyword.Keyword.{Keyword}
 use Rattle.px_listing.specs.declared.keyword.Keyword.TheVariants as k
 use Rattle.px_listing.specs.declared.limit.LineFault.{LineFault}
@@ -77,17 +80,19 @@ abbrev pub less_past : (bits : ℕ) → List ℤ → Option LineFault
 less_past bits (at ∷ len ∷ to ∷ []) = fields_past bits at len to
 less_past bits zs = None
 
+-- the first limit that the numbers of an operation pass
+abbrev pub shape_past : (bits : ℕ) → Shape → List ℤ → Option LineFault
+shape_past bits s.Nothing zs = None
+shape_past bits s.Form zs = sign_past zs
+shape_past bits s.Place zs = place_past bits zs
+shape_past bits s.Bit zs = bit_past bits zs
+shape_past bits s.FormAndField zs = linear_past bits zs
+shape_past bits s.Constant zs = const_past bits zs
+shape_past bits s.FieldsApart zs = copy_past bits zs
+shape_past bits s.Fields zs = less_past bits zs
+
 -- the first limit that a line of good form passes, in pixels of so many memory bits
 abbrev pub limit_of : (bits : ℕ) → Keyword → List ℤ → Option LineFault
 limit_of bits k.Grid zs = grid_past zs
-limit_of bits k.KeepSign zs = sign_past zs
-limit_of bits k.KeepBit zs = bit_past bits zs
-limit_of bits k.SetBit zs = bit_past bits zs
-limit_of bits k.Toggle zs = place_past bits zs
-limit_of bits k.LoadLinear zs = linear_past bits zs
-limit_of bits k.KeepAtMost zs = linear_past bits zs
-limit_of bits k.AddLinear zs = linear_past bits zs
-limit_of bits k.LoadConst zs = const_past bits zs
-limit_of bits k.Copy zs = copy_past bits zs
-limit_of bits k.KeepLess zs = less_past bits zs
+limit_of bits (k.Operation kind) zs = shape_past bits (shape_of kind) zs
 limit_of bits keyword zs = None

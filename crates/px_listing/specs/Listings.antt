@@ -6,7 +6,8 @@ use Rattle.px_macro.specs.declared.operation.Macro.{Macro}
 use Rattle.px_tree.specs.Nodes.{IsGrid}
 use Rattle.px_listing.specs.declared.listing.TheConstants.{MAX_OPERATIONS}
 use Rattle.px_listing.specs.Lines.{number_line}
-use Rattle.px_listing.specs.Operations.{operands_of, word_of}
+use Rattle.px_listing.specs.Kinds.{kind_of, word_of}
+use Rattle.px_listing.specs.Operations.{operands_of}
 
 -- a grid of 2^nx by 2^ny pixels, and the operations that are broadcast to them
 pub record ListingView : Type 0 where
@@ -22,7 +23,7 @@ pub record IsListing (l : ListingView) : Type 0 where
 
 -- the line of an operation
 abbrev pub macro_line : Macro → List ℕ
-macro_line m = number_line (word_of m) (operands_of m)
+macro_line m = number_line (word_of (kind_of m)) (operands_of m)
 
 unfoldable pub header_line : List ℕ
 header_line = codes "pxlist 1\n"

@@ -17,7 +17,7 @@ use crate::judge::{cause_of, numbers_of};
 use crate::keyword::{Due, Keyword, due_after, keyword_of};
 use crate::limit::{LineError, LineFault, limit_of};
 use crate::listing::Listing;
-use crate::of_numbers::operation_of;
+use crate::operation::operation_of;
 use px_macro::Macro;
 use px_num::Memory;
 use px_text::words_of;

@@ -3,22 +3,14 @@ ghost use Rattle.std.specs.Prelude.{◌≡◌, ◌≤◌};
 ghost use Rattle.px_text.specs.LentWords.{now_of};
 ghost use Rattle.px_listing.specs.Keywords.{operand_count, due_after, is_due, is_header, is_one, keyword_of};
 
+use crate::kind::Kind;
+
 /// What the first word of a line begins.
 #[derive(Clone, Copy, Debug, PartialEq, Eq)]
 pub(crate) enum Keyword {
     Pxlist,
     Grid,
-    All,
-    KeepSign,
-    KeepBit,
-    LoadLinear,
-    KeepAtMost,
-    AddLinear,
-    LoadConst,
-    SetBit,
-    Toggle,
-    Copy,
-    KeepLess,
+    Operation(Kind),
     End,
     Other,
 }
@@ -39,32 +31,10 @@ pub(crate) fn keyword_of(word: &[u8]) -> Keyword
         Keyword::Pxlist
     } else if word == b"grid".as_slice() {
         Keyword::Grid
-    } else if word == b"all".as_slice() {
-        Keyword::All
-    } else if word == b"keep-sign".as_slice() {
-        Keyword::KeepSign
-    } else if word == b"keep-bit".as_slice() {
-        Keyword::KeepBit
-    } else if word == b"load-linear".as_slice() {
-        Keyword::LoadLinear
-    } else if word == b"keep-at-most".as_slice() {
-        Keyword::KeepAtMost
-    } else if word == b"add-linear".as_slice() {
-        Keyword::AddLinear
-    } else if word == b"load-const".as_slice() {
-        Keyword::LoadConst
-    } else if word == b"set-bit".as_slice() {
-        Keyword::SetBit
-    } else if word == b"toggle".as_slice() {
-        Keyword::Toggle
-    } else if word == b"copy".as_slice() {
-        Keyword::Copy
-    } else if word == b"keep-less".as_slice() {
-        Keyword::KeepLess
     } else if word == b"end".as_slice() {
         Keyword::End
     } else {
-        Keyword::Other
+        Kind::named(word).map_or(Keyword::Other, Keyword::Operation)
     }
 }
 
@@ -73,20 +43,9 @@ pub(crate) fn due_after(keyword: Keyword) -> Due
 {
     match keyword {
         Keyword::Pxlist => Due::Grid,
+        Keyword::Grid | Keyword::Operation(_) => Due::Operation,
         Keyword::End => Due::Nothing,
         Keyword::Other => Due::Header,
-        Keyword::Grid
-        | Keyword::All
-        | Keyword::KeepSign
-        | Keyword::KeepBit
-        | Keyword::LoadLinear
-        | Keyword::KeepAtMost
-        | Keyword::AddLinear
-        | Keyword::LoadConst
-        | Keyword::SetBit
-        | Keyword::Toggle
-        | Keyword::Copy
-        | Keyword::KeepLess => Due::Operation,
     }
 }
 
@@ -96,19 +55,8 @@ pub(crate) fn is_due(due: Due, keyword: Keyword) -> bool
     match keyword {
         Keyword::Pxlist => due == Due::Header,
         Keyword::Grid => due == Due::Grid,
+        Keyword::Operation(_) | Keyword::End => due == Due::Operation,
         Keyword::Other => false,
-        Keyword::All
-        | Keyword::KeepSign
-        | Keyword::KeepBit
-        | Keyword::LoadLinear
-        | Keyword::KeepAtMost
-        | Keyword::AddLinear
-        | Keyword::LoadConst
-        | Keyword::SetBit
-        | Keyword::Toggle
-        | Keyword::Copy
-        | Keyword::KeepLess
-        | Keyword::End => due == Due::Operation,
     }
 }
 
@@ -118,11 +66,10 @@ pub(crate) fn count_of(keyword: Keyword) -> usize
     ensures few { result ≤ 5 }
 {
     match keyword {
-        Keyword::All | Keyword::End | Keyword::Other => 0,
-        Keyword::Pxlist | Keyword::Toggle => 1,
-        Keyword::Grid | Keyword::KeepBit | Keyword::SetBit => 2,
-        Keyword::KeepSign | Keyword::LoadConst | Keyword::Copy | Keyword::KeepLess => 3,
-        Keyword::LoadLinear | Keyword::KeepAtMost | Keyword::AddLinear => 5,
+        Keyword::Pxlist => 1,
+        Keyword::Grid => 2,
+        Keyword::Operation(kind) => kind.shape().count(),
+        Keyword::End | Keyword::Other => 0,
     }
 }
 

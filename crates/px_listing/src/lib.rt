@@ -4,6 +4,7 @@
 mod draft;
 mod judge;
 mod keyword;
+mod kind;
 mod law;
 mod limit;
 mod line;

@@ -19,11 +19,13 @@ ghost use Rattle.px_listing.specs.Limits.{
   overlap,
   past,
   place_past,
+  shape_past,
   sign_past,
   value_past,
 };
 
 use crate::keyword::Keyword;
+use crate::kind::Shape;
 use px_num::{Memory, power};
 use px_scene::Cause;
 
@@ -72,16 +74,25 @@ pub(crate) fn limit_of(bits: u32, keyword: Keyword, numbers: &[i64]) -> Option<L
 {
     match keyword {
         Keyword::Grid => grid_past(numbers),
-        Keyword::KeepSign => sign_past(numbers),
-        Keyword::KeepBit | Keyword::SetBit => bit_past(bits, numbers),
-        Keyword::Toggle => place_past(bits, numbers),
-        Keyword::LoadLinear | Keyword::KeepAtMost | Keyword::AddLinear => linear_past(
-            bits, numbers,
-        ),
-        Keyword::LoadConst => const_past(bits, numbers),
-        Keyword::Copy => copy_past(bits, numbers),
-        Keyword::KeepLess => less_past(bits, numbers),
-        Keyword::Pxlist | Keyword::All | Keyword::End | Keyword::Other => None,
+        Keyword::Operation(kind) => shape_past(bits, kind.shape(), numbers),
+        Keyword::Pxlist | Keyword::End | Keyword::Other => None,
+    }
+}
+
+fn shape_past(bits: u32, shape: Shape, numbers: &[i64]) -> Option<LineFault>
+    requires bits { bits ≤ 256 }
+    requires small { All (IsWithin (10 ^ 18)) numbers.now }
+    ensures { result ≡ shape_past bits shape numbers.now }
+{
+    match shape {
+        Shape::Nothing => None,
+        Shape::Form => sign_past(numbers),
+        Shape::Place => place_past(bits, numbers),
+        Shape::Bit => bit_past(bits, numbers),
+        Shape::FormAndField => linear_past(bits, numbers),
+        Shape::Constant => const_past(bits, numbers),
+        Shape::FieldsApart => copy_past(bits, numbers),
+        Shape::Fields => less_past(bits, numbers),
     }
 }
 

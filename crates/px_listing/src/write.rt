@@ -7,9 +7,10 @@ ghost use Rattle.px_listing.specs.Lines.{number_line};
 ghost use Rattle.px_listing.specs.Listings.{canonical_text, end_line, first_lines, grid_line, header_line, macro_line};
 ghost use Rattle.px_listing.specs.Pieces.{Puts};
 
+use crate::kind::Kind;
 use crate::line::{Line, line_of};
 use crate::listing::Listing;
-use crate::operation::{operands_of, word_of};
+use crate::operation::operands_of;
 use crate::piece::{Piece, flush, put};
 use px_io::{Failed, Sink};
 use px_macro::Macro;
@@ -80,5 +81,5 @@ pub(crate) fn macro_line(m: &Macro) -> Line
     requires lawful { IsLawful m.now 256 }
     ensures { result.bytes ≡ macro_line m.now }
 {
-    line_of(word_of(m), operands_of(m).as_slice())
+    line_of(Kind::of(m).word(), operands_of(m).as_slice())
 }

@@ -1,0 +1,78 @@
+-- The operations by their lines: the word of each, and what its numbers write. Clauses of public calls stand on it.
+use Rattle.std.specs.Prelude.{ℕ, List, Option, Some, None, codes, if◌then◌else◌}
+use Rattle.std.specs.Str.{bytes_eq}
+use Rattle.px_macro.specs.declared.operation.Macro.{Macro}
+use Rattle.px_macro.specs.declared.operation.Macro.TheVariants as m
+use Rattle.px_listing.specs.declared.kind.Kind.{Kind}
+use Rattle.px_listing.specs.declared.kind.Kind.TheVariants as k
+use Rattle.px_listing.specs.declared.kind.Shape.{Shape}
+use Rattle.px_listing.specs.declared.kind.Shape.TheVariants as s
+
+-- the word that its line begins with
+abbrev pub word_of : Kind → List ℕ
+word_of k.All = codes "all"
+word_of k.KeepSign = codes "keep-sign"
+word_of k.KeepBit = codes "keep-bit"
+word_of k.LoadLinear = codes "load-linear"
+word_of k.KeepAtMost = codes "keep-at-most"
+word_of k.AddLinear = codes "add-linear"
+word_of k.LoadConst = codes "load-const"
+word_of k.SetBit = codes "set-bit"
+word_of k.Toggle = codes "toggle"
+word_of k.Copy = codes "copy"
+word_of k.KeepLess = codes "keep-less"
+
+-- what its numbers write
+abbrev pub shape_of : Kind → Shape
+shape_of k.All = s.Nothing
+shape_of k.KeepSign = s.Form
+shape_of k.KeepBit = s.Bit
+shape_of k.LoadLinear = s.FormAndField
+shape_of k.KeepAtMost = s.FormAndField
+shape_of k.AddLinear = s.FormAndField
+shape_of k.LoadConst = s.Constant
+shape_of k.SetBit = s.Bit
+shape_of k.Toggle = s.Place
+shape_of k.Copy = s.FieldsApart
+shape_of k.KeepLess = s.Fields
+
+-- which one an operation is
+abbrev pub kind_of : Macro → Kind
+kind_of m.All = k.All
+kind_of (m.KeepSign form) = k.KeepSign
+kind_of (m.KeepBit at v) = k.KeepBit
+kind_of (m.LoadLinear form f) = k.LoadLinear
+kind_of (m.KeepAtMost form f) = k.KeepAtMost
+kind_of (m.AddLinear form f) = k.AddLinear
+kind_of (m.LoadConst f c) = k.LoadConst
+kind_of (m.SetBit at v) = k.SetBit
+kind_of (m.Toggle at) = k.Toggle
+kind_of (m.Copy f g) = k.Copy
+kind_of (m.KeepLess f g) = k.KeepLess
+
+-- the one whose line begins with a word
+abbrev pub kind_named : List ℕ → Option Kind
+kind_named w =
+    if bytes_eq w (word_of k.All) then Some k.All
+    else if bytes_eq w (word_of k.KeepSign) then Some k.KeepSign
+    else if bytes_eq w (word_of k.KeepBit) then Some k.KeepBit
+    else if bytes_eq w (word_of k.LoadLinear) then Some k.LoadLinear
+    else if bytes_eq w (word_of k.KeepAtMost) then Some k.KeepAtMost
+    else if bytes_eq w (word_of k.AddLinear) then Some k.AddLinear
+    else if bytes_eq w (word_of k.LoadConst) then Some k.LoadConst
+    else if bytes_eq w (word_of k.SetBit) then Some k.SetBit
+    else if bytes_eq w (word_of k.Toggle) then Some k.Toggle
+    else if bytes_eq w (word_of k.Copy) then Some k.Copy
+    else if bytes_eq w (word_of k.KeepLess) then Some k.KeepLess
+    else None
+
+-- how many numbers write it
+abbrev pub number_count : Shape → ℕ
+number_count s.Nothing = 0
+number_count s.Form = 3
+number_count s.Place = 1
+number_count s.Bit = 2
+number_count s.FormAndField = 5
+number_count s.Constant = 3
+number_count s.FieldsApart = 3
+number_count s.Fields = 3
