@@ -10,7 +10,6 @@ mod limit;
 mod line;
 mod listing;
 mod memory;
-mod of_numbers;
 mod operation;
 mod passes;
 mod piece;
