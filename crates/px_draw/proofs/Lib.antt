@@ -7,6 +7,7 @@ pub mod MeanLemmas
 pub mod OpenLemmas
 pub mod PartLemmas
 pub mod PlayLemmas
+pub mod RenderLemmas
 pub mod RunLemmas
 pub mod SampleLemmas
 pub mod ShadowLemmas

@@ -9,14 +9,18 @@ use Rattle.px_deliver.specs.Refusals.{job_refusal, too_many_of}
 use Rattle.px_face.specs.Seen.{PicturesShowFirstCells}
 use Rattle.px_frame.specs.Picture.{depth_image, face_image}
 use Rattle.px_prune.specs.Kept.{crowd_of}
-use Rattle.px_scene.specs.Text.{worded}
-use Rattle.px_scene.specs.Reading.{first_bad, refusal_of, refused, scene_of}
+use Rattle.px_text.specs.declared.text.TheConstants.{MAX_TEXT_BYTES}
+use Rattle.px_text.specs.Text.{lines_of, worded}
+use Rattle.px_scene.specs.Reading.{due_behind, first_bad, is_nothing, refusal_of, refused, scene_of}
 use Rattle.px_scene.specs.AcceptedLaw.{AcceptedIsLawful}
 use Rattle.px_sched.specs.Layouts.{layout_of, need_of}
+use Rattle.px_show.specs.declared.fault.LimitKind.TheVariants as kind
+use Rattle.px_show.specs.declared.fault.LineFault.{LineFault}
+use Rattle.px_show.specs.declared.fault.LineFault.TheVariants as l
 use Rattle.px_show.specs.declared.fault.SceneFault.{SceneFault}
 use Rattle.px_show.specs.declared.fault.SceneFault.TheVariants as s
 use Rattle.px_draw.specs.Outcomes.{Outcome, done, drawable, refused_past, unless_refused}
-use Rattle.px_draw.specs.Outcomes as o
+use Rattle.px_draw.specs.Outcomes as out
 use Rattle.px_draw.specs.Refusals.{refusal_by, short_of_bits, too_many}
 use Rattle.px_draw.specs.RenderLaw.{AcceptedIsRendered, AreMapsOf, RenderedIsAccepted}
 
@@ -24,14 +28,14 @@ abbrev maps_of : SceneView → List ℕ
 maps_of scene = depth_image scene ++ (face_image scene ++ [])
 
 -- where the array can draw the scene, its outcome comes
-drawn : (bits : ℕ) (scene : SceneView) (o : Outcome) → job_refusal bits scene ≡ None → drawable bits scene o ≡ o
-drawn bits scene o = by_bits (nat_lt bits (need_of (layout_of scene))) (need_of (layout_of scene)) (crowd_of scene) o where
-  by_bits : (short : Bool) (need : ℕ) (crowd : Option ℕ) (o : Outcome)
+drawn : (bits : ℕ) (scene : SceneView) (whole : Outcome) → job_refusal bits scene ≡ None → drawable bits scene whole ≡ whole
+drawn bits scene whole = by_bits (nat_lt bits (need_of (layout_of scene))) (need_of (layout_of scene)) (crowd_of scene) whole where
+  by_bits : (short : Bool) (need : ℕ) (crowd : Option ℕ) (whole : Outcome)
       → (if short then Some (f.PixelMemory need) else too_many_of crowd) ≡ None
-      → (if short then o.refused (short_of_bits need) else refused_past crowd o) ≡ o
-  by_bits true need crowd o e = absurd cc
-  by_bits false need None o e = refl
-  by_bits false need (Some n) o e = absurd cc
+      → (if short then out.refused (short_of_bits need) else refused_past crowd whole) ≡ whole
+  by_bits true need crowd whole e = absurd cc
+  by_bits false need None whole e = refl
+  by_bits false need (Some n) whole e = absurd cc
 
 -- and where it comes whole, the array can
 drawn_back : (bits : ℕ) (scene : SceneView) (maps rest : List ℕ) → drawable bits scene (done maps) ≡ done rest
@@ -39,7 +43,7 @@ drawn_back : (bits : ℕ) (scene : SceneView) (maps rest : List ℕ) → drawabl
 drawn_back bits scene maps rest =
     by_bits (nat_lt bits (need_of (layout_of scene))) (need_of (layout_of scene)) (crowd_of scene) where
   by_bits : (short : Bool) (need : ℕ) (crowd : Option ℕ)
-      → (if short then o.refused (short_of_bits need) else refused_past crowd (done maps)) ≡ done rest
+      → (if short then out.refused (short_of_bits need) else refused_past crowd (done maps)) ≡ done rest
       → (if short then Some (f.PixelMemory need) else too_many_of crowd) ≡ None
   by_bits true need crowd e = absurd cc
   by_bits false need None e = refl

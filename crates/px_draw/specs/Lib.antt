@@ -16,6 +16,7 @@ pub mod Notes
 pub mod Outcomes
 pub mod Refining
 pub mod Refusals
+pub mod RenderLaw
 pub mod Runs
 pub mod Samples
 pub mod Shadows

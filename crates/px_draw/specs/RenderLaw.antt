@@ -1,5 +1,5 @@
 -- The picture theorem: what `render` writes for a text. Clauses of public calls stand on it.
-use Rattle.std.specs.Prelude.{ℕ, ◌≡◌, ◌⊎◌, ◌×◌, ◌++◌, List, [], ◌∷◌, None, codes}
+use Rattle.std.specs.Prelude.{ℕ, ◌≡◌, ◌⊎◌, ◌++◌, List, [], ◌∷◌, None, codes}
 use Rattle.px_model.specs.Scenes.{SceneView}
 use Rattle.px_model.specs.Cells.{Sight}
 use Rattle.px_face.specs.Seen.{ShowsBackgroundAlone, ShowsFirstCell}
@@ -18,12 +18,12 @@ pub record AreMapsOf (scene : SceneView) (maps : List ℕ) : Type 0 where
       ++ image_of scene.width scene.height (λ x y. (sights x y).face)
   pub shown : (x y : ℕ) → ShowsFirstCell scene x y (sights x y) ⊎ ShowsBackgroundAlone scene x y (sights x y)
 
+-- it writes nothing for any other text
+abbrev pub RenderedIsAccepted : Type 0
+RenderedIsAccepted = (text : List ℕ) (bits : ℕ) (maps : List ℕ) → outcome (codes "render" ∷ []) text bits ≡ done maps →
+    (refusal_of text ≡ None) × (job_refusal bits (scene_of (worded text)) ≡ None)
+
 -- a text that is a scene, drawn with so many memory bits a pixel: `render` is to write the maps of its scene
 abbrev pub AcceptedIsRendered : Type 0
 AcceptedIsRendered = (text : List ℕ) (bits : ℕ) → refusal_of text ≡ None → job_refusal bits (scene_of (worded text)) ≡ None →
     (maps : List ℕ) × (outcome (codes "render" ∷ []) text bits ≡ done maps) × AreMapsOf (scene_of (worded text)) maps
-
--- and it writes nothing for any other
-abbrev pub RenderedIsAccepted : Type 0
-RenderedIsAccepted = (text : List ℕ) (bits : ℕ) (maps : List ℕ) → outcome (codes "render" ∷ []) text bits ≡ done maps →
-    (refusal_of text ≡ None) × (job_refusal bits (scene_of (worded text)) ≡ None)

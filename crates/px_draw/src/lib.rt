@@ -13,6 +13,7 @@ mod sample;
 mod shadow;
 mod status;
 mod stop;
+mod theorem;
 mod tile;
 
 pub use law::laws_of_listed_scenes;
@@ -20,3 +21,4 @@ pub use px_command::needs_wide_pixels;
 pub use px_deliver::deliver;
 pub use running::run;
 pub use status::Status;
+pub use theorem::law_of_render;

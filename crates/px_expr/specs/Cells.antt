@@ -98,6 +98,7 @@ abbrev pub cell : (ℕ → Cell) → Tree → Cell
 cell solid_at (leaf solid) = solid_at solid
 cell solid_at (join op left right) = combined op (cell solid_at left) (cell solid_at right)
 
+-- whether a face is one of some
 abbrev pub has_face : ℕ → List ℕ → Bool
 has_face face faces = list_any (λ other. other == face) faces
 
