@@ -1,5 +1,5 @@
 -- What a number that passes no limit is.
-use Rattle.std.proofs.Common.{◌≡◌, ℤ, ◌≤◌, ◌≤ℤ◌, None, arith}
+use Rattle.std.proofs.Common.{◌≡◌, ℤ, ◌≤ℤ◌, None, arith}
 use Rattle.std.proofs.lemmas.Int.{ints}
 use Rattle.px_listing.specs.Limits.{past}
 use Rattle.px_listing.specs.declared.limit.ListKind.{ListKind}

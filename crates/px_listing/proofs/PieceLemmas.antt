@@ -1,5 +1,5 @@
 -- What is put into pieces one after another.
-use Rattle.std.proofs.Common.{◌≡◌, ℕ, ◌+◌, ◌-◌, Bool, List, [], ◌++◌, Option, Some, None}
+use Rattle.std.proofs.Common.{◌≡◌, ℕ, Bool, List, [], ◌++◌, Option, Some, None}
 use Rattle.std.proofs.Common.{Result, Ok, Err, OnErr, OnOk, append_assoc, refl, sym, ap, ◌∙◌, arith}
 use Rattle.std.proofs.lemmas.List.{append-nil}
 use Rattle.px_io.specs.Told.{TakesAll, TakesFront}
