@@ -1,21 +1,28 @@
 -- The text of a scene's passes, played.
-use Rattle.std.proofs.Common.{ℕ, ◌≡◌, ◌≤◌, List, length, Bool, true, false, nat_lt, if◌then◌else◌, Option, Some}
-use Rattle.std.proofs.Common.{None, refl, ap, subst, ◌∙◌}
+use Rattle.std.proofs.Common.{ℕ, ◌≡◌, ◌≢◌, ◌≤◌, List, length, Bool, true, false, nat_lt, if◌then◌else◌, Option, Some}
+use Rattle.std.proofs.Common.{None, refl, ap, subst, sym, ◌∙◌, All, []}
+use Rattle.px_macro.specs.Macros.{IsLawful, IsLawfulInMore}
 use Rattle.px_num.proofs.TruthLaws.{lt_fails}
 use Rattle.px_text.specs.declared.text.TheConstants.{MAX_TEXT_BYTES}
 use Rattle.px_prune.specs.Kept.{crowd_of}
 use Rattle.px_scene.specs.Scenes.{SceneView}
 use Rattle.px_sched.specs.Layouts.{layout_of, need_of}
+use Rattle.px_sched.specs.PassesFacts.{PassesAreLawful}
+use Rattle.px_sched.proofs.LawfulLaws.{passes_lawful}
+use Rattle.px_listing.specs.AcceptedLaw.{AcceptedIsLawful, MemoryIsNoRefusal}
 use Rattle.px_listing.specs.Listings.{ListingView, canonical_text}
 use Rattle.px_listing.specs.Memories.{played_text}
 use Rattle.px_listing.specs.PassesText.{CanPlay, PassesAreReadBack, PlayedPassesShowThePicture, passes_listing}
 use Rattle.px_listing.specs.Played.{HasPlayed}
+use Rattle.px_listing.specs.Reading.{refusal_of}
 use Rattle.px_listing.specs.RoundTrip.{IsReadAs}
+use Rattle.px_listing.specs.declared.read.ListFault.{ListFault}
+use Rattle.px_listing.specs.declared.read.ListFault.TheVariants as f
 use Rattle.px_draw.specs.declared.refusal.Refusal.{Refusal}
-use Rattle.px_draw.specs.ListedScenes.{IsListed, ListedPassesArePlayed, ListedPassesShowThePicture}
-use Rattle.px_draw.specs.Listings.{list_refusal, listing_written}
+use Rattle.px_draw.specs.ListedScenes.{DoneShowsThePicture, IsListed, ListedPassesArePlayed, ListedPassesShowThePicture}
+use Rattle.px_draw.specs.Listings.{list_refusal, list_refusal_by, listing_written}
 use Rattle.px_draw.specs.Outcomes.{Outcome, done, refused, refused_past, unless_refused}
-use Rattle.px_draw.specs.Refusals.{short_of_bits}
+use Rattle.px_draw.specs.Refusals.{short_of_bits, too_long}
 use Rattle.px_draw.proofs.LimitLemmas.{at_most}
 
 -- an outcome that is done passed the limits of a scene
@@ -33,22 +40,32 @@ same_bytes true reason crowd bytes text is = cc
 same_bytes false reason (Some count) bytes text is = cc
 same_bytes false reason None bytes text is = cc
 
-can_play : (bits : ℕ) (scene : SceneView) (text : List ℕ) → IsListed bits scene text → CanPlay bits scene
-can_play bits scene text is = record {
+-- the laws of the crates below that join a listing and a scene
+pub record Laws : Type 0 where
+  pub more : IsLawfulInMore
+  pub lawful : PassesAreLawful
+  pub read : PassesAreReadBack
+  pub accepted : AcceptedIsLawful
+  pub refusals : MemoryIsNoRefusal
+  pub picture : PlayedPassesShowThePicture
+
+can_play : Laws → (bits : ℕ) (scene : SceneView) (text : List ℕ) → IsListed bits scene text → CanPlay bits scene
+can_play laws bits scene text is = record {
   scene_is = is.scene_is;
   solids = is.solids;
-  enough = lt_fails bits (need_of (layout_of scene)) (not_short (nat_lt bits (need_of (layout_of scene)))
+  lawful = passes_lawful laws.more laws.lawful bits scene is.scene_is is.solids
+      (lt_fails bits (need_of (layout_of scene)) (not_short (nat_lt bits (need_of (layout_of scene)))
       (short_of_bits (need_of (layout_of scene)))
-      (crowd_of scene) (canonical_text (passes_listing scene)) text is.answer);
+      (crowd_of scene) (canonical_text (passes_listing scene)) text is.answer));
 }
 
-read_as : PassesAreReadBack → (bits : ℕ) (scene : SceneView) (text : List ℕ) → IsListed bits scene text
+read_as : Laws → (bits : ℕ) (scene : SceneView) (text : List ℕ) → IsListed bits scene text
     → IsReadAs bits text (passes_listing scene)
-read_as law bits scene text is =
+read_as laws bits scene text is =
     subst (λ (t : List ℕ). IsReadAs bits t (passes_listing scene))
     (same_bytes (nat_lt bits (need_of (layout_of scene))) (short_of_bits (need_of (layout_of scene)))
     (crowd_of scene) (canonical_text (passes_listing scene)) text is.answer)
-    (law bits scene (can_play bits scene text is) is.few)
+    (laws.read bits scene (can_play laws bits scene text is) is.few)
 
 written_as : (bits : ℕ) (text : List ℕ) (l : ListingView) → IsReadAs bits text l → listing_written text ≡ l
 unfolding listing_written
@@ -59,15 +76,55 @@ not_refused : (bits : ℕ) (text : List ℕ) (l : ListingView) → IsReadAs bits
 unfolding list_refusal
 not_refused bits text l read short = rw (at_most (length text) short, read.good) refl
 
-pub passes_played : PassesAreReadBack → ListedPassesArePlayed
-passes_played law bits scene text is short =
-    let read = read_as law bits scene text is in
+pub passes_played : Laws → ListedPassesArePlayed
+passes_played laws bits scene text is short =
+    let read = read_as laws bits scene text is in
     ap (λ (r : Option Refusal). unless_refused r (done (played_text bits (listing_written text))))
     (not_refused bits text (passes_listing scene) read short)
     ∙ ap (λ (l : ListingView). done (played_text bits l)) (written_as bits text (passes_listing scene) read)
 
-pub passes_shown : PassesAreReadBack → PlayedPassesShowThePicture → ListedPassesShowThePicture
-passes_shown law shows bits scene text device is played =
-    shows bits scene device.state (can_play bits scene text is)
+pub passes_shown : Laws → ListedPassesShowThePicture
+passes_shown laws bits scene text device is played =
+    laws.picture bits scene device.state (can_play laws bits scene text is)
     (subst (λ (l : ListingView). HasPlayed bits l device.state) (written_as bits text (passes_listing scene)
-    (read_as law bits scene text is)) played.pixels)
+    (read_as laws bits scene text is)) played.pixels)
+
+-- an outcome that is done was not refused
+not_refused_by : (reason : Option Refusal) (lines answer : List ℕ) → unless_refused reason (done lines) ≡ done answer
+    → (reason ≡ None) × (lines ≡ answer)
+not_refused_by None lines answer is = (refl, cc)
+not_refused_by (Some reason) lines answer is = cc
+
+no_refusal : (refusal : Option ListFault) → refusal ≢ Some f.Memory → list_refusal_by refusal ≡ None → refusal ≡ None
+no_refusal None other none = refl
+no_refusal (Some (f.Malformed line cause)) other none = cc
+no_refusal (Some (f.Limit line kind found)) other none = cc
+no_refusal (Some f.Memory) other none = absurd (other refl)
+
+short_of : (long : Bool) (reason : Option Refusal) (past : Refusal) → (if long then Some past else reason) ≡ None
+    → reason ≡ None
+short_of true reason past none = cc
+short_of false reason past none = none
+
+accepted : Laws → (bits : ℕ) (text : List ℕ) → list_refusal bits text ≡ None → refusal_of bits text ≡ None
+unfolding list_refusal
+accepted laws bits text none =
+    no_refusal (refusal_of bits text) (laws.refusals bits text)
+    (short_of (nat_lt MAX_TEXT_BYTES (length text)) (list_refusal_by (refusal_of bits text)) too_long none)
+
+pub done_shown : Laws → DoneShowsThePicture
+done_shown laws listed_bits bits scene text answer is done_so =
+    let read = read_as laws listed_bits scene text is in
+    let same = written_as listed_bits text (passes_listing scene) read in
+    let result = not_refused_by (list_refusal bits text) (played_text bits (listing_written text)) answer done_so in
+    let can : CanPlay bits scene = record {
+      scene_is = is.scene_is;
+      solids = is.solids;
+      lawful = subst (λ (l : ListingView). All (λ m. IsLawful m bits) l.macros) read.read
+          (laws.accepted bits text (accepted laws bits text result.0));
+    } in
+    record {
+      lines = sym result.1 ∙ ap (played_text bits) same;
+      picture = λ device played. laws.picture bits scene device.state can
+          (subst (λ (l : ListingView). HasPlayed bits l device.state) same played.pixels);
+    }

@@ -28,3 +28,15 @@ abbrev pub ListedPassesShowThePicture : Type 0
 ListedPassesShowThePicture = (bits : ℕ) (scene : SceneView) (text : List ℕ) (device : Device) → IsListed bits scene text →
     IsPlayed bits (listing_written text) device →
     ShowsThePicture scene (layout_of scene) (λ x y. (pixel_of device.state x y).memory)
+
+-- what `play` answers for a text is what the passes of the scene mean, and the array that it leaves stores the picture
+pub record PlaysTheScene (bits : ℕ) (scene : SceneView) (text answer : List ℕ) : Type 0 where
+  pub lines : answer ≡ played_text bits (passes_listing scene)
+  pub picture : (device : Device) → IsPlayed bits (listing_written text) device →
+      ShowsThePicture scene (layout_of scene) (λ x y. (pixel_of device.state x y).memory)
+
+-- so it is wherever `play` answers `Done` for a text that `list` wrote, however many bits each of the two arrays has: the passes of a
+-- scene may need fewer than the scene
+abbrev pub DoneShowsThePicture : Type 0
+DoneShowsThePicture = (listed_bits bits : ℕ) (scene : SceneView) (text answer : List ℕ) → IsListed listed_bits scene text →
+    played_out text bits ≡ done answer → PlaysTheScene bits scene text answer

@@ -1,5 +1,7 @@
+pub mod AcceptedLemmas
 pub mod LimitLemmas
 pub mod MemoryLemmas
+pub mod PaddingLemmas
 pub mod PassesLemmas
 pub mod PieceLemmas
 pub mod PlainLemmas

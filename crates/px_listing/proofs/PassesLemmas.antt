@@ -1,13 +1,13 @@
 -- The grid and the passes of a scene, as a listing.
 use Rattle.std.proofs.Common.{◌≡◌, ℕ, ◌+◌, ◌^◌, ◌<◌, ◌≤◌, All, List, [], ◌++◌, Bool}
 use Rattle.std.proofs.Common.{false, Option, Some, length, take, drop, slice_get}
-use Rattle.std.proofs.Common.{refl, ap, sym, ◌∙◌, arith, subst, append_assoc, Result, OnOk, OnErr}
+use Rattle.std.proofs.Common.{refl, ap, sym, ◌∙◌, arith, subst, append_assoc, Result, OnOk, OnErr, replicate, length-append}
 use Rattle.std.proofs.lemmas.List.{append-nil, length-replicate}
 use Rattle.std.proofs.lemmas.Option.{get_or_from_slice_get, slice_get_within}
 use Rattle.px_io.specs.Told.{TakesAll, TakesFront}
 use Rattle.px_io.proofs.ToldLaws.{front_before}
 use Rattle.std.specs.List.{flat_map}
-use Rattle.px_macro.specs.Macros.{IsLawful, IsLawfulInMore, PixelBits}
+use Rattle.px_macro.specs.Macros.{IsLawful, IsLawfulInMore, MemoryStaysLong, PixelBits, after_macros}
 use Rattle.px_macro.specs.declared.operation.Macro.{Macro}
 use Rattle.px_model.specs.Grids.{exponent_of}
 use Rattle.px_model.proofs.GridLaws.{exponent_between, exponent_is}
@@ -20,11 +20,12 @@ use Rattle.px_sched.specs.PassesLaw.{HasSight, PassesLaw}
 use Rattle.px_sched.proofs.LawfulLaws.{passes_lawful}
 use Rattle.px_listing.specs.Listings.{macro_line}
 use Rattle.px_listing.specs.Pieces.{Puts}
+use Rattle.px_listing.proofs.PaddingLemmas.{all_padded, padded, sight_same}
 use Rattle.px_listing.proofs.PieceLemmas.{err_cut, ok_all, puts_both, puts_cut, puts_none}
 use Rattle.px_listing.proofs.RowLemmas.{listed_cut, listed_more}
 use Rattle.px_listing.specs.PassesText.{PassesAreReadBack, PassesHaveTheScenesGrid, PlayedPassesShowThePicture}
 use Rattle.px_listing.specs.PassesText.{passes_listing}
-use Rattle.px_listing.specs.Played.{zero_bits}
+use Rattle.px_listing.specs.Played.{played, zero_bits}
 use Rattle.px_listing.specs.RoundTrip.{TextsAreReadBack}
 
 -- each operation that is given is one of them
@@ -110,10 +111,10 @@ pub passes_lawful_in_all : IsLawfulInMore → LayoutsAreLawful → PassesAreLawf
 passes_lawful_in_all more layouts lawful scene h solids =
     passes_lawful more lawful 256 scene h solids (few_bits layouts scene h)
 
-pub passes_read_back : IsLawfulInMore → PassesAreLawful → TextsAreReadBack → PassesAreReadBack
-passes_read_back more lawful texts bits scene can few =
+pub passes_read_back : TextsAreReadBack → PassesAreReadBack
+passes_read_back texts bits scene can few =
     texts bits (passes_listing scene) few (exponent_between scene.width can.scene_is.width, exponent_between scene.height can.scene_is.height)
-    (passes_lawful more lawful bits scene can.scene_is can.solids can.enough)
+    can.lawful
 
 pub scenes_grid : PassesHaveTheScenesGrid
 scenes_grid scene lawful = record {
@@ -121,13 +122,24 @@ scenes_grid scene lawful = record {
   rows = exponent_is scene.height lawful.height;
 }
 
-pub show_the_picture : PassesLaw → PlayedPassesShowThePicture
-show_the_picture law bits scene state can has x y left above =
+-- the picture law holds of a memory with as many zeros behind it as the layout may need, whose first bits come out as those of
+-- the memory
+pub show_the_picture : MemoryStaysLong → PassesLaw → PlayedPassesShowThePicture
+show_the_picture stays law bits scene state can has x y left above =
     let grid = scenes_grid scene can.scene_is in
     let column : x < 2 ^ exponent_of scene.width = omega (arith, left, grid.columns.enough) in
     let row : y < 2 ^ exponent_of scene.height = omega (arith, above, grid.rows.enough) in
     let same = ap (λ (p : PixelBits). p.memory) (has x y column row) in
-    let room : need_of (layout_of scene) ≤ length (zero_bits bits).memory =
-    omega (arith, can.enough, length-replicate bits false) in
+    let start = zero_bits bits in
+    let need = need_of (layout_of scene) in
+    let zeros = replicate need false in
+    let long : length start.memory ≡ bits = length-replicate bits false in
+    let room : need ≤ length (start.memory ++ zeros) =
+    omega (arith, length-append start.memory zeros, length-replicate need false) in
+    let alike : after_macros (passes scene) x y (padded start zeros) ≡ padded (played bits (passes_listing scene) x y) zeros =
+    all_padded stays (passes scene) x y start zeros (subst (λ n. All (λ m. IsLawful m n) (passes scene)) (sym long) can.lawful) in
+    let shown : HasSight (layout_of scene) (padded (played bits (passes_listing scene) x y) zeros).memory (picture scene x y) =
+    subst (λ (p : PixelBits). HasSight (layout_of scene) p.memory (picture scene x y)) alike
+    (law scene can.scene_is can.solids x y left above (padded start zeros) room) in
     subst (λ memory. HasSight (layout_of scene) memory (picture scene x y)) (sym same)
-    (law scene can.scene_is can.solids x y left above (zero_bits bits) room)
+    (sight_same (layout_of scene) (played bits (passes_listing scene) x y).memory need (picture scene x y) shown)

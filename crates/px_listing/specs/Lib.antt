@@ -8,6 +8,7 @@ pub use Rattle.px_sched.specs.Layouts
 pub use Rattle.px_sched.specs.Passes
 pub use Rattle.px_sched.specs.PassesLaw
 pub use Rattle.px_text.specs.Text
+pub mod AcceptedLaw
 pub mod Drafts
 pub mod Keywords
 pub mod Kinds

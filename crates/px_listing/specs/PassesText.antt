@@ -1,9 +1,10 @@
 -- The listing of a scene: its grid and its passes. Clauses of public calls stand on it.
 use Rattle.std.specs.Prelude.{ℕ, ◌≤◌, All}
 use Rattle.px_array.specs.Arrays.{State, pixel_of}
+use Rattle.px_macro.specs.Macros.{IsLawful}
 use Rattle.px_model.specs.Grids.{exponent_of}
 use Rattle.px_model.specs.Scenes.{IsGridExponent, IsLawfulScene, SceneView, IsLawfulSolid}
-use Rattle.px_sched.specs.Layouts.{layout_of, need_of}
+use Rattle.px_sched.specs.Layouts.{layout_of}
 use Rattle.px_sched.specs.Passes.{passes}
 use Rattle.px_sched.specs.PassesLaw.{ShowsThePicture}
 use Rattle.px_listing.specs.Listings.{ListingView, canonical_text}
@@ -25,11 +26,12 @@ pub record HasScenesGrid (scene : SceneView) (l : ListingView) : Type 0 where
 abbrev pub PassesHaveTheScenesGrid : Type 0
 PassesHaveTheScenesGrid = (scene : SceneView) → IsLawfulScene scene → HasScenesGrid scene (passes_listing scene)
 
--- pixels that have the bits that the layout needs
+-- pixels that can carry out each of a scene's passes: those that have the bits that its layout needs, and where its passes use
+-- fewer, as those of products of one literal do, pixels with fewer
 pub record CanPlay (bits : ℕ) (scene : SceneView) : Type 0 where
   pub scene_is : IsLawfulScene scene
   pub solids : All IsLawfulSolid scene.solids
-  pub enough : need_of (layout_of scene) ≤ bits
+  pub lawful : All (λ m. IsLawful m bits) (passes scene)
 
 -- the text of a scene's passes is read as their listing
 abbrev pub PassesAreReadBack : Type 0

@@ -1,14 +1,13 @@
 -- The scene of a text that is accepted: line by line its draft is lawful.
 use Rattle.std.proofs.Common.{◌≡◌, ℕ, ℤ, ◌+◌, ◌-◌, ◌≤◌, List, [], ◌∷◌, ◌++◌, length, Bool, true, false, Option, Some, None}
-use Rattle.std.proofs.Common.{All, IfSome, IsSomeAnd, refl, sym, ap, subst, ◌∙◌, arith, nat_lt, unwrap_or, append_assoc, append-nil}
+use Rattle.std.proofs.Common.{All, IsSomeAnd, refl, ap, subst, ◌∙◌, arith, nat_lt, unwrap_or, append_assoc, append-nil}
 use Rattle.std.proofs.Common.{if◌then◌else◌, slice_get}
 use Rattle.std.specs.Option.{option_or}
 use Rattle.px_num.proofs.TruthLaws.{none_first, none_second}
 use Rattle.px_expr.specs.Tree.{HasLeavesBelow, Tree, leaf}
-use Rattle.px_model.specs.Scenes.{IsLawfulScene, IsLawfulSolid, SolidView, names_of}
+use Rattle.px_model.specs.Scenes.{IsLawfulScene, IsLawfulSolid, names_of}
 use Rattle.px_model.proofs.SolidLemmas.{All-push}
 use Rattle.px_text.specs.Text.{Words, lines_of, worded}
-use Rattle.px_show.specs.declared.fault.Cause.{Cause}
 use Rattle.px_show.specs.declared.fault.LineFault.{LineFault}
 use Rattle.px_show.specs.declared.fault.LimitKind.TheVariants as kind
 use Rattle.px_show.specs.declared.fault.SceneFault.{SceneFault}
@@ -20,10 +19,10 @@ use Rattle.px_scene.specs.declared.line.Keyword.{Keyword}
 use Rattle.px_scene.specs.declared.line.Keyword.TheVariants as k
 use Rattle.px_scene.specs.declared.line.Tally.{Tally}
 use Rattle.px_scene.specs.AcceptedLaw.{AcceptedIsLawful, IsWhollyLawful}
-use Rattle.px_scene.specs.Drafts.{DraftView, IsGoodForm, IsLawfulDraft, drawn, fault_in, is_ended, new_solid, fresh_solid, tally_of}
-use Rattle.px_scene.specs.Drafts.{taken, with_depth, with_line, with_picture}
+use Rattle.px_scene.specs.Drafts.{DraftView, IsGoodForm, IsLawfulDraft, drawn, fault_in, is_ended, fresh_solid, tally_of}
+use Rattle.px_scene.specs.Drafts.{taken, with_line, with_picture}
 use Rattle.px_scene.specs.Lines.{cause_of, face_past, figures, keyword_of, limit_of, limit_on, most, numbers_of, three_past}
-use Rattle.px_scene.specs.Reading.{at_line, due_behind, fault_behind, first_bad, first_word, is_nothing, refusal_of, refused, scene_of}
+use Rattle.px_scene.specs.Reading.{at_line, due_behind, fault_behind, first_bad, first_word, is_nothing, refused}
 use Rattle.px_scene.specs.Tells.{DraftTells}
 use Rattle.px_scene.proofs.LawfulLemmas.{can_be_taken, lawful_line}
 use Rattle.px_scene.proofs.ReadLemmas.{drawn_is, lawful_blank}

@@ -29,12 +29,12 @@ is_written (w ∷ ws) = is_plain w && are_plain ws
 abbrev pub text_of_lines : List Words → List ℕ
 text_of_lines ls = fed (map bare ls)
 
-joined : (ls ms : List Words) → text_of_lines (ls ++ ms) ≡ text_of_lines ls ++ text_of_lines ms
+pub joined : (ls ms : List Words) → text_of_lines (ls ++ ms) ≡ text_of_lines ls ++ text_of_lines ms
 joined [] ms = refl
 joined (l ∷ ls) ms = ap (λ t. (bare l ++ 10 ∷ []) ++ t) (joined ls ms)
     ∙ sym (append_assoc (bare l ++ 10 ∷ []) (text_of_lines ls) (text_of_lines ms))
 
-one_line : (w : List ℕ) (ws : Words) → written_line w ws ≡ text_of_lines ((w ∷ ws) ∷ [])
+pub one_line : (w : List ℕ) (ws : Words) → written_line w ws ≡ text_of_lines ((w ∷ ws) ∷ [])
 unfolding written_line
 one_line w ws = simp (append_assoc, append-nil)
 
@@ -87,14 +87,14 @@ solids_are (s ∷ ss) = ap (λ t. t ++ flat_map solid_lines ss) (solid_lines_are
 abbrev pub end_words : SceneView → List Words
 end_words scene = (codes "show" ∷ shown_text scene ∷ []) ∷ (codes "end" ∷ []) ∷ []
 
-three_lines : (a b c : Words) (u v w : List ℕ) → u ≡ text_of_lines (a ∷ []) → v ≡ text_of_lines (b ∷ [])
+pub three_lines : (a b c : Words) (u v w : List ℕ) → u ≡ text_of_lines (a ∷ []) → v ≡ text_of_lines (b ∷ [])
     → w ≡ text_of_lines (c ∷ []) → u ++ v ++ w ≡ text_of_lines (a ∷ b ∷ c ∷ [])
 three_lines a b c u v w one two three =
     ap (λ t. t ++ v ++ w) one ∙ ap (λ t. text_of_lines (a ∷ []) ++ t ++ w) two
     ∙ ap (λ t. text_of_lines (a ∷ []) ++ text_of_lines (b ∷ []) ++ t) three
     ∙ ap (λ t. t ++ text_of_lines (c ∷ [])) (sym (joined (a ∷ []) (b ∷ []))) ∙ sym (joined (a ∷ b ∷ []) (c ∷ []))
 
-four_parts : (f s : List Words) (a b : Words) (t u v w : List ℕ) → t ≡ text_of_lines f → u ≡ text_of_lines s
+pub four_parts : (f s : List Words) (a b : Words) (t u v w : List ℕ) → t ≡ text_of_lines f → u ≡ text_of_lines s
     → v ≡ text_of_lines (a ∷ []) → w ≡ text_of_lines (b ∷ [])
     → t ++ u ++ v ++ w ≡ text_of_lines (f ++ (s ++ a ∷ b ∷ []))
 four_parts f s a b t u v w one two three four =

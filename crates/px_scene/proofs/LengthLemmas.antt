@@ -30,10 +30,10 @@ use Rattle.px_text.proofs.PlainLaws.{both}
 use Rattle.px_model.proofs.FaceLaws.{faces_of-cons}
 use Rattle.px_scene.proofs.CutLemmas.{HasOne, cut}
 
-joined : (xs ys : List ℕ) (m n : ℕ) → length xs ≤ m → length ys ≤ n → length (xs ++ ys) ≤ m + n
+pub joined : (xs ys : List ℕ) (m n : ℕ) → length xs ≤ m → length ys ≤ n → length (xs ++ ys) ≤ m + n
 joined xs ys m n some more = omega (arith, length-append xs ys)
 
-decimal_short : (n : ℕ) → n < 1000 → length (decimal n) ≤ 3
+pub decimal_short : (n : ℕ) → n < 1000 → length (decimal n) ≤ 3
 decimal_short n few = length-decimal-le 3 n (omega arith) (omega arith) (omega arith)
 
 signed_short : (z : ℤ) → IsWithin (2 ^ 33) z → length (signed_decimal z) ≤ 11
@@ -44,13 +44,13 @@ signed_short (negsuc n) is = let low = is.0
 wider : (z : ℤ) → IsWithin (2 ^ 23) z → IsWithin (2 ^ 33) z
 wider z is = let low = is.0 in let high = is.1 in (omega (arith, ints), omega (arith, ints))
 
-plane_short : (p : Linear) → IsPlane p → length (spaced (plane_words p)) ≤ 36
+pub plane_short : (p : Linear) → IsPlane p → length (spaced (plane_words p)) ≤ 36
 plane_short p is =
     joined (32 ∷ signed_decimal p.a) _ 12 24 (let a = signed_short p.a (wider p.a is.a) in omega arith)
     (joined (32 ∷ signed_decimal p.b) _ 12 12 (let b = signed_short p.b (wider p.b is.b) in omega arith)
     (joined (32 ∷ signed_decimal p.c) [] 12 0 (let c = signed_short p.c is.c in omega arith) (omega arith)))
 
-colour_short : (c : Colour) → IsColour c → length (spaced (colour_words c)) ≤ 12
+pub colour_short : (c : Colour) → IsColour c → length (spaced (colour_words c)) ≤ 12
 colour_short c is =
     joined (32 ∷ decimal c.red) _ 4 8 (let r = decimal_short c.red (let m = is.red in omega arith) in omega arith)
     (joined (32 ∷ decimal c.green) _ 4 4
@@ -66,7 +66,7 @@ spaced_both (v ∷ vs) ws m n some more =
     in let rest = spaced_both vs ws (length (spaced vs)) n (omega arith) more
     in omega (arith, length-append (32 ∷ v) (spaced (vs ++ ws)))
 
-line_short : (w : List ℕ) (ws : Words) (m n : ℕ) → length w ≤ m → length (spaced ws) ≤ n
+pub line_short : (w : List ℕ) (ws : Words) (m n : ℕ) → length w ≤ m → length (spaced ws) ≤ n
     → length (written_line w ws) ≤ m + n + 1
 unfolding written_line
 line_short w ws m n some more =
@@ -130,7 +130,7 @@ numbers_short s (suc count) n ok once =
     other true true e = cc
     other false false e = cc
 
-name_short : (w : List ℕ) → is_name w ≡ true → length w ≤ 32
+pub name_short : (w : List ℕ) → is_name w ≡ true → length w ≤ 32
 name_short [] e = omega arith
 name_short (b ∷ w) e =
     let few = (both (is_letter b && list_all is_name_byte (b ∷ w)) (nat_le (length (b ∷ w)) 32) e).1
@@ -165,7 +165,7 @@ solids_short (s ∷ ss) first ok are names =
     (λ k d lt. names (suc k) d (omega arith))
     in omega (arith, length-append (solid_lines s) (flat_map solid_lines ss))
 
-tree_short : (names : Words) (tree : Tree) → AllPass is_name names → HasLeavesBelow (length names) tree
+pub tree_short : (names : Words) (tree : Tree) → AllPass is_name names → HasLeavesBelow (length names) tree
     → length (printed (named_by names tree)) + 5 ≤ 37 * leaf_count tree
 tree_short names (leaf place) lawful within = let few = name_short (get_or names place []) (lawful place [] within)
     in omega arith

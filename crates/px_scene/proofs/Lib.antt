@@ -13,6 +13,10 @@ pub mod ReadLemmas
 pub mod ReadingLemmas
 pub mod RoundLemmas
 pub mod SampleLemmas
+pub mod SampleSolidLemmas
+pub mod SampleTextLemmas
+pub mod SampleTreeLemmas
+pub mod SampleWalkLemmas
 pub mod SceneWalkLemmas
 pub mod SolidLemmas
 pub mod SolidsLemmas

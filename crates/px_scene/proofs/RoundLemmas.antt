@@ -25,7 +25,7 @@ use Rattle.px_show.proofs.PrintedLaws.{printed_tree, printed_good}
 use Rattle.px_scene.specs.Lines.{numeric, solid_form, three_past, fault_of, are_numbers, numbers_of, past, most}
 use Rattle.px_scene.specs.Lines.{size_past, plane_past, colour_past, face_past, face_limit}
 use Rattle.px_model.specs.Scenes.{SolidView, IsColour, IsPlane, names_of}
-use Rattle.px_scene.specs.Drafts.{DraftView, with_front, with_back, with_side, with_last, in_last, tally_of}
+use Rattle.px_scene.specs.Drafts.{DraftView, with_front, with_back, with_side, with_last, tally_of}
 use Rattle.px_scene.specs.Drafts.{fresh_solid, new_solid}
 use Rattle.px_scene.specs.Canonical.{depth_words, plane_words, colour_words}
 use Rattle.px_text.proofs.DecimalLaws.{number_read, signed_read}
@@ -252,6 +252,48 @@ back_walk start done s n f is number few more =
       ap (λ zs. after (with_last (with_back (n + 1) zs) (done ++ s ∷ []))) figures.is
           ∙ ap after (with_last-append (with_back (n + 1) (face_numbers f)) done s)
           ∙ ap (λ m. after (done ++ record s { backs = s.backs ++ record f { number = m } ∷ [] } ∷ [])) (sym number),
+    )
+
+-- a front or a back in the colour of its solid
+plain_limits : (limit : LimitKind) (p : Linear) (faces n : ℕ) → IsPlane p → faces < 32 → n < 4095
+    → face_limit limit faces n (plane_numbers p []) ≡ None
+plain_limits limit p faces n is few more =
+    rw (plane_in p is, past_in limit 0 32 (faces + 1) (omega arith) (omega arith))
+    (past_in kind.Faces 0 4095 (n + 1) (omega arith) (omega arith))
+
+abbrev pub next_face : ℕ → Linear → SolidView → Face
+next_face n p s = record { number = n + 1; plane = p; colour = s.colour }
+
+pub plain_front_walk : (start : DraftView) (done : List SolidView) (s : SolidView) (n : ℕ) (p : Linear) → IsPlane p
+    → length s.fronts < 32 → n < 4095
+    → Walk (open_solid start done s n) ((codes "front" ∷ plane_words p) ∷ [])
+    (open_solid start done (record s { fronts = s.fronts ++ next_face n p s ∷ [] }) (n + 1))
+plain_front_walk start done s n p is few more =
+    let figures = plane_figures p [] [] is no_figure
+    in let after = λ (ss : List SolidView). written_so_far start ss (n + 1)
+    in (
+      front_good start.version (names_of (done ++ s ∷ [])) (plane_words p) (tally_of (open_solid start done s n))
+          (plane_numbers p []) figures refl
+          (ap (λ m. face_limit kind.Fronts m n (plane_numbers p [])) (in_last-push (λ q. length q.fronts) done s)
+          ∙ plain_limits kind.Fronts p (length s.fronts) n is few more),
+      ap (λ zs. after (with_last (with_front (n + 1) zs) (done ++ s ∷ []))) figures.is
+          ∙ ap after (with_last-append (with_front (n + 1) (plane_numbers p [])) done s),
+    )
+
+pub plain_back_walk : (start : DraftView) (done : List SolidView) (s : SolidView) (n : ℕ) (p : Linear) → IsPlane p
+    → length s.backs < 32 → n < 4095
+    → Walk (open_solid start done s n) ((codes "back" ∷ plane_words p) ∷ [])
+    (open_solid start done (record s { backs = s.backs ++ next_face n p s ∷ [] }) (n + 1))
+plain_back_walk start done s n p is few more =
+    let figures = plane_figures p [] [] is no_figure
+    in let after = λ (ss : List SolidView). written_so_far start ss (n + 1)
+    in (
+      back_good start.version (names_of (done ++ s ∷ [])) (plane_words p) (tally_of (open_solid start done s n))
+          (plane_numbers p []) figures refl
+          (ap (λ m. face_limit kind.Backs m n (plane_numbers p [])) (in_last-push (λ q. length q.backs) done s)
+          ∙ plain_limits kind.Backs p (length s.backs) n is few more),
+      ap (λ zs. after (with_last (with_back (n + 1) zs) (done ++ s ∷ []))) figures.is
+          ∙ ap after (with_last-append (with_back (n + 1) (plane_numbers p [])) done s),
     )
 
 pub side_walk : (start : DraftView) (done : List SolidView) (s : SolidView) (n : ℕ) (p : Linear) → IsPlane p

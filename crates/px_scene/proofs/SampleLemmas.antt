@@ -5,23 +5,23 @@ use Rattle.std.proofs.lemmas.Bool.{cases_lt}
 use Rattle.std.proofs.lemmas.Bool.Decides.{nat_tests}
 use Rattle.px_scene.specs.Sample.{block_name, union_in, union_of}
 
-abbrev joined : (left right : List ℕ) → List ℕ
+abbrev pub joined : (left right : List ℕ) → List ℕ
 joined left right = codes "(" ++ left ++ codes " + " ++ right ++ codes ")"
 
-abbrev middle : (first end : ℕ) → ℕ
+abbrev pub middle : (first end : ℕ) → ℕ
 middle first end = (first + end) / 2
 
-where_true : {A : Type 0} (b : Bool) (x y : A) → b ≡ true → (if b then x else y) ≡ x
+pub where_true : {A : Type 0} (b : Bool) (x y : A) → b ≡ true → (if b then x else y) ≡ x
 where_true b x y e = rw e refl
 
-where_false : {A : Type 0} (b : Bool) (x y : A) → b ≡ false → (if b then x else y) ≡ y
+pub where_false : {A : Type 0} (b : Bool) (x y : A) → b ≡ false → (if b then x else y) ≡ y
 where_false b x y e = rw e refl
 
-alone : (d first end : ℕ) → end ≡ first + 1 → union_in (suc d) first end ≡ block_name first
+pub alone : (d first end : ℕ) → end ≡ first + 1 → union_in (suc d) first end ≡ block_name first
 unfolding union_in
 alone d first end e = where_true (end == first + 1) (block_name first) _ (grind (arith, nat_tests))
 
-halved : (d first end : ℕ) → first + 1 < end
+pub halved : (d first end : ℕ) → first + 1 < end
     → union_in (suc d) first end ≡ joined (union_in d first (middle first end)) (union_in d (middle first end) end)
 unfolding union_in
 halved d first end more = where_false (end == first + 1) (block_name first) _ (grind (arith, nat_tests))

@@ -23,7 +23,7 @@ use Rattle.px_scene.specs.Drafts.{DraftView, fresh_solid}
 use Rattle.px_show.specs.Versions.{has_difference, version_word, has_differ}
 use Rattle.px_show.specs.declared.scene_version.Version.TheVariants as v
 use Rattle.px_scene.specs.Canonical.{version_for, depth_words, plane_words, colour_words}
-use Rattle.px_scene.proofs.CutLemmas.{below, none_below, all_below}
+use Rattle.px_scene.proofs.CutLemmas.{none_below, all_below}
 use Rattle.px_scene.proofs.TellsLemmas.{blank}
 use Rattle.px_show.proofs.PrintedLaws.{signs_of}
 use Rattle.px_scene.proofs.WalkLemmas.{Walk, walk_both}
@@ -55,7 +55,7 @@ ended : (s : SolidView) (m : ℕ) → All (λ f. f.number < m) s.fronts → All 
     → part s m ≡ record s { sides = [] }
 ended s m fronts backs = rw (all_below m s.fronts fronts, all_below m s.backs backs) refl
 
-stands : (start : DraftView) (done : List SolidView) (s : SolidView) (n : ℕ)
+pub stands : (start : DraftView) (done : List SolidView) (s : SolidView) (n : ℕ)
     → written_so_far start (done ++ s ∷ []) n ≡ standing start (done ++ s ∷ []) n
 stands start [] s n = refl
 stands start (q ∷ done) s n = refl

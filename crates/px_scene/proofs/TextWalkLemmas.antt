@@ -19,7 +19,7 @@ use Rattle.px_text.specs.Written.{is_plain, are_plain, is_no_feed, fed}
 use Rattle.px_scene.proofs.RoundLemmas.{face_words}
 use Rattle.px_scene.proofs.FaceWalkLemmas.{words_at, words_of_number}
 use Rattle.px_scene.proofs.SceneWalkLemmas.{numbers_words, sides_words, solid_words, first_words, last_words}
-use Rattle.px_scene.proofs.SceneWalkLemmas.{scene_words, final_draft, shown_text, scene_walk}
+use Rattle.px_scene.proofs.SceneWalkLemmas.{scene_words, final_draft, scene_walk}
 use Rattle.px_scene.proofs.CanonicalLemmas.{is_written, bare, end_words, text_is, read_plain}
 use Rattle.px_text.proofs.PlainLaws.{decimal_plain, signed_plain, name_is_plain}
 use Rattle.px_scene.proofs.FedLemmas.{bares_fed, printed_fed, show_words}
@@ -28,19 +28,19 @@ use Rattle.px_show.proofs.PrintedLaws.{names_lawful}
 use Rattle.px_scene.proofs.LengthLemmas.{canonical_short}
 use Rattle.px_scene.proofs.WalkLemmas.{Walk, read_by_walk}
 use Rattle.px_scene.proofs.TellsLemmas.{blank}
-use Rattle.px_show.specs.Printed.{named_by}
-use Rattle.px_show.specs.Expressions.{has_names}
+use Rattle.px_show.specs.Printed.{named_by, printed}
+use Rattle.px_show.specs.Expressions.{Named, has_names}
 use Rattle.px_expr.specs.Tree.{HasLeavesBelow, IsLawfulTree}
 use Rattle.std.proofs.lemmas.List.{length-map, take_all}
 use Rattle.px_text.proofs.LineLaws.{small_size}
 
-colour_plain : (c : Colour) → IsColour c → are_plain (colour_words c) ≡ true
+pub colour_plain : (c : Colour) → IsColour c → are_plain (colour_words c) ≡ true
 colour_plain c is =
     let red = is.red in let green = is.green in let blue = is.blue
     in rw (decimal_plain c.red (omega arith), decimal_plain c.green (omega arith), decimal_plain c.blue (omega arith))
     refl
 
-plane_plain : (p : Linear) → IsPlane p → are_plain (plane_words p) ≡ true
+pub plane_plain : (p : Linear) → IsPlane p → are_plain (plane_words p) ≡ true
 plane_plain p is =
     rw (
       signed_plain p.a (small_size (2 ^ 23) p.a (omega arith) is.a),
@@ -86,7 +86,7 @@ number_plain s is (m ∷ ms) =
       number_plain s is ms,
     ) refl
 
-side_plain : (ps : List Linear) → All IsPlane ps
+pub side_plain : (ps : List Linear) → All IsPlane ps
     → list_all is_written (map (λ p. codes "side" ∷ plane_words p) ps) ≡ true
 side_plain [] all = refl
 side_plain (p ∷ ps) all =
@@ -142,11 +142,11 @@ words_joined : (ls ms : List (List ℕ)) → map words_of (ls ++ ms) ≡ map wor
 words_joined [] ms = refl
 words_joined (l ∷ ls) ms = ap (λ xs. words_of l ∷ xs) (words_joined ls ms)
 
-abbrev has_no_feed : List ℕ → Bool
+abbrev pub has_no_feed : List ℕ → Bool
 has_no_feed l = list_all is_no_feed l
 
 -- plain lines, and then others, of which the words are known
-read_both : (ls ms ns : List Words) → list_all is_written ls ≡ true → list_all has_no_feed (map bare ms) ≡ true
+pub read_both : (ls ms ns : List Words) → list_all is_written ls ≡ true → list_all has_no_feed (map bare ms) ≡ true
     → map words_of (map bare ms) ≡ ns → map words_of (lines_of (fed (map bare (ls ++ ms)))) ≡ ls ++ ns
 read_both ls ms ns plain fed_only known =
     let none : list_all has_no_feed (map bare (ls ++ ms)) ≡ true =
@@ -161,16 +161,21 @@ named scene is = names_lawful (names_of scene.solids) scene.show is.lawful.names
     (subst (λ (n : ℕ). HasLeavesBelow n scene.show)
     (sym (length-map scene.solids (λ (s : SolidView). s.name))) is.lawful.shown)
 
+-- the last two lines, by the expression that they show
+pub shown_fed : (tree : Named) → has_names tree ≡ true
+    → list_all has_no_feed (map bare ((codes "show" ∷ printed tree ∷ []) ∷ (codes "end" ∷ []) ∷ [])) ≡ true
+shown_fed tree names = rw (append-nil (printed tree), printed_fed tree names) refl
+
+pub shown_read : (tree : Named) → has_names tree ≡ true
+    → map words_of (map bare ((codes "show" ∷ printed tree ∷ []) ∷ (codes "end" ∷ []) ∷ []))
+    ≡ (codes "show" ∷ words_of (printed tree)) ∷ (codes "end" ∷ []) ∷ []
+shown_read tree names = ap (λ ws. ws ∷ (codes "end" ∷ []) ∷ []) (show_words tree names)
+
 end_fed : (scene : SceneView) → IsWritable scene → list_all has_no_feed (map bare (end_words scene)) ≡ true
-end_fed scene is = rw (
-  append-nil (shown_text scene),
-  printed_fed (named_by (names_of scene.solids) scene.show)
-      (named scene is),
-) refl
+end_fed scene is = shown_fed (named_by (names_of scene.solids) scene.show) (named scene is)
 
 end_read : (scene : SceneView) → IsWritable scene → map words_of (map bare (end_words scene)) ≡ last_words scene
-end_read scene is = ap (λ ws. ws ∷ (codes "end" ∷ []) ∷ []) (show_words (named_by (names_of scene.solids) scene.show)
-    (named scene is))
+end_read scene is = shown_read (named_by (names_of scene.solids) scene.show) (named scene is)
 
 words_are : (scene : SceneView) → IsWritable scene → worded (canonical_text scene) ≡ scene_words scene
 words_are scene is =

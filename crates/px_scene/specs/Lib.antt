@@ -10,5 +10,6 @@ pub mod Lines
 pub mod Parsed
 pub mod Reading
 pub mod Sample
+pub mod SampleLaw
 pub mod Tells
 pub mod Writable

@@ -17,6 +17,7 @@ ghost use Rattle.px_scene.specs.Sample.{
   top_and_bottom,
   union_of,
 };
+ghost use Rattle.px_scene.specs.SampleLaw.{SamplesAreAccepted};
 
 use crate::write::{
     put, put_colour, put_depth, put_head, put_header, put_line, put_picture, put_plane, put_side,
@@ -49,12 +50,13 @@ pub fn sample_text(alloc: Global, n: u32) -> Result<Vec<u8>, Memory>
 }
 
 /// The union of blocks as it is written: one alone by its name, more in two halves, of which the
-/// second may be the greater.
+/// second may be the greater; and the text of the sample is a scene's, for each number of blocks.
 pub fn laws_of_samples()
     ensures one { (first : ℕ) → union_of first (first + 1) ≡ block_name first }
     ensures halves { (first end : ℕ) → first + 1 < end → union_of first end
         ≡ codes "(" ++ union_of first ((first + end) / 2) ++ codes " + "
         ++ union_of ((first + end) / 2) end ++ codes ")" }
+    ensures accepted { SamplesAreAccepted }
 {}
 
 fn put_start(text: &mut Vec<u8>, n: u32) -> Result<(), Memory>

@@ -34,6 +34,11 @@ const PASSES: &[u8] = b"pxlist 1\ngrid 1 1\nall\nload-const 0 6 60\nall\nset-bit
 const PASSES_LEFT: &[u8] = b"pixel 0 0 m 01101001101010 e 1\npixel 1 0 m 01101001101010 e 1\n\
     pixel 0 1 m 01101001101010 e 1\npixel 1 1 m 01101001101010 e 1\n";
 
+/// And on pixels without the bit "par", which no product of one solid needs.
+const PASSES_LEFT_WITHOUT_PAR: &[u8] = b"pixel 0 0 m 0110100110101 e 1\n\
+    pixel 1 0 m 0110100110101 e 1\npixel 0 1 m 0110100110101 e 1\n\
+    pixel 1 1 m 0110100110101 e 1\n";
+
 /// Each operation once.
 const EACH: &[u8] = b"pxlist 1\ngrid 9 2\nall\nkeep-sign -134217728 134217728 -274877906944\n\
     keep-bit 255 0\nset-bit 0 1\ntoggle 7\nload-linear 0 0 0 216 40\nkeep-at-most 1 2 3 4 5\n\
@@ -41,12 +46,13 @@ const EACH: &[u8] = b"pxlist 1\ngrid 9 2\nall\nkeep-sign -134217728 134217728 -2
 
 #[test]
 fn sums_are_played(rt: HostRuntime) -> Result<(), Fail> {
-    try_played(&rt, rt.alloc(), SUMS, SUMS_LEFT, 15)
+    try_played::<14>(&rt, rt.alloc(), SUMS, SUMS_LEFT, 15)
 }
 
 #[test]
 fn passes_are_played(rt: HostRuntime) -> Result<(), Fail> {
-    try_played(&rt, rt.alloc(), PASSES, PASSES_LEFT, 317)
+    try_played::<14>(&rt, rt.alloc(), PASSES, PASSES_LEFT, 317)?;
+    try_played::<13>(&rt, rt.alloc(), PASSES, PASSES_LEFT_WITHOUT_PAR, 317)
 }
 
 #[test]
@@ -71,18 +77,19 @@ fn each_operation_is_read_and_written(rt: HostRuntime) -> Result<(), Fail> {
     Ok(())
 }
 
-/// A listing on four pixels of 14 bits.
-fn try_played(
+/// A listing on four pixels.
+fn try_played<const N: usize>(
     rt: &impl Abort,
     alloc: Global,
     text: &[u8],
     left: &[u8],
     clocks: u64,
 ) -> Result<(), Fail>
+    requires bits { N ≤ 256 }
     requires short { length text.now ≤ 1048576 }
 {
-    let listing = read_listing(alloc, text, 14)?;
-    let mut array = PixelArray::<14>::new(alloc);
+    let listing = read_listing(alloc, text, N as u32)?;
+    let mut array = PixelArray::<N>::new(alloc);
     play(&listing, &mut array)?;
     let mut out = MemSink::new(alloc, 1000, 300, Vec::new(alloc))?;
     write_memory(&array, &mut out)?;

@@ -1,0 +1,228 @@
+-- A line that is not refused writes an operation that the pixels can carry out.
+use Rattle.std.proofs.Common.{◌≡◌, ◌≢◌, ℕ, ℤ, pos, ◌+◌, ◌-◌, ◌^◌, ◌<◌, ◌≤◌, ◌≤ℤ◌, All, List, [], ◌∷◌, ◌++◌, length}
+use Rattle.std.proofs.Common.{Bool, true, false}
+use Rattle.std.proofs.Common.{Option, Some, None, IfSome, refl, arith}
+use Rattle.std.specs.List.{cons_option, filter_map}
+use Rattle.std.specs.Option.{option_or}
+use Rattle.std.proofs.lemmas.Int.{ints}
+use Rattle.std.proofs.lemmas.List.Elements.{All-cons, All-nil}
+use lib.IntN.{negsuc}
+use Rattle.px_num.proofs.BitLaws.{pow_above}
+use Rattle.px_num.proofs.TruthLaws.{none_first, none_second}
+use Rattle.px_num.specs.Forms.{IsInTreeRange}
+use Rattle.px_macro.specs.Macros.{AreApart, AreOfOneLength, IsField, IsLawful}
+use Rattle.px_macro.specs.declared.operation.Macro.{Macro}
+use Rattle.px_macro.specs.declared.operation.Macro.TheVariants as m
+use Rattle.px_show.specs.declared.fault.Cause.{Cause}
+use Rattle.px_text.specs.Text.{Words, worded}
+use Rattle.px_scene.specs.Lines.{numbers_of, plane_of, size_of}
+use Rattle.px_listing.specs.AcceptedLaw.{AcceptedIsLawful, MemoryIsNoRefusal}
+use Rattle.px_listing.specs.Keywords.{keyword_of}
+use Rattle.px_listing.specs.Limits.{end_past, field_past, fields_past, form_past, limit_of, overlap, past, size_past}
+use Rattle.px_listing.specs.Limits.{value_past}
+use Rattle.px_listing.specs.Lines.{cause_of}
+use Rattle.px_listing.specs.Operations.{field_of, operation_of}
+use Rattle.px_listing.specs.Reading.{at_line, due_behind, fault_of, first_bad, line_judged, operation_in, refused}
+use Rattle.px_listing.specs.declared.keyword.Due.{Due}
+use Rattle.px_listing.specs.declared.keyword.Keyword.{Keyword}
+use Rattle.px_listing.specs.declared.keyword.Keyword.TheVariants as k
+use Rattle.px_listing.specs.declared.limit.LineFault.{LineFault}
+use Rattle.px_listing.specs.declared.limit.LineFault.TheVariants as f
+use Rattle.px_listing.specs.declared.read.ListFault.TheVariants as fault
+use Rattle.px_listing.specs.declared.limit.ListKind.TheVariants as kind
+use Rattle.px_listing.proofs.LimitLemmas.{within}
+
+form_in_range : (a b c : ℤ) → form_past a b c ≡ None → IsInTreeRange (plane_of a b c)
+form_in_range a b c e =
+    let two = none_first _ (size_past (2 ^ 38) c) e in record {
+      a = within kind.Coefficient _ _ a (none_first _ (size_past (2 ^ 27) b) two);
+      b = within kind.Coefficient _ _ b (none_second (size_past (2 ^ 27) a) _ two);
+      c = within kind.Coefficient _ _ c (none_second _ (size_past (2 ^ 38) c) e);
+    }
+
+-- so many bits from a place on stand within the memory
+ends_within : (bits : ℕ) (at len : ℤ) → pos 0 ≤ℤ len → end_past bits at len ≡ None → size_of at + size_of len ≤ bits
+ends_within bits (pos n) (pos k) some e = grind (arith, ints)
+ends_within bits (pos n) (negsuc k) some e = absurd (omega (arith, ints))
+ends_within bits (negsuc n) len some e = cc
+
+field_is : (bits : ℕ) (at len : ℤ) → field_past bits at len ≡ None → IsField (field_of at len) bits
+field_is bits at (pos n) e =
+    let long = within kind.Length (pos 1) (pos 40) (pos n) (none_first _ (end_past bits at (pos n)) e) in record {
+      from_one = omega (arith, ints, long.0);
+      to_forty = omega (arith, ints, long.1);
+      within = ends_within bits at (pos n) (omega (arith, ints))
+          (none_second (past kind.Length (pos 1) (pos 40) (pos n)) _ e);
+    }
+field_is bits at (negsuc n) e =
+    let long = within kind.Length (pos 1) (pos 40) (negsuc n) (none_first _ (end_past bits at (negsuc n)) e) in
+    absurd (omega (arith, ints, long.0))
+
+second_is : (bits : ℕ) (at len to : ℤ) → fields_past bits at len to ≡ None → IsField (field_of to len) bits
+second_is bits at len to e =
+    let first = field_is bits at len (none_first _ (end_past bits to len) e) in
+    let some : pos 0 ≤ℤ len = not_negative len first.from_one in record {
+      from_one = first.from_one;
+      to_forty = first.to_forty;
+      within = ends_within bits to len some (none_second (field_past bits at len) _ e);
+    }
+  where
+    not_negative : (z : ℤ) → 1 ≤ size_of z → pos 0 ≤ℤ z
+    not_negative (pos n) some = omega (arith, ints)
+    not_negative (negsuc n) some = absurd (omega arith)
+
+number_fits : (len number : ℤ) → value_past len number ≡ None → size_of number < 2 ^ size_of len
+number_fits len (pos n) e =
+    let few = within kind.Value (pos 0) (pos (2 ^ size_of len - 1)) (pos n) e in
+    omega (arith, ints, few.1, pow_above (size_of len))
+number_fits len (negsuc n) e =
+    let few = within kind.Value (pos 0) (pos (2 ^ size_of len - 1)) (negsuc n) e in absurd (omega (arith, ints, few.0))
+
+lie_apart : (at len to : ℤ) → pos 0 ≤ℤ at → pos 0 ≤ℤ len → pos 0 ≤ℤ to → overlap at len to ≡ None
+    → AreApart (field_of at len) (field_of to len)
+lie_apart (pos n) (pos l) (pos t) at_is len_is to_is e = grind (arith, ints)
+lie_apart (negsuc n) len to at_is len_is to_is e = absurd (omega (arith, ints))
+lie_apart (pos n) (negsuc l) to at_is len_is to_is e = absurd (omega (arith, ints))
+lie_apart (pos n) (pos l) (negsuc t) at_is len_is to_is e = absurd (omega (arith, ints))
+
+of_one_length : (bits : ℕ) (at len to : ℤ) → fields_past bits at len to ≡ None
+    → AreOfOneLength (field_of at len) (field_of to len) bits
+of_one_length bits at len to e = record {
+  fields = (field_is bits at len (none_first _ (end_past bits to len) e), second_is bits at len to e);
+  length = refl;
+}
+
+placed : (bits : ℕ) (at len : ℤ) → end_past bits at len ≡ None → pos 0 ≤ℤ at
+placed bits (pos n) len e = omega (arith, ints)
+placed bits (negsuc n) len e = cc
+
+place_is : (bits : ℕ) (at : ℤ) → end_past bits at (pos 1) ≡ None → size_of at < bits
+place_is bits at none = let ends = ends_within bits at (pos 1) (omega (arith, ints)) none in omega (arith, ends)
+
+copies : (bits : ℕ) (at len to : ℤ) → option_or (fields_past bits at len to) (overlap at len to) ≡ None
+    → IsLawful (m.Copy (field_of at len) (field_of to len)) bits
+copies bits at len to e =
+    let fields = none_first _ (overlap at len to) e in
+    let first = none_first _ (end_past bits to len) fields in
+    let long = within kind.Length (pos 1) (pos 40) len (none_first _ (end_past bits at len) first) in
+    let apart = lie_apart at len to (placed bits at len (none_second (past kind.Length (pos 1) (pos 40) len) _ first))
+    (omega (arith, ints, long.0)) (placed bits to len (none_second (field_past bits at len) _ fields))
+    (none_second (fields_past bits at len to) _ e) in
+    (of_one_length bits at len to fields, apart)
+
+-- the operation of a line that passes no limit
+op_lawful : (bits : ℕ) (keyword : Keyword) (zs : List ℤ) → limit_of bits keyword zs ≡ None
+    → IfSome (operation_of keyword zs) (λ op. IsLawful op bits)
+op_lawful bits k.All [] none = tt
+op_lawful bits k.All (z ∷ zs) none = tt
+op_lawful bits k.KeepSign [] none = tt
+op_lawful bits k.KeepSign (a ∷ []) none = tt
+op_lawful bits k.KeepSign (a ∷ b ∷ []) none = tt
+op_lawful bits k.KeepSign (a ∷ b ∷ c ∷ []) none = form_in_range a b c none
+op_lawful bits k.KeepSign (a ∷ b ∷ c ∷ z ∷ zs) none = tt
+op_lawful bits k.KeepBit [] none = tt
+op_lawful bits k.KeepBit (at ∷ []) none = tt
+op_lawful bits k.KeepBit (at ∷ v ∷ []) none = place_is bits at (none_first _ (past kind.Value (pos 0) (pos 1) v) none)
+op_lawful bits k.KeepBit (at ∷ v ∷ z ∷ zs) none = tt
+op_lawful bits k.LoadLinear [] none = tt
+op_lawful bits k.LoadLinear (a ∷ []) none = tt
+op_lawful bits k.LoadLinear (a ∷ b ∷ []) none = tt
+op_lawful bits k.LoadLinear (a ∷ b ∷ c ∷ []) none = tt
+op_lawful bits k.LoadLinear (a ∷ b ∷ c ∷ at ∷ []) none = tt
+op_lawful bits k.LoadLinear (a ∷ b ∷ c ∷ at ∷ len ∷ []) none =
+    (form_in_range a b c (none_first _ (field_past bits at len) none), field_is bits at len
+    (none_second (form_past a b c) _ none))
+op_lawful bits k.LoadLinear (a ∷ b ∷ c ∷ at ∷ len ∷ z ∷ zs) none = tt
+op_lawful bits k.KeepAtMost [] none = tt
+op_lawful bits k.KeepAtMost (a ∷ []) none = tt
+op_lawful bits k.KeepAtMost (a ∷ b ∷ []) none = tt
+op_lawful bits k.KeepAtMost (a ∷ b ∷ c ∷ []) none = tt
+op_lawful bits k.KeepAtMost (a ∷ b ∷ c ∷ at ∷ []) none = tt
+op_lawful bits k.KeepAtMost (a ∷ b ∷ c ∷ at ∷ len ∷ []) none =
+    (form_in_range a b c (none_first _ (field_past bits at len) none), field_is bits at len
+    (none_second (form_past a b c) _ none))
+op_lawful bits k.KeepAtMost (a ∷ b ∷ c ∷ at ∷ len ∷ z ∷ zs) none = tt
+op_lawful bits k.AddLinear [] none = tt
+op_lawful bits k.AddLinear (a ∷ []) none = tt
+op_lawful bits k.AddLinear (a ∷ b ∷ []) none = tt
+op_lawful bits k.AddLinear (a ∷ b ∷ c ∷ []) none = tt
+op_lawful bits k.AddLinear (a ∷ b ∷ c ∷ at ∷ []) none = tt
+op_lawful bits k.AddLinear (a ∷ b ∷ c ∷ at ∷ len ∷ []) none =
+    (form_in_range a b c (none_first _ (field_past bits at len) none), field_is bits at len
+    (none_second (form_past a b c) _ none))
+op_lawful bits k.AddLinear (a ∷ b ∷ c ∷ at ∷ len ∷ z ∷ zs) none = tt
+op_lawful bits k.LoadConst [] none = tt
+op_lawful bits k.LoadConst (at ∷ []) none = tt
+op_lawful bits k.LoadConst (at ∷ len ∷ []) none = tt
+op_lawful bits k.LoadConst (at ∷ len ∷ number ∷ []) none =
+    (field_is bits at len (none_first _ (value_past len number) none), number_fits len number
+    (none_second (field_past bits at len) _ none))
+op_lawful bits k.LoadConst (at ∷ len ∷ number ∷ z ∷ zs) none = tt
+op_lawful bits k.SetBit [] none = tt
+op_lawful bits k.SetBit (at ∷ []) none = tt
+op_lawful bits k.SetBit (at ∷ v ∷ []) none = place_is bits at (none_first _ (past kind.Value (pos 0) (pos 1) v) none)
+op_lawful bits k.SetBit (at ∷ v ∷ z ∷ zs) none = tt
+op_lawful bits k.Toggle [] none = tt
+op_lawful bits k.Toggle (at ∷ []) none = place_is bits at none
+op_lawful bits k.Toggle (at ∷ z ∷ zs) none = tt
+op_lawful bits k.Copy [] none = tt
+op_lawful bits k.Copy (at ∷ []) none = tt
+op_lawful bits k.Copy (at ∷ len ∷ []) none = tt
+op_lawful bits k.Copy (at ∷ len ∷ to ∷ []) none = copies bits at len to none
+op_lawful bits k.Copy (at ∷ len ∷ to ∷ z ∷ zs) none = tt
+op_lawful bits k.KeepLess [] none = tt
+op_lawful bits k.KeepLess (at ∷ []) none = tt
+op_lawful bits k.KeepLess (at ∷ len ∷ []) none = tt
+op_lawful bits k.KeepLess (at ∷ len ∷ to ∷ []) none = of_one_length bits at len to none
+op_lawful bits k.KeepLess (at ∷ len ∷ to ∷ z ∷ zs) none = tt
+op_lawful bits k.Pxlist zs none = tt
+op_lawful bits k.Grid zs none = tt
+op_lawful bits k.End zs none = tt
+op_lawful bits k.Other zs none = tt
+
+limit_passed : (cause : Option Cause) (limit : Option LineFault) → line_judged cause limit ≡ None → limit ≡ None
+limit_passed None limit none = none
+limit_passed (Some cause) limit none = cc
+
+line_lawful : (bits : ℕ) (due : Due) (l : Words) → fault_of bits due l ≡ None
+    → IfSome (operation_in l) (λ op. IsLawful op bits)
+line_lawful bits due [] none = tt
+line_lawful bits due (w ∷ ws) none =
+    op_lawful bits (keyword_of w) (numbers_of ws)
+    (limit_passed (cause_of due w ws) (limit_of bits (keyword_of w) (numbers_of ws)) none)
+
+listed : (bits : ℕ) (o : Option Macro) (ops : List Macro) → IfSome o (λ op. IsLawful op bits)
+    → All (λ op. IsLawful op bits) ops → All (λ op. IsLawful op bits) (cons_option o ops)
+listed bits None ops one all = all
+listed bits (Some op) ops one all = All-cons (λ q. IsLawful q bits) op ops one all
+
+none_here : (n : ℕ) (fault : Option LineFault) (later : Option (ℕ × LineFault)) → at_line n fault later ≡ None
+    → (fault ≡ None) × (later ≡ None)
+none_here n None later none = (refl, none)
+none_here n (Some fault) later none = cc
+
+lines_lawful : (bits : ℕ) (before ls : List Words) → first_bad bits before ls ≡ None
+    → All (λ op. IsLawful op bits) (filter_map operation_in ls)
+lines_lawful bits before [] none = All-nil (λ op. IsLawful op bits)
+lines_lawful bits before (l ∷ ls) none =
+    let each = none_here (length before + 1) (fault_of bits (due_behind before) l)
+        (first_bad bits (before ++ l ∷ []) ls) none in
+    listed bits (operation_in l) (filter_map operation_in ls) (line_lawful bits (due_behind before) l each.0)
+    (lines_lawful bits (before ++ l ∷ []) ls each.1)
+
+no_bad : (bad : Option (ℕ × LineFault)) (ended : Bool) (count : ℕ) → refused bad ended count ≡ None → bad ≡ None
+no_bad None ended count none = refl
+no_bad (Some bad) ended count none = cc
+
+pub accepted_is_lawful : AcceptedIsLawful
+accepted_is_lawful bits text none =
+    lines_lawful bits [] (worded text) (no_bad (first_bad bits [] (worded text)) _ _ none)
+
+not_memory : (bad : Option (ℕ × LineFault)) (ended : Bool) (count : ℕ) → refused bad ended count ≢ Some fault.Memory
+not_memory (Some (line, f.Malformed cause)) ended count e = cc
+not_memory (Some (line, f.Limit kind found)) ended count e = cc
+not_memory None true count e = cc
+not_memory None false count e = cc
+
+pub memory_is_no_refusal : MemoryIsNoRefusal
+memory_is_no_refusal bits text = not_memory (first_bad bits [] (worded text)) _ _
