@@ -1,18 +1,21 @@
 -- A scene of few products takes less than 2 ^ 43 clocks, and at least one for each operation.
-use Rattle.std.proofs.Common.{◌≡◌, ℕ, suc, zero, ◌+◌, ◌-◌, ◌*◌, ◌^◌, ◌==◌, ◌<◌, ◌≤◌, Bool, true, false, not, cond}
-use Rattle.std.proofs.Common.{List, [], ◌∷◌, ◌++◌, length, map, drop, get_or, refl, ap, sym, ◌∙◌}
-use Rattle.std.proofs.Common.{arith}
-use Rattle.std.specs.List.{All, filter, flat_map, list_any, range_with_len, sum_by}
+use Rattle.std.proofs.Common.{◌≡◌, ℕ, suc, zero, ◌+◌, ◌-◌, ◌*◌, ◌^◌, ◌==◌, ◌<◌, ◌≤◌, Bool, true, false, cond}
+use Rattle.std.proofs.Common.{List, [], ◌∷◌, ◌++◌, length, map, drop, get_or, refl, ap, sym, subst, ◌∙◌}
+use Rattle.std.proofs.Common.{arith, if◌then◌else◌, inl, inr}
+use Rattle.std.specs.List.{All, filter, list_any, range_with_len, sum_by}
+use Rattle.std.proofs.lemmas.Bool.{cases_Bool}
 use Rattle.std.proofs.lemmas.Bool.Decides.{nat_tests}
+use Rattle.std.proofs.lemmas.List.Elements.{All-head, All-tail}
 use Rattle.std.proofs.lemmas.List.FromFn.{length-range_with_len}
-use Rattle.std.proofs.lemmas.List.Sums.{sum_by-append, sum_by-cons, sum_by-drop_more, sum_by-le, sum_by-le-sum_by}
+use Rattle.std.proofs.lemmas.List.Sums.{sum_by-append, sum_by-cons, sum_by-drop_more, sum_by-le}
 use Rattle.std.proofs.lemmas.Nat.{mul-le}
 use Rattle.px_asm.specs.Micros.{all_micros}
-use Rattle.px_num.specs.Forms as forms
+use Rattle.px_num.specs.Forms.{plus}
 use Rattle.px_num.specs.declared.linear.Linear.{Linear}
 use Rattle.px_num.proofs.TruthLaws.{filtered_few}
+use Rattle.px_face.specs.EdgeLaws.{EdgesAreCounted}
 use Rattle.px_face.specs.Edges.{edges}
-use Rattle.px_face.specs.Faces.{face_count, face_plane}
+use Rattle.px_face.specs.Faces.{face_count, face_number, face_plane}
 use Rattle.px_macro.specs.declared.operation.Macro.{Macro}
 use Rattle.px_macro.specs.declared.operation.Macro.TheVariants as m
 use Rattle.px_expr.specs.Tree.{HasLeavesBelow, Tree}
@@ -23,26 +26,27 @@ use Rattle.px_prune.specs.Bounding.{bounding_box}
 use Rattle.px_normal.specs.Live.{is_void}
 use Rattle.px_prune.specs.Kept.{kept_of, pruned}
 use Rattle.px_normal.specs.Sets.{has, solids}
-use Rattle.px_model.specs.Cells.{Depths, depths_of, end_of}
+use Rattle.px_model.specs.Cells.{depths_of, end_of}
 use Rattle.px_model.specs.Scenes.{IsLawfulScene, SceneView, faces_of, IsLawfulSolid, SolidView, faces_in}
 use Rattle.px_sched.specs.declared.literal.Literal.{Literal}
-use Rattle.px_sched.specs.Layouts.{layout_with}
-use Rattle.px_sched.specs.Passes.{candidate, candidate_faces, confirm, drop_behind, literal_passes, literals, merge}
-use Rattle.px_sched.specs.Passes.{no_solid, others, passes, passes_with, solid_of, turn}
+use Rattle.px_sched.specs.declared.step.Step.{Step}
+use Rattle.px_sched.specs.declared.step.Step.TheVariants.{Begin, Candidate, Clear, Close, Confirm, Drop, Front, Merge}
+use Rattle.px_sched.specs.declared.step.Step.TheVariants.{Open, Start, Turn}
+use Rattle.px_sched.specs.Layouts.{LayoutView, deep_part, fraction_part, layout_of, number_part}
+use Rattle.px_sched.specs.Passes.{candidate_faces, confirm, judge, keep_covered, literal, literals, no_solid}
+use Rattle.px_sched.specs.Passes.{operations, passes, product_steps, solid_of, steps_with, where_fraction, where_passed}
+use Rattle.px_sched.specs.Steps.{HasFace, IsThere}
 use Rattle.px_control.specs.declared.costs.Costs.{Costs}
-use Rattle.px_control.specs.declared.costs.Lengths.{Lengths}
-use Rattle.px_control.specs.Costs.{AreShort, clearing, confirming, cost_of, lengths_of, own_passes, passes_against}
-use Rattle.px_control.specs.Costs.{costs_plus, product_passes, share, times}
-use Rattle.px_control.specs.Program.{columns_of, program, rows_of, total}
-use Rattle.px_control.proofs.CostLemmas.{barred_costs, candidate_costs, candidate_more, candidate_weight}
-use Rattle.px_control.proofs.CostLemmas.{classify_costs, clocked, clocks_on, counted, covered_costs, drop_costs}
-use Rattle.px_control.proofs.CostLemmas.{drop_weight, five, flat_weight, layout_of_lengths, no_clearing}
-use Rattle.px_control.proofs.CostLemmas.{not_confirmed, one, ones, own_costs, own_more, plain_costs}
-use Rattle.px_control.proofs.CostLemmas.{some_clearing, turn_costs, turn_more, turn_weight}
+use Rattle.px_control.specs.Costs.{cost_of, steps_cost}
+use Rattle.px_control.specs.Program.{columns_of, cycles_in, program, rows_of, total}
+use Rattle.px_control.proofs.CostLemmas.{IsAlike, clocked, counted, drops_sum, flat_sum, fronts_sum, judge_sum, own_sum}
 use Rattle.px_model.proofs.GridLaws.{exponent_between}
-use Rattle.px_control.proofs.ProductLemmas.{literal_weight, literals_length, passes_weight, product_costs, solids_range}
+use Rattle.px_control.proofs.ProductLemmas.{against, literals_length, own, shares_sum, solids_range, steps_sum}
 use Rattle.px_normal.specs.declared.product.TheConstants.{MAX_PRODUCTS}
-use Rattle.px_sched.proofs.LayoutLaws.{bit_length_most}
+use Rattle.px_sched.proofs.FewLaws.{any_solid, no_solid_lawful}
+use Rattle.px_sched.proofs.LawfulLaws.{passes_are}
+use Rattle.px_sched.proofs.LayoutLaws.{bit_length_most, scene_layout}
+use Rattle.px_sched.proofs.OperationLaws.{HoldsOf, each_pass, steps_there}
 
 pub kept_few : (scene : SceneView) (products : List Product) → length (kept_of scene products) ≤ length products
 kept_few scene products = filtered_few (pruned (bounding_box scene)) products
@@ -67,143 +71,63 @@ pub total_is : (scene : SceneView) → total scene ≡ length (all_micros (passe
 unfolding program
 total_is scene = refl
 
-pub counted_passes : (scene : SceneView) (lengths : Lengths) (products : List Product) (costs : Costs) →
-    lengths ≡ lengths_of scene → products ≡ kept_of scene (sum_of_products scene.show) →
-    costs ≡ cost_of lengths (passes_with scene (layout_with lengths.depth lengths.fraction lengths.number) products) →
+pub counted_passes : (scene : SceneView) (products : List Product) (costs : Costs) →
+    products ≡ kept_of scene (sum_of_products scene.show) → costs ≡ steps_cost scene (steps_with scene products) →
     (costs.operations ≡ length (passes scene)) × (costs.clocks ≡ total scene)
-counted_passes scene lengths products costs lengths_is products_is costs_is =
-    let counted_of : Lengths → List Product → Costs
-    = λ l ps. cost_of l (passes_with scene (layout_with l.depth l.fraction l.number) ps)
-    in let whole : costs ≡ cost_of (lengths_of scene) (passes scene)
-    = costs_is ∙ ap (λ l. counted_of l products) lengths_is ∙ ap (counted_of (lengths_of scene)) products_is
-    in (
-      ap (λ (c : Costs). c.operations) whole,
-      ap (λ (c : Costs). c.clocks) whole ∙ sym (total_is scene),
-    )
+counted_passes scene products costs products_is costs_is =
+    let whole : costs ≡ cost_of scene (passes scene) =
+    costs_is ∙ ap (λ ps. steps_cost scene (steps_with scene ps)) products_is ∙ ap (cost_of scene) (sym (passes_are scene)) in
+    (ap (λ (c : Costs). c.operations) whole, ap (λ (c : Costs). c.clocks) whole ∙ sym (total_is scene))
 
--- the clocks that a solid adds to a product as a literal are no more: for each of its faces 5790 as a candidate, 5770
--- where it confirms one, and 5770 for each of at most 254 other literals; besides 155 and 5 for each of those
+-- how many steps there are
+abbrev once : Step → ℕ
+once step = 1
+
+once_alike : (scene : SceneView) → IsAlike scene once
+once_alike scene = record {
+  candidate = λ solid face there. refl;
+  drop = λ solid face there. refl;
+  front = λ solid face there. refl;
+  begin = λ other. refl;
+  turn = λ other solid face there. refl;
+  close = λ other plain. refl;
+}
+
+-- a solid adds no more of them to a product as a literal: for each of its faces one as a candidate, one where it
+-- confirms one, and one for each of at most 254 other literals
 abbrev most_added : SolidView → ℕ
-most_added s = face_count s * 1477140 + 1425
+most_added s = face_count s * 256 + 512
 
--- what a solid adds to a product as a literal, where the lengths are those of a scene
-module _ (lengths : Lengths) (d : Depths) (s : SolidView) where
-  abbrev edge_count : ℕ
-  edge_count = length s.sides + face_count s - 1
+few_confirm : (scene : SceneView) (q : Literal) → sum_by once (where_fraction (depths_of scene) (confirm scene q))
+    ≤ face_count (solid_of scene q.solid) + 2
+few_confirm scene q = by_kind q.plain (scene.fraction_bits == 0) where
+  s : SolidView
+  s = solid_of scene q.solid
 
-  abbrev covered : Costs
-  covered = times edge_count (record { operations = 1; clocks = 41 + lengths.columns + lengths.rows })
+  by_kind : (plain none : Bool) → sum_by once (if none then [] else (if plain
+      then map (Drop q.solid) (range_with_len (length s.fronts + 1) (length s.backs + 1))
+      else (Clear ∷ map (Front q.solid) (range_with_len 0 (length s.fronts + 1)) ++ Confirm ∷ []))) ≤ face_count s + 2
+  by_kind plain true = omega arith
+  by_kind true false = omega (arith, drops_sum scene once (once_alike scene) q.solid)
+  by_kind false false = omega (arith, fronts_sum scene once (once_alike scene) q.solid)
 
-  abbrev turned : Costs
-  turned = costs_plus covered (turn_more lengths)
+few_candidates : (s : SolidView) (plain : Bool) → length (candidate_faces s plain) ≤ face_count s
+few_candidates s true = omega (arith, length-range_with_len 0 (length s.fronts + 1))
+few_candidates s false = omega (arith, length-range_with_len (length s.fronts + 1) (length s.backs))
 
-  abbrev found : Costs
-  found = costs_plus (costs_plus covered (cost_of lengths (clearing lengths d))) (candidate_more lengths)
-
-  turned_is : (face : ℕ) (form : Linear) → face < face_count s →
-      turned ≡ cost_of lengths (turn (layout_of_lengths lengths) (end_of d) s face form)
-  turned_is face form there =
-      ap (λ (costs : Costs). costs_plus costs (turn_more lengths))
-      (covered_costs lengths (end_of d) s face edge_count there refl)
-      ∙ turn_costs lengths (end_of d) s face form
-
-  dropped_is : (face : ℕ) → face < face_count s →
-      turned ≡ cost_of lengths (drop_behind (layout_of_lengths lengths) (end_of d) s face)
-  dropped_is face there =
-      ap (λ (costs : Costs). costs_plus costs (turn_more lengths))
-      (covered_costs lengths (end_of d) s face edge_count there refl)
-      ∙ drop_costs lengths (end_of d) s face
-
-  found_is : (face : ℕ) → face < face_count s →
-      found ≡ cost_of lengths (candidate (layout_of_lengths lengths) d s face)
-  found_is face there =
-      ap (λ (costs : Costs). costs_plus (costs_plus costs (cost_of lengths (clearing lengths d))) (candidate_more lengths))
-      (covered_costs lengths (end_of d) s face edge_count there refl)
-      ∙ candidate_costs lengths d s face
-
-  against_is : (plain : Bool) →
-      costs_plus (times (face_count s) turned) five ≡ cost_of lengths (passes_against lengths (end_of d) s plain)
-  against_is plain =
-      classify_costs lengths (end_of d) s plain (face_count s) turned refl
-      (λ face there. turned_is face (face_plane s (end_of d) face) there)
-
-  own_is : (plain : Bool) →
-      costs_plus (costs_plus (times (length (candidate_faces s plain)) found) (cost_of lengths (confirming lengths d s plain)))
-      (own_more lengths)
-      ≡ cost_of lengths (own_passes lengths d s plain)
-  own_is plain = own_costs lengths d s plain (length (candidate_faces s plain)) found refl found_is
-
-  few_candidates : (plain : Bool) → length (candidate_faces s plain) ≤ face_count s
-  few_candidates true = omega (arith, length-range_with_len 0 (length s.fronts + 1))
-  few_candidates false = omega (arith, length-range_with_len (length s.fronts + 1) (length s.backs))
-
-  few_cleared : (cost_of lengths (clearing lengths d)).clocks ≤ lengths.fraction
-  few_cleared = step (d.fraction_bits == 0) refl where
-    step : (b : Bool) → (d.fraction_bits == 0) ≡ b → (cost_of lengths (clearing lengths d)).clocks ≤ lengths.fraction
-    step true none = omega (arith, ap (λ (costs : Costs). costs.clocks) (no_clearing lengths d none))
-    step false some = omega (arith, ap (λ (costs : Costs). costs.clocks) (some_clearing lengths d some))
-
-  module _ (short : AreShort lengths) (lawful : IsLawfulSolid s) where
-    few_covered : covered.clocks ≤ 5723
-    few_covered =
-        mul-le edge_count (41 + lengths.columns + lengths.rows) 97 59
-        (omega (arith, lawful.few_sides, lawful.fronts.few, lawful.backs.few)) (omega (arith, short.levels))
-
-    few_turned : turned.clocks ≤ 5770
-    few_turned = omega (arith, few_covered, short.levels, short.depth)
-
-    few_found : found.clocks ≤ 5790
-    few_found =
-        omega (arith, few_covered, few_cleared, short.levels, short.depth, short.fraction, short.number)
-
-    few_against : (plain : Bool) →
-        (cost_of lengths (passes_against lengths (end_of d) s plain)).clocks ≤ face_count s * 5770 + 5
-    few_against plain =
-        let same = ap (λ (costs : Costs). costs.clocks) (against_is plain)
-        in omega (arith, same, mul-le (face_count s) turned.clocks (face_count s) 5770 (omega arith) few_turned)
-
-    few_confirmed : (plain : Bool) → (cost_of lengths (confirming lengths d s plain)).clocks ≤ face_count s * 5770 + 5
-    few_confirmed plain = step plain (d.fraction_bits == 0) refl where
-      step : (p b : Bool) → (d.fraction_bits == 0) ≡ b →
-          (cost_of lengths (confirming lengths d s p)).clocks ≤ face_count s * 5770 + 5
-      step p true none = omega (arith, ap (λ (costs : Costs). costs.clocks) (not_confirmed lengths d s p none))
-      step true false some =
-          omega (
-            arith,
-            ap (λ (costs : Costs). costs.clocks)
-                (plain_costs lengths d s (length s.backs + 1) turned some refl dropped_is),
-            mul-le (length s.backs + 1) turned.clocks (face_count s) 5770 (omega arith) few_turned,
-          )
-      step false false some =
-          omega (
-            arith,
-            ap (λ (costs : Costs). costs.clocks)
-                (barred_costs lengths d s (length s.fronts + 1) turned some refl turned_is),
-            mul-le (length s.fronts + 1) turned.clocks (face_count s) 5770 (omega arith) few_turned,
-          )
-
-    few_own : (plain : Bool) →
-        (cost_of lengths (own_passes lengths d s plain)).clocks ≤ face_count s * 11560 + 155
-    few_own plain =
-        let same = ap (λ (costs : Costs). costs.clocks) (own_is plain)
-        in omega (
-          arith,
-          same,
-          mul-le (length (candidate_faces s plain)) found.clocks (face_count s) 5790 (few_candidates plain) few_found,
-          few_confirmed plain,
-          short.depth,
-          short.number,
-        )
-
-    pub few_shared : (plain : Bool) (others : ℕ) → others ≤ 254 →
-        (share lengths d s plain others).clocks ≤ most_added s
-    few_shared plain others few =
-        omega (
-          arith,
-          few_own plain,
-          mul-le others (cost_of lengths (passes_against lengths (end_of d) s plain)).clocks 254
-              (face_count s * 5770 + 5) few (few_against plain),
-        )
+few_shared : (scene : SceneView) (product : Product) (q : Literal) (others : ℕ) → others ≤ 254 →
+    own scene once (once_alike scene) product q + others * against scene once (once_alike scene) product q
+    ≤ most_added (solid_of scene q.solid)
+few_shared scene product q others few =
+    let s = solid_of scene q.solid in
+    let judged = judge_sum scene once (once_alike scene) (q ∷ []) 0 in
+    omega (
+      arith,
+      own_sum scene once (once_alike scene) q,
+      few_candidates s q.plain,
+      few_confirm scene q,
+      mul-le others (sum_by once (judge scene (q ∷ []) 0)) 254 (face_count s + 2) few (omega (arith, judged)),
+    )
 
 -- what the solids of a product add is at most what all solids do
 drop_less : (w : SolidView → ℕ) (ss : List SolidView) (from : ℕ) → sum_by w (drop (suc from) ss)
@@ -280,24 +204,116 @@ module _ (w : SolidView → ℕ) (f g : ℕ → ℕ) (ss : List SolidView) (plai
         (rw (plain_is, barred_is) none))
 
 -- what all solids add
-weights_sum : (ss : List SolidView) →
-    sum_by most_added ss ≡ (faces_of ss + length ss) * 1477140 + length ss * 1425
+weights_sum : (ss : List SolidView) → sum_by most_added ss ≡ (faces_of ss + length ss) * 256 + length ss * 512
 weights_sum [] = refl
 weights_sum (s ∷ ss) =
     omega (arith, sum_by-cons most_added s ss, sum_by-cons faces_in s ss, weights_sum ss)
 
-module _ (scene : SceneView) (lawful : IsLawfulScene scene) (each : All IsLawfulSolid scene.solids) where
-  pub scene_short : AreShort (lengths_of scene)
-  scene_short = record {
-    levels = omega (
+-- so many clocks each
+few_in_all : {A : Type 0} (Q : A → Type 0) (f : A → ℕ) (most : ℕ) → ((x : A) → Q x → f x ≤ most) → (xs : List A)
+    → All Q xs → sum_by f xs ≤ length xs * most
+few_in_all Q f most few [] all = omega arith
+few_in_all Q f most few (x ∷ xs) all =
+    omega (
       arith,
-      (exponent_between scene.width lawful.width).1,
-      (exponent_between scene.height lawful.height).1,
-    );
-    depth = lawful.depth;
-    fraction = lawful.fraction;
-    number = bit_length_most (faces_of scene.solids);
-  }
+      sum_by-cons f x xs,
+      few x (All-head Q x xs all),
+      few_in_all Q f most few xs (All-tail Q x xs all),
+    )
+
+module _ (count : EdgesAreCounted) (scene : SceneView) (lawful : IsLawfulScene scene)
+    (each : All IsLawfulSolid scene.solids) where
+  abbrev l : LayoutView
+  l = layout_of scene
+
+  abbrev end : ℕ
+  end = end_of (depths_of scene)
+
+  abbrev taken : Macro → ℕ
+  taken = cycles_in scene
+
+  levels : columns_of scene + rows_of scene ≤ 18
+  levels =
+      omega (
+        arith,
+        (exponent_between scene.width lawful.width).1,
+        (exponent_between scene.height lawful.height).1,
+      )
+
+  number_most : l.number_bits ≤ 12
+  number_most = bit_length_most (faces_of scene.solids)
+
+  few_signs : (forms : List Linear) → sum_by taken (map m.KeepSign forms) ≤ length forms * 59
+  few_signs [] = omega arith
+  few_signs (form ∷ forms) =
+      omega (arith, sum_by-cons taken (m.KeepSign form) (map m.KeepSign forms), levels, few_signs forms)
+
+  few_covered : (solid face : ℕ) → IsThere scene solid face
+      → sum_by taken (keep_covered end (solid_of scene solid) face) ≤ 5723
+  few_covered solid face there =
+      let s = solid_of scene solid in
+      let is = any_solid IsLawfulSolid scene each no_solid_lawful solid in
+      omega (
+        arith,
+        few_signs (edges s end face),
+        count s end face there,
+        is.few_sides,
+        is.fronts.few,
+        is.backs.few,
+      )
+
+  few_passed : (solid face : ℕ) (form : Linear) (operation : Macro) → IsThere scene solid face → taken operation ≤ 82
+      → sum_by taken (where_passed l end (solid_of scene solid) face form operation) ≤ 6133
+  few_passed solid face form operation there few =
+      let signs = keep_covered end (solid_of scene solid) face in
+      let head : List Macro = m.All ∷ m.KeepBit l.alive true ∷ [] in
+      let tail : List Macro = m.KeepAtMost form (deep_part l l.key_t) ∷ operation ∷ [] in
+      omega (
+        arith,
+        sum_by-append taken (head ++ signs) tail,
+        sum_by-append taken head signs,
+        few_covered solid face there,
+        few,
+        levels,
+        lawful.depth,
+      )
+
+  few_clear : sum_by taken (where_fraction (depths_of scene) (m.LoadConst (fraction_part l l.key_t) 0 ∷ [])) ≤ 8
+  few_clear = elim (cases_Bool (scene.fraction_bits == 0)) [
+    | inl none ↦ rw none (omega arith)
+    | inr some ↦ rw some (omega (arith, lawful.fraction))
+  ]
+
+  -- the clocks of a step
+  few_step : (step : Step) → HasFace (IsThere scene) step → sum_by taken (operations scene l step) ≤ 6133
+  few_step Start there = omega (arith, lawful.depth, number_most)
+  few_step Open there = omega arith
+  few_step (Candidate solid face) there =
+      let s = solid_of scene solid in
+      let load = m.LoadLinear (plus (face_plane s end face) (2 ^ scene.fraction_bits - 1)) (deep_part l l.key_t) in
+      let clear = where_fraction (depths_of scene) (m.LoadConst (fraction_part l l.key_t) 0 ∷ []) in
+      let last : List Macro = m.LoadConst (number_part l l.key_t) (face_number s face) ∷ m.SetBit l.alive true ∷ [] in
+      let signs = keep_covered end s face in
+      omega (
+        arith,
+        sum_by-append taken (m.All ∷ signs) (load ∷ clear ++ last),
+        sum_by-append taken (m.All ∷ []) signs,
+        sum_by-append taken (load ∷ clear) last,
+        sum_by-cons taken load clear,
+        few_covered solid face there,
+        few_clear,
+        levels,
+        lawful.depth,
+        number_most,
+      )
+  few_step (Drop solid face) there = few_passed solid face _ _ there (omega arith)
+  few_step Clear there = omega arith
+  few_step (Front solid face) there = few_passed solid face _ _ there (omega arith)
+  few_step Confirm there = omega arith
+  few_step (Begin other) there = omega arith
+  few_step (Turn other solid face) there = few_passed solid face _ _ there (omega arith)
+  few_step (Close other plain) there = omega arith
+  few_step Merge there = omega (arith, lawful.depth, number_most)
 
   few_literals : (product : Product) → HasSolidsBelow (length scene.solids) product → is_void product ≡ false →
       length (literals product) ≤ 255
@@ -314,20 +330,18 @@ module _ (scene : SceneView) (lawful : IsLawfulScene scene) (each : All IsLawful
       )
 
   few_added : (product : Product) → HasSolidsBelow (length scene.solids) product → is_void product ≡ false →
-      (cost_of (lengths_of scene) (product_passes (lengths_of scene) scene product)).clocks ≤ 6425922375
+      sum_by once (product_steps scene product) ≤ 1244160
   few_added product known apart =
-      let lengths = lengths_of scene
-      in let others = length (literals product) - 1
-      in let few : others ≤ 254 = omega (arith, few_literals product known apart)
-      in let added : Bool → ℕ → ℕ
-      = λ plain solid. (share lengths (depths_of scene) (solid_of scene solid) plain others).clocks
-      in let within : (plain : Bool) (q : ℕ) → q < length scene.solids → added plain q ≤ most_added (solid_of scene q)
-      = λ plain q there. few_shared lengths (depths_of scene) (solid_of scene q) scene_short
-      (each q no_solid there) plain others few
-      in let same = ap (λ (costs : Costs). costs.clocks) (product_costs lengths scene product others refl apart)
-      in omega (
+      let others = length (literals product) - 1 in
+      let few : others ≤ 254 = omega (arith, few_literals product known apart) in
+      let added : Bool → ℕ → ℕ =
+      λ plain solid. own scene once (once_alike scene) product (literal plain solid)
+      + others * against scene once (once_alike scene) product (literal plain solid) in
+      let within : (plain : Bool) (q : ℕ) → q < length scene.solids → added plain q ≤ most_added (solid_of scene q) =
+      λ plain q there. few_shared scene product (literal plain q) others few in
+      omega (
         arith,
-        same,
+        shares_sum scene once (once_alike scene) product apart,
         sets_few most_added (added true) (added false) scene.solids (has product.plain) (has product.barred)
             (within true) (within false) product refl refl known apart,
         weights_sum scene.solids,
@@ -337,186 +351,62 @@ module _ (scene : SceneView) (lawful : IsLawfulScene scene) (each : All IsLawful
 
   pub few_clocks : AreKnown → length (kept_of scene (sum_of_products scene.show)) ≤ MAX_PRODUCTS → total scene < 2 ^ 43
   few_clocks known few =
-      let lengths = lengths_of scene
-      in let kept = kept_of scene (sum_of_products scene.show)
-      in let weight : Product → ℕ = λ product. sum_by (clocks_on lengths) (product_passes lengths scene product)
-      in let below : All (λ product. weight product ≤ 6425922375) kept
-      = λ k d there. omega (
-        arith,
-        few_added (get_or kept k d) (kept_known scene lawful known k d there)
-            (known.apart scene (sum_of_products scene.show) k d there),
-        clocked lengths (product_passes lengths scene (get_or kept k d)),
-      )
-      in omega (
+      let kept = kept_of scene (sum_of_products scene.show) in
+      let number : Product → ℕ = λ product. sum_by once (product_steps scene product) in
+      let below : All (λ product. number product ≤ 1244160) kept =
+      λ k d there. few_added (get_or kept k d) (kept_known scene lawful known k d there)
+      (known.apart scene (sum_of_products scene.show) k d there) in
+      omega (
         arith,
         total_is scene,
-        clocked lengths (passes scene),
-        passes_weight lengths scene (clocks_on lengths) kept,
-        sum_by-le weight 6425922375 kept below,
+        clocked scene (passes scene),
+        ap (sum_by taken) (passes_are scene),
+        flat_sum taken (operations scene l) (steps_with scene kept),
+        few_in_all (HasFace (IsThere scene)) (λ step. sum_by taken (operations scene l step)) 6133 few_step
+            (steps_with scene kept) (steps_there scene kept),
+        counted (steps_with scene kept),
+        steps_sum scene once kept,
+        sum_by-le number 1244160 kept below,
         few,
-        scene_short.depth,
-        scene_short.number,
       )
 
 -- at least a clock for each operation
-module _ (lengths : Lengths) (some : 1 ≤ lengths.depth) (scene : SceneView) (same : scene.fraction_bits
-    ≡ lengths.fraction) where
-  abbrev Pays : List Macro → Type 0
-  Pays ms = sum_by one ms ≤ sum_by (clocks_on lengths) ms
+paid : {A : Type 0} (f : A → ℕ) (xs : List A) → All (λ x. 1 ≤ f x) xs → length xs ≤ sum_by f xs
+paid f [] all = omega arith
+paid f (x ∷ xs) all =
+    omega (
+      arith,
+      sum_by-cons f x xs,
+      All-head (λ x. 1 ≤ f x) x xs all,
+      paid f xs (All-tail (λ x. 1 ≤ f x) x xs all),
+    )
 
-  pays_flat : {A : Type 0} (f : A → List Macro) → ((x : A) → Pays (f x)) → (xs : List A) → Pays (flat_map f xs)
-  pays_flat f each xs =
-      omega (
-        arith,
-        flat_weight one f xs,
-        flat_weight (clocks_on lengths) f xs,
-        sum_by-le-sum_by (λ x. sum_by one (f x)) (λ x. sum_by (clocks_on lengths) (f x)) xs each,
-      )
-
-  pays_signs : (forms : List Linear) → Pays (map m.KeepSign forms)
-  pays_signs [] = omega arith
-  pays_signs (form ∷ forms) =
-      omega (
-        arith,
-        sum_by-cons one (m.KeepSign form) (map m.KeepSign forms),
-        sum_by-cons (clocks_on lengths) (m.KeepSign form) (map m.KeepSign forms),
-        pays_signs forms,
-      )
-
-  module _ (s : SolidView) where
-    abbrev end : ℕ
-    end = end_of (depths_of scene)
-
-    pays_turn : (face : ℕ) (form : Linear) → Pays (turn (layout_of_lengths lengths) end s face form)
-    pays_turn face form =
-        omega (
-          arith,
-          turn_weight one lengths end s face form,
-          turn_weight (clocks_on lengths) lengths end s face form,
-          pays_signs (edges s end face),
-        )
-
-    pays_drop : (face : ℕ) → Pays (drop_behind (layout_of_lengths lengths) end s face)
-    pays_drop face =
-        omega (
-          arith,
-          drop_weight one lengths end s face,
-          drop_weight (clocks_on lengths) lengths end s face,
-          pays_signs (edges s end face),
-        )
-
-    pays_clearing : Pays (clearing lengths (depths_of scene))
-    pays_clearing = step (scene.fraction_bits == 0) refl where
-      step : (b : Bool) → (scene.fraction_bits == 0) ≡ b → Pays (clearing lengths (depths_of scene))
-      step true none = rw none (omega arith)
-      step false there =
-          let least : 1 ≤ lengths.fraction = rw (← same) (grind (arith, nat_tests))
-          in rw there (omega (arith, least))
-
-    pays_candidate : (face : ℕ) → Pays (candidate (layout_of_lengths lengths) (depths_of scene) s face)
-    pays_candidate face =
-        omega (
-          arith,
-          candidate_weight one lengths (depths_of scene) s face,
-          candidate_weight (clocks_on lengths) lengths (depths_of scene) s face,
-          pays_signs (edges s end face),
-          pays_clearing,
-        )
-
-    abbrev turned_by : (ℕ → Linear) → ℕ → List Macro
-    turned_by form face = turn (layout_of_lengths lengths) end s face (form face)
-
-    pays_turns : (form : ℕ → Linear) (value : Bool) (count : ℕ) →
-        let l = layout_of_lengths lengths in
-        Pays (m.All ∷ m.SetBit l.par false
-        ∷ flat_map (turned_by form) (range_with_len 0 count)
-        ++ m.All ∷ m.KeepBit l.par value ∷ m.SetBit l.alive false ∷ [])
-    pays_turns form value count =
-        let l = layout_of_lengths lengths
-        in let turns = flat_map (turned_by form) (range_with_len 0 count)
-        in let front = m.All ∷ m.SetBit l.par false ∷ []
-        in let back = m.All ∷ m.KeepBit l.par value ∷ m.SetBit l.alive false ∷ []
-        in omega (
-          arith,
-          sum_by-append one (front ++ turns) back,
-          sum_by-append one front turns,
-          sum_by-append (clocks_on lengths) (front ++ turns) back,
-          sum_by-append (clocks_on lengths) front turns,
-          pays_flat (turned_by form) (λ face. pays_turn face (form face)) (range_with_len 0 count),
-        )
-
-    pays_against : (plain : Bool) → Pays (passes_against lengths end s plain)
-    pays_against plain = pays_turns (λ face. face_plane s end face) (not plain) (face_count s)
-
-    pays_confirm : (plain : Bool) → Pays (confirm (layout_of_lengths lengths) (depths_of scene) s plain)
-    pays_confirm true =
-        pays_flat (drop_behind (layout_of_lengths lengths) end s) pays_drop
-        (range_with_len (length s.fronts + 1) (length s.backs + 1))
-    pays_confirm false =
-        pays_turns (λ face. forms.plus (face_plane s end face) (2 ^ scene.fraction_bits)) false (length s.fronts + 1)
-
-    pays_confirming : (plain : Bool) → Pays (confirming lengths (depths_of scene) s plain)
-    pays_confirming plain = step (scene.fraction_bits == 0) refl where
-      step : (b : Bool) → (scene.fraction_bits == 0) ≡ b → Pays (confirming lengths (depths_of scene) s plain)
-      step true none = rw none (omega arith)
-      step false there = rw there (pays_confirm plain)
-
-    pays_own : (plain : Bool) → Pays (own_passes lengths (depths_of scene) s plain)
-    pays_own plain =
-        let l = layout_of_lengths lengths
-        in let found_ones = flat_map (candidate l (depths_of scene) s) (candidate_faces s plain)
-        in let front = m.All ∷ m.SetBit l.alive false ∷ []
-        in let confirmed = confirming lengths (depths_of scene) s plain
-        in omega (
-          arith,
-          sum_by-append one (front ++ found_ones ++ confirmed) (merge l),
-          sum_by-append one (front ++ found_ones) confirmed,
-          sum_by-append one front found_ones,
-          sum_by-append (clocks_on lengths) (front ++ found_ones ++ confirmed) (merge l),
-          sum_by-append (clocks_on lengths) (front ++ found_ones) confirmed,
-          sum_by-append (clocks_on lengths) front found_ones,
-          pays_flat (candidate l (depths_of scene) s) pays_candidate (candidate_faces s plain),
-          pays_confirming plain,
-        )
-
-  pays_literal : (product : Product) (q : Literal) →
-      Pays (literal_passes scene (layout_with lengths.depth lengths.fraction lengths.number) product q)
-  pays_literal product q =
-      omega (
-        arith,
-        literal_weight one lengths scene product q,
-        literal_weight (clocks_on lengths) lengths scene product q,
-        pays_own (solid_of scene q.solid) q.plain,
-        sum_by-le-sum_by
-            (λ r. sum_by one (passes_against lengths (end_of (depths_of scene)) (solid_of scene r.solid) r.plain))
-            (λ r. sum_by (clocks_on lengths) (passes_against lengths (end_of (depths_of scene))
-            (solid_of scene r.solid) r.plain))
-            (others q product)
-            (λ r. pays_against (solid_of scene r.solid) r.plain),
-      )
-
-  pub pays_passes : (products : List Product) →
-      Pays (passes_with scene (layout_with lengths.depth lengths.fraction lengths.number) products)
-  pays_passes products =
-      omega (
-        arith,
-        passes_weight lengths scene one products,
-        passes_weight lengths scene (clocks_on lengths) products,
-        sum_by-le-sum_by
-            (λ product. sum_by one (product_passes lengths scene product))
-            (λ product. sum_by (clocks_on lengths) (product_passes lengths scene product))
-            products
-            (λ product. pays_flat (literal_passes scene (layout_with lengths.depth lengths.fraction lengths.number)
-            product)
-            (pays_literal product) (literals product)),
-      )
+each_paid : (scene : SceneView) → IsLawfulScene scene → HoldsOf scene (layout_of scene) (λ m. 1 ≤ cycles_in scene m)
+each_paid scene lawful = record {
+  all = omega arith;
+  best = omega (arith, lawful.some_depth);
+  alive = λ v. omega arith;
+  par = omega arith;
+  turned = omega arith;
+  where_alive = omega arith;
+  where_par = λ v. omega arith;
+  less = omega arith;
+  copy = omega (arith, lawful.some_depth);
+  cleared = λ some. grind (arith, nat_tests);
+  number = λ solid face. omega (arith, (scene_layout scene lawful).some_number);
+  signs = λ solid face there k d low. omega arith;
+  load = λ solid face there. omega arith;
+  at_most = λ solid face there. omega arith;
+  behind = λ solid face there. omega arith;
+}
 
 pub some_clocks : (scene : SceneView) → IsLawfulScene scene → length (passes scene) ≤ total scene
 some_clocks scene lawful =
     omega (
       arith,
       total_is scene,
-      ones (passes scene),
-      clocked (lengths_of scene) (passes scene),
-      pays_passes (lengths_of scene) lawful.some_depth scene refl (kept_of scene (sum_of_products scene.show)),
+      clocked scene (passes scene),
+      paid (cycles_in scene) (passes scene) (subst (All (λ m. 1 ≤ cycles_in scene m)) (sym (passes_are scene))
+          (each_pass scene (layout_of scene) (λ m. 1 ≤ cycles_in scene m) (each_paid scene lawful)
+          (kept_of scene (sum_of_products scene.show)))),
     )

@@ -1,94 +1,39 @@
--- What the passes of faces and literals cost, as sums over their operations.
-use Rattle.std.proofs.Common.{◌≡◌, ◌≢◌, ℕ, suc, zero, ◌+◌, ◌-◌, ◌*◌, ◌<◌, ◌≤◌, ◌^◌, ◌==◌, Bool, true, false, not}
-use Rattle.std.proofs.Common.{if◌then◌else◌, List, [], ◌∷◌, ◌++◌, length, map, get_or, refl, ap, sym, ◌∙◌}
-use Rattle.std.proofs.Common.{arith}
+-- What the steps of a literal cost: a step for each face of a solid, each of which costs as much as the first.
+use Rattle.std.proofs.Common.{◌≡◌, ◌≢◌, ℕ, suc, zero, ◌+◌, ◌-◌, ◌*◌, ◌<◌, ◌≤◌, ◌^◌, ◌==◌, Bool, true, false, List, []}
+use Rattle.std.proofs.Common.{◌∷◌, ◌++◌, All, length, map, get_or, take, refl, ap, sym, subst, ◌∙◌, arith}
 use Rattle.std.specs.List.{flat_map, range_with_len, sum_by}
 use Rattle.std.proofs.lemmas.Bool.Decides.{nat_tests}
-use Rattle.std.proofs.lemmas.List.{length-append, length-drop, length-map, length-take}
+use Rattle.std.proofs.lemmas.List.{length-map, map-append}
+use Rattle.std.proofs.Math.Seq.{take-length}
 use Rattle.std.proofs.lemmas.List.Concat.{length-flat_map}
 use Rattle.std.proofs.lemmas.List.FromFn.{length-range_with_len}
 use Rattle.std.proofs.lemmas.List.Sums.{sum_by-append, sum_by-cons}
 use Rattle.std.proofs.lemmas.Nat.{mul-le}
 use Rattle.px_num.specs.declared.linear.Linear.{Linear}
-use Rattle.px_num.specs.Forms as forms
+use Rattle.px_num.specs.Forms.{plus}
 use Rattle.px_num.proofs.ListLaws.{length-tabulate}
 use Rattle.px_asm.specs.Micros.{all_micros, cycles, micro_at, micros}
-use Rattle.px_face.specs.Edges.{above, back_edges, edges, front_edges, leads, over, trails, under}
-use Rattle.px_face.specs.Faces.{back_planes, face_count, front_planes, is_front_face, level, face_number, face_plane}
-use Rattle.px_face.specs.Faces.{planes_in_faces}
+use Rattle.px_face.specs.EdgeLaws.{EdgesAreCounted}
+use Rattle.px_face.specs.Edges.{edges}
+use Rattle.px_face.specs.Faces.{face_count, face_number, face_plane}
 use Rattle.px_macro.specs.declared.operation.Macro.{Macro}
 use Rattle.px_macro.specs.declared.operation.Macro.TheVariants as m
-use Rattle.px_model.specs.Cells.{Depths, end_of}
-use Rattle.px_model.specs.declared.solid.Face.{Face}
-use Rattle.px_model.specs.Scenes.{SceneView, SolidView}
-use Rattle.px_sched.specs.Layouts.{LayoutView, deep_part, fraction_part, layout_with, number_part}
-use Rattle.px_sched.specs.Passes.{candidate, candidate_faces, classify, confirm, drop_behind, keep_covered, merge}
-use Rattle.px_sched.specs.Passes.{passes_with, turn}
+use Rattle.px_model.specs.Cells.{depths_of, end_of}
+use Rattle.px_macro.specs.Macros.{IsLawful, IsLawfulInMore}
+use Rattle.px_model.specs.Scenes.{IsLawfulScene, IsLawfulSolid, SceneView}
+use Rattle.px_sched.specs.declared.literal.Literal.{Literal}
+use Rattle.px_sched.specs.declared.step.Step.{Step}
+use Rattle.px_sched.specs.declared.step.Step.TheVariants.{Begin, Candidate, Clear, Close, Confirm, Drop, Front, Merge, Open}
+use Rattle.px_sched.specs.declared.step.Step.TheVariants.{Turn}
+use Rattle.px_sched.specs.Layouts.{LayoutView, deep_part, fraction_part, layout_of, need_of, number_part}
+use Rattle.px_sched.specs.Passes.{candidate_faces, confirm, judge, keep_covered, literal_at, literal_steps, no_literal}
+use Rattle.px_sched.specs.Passes.{operations, solid_of, where_fraction, where_passed}
+use Rattle.px_sched.specs.PassesFacts.{LayoutsAreLawful, StepsAreLawful}
+use Rattle.px_sched.specs.Steps.{IsStep, IsThere}
+use Rattle.px_sched.proofs.MemberLaws.{by_places}
 use Rattle.px_control.specs.declared.costs.Costs.{Costs}
-use Rattle.px_control.specs.declared.costs.Lengths.{Lengths}
-use Rattle.px_control.specs.Costs.{AreCostsAtMost, clearing, confirming, cost_of, own_passes, costs_plus, times}
-
-abbrev pub layout_of_lengths : Lengths → LayoutView
-layout_of_lengths lengths = layout_with lengths.depth lengths.fraction lengths.number
-
--- a face has an edge for each side, and one for each of the other faces
-leads_length : (p : Linear) (planes : List Linear) (i : ℕ) → i < length planes →
-    length (leads p planes i) + 1 ≡ length planes
-leads_length p planes i there =
-    simp (length-append, length-map, length-take, length-drop) (omega arith)
-
-trails_length : (p : Linear) (planes : List Linear) (i : ℕ) → i < length planes →
-    length (trails p planes i) + 1 ≡ length planes
-trails_length p planes i there =
-    simp (length-append, length-map, length-take, length-drop) (omega arith)
-
-fronts_length : (fronts : List Face) → length (front_planes fronts) ≡ length fronts + 1
-fronts_length fronts = omega (arith, length-map fronts (λ f. f.plane))
-
-backs_length : (backs : List Face) (far : ℕ) → length (back_planes backs far) ≡ length backs + 1
-backs_length backs far =
-    omega (arith, length-map backs (λ f. f.plane), length-append (planes_in_faces backs) (level far ∷ []))
-
-front_edges_length : (s : SolidView) (far i : ℕ) → i ≤ length s.fronts →
-    length (front_edges s far i) + 1 ≡ length s.sides + face_count s
-front_edges_length s far i there =
-    let p = get_or (front_planes s.fronts) i (level 0)
-    in let n = fronts_length s.fronts
-    in let k = backs_length s.backs far
-    in let lead : length (leads p (front_planes s.fronts) i) + 1 ≡ length (front_planes s.fronts)
-    = leads_length p (front_planes s.fronts) i (omega (arith, n))
-    in let below : length (under p (back_planes s.backs far)) ≡ length (back_planes s.backs far)
-    = length-map (back_planes s.backs far) (λ q. above q p)
-    in let whole = length-append (s.sides ++ leads p (front_planes s.fronts) i) (under p (back_planes s.backs far))
-    in let part = length-append s.sides (leads p (front_planes s.fronts) i)
-    in omega (arith, whole, part, lead, below, n, k)
-
-back_edges_length : (s : SolidView) (far i : ℕ) → i ≤ length s.backs →
-    length (back_edges s far i) + 1 ≡ length s.sides + face_count s
-back_edges_length s far i there =
-    let p = get_or (back_planes s.backs far) i (level 0)
-    in let n = fronts_length s.fronts
-    in let k = backs_length s.backs far
-    in let trail : length (trails p (back_planes s.backs far) i) + 1 ≡ length (back_planes s.backs far)
-    = trails_length p (back_planes s.backs far) i (omega (arith, k))
-    in let behind : length (over p (front_planes s.fronts)) ≡ length (front_planes s.fronts)
-    = length-map (front_planes s.fronts) (λ q. above p q)
-    in let whole = length-append (s.sides ++ trails p (back_planes s.backs far) i) (over p (front_planes s.fronts))
-    in let part = length-append s.sides (trails p (back_planes s.backs far) i)
-    in omega (arith, whole, part, trail, behind, n, k)
-
-pub edges_length : (s : SolidView) (far face : ℕ) → face < face_count s →
-    length (edges s far face) + 1 ≡ length s.sides + face_count s
-edges_length s far face there = by_kind (is_front_face s face) refl where
-  by_kind : (b : Bool) → is_front_face s face ≡ b →
-      length (if b then front_edges s far face else back_edges s far (face - (length s.fronts + 1))) + 1
-      ≡ length s.sides + face_count s
-  by_kind true front =
-      let low : face < length s.fronts + 1 = grind (arith, nat_tests)
-      in front_edges_length s far face (omega arith)
-  by_kind false back =
-      let high : length s.fronts + 1 ≤ face = grind (arith, nat_tests)
-      in back_edges_length s far (face - (length s.fronts + 1)) (omega arith)
+use Rattle.px_control.specs.Costs.{AreCostsAtMost, cost_of, costs_plus, step_cost, steps_cost, times}
+use Rattle.px_control.specs.Program.{columns_of, cycles_in, rows_of}
 
 -- sums
 pub sum_by-agree : {A : Type 0} (f g : A → ℕ) → ((x : A) → f x ≡ g x) → (xs : List A) → sum_by f xs ≡ sum_by g xs
@@ -96,7 +41,22 @@ sum_by-agree f g same [] = refl
 sum_by-agree f g same (x ∷ xs) =
     omega (arith, sum_by-cons f x xs, sum_by-cons g x xs, same x, sum_by-agree f g same xs)
 
-pub sum_by-same : (f : ℕ → ℕ) (value from count : ℕ) → ((i : ℕ) → i < from + count → f i ≡ value)
+pub sum_map : {A B : Type 0} (f : B → ℕ) (g : A → B) (xs : List A) → sum_by f (map g xs) ≡ sum_by (λ x. f (g x)) xs
+sum_map f g [] = refl
+sum_map f g (x ∷ xs) = omega (arith, sum_by-cons f (g x) (map g xs), sum_by-cons (λ y. f (g y)) x xs, sum_map f g xs)
+
+pub flat_sum : {A B : Type 0} (w : B → ℕ) (f : A → List B) (xs : List A) →
+    sum_by w (flat_map f xs) ≡ sum_by (λ x. sum_by w (f x)) xs
+flat_sum w f [] = refl
+flat_sum w f (x ∷ xs) =
+    omega (
+      arith,
+      sum_by-append w (f x) (flat_map f xs),
+      sum_by-cons (λ y. sum_by w (f y)) x xs,
+      flat_sum w f xs,
+    )
+
+sum_by-same : (f : ℕ → ℕ) (value from count : ℕ) → ((i : ℕ) → i < from + count → f i ≡ value)
     → sum_by f (range_with_len from count) ≡ count * value
 sum_by-same f value from zero same = omega arith
 sum_by-same f value from (suc count) same =
@@ -107,205 +67,246 @@ sum_by-same f value from (suc count) same =
       sum_by-same f value (from + 1) count (λ i below. same i (omega arith)),
     )
 
--- the weight of operations, each of which has its own
-module _ (w : Macro → ℕ) where
-  pub flat_weight : {A : Type 0} (f : A → List Macro) (xs : List A) →
-      sum_by w (flat_map f xs) ≡ sum_by (λ x. sum_by w (f x)) xs
-  flat_weight f [] = refl
-  flat_weight f (x ∷ xs) =
-      omega (
-        arith,
-        sum_by-append w (f x) (flat_map f xs),
-        sum_by-cons (λ y. sum_by w (f y)) x xs,
-        flat_weight f xs,
-      )
-
-  signs_weight : (sign : ℕ) → ((form : Linear) → w (m.KeepSign form) ≡ sign) → (forms : List Linear) →
-      sum_by w (map m.KeepSign forms) ≡ length forms * sign
-  signs_weight sign each [] = omega arith
-  signs_weight sign each (form ∷ forms) =
-      omega (
-        arith,
-        sum_by-cons w (m.KeepSign form) (map m.KeepSign forms),
-        each form,
-        signs_weight sign each forms,
-      )
-
-  pub covered_weight : (sign : ℕ) → ((form : Linear) → w (m.KeepSign form) ≡ sign) → (s : SolidView) (far face : ℕ)
-      → face < face_count s → sum_by w (keep_covered far s face) ≡ (length s.sides + face_count s - 1) * sign
-  covered_weight sign each s far face there =
-      let count : length (edges s far face) ≡ length s.sides + face_count s - 1
-      = omega (arith, edges_length s far face there)
-      in signs_weight sign each (edges s far face) ∙ ap (λ n. n * sign) count
-
-  pub turn_weight : (lengths : Lengths) (end : ℕ) (s : SolidView) (face : ℕ) (form : Linear) → let l =
-      layout_of_lengths lengths in
-      sum_by w (turn l end s face form)
-      ≡ sum_by w (keep_covered end s face)
-      + (w m.All + w (m.KeepBit l.alive true) + w (m.KeepAtMost form (deep_part l l.key_t))
-      + w (m.Toggle l.par))
-  turn_weight lengths end s face form =
-      let l = layout_of_lengths lengths
-      in let back = m.KeepAtMost form (deep_part l l.key_t) ∷ m.Toggle l.par ∷ []
-      in omega (
-        arith,
-        sum_by-append w (m.All ∷ m.KeepBit l.alive true ∷ keep_covered end s face) back,
-        sum_by-append w (m.All ∷ m.KeepBit l.alive true ∷ []) (keep_covered end s face),
-      )
-
-  pub drop_weight : (lengths : Lengths) (end : ℕ) (s : SolidView) (face : ℕ) → let l = layout_of_lengths lengths in
-      sum_by w (drop_behind l end s face)
-      ≡ sum_by w (keep_covered end s face)
-      + (w m.All + w (m.KeepBit l.alive true) + w (m.KeepAtMost (face_plane s end face) (deep_part l l.key_t))
-      + w (m.SetBit l.alive false))
-  drop_weight lengths end s face =
-      let l = layout_of_lengths lengths
-      in let back = m.KeepAtMost (face_plane s end face) (deep_part l l.key_t) ∷ m.SetBit l.alive false ∷ []
-      in omega (
-        arith,
-        sum_by-append w (m.All ∷ m.KeepBit l.alive true ∷ keep_covered end s face) back,
-        sum_by-append w (m.All ∷ m.KeepBit l.alive true ∷ []) (keep_covered end s face),
-      )
-
-  pub candidate_weight : (lengths : Lengths) (d : Depths) (s : SolidView) (face : ℕ) → let l =
-      layout_of_lengths lengths in
-      sum_by w (candidate l d s face)
-      ≡ sum_by w (keep_covered (end_of d) s face) + sum_by w (clearing lengths d)
-      + (w m.All
-      + w (m.LoadLinear (forms.plus (face_plane s (end_of d) face) (2 ^ d.fraction_bits - 1)) (deep_part l l.key_t))
-      + w (m.LoadConst (number_part l l.key_t) (face_number s face)) + w (m.SetBit l.alive true))
-  candidate_weight lengths d s face =
-      let l = layout_of_lengths lengths
-      in let load =
-      m.LoadLinear (forms.plus (face_plane s (end_of d) face) (2 ^ d.fraction_bits - 1)) (deep_part l l.key_t)
-      in let back = m.LoadConst (number_part l l.key_t) (face_number s face) ∷ m.SetBit l.alive true ∷ []
-      in let kept = keep_covered (end_of d) s face
-      in omega (
-        arith,
-        sum_by-append w (m.All ∷ kept) (load ∷ clearing lengths d ++ back),
-        sum_by-append w (m.All ∷ kept ++ (load ∷ clearing lengths d)) back,
-        sum_by-append w (m.All ∷ kept) (load ∷ clearing lengths d),
-        sum_by-append w (m.All ∷ []) kept,
-        sum_by-cons w load (clearing lengths d),
-        sum_by-append w (load ∷ clearing lengths d) back,
-      )
-
-  pub classify_weight : (lengths : Lengths) (end : ℕ) (s : SolidView) (plain : Bool) (value : ℕ) → let l =
-      layout_of_lengths lengths in
-      ((face : ℕ) → face < face_count s → sum_by w (turn l end s face (face_plane s end face)) ≡ value) →
-      sum_by w (classify l end s plain)
-      ≡ face_count s * value
-      + (w m.All + w (m.SetBit l.par false) + (w m.All + w (m.KeepBit l.par (not plain)) + w (m.SetBit l.alive false)))
-  classify_weight lengths end s plain value each =
-      let l = layout_of_lengths lengths
-      in let turned : ℕ → List Macro = λ face. turn l end s face (face_plane s end face)
-      in let turns = flat_map turned (range_with_len 0 (face_count s))
-      in let back = m.All ∷ m.KeepBit l.par (not plain) ∷ m.SetBit l.alive false ∷ []
-      in omega (
-        arith,
-        sum_by-append w (m.All ∷ m.SetBit l.par false ∷ turns) back,
-        sum_by-append w (m.All ∷ m.SetBit l.par false ∷ []) turns,
-        flat_weight turned (range_with_len 0 (face_count s)),
-        sum_by-same (λ face. sum_by w (turned face)) value 0 (face_count s) (λ face below. each face (omega arith)),
-      )
-
-  -- a plain solid's candidates are confirmed by its backs, a barred one's by its fronts
-  pub plain_weight : (lengths : Lengths) (d : Depths) (s : SolidView) (value : ℕ) → let l = layout_of_lengths lengths in
-      ((face : ℕ) → face < face_count s → sum_by w (drop_behind l (end_of d) s face) ≡ value) →
-      sum_by w (confirm l d s true) ≡ (length s.backs + 1) * value
-  plain_weight lengths d s value each =
-      let l = layout_of_lengths lengths
-      in flat_weight (drop_behind l (end_of d) s) (range_with_len (length s.fronts + 1) (length s.backs + 1))
-      ∙ sum_by-same (λ face. sum_by w (drop_behind l (end_of d) s face)) value (length s.fronts + 1)
-      (length s.backs + 1)
-      (λ face below. each face (omega arith))
-
-  pub barred_weight : (lengths : Lengths) (d : Depths) (s : SolidView) (value : ℕ) → let l =
-      layout_of_lengths lengths in
-      ((face : ℕ) (form : Linear) → face < face_count s → sum_by w (turn l (end_of d) s face form) ≡ value) →
-      sum_by w (confirm l d s false)
-      ≡ (length s.fronts + 1) * value
-      + (w m.All + w (m.SetBit l.par false) + (w m.All + w (m.KeepBit l.par false) + w (m.SetBit l.alive false)))
-  barred_weight lengths d s value each =
-      let l = layout_of_lengths lengths
-      in let turned : ℕ → List Macro
-      = λ face. turn l (end_of d) s face (forms.plus (face_plane s (end_of d) face) (2 ^ d.fraction_bits))
-      in let turns = flat_map turned (range_with_len 0 (length s.fronts + 1))
-      in let back = m.All ∷ m.KeepBit l.par false ∷ m.SetBit l.alive false ∷ []
-      in omega (
-        arith,
-        sum_by-append w (m.All ∷ m.SetBit l.par false ∷ turns) back,
-        sum_by-append w (m.All ∷ m.SetBit l.par false ∷ []) turns,
-        flat_weight turned (range_with_len 0 (length s.fronts + 1)),
-        sum_by-same (λ face. sum_by w (turned face)) value 0 (length s.fronts + 1)
-            (λ face below. each face (forms.plus (face_plane s (end_of d) face) (2 ^ d.fraction_bits)) (omega arith)),
-      )
-
-  faces_weight : (lengths : Lengths) (d : Depths) (s : SolidView) (plain : Bool) (value : ℕ) → let l =
-      layout_of_lengths lengths in
-      ((face : ℕ) → face < face_count s → sum_by w (candidate l d s face) ≡ value) →
-      sum_by w (flat_map (candidate l d s) (candidate_faces s plain))
-      ≡ length (candidate_faces s plain) * value
-  faces_weight lengths d s true value each =
-      rw (length-range_with_len 0 (length s.fronts + 1))
-      (flat_weight (candidate (layout_of_lengths lengths) d s) (range_with_len 0 (length s.fronts + 1))
-      ∙ sum_by-same (λ face. sum_by w (candidate (layout_of_lengths lengths) d s face)) value 0 (length s.fronts + 1)
-      (λ face below. each face (omega arith)))
-  faces_weight lengths d s false value each =
-      rw (length-range_with_len (length s.fronts + 1) (length s.backs))
-      (flat_weight (candidate (layout_of_lengths lengths) d s) (range_with_len (length s.fronts + 1) (length s.backs))
-      ∙ sum_by-same (λ face. sum_by w (candidate (layout_of_lengths lengths) d s face)) value (length s.fronts + 1)
-      (length s.backs)
-      (λ face below. each face (omega arith)))
-
-  pub own_weight : (lengths : Lengths) (d : Depths) (s : SolidView) (plain : Bool) (value : ℕ) →
-      let l = layout_of_lengths lengths in
-      ((face : ℕ) → face < face_count s → sum_by w (candidate l d s face) ≡ value) →
-      sum_by w (own_passes lengths d s plain)
-      ≡ length (candidate_faces s plain) * value + sum_by w (confirming lengths d s plain)
-      + (w m.All + w (m.SetBit l.alive false)
-      + (w m.All + w (m.KeepBit l.alive true) + w (m.KeepLess l.key_t l.key_b) + w (m.Copy l.key_t l.key_b)))
-  own_weight lengths d s plain value each =
-      let l = layout_of_lengths lengths
-      in let found = flat_map (candidate l d s) (candidate_faces s plain)
-      in omega (
-        arith,
-        sum_by-append w (m.All ∷ m.SetBit l.alive false ∷ found ++ confirming lengths d s plain) (merge l),
-        sum_by-append w (m.All ∷ m.SetBit l.alive false ∷ found) (confirming lengths d s plain),
-        sum_by-append w (m.All ∷ m.SetBit l.alive false ∷ []) found,
-        faces_weight lengths d s plain value each,
-      )
-
--- operations are weighed by 1 for their number, and by their cycles for their clocks
-abbrev pub one : Macro → ℕ
-one operation = 1
-
-abbrev pub clocks_on : Lengths → Macro → ℕ
-clocks_on lengths operation = cycles operation lengths.columns lengths.rows
-
 pub counted : {A : Type 0} (xs : List A) → length xs ≡ sum_by (λ x. 1) xs
 counted [] = refl
 counted {A = A} (x ∷ xs) = let one_each : A → ℕ = λ y. 1 in omega (arith, sum_by-cons one_each x xs, counted xs)
 
-pub ones : (ms : List Macro) → length ms ≡ sum_by one ms
-ones ms = counted ms
+pub same_costs : (a b : Costs) → a.operations ≡ b.operations → a.clocks ≡ b.clocks → a ≡ b
+same_costs a b first second = rw (first, second) refl
 
-pub clocked : (lengths : Lengths) (ms : List Macro) →
-    length (all_micros ms lengths.columns lengths.rows) ≡ sum_by (clocks_on lengths) ms
-clocked lengths ms =
-    length-flat_map (λ o. micros o lengths.columns lengths.rows) ms
-    ∙ sum_by-agree (λ o. length (micros o lengths.columns lengths.rows)) (clocks_on lengths)
-    (λ o. length-tabulate (cycles o lengths.columns lengths.rows) (micro_at o lengths.columns lengths.rows)) ms
+-- what operations cost, by what each of them takes
+module _ (scene : SceneView) where
+  pub clocked : (ms : List Macro) →
+      length (all_micros ms (columns_of scene) (rows_of scene)) ≡ sum_by (cycles_in scene) ms
+  clocked ms =
+      length-flat_map (λ o. micros o (columns_of scene) (rows_of scene)) ms
+      ∙ sum_by-agree (λ o. length (micros o (columns_of scene) (rows_of scene))) (cycles_in scene)
+      (λ o. length-tabulate (cycles o (columns_of scene) (rows_of scene))
+      (micro_at o (columns_of scene) (rows_of scene))) ms
 
-same_costs : (operations clocks o c : ℕ) → operations ≡ o → clocks ≡ c →
-    let both : ℕ → ℕ → Costs = λ n k. record { operations = n; clocks = k } in both operations clocks ≡ both o c
-same_costs operations clocks o c first second = rw (first, second) refl
+  -- operations that take as many clocks, one after another
+  as_long : (ms ns : List Macro) → map (cycles_in scene) ms ≡ map (cycles_in scene) ns → cost_of scene ms ≡ cost_of scene ns
+  as_long ms ns same =
+      let id : ℕ → ℕ = λ n. n in
+      same_costs (cost_of scene ms) (cost_of scene ns)
+      (sym (length-map ms (cycles_in scene)) ∙ ap length same ∙ length-map ns (cycles_in scene))
+      (clocked ms ∙ sym (sum_map id (cycles_in scene) ms) ∙ ap (sum_by id) same ∙ sum_map id (cycles_in scene) ns
+      ∙ sym (clocked ns))
 
-pub cost_is : (lengths : Lengths) (costs : Costs) (ms : List Macro) →
-    costs.operations ≡ sum_by one ms → costs.clocks ≡ sum_by (clocks_on lengths) ms → costs ≡ cost_of lengths ms
-cost_is lengths costs ms operations clocks =
-    same_costs costs.operations costs.clocks (cost_of lengths ms).operations (cost_of lengths ms).clocks
-    (operations ∙ sym (ones ms)) (clocks ∙ sym (clocked lengths ms))
+  -- the parts of what a step costs
+  abbrev pub operations_in : Step → ℕ
+  operations_in step = (step_cost scene step).operations
+
+  abbrev pub clocks_in : Step → ℕ
+  clocks_in step = (step_cost scene step).clocks
+
+  pub operations_of_steps : (steps : List Step) → (steps_cost scene steps).operations ≡ sum_by operations_in steps
+  operations_of_steps steps = length-flat_map (operations scene (layout_of scene)) steps
+
+  pub clocks_of_steps : (steps : List Step) → (steps_cost scene steps).clocks ≡ sum_by clocks_in steps
+  clocks_of_steps steps =
+      let own = operations scene (layout_of scene) in
+      clocked (flat_map own steps) ∙ flat_sum (cycles_in scene) own steps
+      ∙ sum_by-agree (λ step. sum_by (cycles_in scene) (own step)) clocks_in (λ step. sym (clocked (own step))) steps
+
+  pub cost_is : (costs : Costs) (steps : List Step) → costs.operations ≡ sum_by operations_in steps
+      → costs.clocks ≡ sum_by clocks_in steps → costs ≡ steps_cost scene steps
+  cost_is costs steps first second =
+      same_costs costs (steps_cost scene steps) (first ∙ sym (operations_of_steps steps))
+      (second ∙ sym (clocks_of_steps steps))
+
+-- what steps are worth that have faces of one solid is the same
+pub record IsAlike (scene : SceneView) {A : Type 0} (v : Step → A) : Type 0 where
+  pub candidate : (solid face : ℕ) → IsThere scene solid face → v (Candidate solid face) ≡ v (Candidate solid 0)
+  pub drop : (solid face : ℕ) → IsThere scene solid face → v (Drop solid face) ≡ v (Drop solid 0)
+  pub front : (solid face : ℕ) → IsThere scene solid face → v (Front solid face) ≡ v (Front solid 0)
+  pub begin : (other : ℕ) → v (Begin other) ≡ v (Begin 0)
+  pub turn : (other solid face : ℕ) → IsThere scene solid face → v (Turn other solid face) ≡ v (Turn 0 solid 0)
+  pub close : (other : ℕ) (plain : Bool) → v (Close other plain) ≡ v (Close 0 plain)
+
+module _ (count : EdgesAreCounted) (scene : SceneView) where
+  abbrev l : LayoutView
+  l = layout_of scene
+
+  abbrev end : ℕ
+  end = end_of (depths_of scene)
+
+  abbrev taken : Macro → ℕ
+  taken = cycles_in scene
+
+  signs : (first second : List Linear) → length first ≡ length second
+      → map taken (map m.KeepSign first) ≡ map taken (map m.KeepSign second)
+  signs [] [] same = refl
+  signs [] (g ∷ gs) same = absurd (omega (arith, same))
+  signs (f ∷ fs) [] same = absurd (omega (arith, same))
+  signs (f ∷ fs) (g ∷ gs) same = ap (λ ns. taken (m.KeepSign f) ∷ ns) (signs fs gs (omega (arith, same)))
+
+  covered : (solid face : ℕ) → IsThere scene solid face
+      → map taken (keep_covered end (solid_of scene solid) face) ≡ map taken (keep_covered end (solid_of scene solid) 0)
+  covered solid face there =
+      let s = solid_of scene solid in
+      signs (edges s end face) (edges s end 0) (omega (arith, count s end face there, count s end 0 (omega arith)))
+
+  -- operations behind those of the edges
+  behind : (solid face : ℕ) (ms ns : List Macro) → IsThere scene solid face → map taken ms ≡ map taken ns
+      → map taken (keep_covered end (solid_of scene solid) face ++ ms)
+      ≡ map taken (keep_covered end (solid_of scene solid) 0 ++ ns)
+  behind solid face ms ns there same =
+      let s = solid_of scene solid in
+      map-append taken (keep_covered end s face) ms
+      ∙ ap (λ xs. xs ++ map taken ms) (covered solid face there)
+      ∙ ap (λ xs. map taken (keep_covered end s 0) ++ xs) same
+      ∙ sym (map-append taken (keep_covered end s 0) ns)
+
+  passed : (solid face : ℕ) (form another : Linear) (operation : Macro) → IsThere scene solid face
+      → map taken (where_passed l end (solid_of scene solid) face form operation)
+      ≡ map taken (where_passed l end (solid_of scene solid) 0 another operation)
+  passed solid face form another operation there =
+      ap (λ xs. 1 ∷ 1 ∷ xs) (behind solid face (m.KeepAtMost form (deep_part l l.key_t) ∷ operation ∷ [])
+      (m.KeepAtMost another (deep_part l l.key_t) ∷ operation ∷ []) there refl)
+
+  candidate : (solid face : ℕ) → IsThere scene solid face
+      → map taken (operations scene l (Candidate solid face)) ≡ map taken (operations scene l (Candidate solid 0))
+  candidate solid face there =
+      let s = solid_of scene solid in
+      let load : ℕ → Macro =
+      λ face. m.LoadLinear (plus (face_plane s end face) (2 ^ scene.fraction_bits - 1)) (deep_part l l.key_t) in
+      let clear = where_fraction (depths_of scene) (m.LoadConst (fraction_part l l.key_t) 0 ∷ []) in
+      let last : ℕ → List Macro =
+      λ face. m.LoadConst (number_part l l.key_t) (face_number s face) ∷ m.SetBit l.alive true ∷ [] in
+      ap (λ xs. 1 ∷ xs) (behind solid face (load face ∷ clear ++ last face) (load 0 ∷ clear ++ last 0) there
+      (map-append taken (load face ∷ clear) (last face) ∙ sym (map-append taken (load 0 ∷ clear) (last 0))))
+
+  abbrev plane : (solid face : ℕ) → Linear
+  plane solid face = face_plane (solid_of scene solid) end face
+
+  same : (first second : Step) → map taken (operations scene l first) ≡ map taken (operations scene l second)
+      → step_cost scene first ≡ step_cost scene second
+  same first second equal = as_long scene (operations scene l first) (operations scene l second) equal
+
+  pub costs_alike : IsAlike scene (step_cost scene)
+  costs_alike = record {
+    candidate = λ solid face there. same (Candidate solid face) (Candidate solid 0) (candidate solid face there);
+    drop = λ solid face there. same (Drop solid face) (Drop solid 0)
+        (passed solid face (plane solid face) (plane solid 0) (m.SetBit l.alive false) there);
+    front = λ solid face there. same (Front solid face) (Front solid 0)
+        (passed solid face (plus (plane solid face) (2 ^ scene.fraction_bits))
+        (plus (plane solid 0) (2 ^ scene.fraction_bits)) (m.Toggle l.par) there);
+    begin = λ other. refl;
+    turn = λ other solid face there. same (Turn other solid face) (Turn 0 solid 0)
+        (passed solid face (plane solid face) (plane solid 0) (m.Toggle l.par) there);
+    close = λ other plain. refl;
+  }
+
+pub part_alike : {A B : Type 0} (scene : SceneView) (part : A → B) (v : Step → A) → IsAlike scene v
+    → IsAlike scene (λ step. part (v step))
+part_alike scene part v h = record {
+  candidate = λ solid face there. ap part (h.candidate solid face there);
+  drop = λ solid face there. ap part (h.drop solid face there);
+  front = λ solid face there. ap part (h.front solid face there);
+  begin = λ other. ap part (h.begin other);
+  turn = λ other solid face there. ap part (h.turn other solid face there);
+  close = λ other plain. ap part (h.close other plain);
+}
+
+-- what the steps of a literal are worth
+module _ (scene : SceneView) (v : Step → ℕ) (h : IsAlike scene v) where
+  in_range : (step : ℕ → Step) (value from count : ℕ) → ((face : ℕ) → face < from + count → v (step face) ≡ value)
+      → sum_by v (map step (range_with_len from count)) ≡ count * value
+  in_range step value from count same =
+      sum_map v step (range_with_len from count) ∙ sum_by-same (λ face. v (step face)) value from count same
+
+  candidates_sum : (solid : ℕ) (plain : Bool) → let faces = candidate_faces (solid_of scene solid) plain in
+      sum_by v (map (Candidate solid) faces) ≡ length faces * v (Candidate solid 0)
+  candidates_sum solid true =
+      let n = length (solid_of scene solid).fronts + 1 in
+      rw (length-range_with_len 0 n)
+      (in_range (Candidate solid) (v (Candidate solid 0)) 0 n (λ face low. h.candidate solid face (omega arith)))
+  candidates_sum solid false =
+      let s = solid_of scene solid in
+      let n = length s.fronts + 1 in
+      rw (length-range_with_len n (length s.backs))
+      (in_range (Candidate solid) (v (Candidate solid 0)) n (length s.backs)
+      (λ face low. h.candidate solid face (omega arith)))
+
+  pub drops_sum : (solid : ℕ) → let s = solid_of scene solid in
+      sum_by v (map (Drop solid) (range_with_len (length s.fronts + 1) (length s.backs + 1)))
+      ≡ (length s.backs + 1) * v (Drop solid 0)
+  drops_sum solid =
+      let s = solid_of scene solid in
+      in_range (Drop solid) (v (Drop solid 0)) (length s.fronts + 1) (length s.backs + 1)
+      (λ face low. h.drop solid face (omega arith))
+
+  pub fronts_sum : (solid : ℕ) → let n = length (solid_of scene solid).fronts + 1 in
+      sum_by v (Clear ∷ map (Front solid) (range_with_len 0 n) ++ Confirm ∷ [])
+      ≡ v Clear + n * v (Front solid 0) + v Confirm
+  fronts_sum solid =
+      let n = length (solid_of scene solid).fronts + 1 in
+      let turns = map (Front solid) (range_with_len 0 n) in
+      omega (
+        arith,
+        sum_by-append v (Clear ∷ turns) (Confirm ∷ []),
+        sum_by-append v (Clear ∷ []) turns,
+        in_range (Front solid) (v (Front solid 0)) 0 n (λ face low. h.front solid face (omega arith)),
+      )
+
+  pub judge_sum : (rs : List Literal) (other : ℕ) → let r = literal_at rs other in
+      sum_by v (judge scene rs other)
+      ≡ v (Begin 0) + face_count (solid_of scene r.solid) * v (Turn 0 r.solid 0) + v (Close 0 r.plain)
+  judge_sum rs other =
+      let r = literal_at rs other in
+      let n = face_count (solid_of scene r.solid) in
+      let turns = map (Turn other r.solid) (range_with_len 0 n) in
+      omega (
+        arith,
+        sum_by-append v (Begin other ∷ turns) (Close other r.plain ∷ []),
+        sum_by-append v (Begin other ∷ []) turns,
+        h.begin other,
+        h.close other r.plain,
+        in_range (Turn other r.solid) (v (Turn 0 r.solid 0)) 0 n (λ face low. h.turn other r.solid face (omega arith)),
+      )
+
+  abbrev pub judged : Literal → ℕ
+  judged r = sum_by v (judge scene (r ∷ []) 0)
+
+  pub own_sum : (q : Literal) → sum_by v (literal_steps scene q [])
+      ≡ v Open + length (candidate_faces (solid_of scene q.solid) q.plain) * v (Candidate q.solid 0)
+      + sum_by v (where_fraction (depths_of scene) (confirm scene q)) + v Merge
+  own_sum q =
+      let found = map (Candidate q.solid) (candidate_faces (solid_of scene q.solid) q.plain) in
+      let sure = where_fraction (depths_of scene) (confirm scene q) in
+      omega (
+        arith,
+        sum_by-cons v Open (found ++ (sure ++ Merge ∷ [])),
+        sum_by-append v found (sure ++ Merge ∷ []),
+        sum_by-append v sure (Merge ∷ []),
+        candidates_sum q.solid q.plain,
+      )
+
+  -- each literal adds its own steps, and those of the others against it
+  pub literal_sum : (q : Literal) (rs : List Literal) →
+      sum_by v (literal_steps scene q rs) ≡ sum_by v (literal_steps scene q []) + sum_by judged rs
+  literal_sum q rs =
+      let found = map (Candidate q.solid) (candidate_faces (solid_of scene q.solid) q.plain) in
+      let sure = where_fraction (depths_of scene) (confirm scene q) in
+      let places = range_with_len 0 (length rs) in
+      let tests = flat_map (judge scene rs) places in
+      let same : sum_by v tests ≡ sum_by judged rs =
+      flat_sum v (judge scene rs) places
+      ∙ sum_by-agree (λ other. sum_by v (judge scene rs other)) (λ other. judged (literal_at rs other))
+      (λ other. judge_sum rs other ∙ sym (judge_sum (literal_at rs other ∷ []) 0)) places
+      ∙ sym (sum_map judged (literal_at rs) places) ∙ ap (sum_by judged) (by_places no_literal rs) in
+      omega (
+        arith,
+        sum_by-cons v Open (found ++ (sure ++ (tests ++ Merge ∷ []))),
+        sum_by-cons v Open (found ++ (sure ++ Merge ∷ [])),
+        sum_by-append v found (sure ++ (tests ++ Merge ∷ [])),
+        sum_by-append v sure (tests ++ Merge ∷ []),
+        sum_by-append v tests (Merge ∷ []),
+        sum_by-append v found (sure ++ Merge ∷ []),
+        sum_by-append v sure (Merge ∷ []),
+        same,
+      )
 
 pub times_at_most : (n most count : ℕ) (costs : Costs) → count ≤ n → AreCostsAtMost most costs →
     AreCostsAtMost (n * most) (times count costs)
@@ -326,180 +327,82 @@ at_most_more n k costs more each = record {
   clocks = omega (arith, each.clocks);
 }
 
-pub background_costs : (lengths : Lengths) (scene : SceneView) →
-    let result : Costs = record { operations = 2; clocks = 1 + lengths.depth + lengths.fraction + lengths.number } in
-    result ≡ cost_of lengths (passes_with scene (layout_of_lengths lengths) [])
-background_costs lengths scene =
-    cost_is lengths (record { operations = 2; clocks = 1 + lengths.depth + lengths.fraction + lengths.number })
-    (passes_with scene (layout_of_lengths lengths) []) refl (omega arith)
-
-abbrev pub turn_more : Lengths → Costs
-turn_more lengths = record {
-  operations = 4;
-  clocks = 5 + lengths.columns + lengths.rows + lengths.depth + lengths.fraction;
-}
-
-abbrev pub candidate_more : Lengths → Costs
-candidate_more lengths = record {
-  operations = 4;
-  clocks = 3 + lengths.columns + lengths.rows + lengths.depth + lengths.fraction + lengths.number;
-}
-
-abbrev pub own_more : Lengths → Costs
-own_more lengths = record { operations = 6; clocks = 6 + 4 * (lengths.depth + lengths.fraction + lengths.number) }
-
-abbrev pub no_costs : Costs
-no_costs = record { operations = 0; clocks = 0 }
-
-abbrev pub five : Costs
-five = record { operations = 5; clocks = 5 }
-
-module _ (lengths : Lengths) (end : ℕ) (s : SolidView) where
-  pub covered_costs : (face count : ℕ) → face < face_count s → count ≡ length s.sides + face_count s - 1 →
-      times count (record { operations = 1; clocks = 41 + lengths.columns + lengths.rows })
-      ≡ cost_of lengths (keep_covered end s face)
-  covered_costs face count there same =
-      cost_is lengths (times count (record { operations = 1; clocks = 41 + lengths.columns + lengths.rows }))
-      (keep_covered end s face)
-      (rw same (sym (covered_weight one 1 (λ form. refl) s end face there)))
-      (rw same (sym (covered_weight (clocks_on lengths) (41 + lengths.columns + lengths.rows)
-      (λ form. omega arith) s end face there)))
-
-  abbrev covered : ℕ → List Macro
-  covered face = keep_covered end s face
-
-  pub turn_costs : (face : ℕ) (form : Linear) →
-      costs_plus (cost_of lengths (keep_covered end s face)) (turn_more lengths)
-      ≡ cost_of lengths (turn (layout_of_lengths lengths) end s face form)
-  turn_costs face form =
-      cost_is lengths _ (turn (layout_of_lengths lengths) end s face form)
-      (omega (arith, ones (covered face), turn_weight one lengths end s face form))
-      (omega (arith, clocked lengths (covered face), turn_weight (clocks_on lengths) lengths end s face form))
-
-  pub drop_costs : (face : ℕ) →
-      costs_plus (cost_of lengths (keep_covered end s face)) (turn_more lengths)
-      ≡ cost_of lengths (drop_behind (layout_of_lengths lengths) end s face)
-  drop_costs face =
-      cost_is lengths _ (drop_behind (layout_of_lengths lengths) end s face)
-      (omega (arith, ones (covered face), drop_weight one lengths end s face))
-      (omega (arith, clocked lengths (covered face), drop_weight (clocks_on lengths) lengths end s face))
-
-  pub classify_costs : (plain : Bool) (count : ℕ) (turned : Costs) → count ≡ face_count s →
-      ((face : ℕ) → face < face_count s → turned ≡ cost_of lengths
-      (turn (layout_of_lengths lengths) end s face (face_plane s end face))) →
-      costs_plus (times count turned) five
-      ≡ cost_of lengths (classify (layout_of_lengths lengths) end s plain)
-  classify_costs plain count turned same each =
-      cost_is lengths _ (classify (layout_of_lengths lengths) end s plain)
-      (rw same (omega (
-        arith,
-        classify_weight one lengths end s plain turned.operations
-            (λ face there. sym (ap (λ costs. costs.operations) (each face there)
-            ∙ ones (turn (layout_of_lengths lengths) end s face (face_plane s end face)))),
-      )))
-      (rw same (omega (
-        arith,
-        classify_weight (clocks_on lengths) lengths end s plain turned.clocks
-            (λ face there. sym (ap (λ costs. costs.clocks) (each face there)
-            ∙ clocked lengths (turn (layout_of_lengths lengths) end s face (face_plane s end face)))),
-      )))
-
 pub not_none : (n : ℕ) → n ≢ 0 → (n == 0) ≡ false
 not_none n some = step (n == 0) refl where
   step : (b : Bool) → (n == 0) ≡ b → b ≡ false
   step true here = absurd (some (grind (arith, nat_tests)))
   step false here = refl
 
-module _ (lengths : Lengths) (d : Depths) where
-  pub no_clearing : (d.fraction_bits == 0) ≡ true → no_costs ≡ cost_of lengths (clearing lengths d)
-  no_clearing none = rw none refl
+-- an operation of a step is lawful in the memory of any array
+pub operation_lawful : StepsAreLawful → LayoutsAreLawful → IsLawfulInMore → (scene : SceneView) → IsLawfulScene scene
+    → All IsLawfulSolid scene.solids → (layout : LayoutView) → layout ≡ layout_of scene → (step : Step)
+    → IsStep scene step → (at : ℕ) (o : Macro) → at < length (operations scene (layout_of scene) step)
+    → o ≡ get_or (operations scene layout step) at m.All → IsLawful o 256
+operation_lawful steps layouts more scene lawful solids layout same step is at o low found =
+    let is_layout = layouts scene lawful in
+    let one = get_or (operations scene (layout_of scene) step) at m.All in
+    let whole : o ≡ one = found ∙ ap (λ l. get_or (operations scene l step) at m.All) same in
+    subst (λ m. IsLawful m 256) (sym whole)
+    (more one (need_of (layout_of scene)) 256 (omega (arith, is_layout.depth, is_layout.number))
+    (steps scene lawful solids step is at m.All low))
 
-  pub some_clearing : (d.fraction_bits == 0) ≡ false →
-      let costs : Costs = record { operations = 1; clocks = lengths.fraction } in
-      costs ≡ cost_of lengths (clearing lengths d)
-  some_clearing some =
-      let l = layout_of_lengths lengths
-      in let costs : Costs = record { operations = 1; clocks = lengths.fraction }
-      in rw some (cost_is lengths costs (m.LoadConst (fraction_part l l.key_t) 0 ∷ []) refl (omega arith))
+pub all_clocked : (scene : SceneView) (step : Step) (layout : LayoutView) (n clocks : ℕ) → layout ≡ layout_of scene
+    → ((l : LayoutView) → length (operations scene l step) ≡ n)
+    → clocks ≡ sum_by (cycles_in scene) (take n (operations scene (layout_of scene) step))
+    → (let costs : Costs = record { operations = n; clocks = clocks } in costs ≡ step_cost scene step)
+all_clocked scene step layout n clocks same size is =
+    let ops = operations scene (layout_of scene) step in
+    same_costs (record { operations = n; clocks = clocks }) (step_cost scene step) (sym (size (layout_of scene)))
+    (is ∙ ap (λ k. sum_by (cycles_in scene) (take k ops)) (sym (size (layout_of scene)))
+    ∙ ap (sum_by (cycles_in scene)) (take-length ops) ∙ sym (clocked scene ops))
 
-  module _ (s : SolidView) where
-    pub candidate_costs : (face : ℕ) →
-        costs_plus (costs_plus (cost_of lengths (keep_covered (end_of d) s face)) (cost_of lengths (clearing lengths d)))
-        (candidate_more lengths)
-        ≡ cost_of lengths (candidate (layout_of_lengths lengths) d s face)
-    candidate_costs face =
-        cost_is lengths _ (candidate (layout_of_lengths lengths) d s face)
-        (omega (
-          arith,
-          ones (keep_covered (end_of d) s face),
-          ones (clearing lengths d),
-          candidate_weight one lengths d s face,
-        ))
-        (omega (
-          arith,
-          clocked lengths (keep_covered (end_of d) s face),
-          clocked lengths (clearing lengths d),
-          candidate_weight (clocks_on lengths) lengths d s face,
-        ))
+-- the costs of literals
+module _ (count : EdgesAreCounted) (scene : SceneView) where
+  abbrev ops_alike : IsAlike scene (operations_in scene)
+  ops_alike = part_alike scene (λ (costs : Costs). costs.operations) (step_cost scene) (costs_alike count scene)
 
-    pub not_confirmed : (plain : Bool) → (d.fraction_bits == 0) ≡ true →
-        no_costs ≡ cost_of lengths (confirming lengths d s plain)
-    not_confirmed plain none = rw none refl
+  abbrev clocks_alike : IsAlike scene (clocks_in scene)
+  clocks_alike = part_alike scene (λ (costs : Costs). costs.clocks) (step_cost scene) (costs_alike count scene)
 
-    pub plain_costs : (count : ℕ) (dropped : Costs) → (d.fraction_bits == 0) ≡ false → count ≡ length s.backs + 1 →
-        ((face : ℕ) → face < face_count s → dropped ≡ cost_of lengths
-        (drop_behind (layout_of_lengths lengths) (end_of d) s face)) →
-        times count dropped ≡ cost_of lengths (confirming lengths d s true)
-    plain_costs count dropped some same each =
-        let passes = confirm (layout_of_lengths lengths) d s true
-        in rw (some, same)
-        (cost_is lengths (times (length s.backs + 1) dropped) passes
-        (sym (plain_weight one lengths d s dropped.operations
-        (λ face there. sym (ap (λ costs. costs.operations) (each face there)
-        ∙ ones (drop_behind (layout_of_lengths lengths) (end_of d) s face)))))
-        (sym (plain_weight (clocks_on lengths) lengths d s dropped.clocks
-        (λ face there. sym (ap (λ costs. costs.clocks) (each face there)
-        ∙ clocked lengths (drop_behind (layout_of_lengths lengths) (end_of d) s face))))))
+  pub own_costs : (q : Literal) (n : ℕ) → n ≡ length (candidate_faces (solid_of scene q.solid) q.plain) →
+      costs_plus (costs_plus (costs_plus (step_cost scene Open) (times n (step_cost scene (Candidate q.solid 0))))
+      (steps_cost scene (where_fraction (depths_of scene) (confirm scene q)))) (step_cost scene Merge)
+      ≡ steps_cost scene (literal_steps scene q [])
+  own_costs q n same =
+      let sure = where_fraction (depths_of scene) (confirm scene q) in
+      cost_is scene _ (literal_steps scene q [])
+      (rw same (omega (arith, own_sum scene (operations_in scene) ops_alike q, operations_of_steps scene sure)))
+      (rw same (omega (arith, own_sum scene (clocks_in scene) clocks_alike q, clocks_of_steps scene sure)))
 
-    pub barred_costs : (count : ℕ) (turned : Costs) → (d.fraction_bits == 0) ≡ false → count ≡ length s.fronts + 1 →
-        ((face : ℕ) (form : Linear) → face < face_count s → turned ≡ cost_of lengths
-        (turn (layout_of_lengths lengths) (end_of d) s face form)) →
-        costs_plus (times count turned) five ≡ cost_of lengths (confirming lengths d s false)
-    barred_costs count turned some same each =
-        let passes = confirm (layout_of_lengths lengths) d s false
-        in rw (some, same)
-        (cost_is lengths (costs_plus (times (length s.fronts + 1) turned) five) passes
-        (omega (
-          arith,
-          barred_weight one lengths d s turned.operations
-              (λ face form there. sym (ap (λ costs. costs.operations) (each face form there)
-              ∙ ones (turn (layout_of_lengths lengths) (end_of d) s face form))),
-        ))
-        (omega (
-          arith,
-          barred_weight (clocks_on lengths) lengths d s turned.clocks
-              (λ face form there. sym (ap (λ costs. costs.clocks) (each face form there)
-              ∙ clocked lengths (turn (layout_of_lengths lengths) (end_of d) s face form))),
-        )))
+  pub judge_costs : (r : Literal) (n : ℕ) → n ≡ face_count (solid_of scene r.solid) →
+      costs_plus (costs_plus (step_cost scene (Begin 0)) (times n (step_cost scene (Turn 0 r.solid 0))))
+      (step_cost scene (Close 0 r.plain)) ≡ steps_cost scene (judge scene (r ∷ []) 0)
+  judge_costs r n same =
+      cost_is scene _ (judge scene (r ∷ []) 0)
+      (rw same (omega (arith, judge_sum scene (operations_in scene) ops_alike (r ∷ []) 0)))
+      (rw same (omega (arith, judge_sum scene (clocks_in scene) clocks_alike (r ∷ []) 0)))
 
-    pub own_costs : (plain : Bool) (count : ℕ) (found : Costs) → count ≡ length (candidate_faces s plain) →
-        ((face : ℕ) → face < face_count s → found ≡ cost_of lengths
-        (candidate (layout_of_lengths lengths) d s face)) →
-        costs_plus (costs_plus (times count found) (cost_of lengths (confirming lengths d s plain))) (own_more lengths)
-        ≡ cost_of lengths (own_passes lengths d s plain)
-    own_costs plain count found same each =
-        cost_is lengths _ (own_passes lengths d s plain)
-        (rw same (omega (
-          arith,
-          ones (confirming lengths d s plain),
-          own_weight one lengths d s plain found.operations
-              (λ face there. sym (ap (λ costs. costs.operations) (each face there)
-              ∙ ones (candidate (layout_of_lengths lengths) d s face))),
-        )))
-        (rw same (omega (
-          arith,
-          clocked lengths (confirming lengths d s plain),
-          own_weight (clocks_on lengths) lengths d s plain found.clocks
-              (λ face there. sym (ap (λ costs. costs.clocks) (each face there)
-              ∙ clocked lengths (candidate (layout_of_lengths lengths) d s face))),
-        )))
+  pub no_confirm : (q : Literal) → (scene.fraction_bits == 0) ≡ true →
+      (let costs : Costs = record { operations = 0; clocks = 0 } in
+      costs ≡ steps_cost scene (where_fraction (depths_of scene) (confirm scene q)))
+  no_confirm q none = rw none refl
+
+  pub plain_confirm : (q : Literal) (n : ℕ) → (scene.fraction_bits == 0) ≡ false → q.plain ≡ true
+      → n ≡ length (solid_of scene q.solid).backs + 1 → times n (step_cost scene (Drop q.solid 0))
+      ≡ steps_cost scene (where_fraction (depths_of scene) (confirm scene q))
+  plain_confirm q n some plain same =
+      let s = solid_of scene q.solid in
+      let drops = map (Drop q.solid) (range_with_len (length s.fronts + 1) (length s.backs + 1)) in
+      rw (some, plain) (cost_is scene _ drops
+      (rw same (sym (drops_sum scene (operations_in scene) ops_alike q.solid)))
+      (rw same (sym (drops_sum scene (clocks_in scene) clocks_alike q.solid))))
+
+  pub barred_confirm : (q : Literal) (n : ℕ) → (scene.fraction_bits == 0) ≡ false → q.plain ≡ false
+      → n ≡ length (solid_of scene q.solid).fronts + 1
+      → costs_plus (costs_plus (step_cost scene Clear) (times n (step_cost scene (Front q.solid 0)))) (step_cost scene Confirm)
+      ≡ steps_cost scene (where_fraction (depths_of scene) (confirm scene q))
+  barred_confirm q n some barred same =
+      let faces = range_with_len 0 (length (solid_of scene q.solid).fronts + 1) in
+      rw (some, barred) (cost_is scene _ (Clear ∷ map (Front q.solid) faces ++ Confirm ∷ [])
+      (rw same (sym (fronts_sum scene (operations_in scene) ops_alike q.solid)))
+      (rw same (sym (fronts_sum scene (clocks_in scene) clocks_alike q.solid))))

@@ -1,5 +1,5 @@
 -- Where a job stands, one broadcast after another.
-use Rattle.std.proofs.Common.{◌≡◌, ℕ, ◌+◌, ◌-◌, ◌<◌, ◌≤◌, min, List, ◌∷◌, length, get_or, Option, Some, None, refl}
+use Rattle.std.proofs.Common.{◌≡◌, ℕ, ◌+◌, ◌-◌, ◌<◌, ◌≤◌, min, List, [], ◌∷◌, length, get_or, Option, Some, None, refl}
 use Rattle.std.proofs.Common.{inl, inr, sym, ap, ◌∙◌, arith}
 use Rattle.std.specs.List.{slice_get}
 use Rattle.std.specs.Prelude.{IfNone, OnSome}
@@ -163,3 +163,31 @@ is_open bits scene n device grid at =
 pub clocks_at : (bits : ℕ) (scene : SceneView) (n : ℕ) (device : Device) → IsAt bits scene n device → device.clocks ≡ n
 unfolding array_after
 clocks_at bits scene n device at = ap (λ d. d.clocks) at.reached
+
+-- the place before the first broadcast
+some_there : (xs : List Macro) (m : Macro) → slice_get xs 0 ≡ Some m → 0 < length xs
+some_there [] m is = absurd (cc)
+some_there (x ∷ xs) m is = omega arith
+
+given_first : (scene : SceneView) (before now : Cursor) (o : Option Macro) → before.given ≡ 0
+    → slice_get (passes scene) 0 ≡ o → OnSome o (now.given ≡ before.given + 1) → IfNone o (now ≡ before)
+    → now.given ≡ min 1 (length (passes scene))
+given_first scene before now None zero is some stays =
+    let same : now.given ≡ before.given = ap (λ (c : Cursor). c.given) stays in
+    omega (arith, same, zero, past (passes scene) 0 is)
+given_first scene before now (Some m) zero is some stays = omega (arith, some, zero, some_there (passes scene) m is)
+
+pub stands_first : (scene : SceneView) (before now : Cursor) (o : Option Macro) → HaveLawfulPasses scene
+    → HaveClocks scene → before.given ≡ 0 → o ≡ slice_get (passes scene) before.given
+    → OnSome o (now.given ≡ before.given + 1) → IfNone o (now ≡ before) → Stands scene now
+    → StandsFor scene (record { cursor = now; clock = 0; operation = 0; micro = 0; current = o })
+stands_first scene before now o lawful clocks zero is some stays stands =
+    let here : slice_get (passes scene) 0 ≡ o = ap (slice_get (passes scene)) (sym zero) ∙ sym is in
+    record {
+      cursor = stands;
+      given = given_first scene before now o zero here some stays;
+      operation = omega arith;
+      current = here;
+      clock = refl;
+      micro = zero_within scene 0 o lawful clocks here;
+    }

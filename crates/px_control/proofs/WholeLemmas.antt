@@ -1,6 +1,6 @@
 -- Operations that are made at once on the way through a program.
 use Rattle.std.proofs.Common.{◌≡◌, ℕ, suc, ◌+◌, ◌-◌, ◌<◌, ◌≤◌, List, [], ◌∷◌, ◌++◌, length, take, drop, get_or, Option, Some, None, refl, sym, ap, subst, ◌∙◌, inl, inr, arith, length-append, length-drop, get_or-drop}
-use Rattle.std.proofs.Common.{Bool, true, false, ◌||◌, if◌then◌else◌, ◌⊎◌}
+use Rattle.std.proofs.Common.{Bool, true, false, ◌||◌, ◌⊎◌}
 use Rattle.std.specs.Prelude.{IfSome, IsSome}
 use Rattle.std.specs.List.{between, slice_get}
 use Rattle.std.proofs.Math.Seq.{drop-cons, take-add, take-append_seam}
@@ -13,7 +13,7 @@ use Rattle.px_array.specs.Clocks.{after_clocks, all_clocked}
 use Rattle.px_array.proofs.ClockLaws.{after_clocks-append, all_clocked-append, grid_after_clocks, grid_of_zero_state, nx-after_clocks, ny-after_clocks}
 use Rattle.px_asm.specs.Making.{cycles_on, micros_on}
 use Rattle.px_asm.specs.Micros.{all_micros, cycles, micros}
-use Rattle.px_asm.specs.Operated.{Agree, BecomeTheSame, IsOperated, Known, StayInAgreement, all_renewed, none_known, renewed}
+use Rattle.px_asm.specs.Operated.{Agree, BecomeTheSame, IsOperated, Known, StayInAgreement, all_renewed, none_known}
 use Rattle.px_asm.proofs.RenewalLemmas.{joined, somewhere}
 use Rattle.px_asm.proofs.RenewalLemmas.{all_of_them as all_are}
 use Rattle.px_asm.proofs.MakingLemmas.{all_of_them, count_of_them}

@@ -1,6 +1,13 @@
-//! Costs of operations, and what they depend on.
+//! What operations cost.
 ghost use Rattle.std.specs.Prelude.{◌≡◌, ◌^◌, ◌≤◌};
-ghost use Rattle.px_control.specs.Costs.{AreCostsAtMost, costs_plus, times};
+ghost use Rattle.px_sched.specs.Layouts.{layout_of};
+ghost use Rattle.px_sched.specs.Steps.{IsStep};
+ghost use Rattle.px_control.specs.Costs.{AreCostsAtMost, costs_plus, step_cost, times};
+
+use px_asm::cycles;
+use px_macro::laws_of_operations;
+use px_model::{Scene, laws_of_scenes};
+use px_sched::{Layout, Step, laws_of_passes};
 
 /// How many operations there are, and how many clocks they take.
 #[derive(Clone, Copy, Debug, PartialEq, Eq)]
@@ -25,7 +32,7 @@ impl Costs {
     /// So many times.
     pub(crate) fn times(&self, count: u64) -> Costs
         requires few { count ≤ 511 }
-        requires costs { AreCostsAtMost 400000 self.now }
+        requires costs { AreCostsAtMost (2 ^ 20) self.now }
         ensures { result ≡ times count self.now }
     {
         Costs {
@@ -35,13 +42,25 @@ impl Costs {
     }
 }
 
-/// The lengths that the clocks of the passes depend on: the levels of the multiplier tree for the
-/// columns and for the rows, and the bits of a depth, of its fraction and of a face number.
-#[derive(Clone, Copy, Debug, PartialEq, Eq)]
-pub(crate) struct Lengths {
-    pub(crate) columns: u64,
-    pub(crate) rows: u64,
-    pub(crate) depth: u64,
-    pub(crate) fraction: u64,
-    pub(crate) number: u64,
+/// The operations of a step, each by its clocks.
+pub(crate) fn step_cost(scene: &Scene, layout: &Layout, step: Step) -> Costs
+    requires layout { layout.now ≡ layout_of scene.now }
+    requires step { IsStep scene.now step }
+    ensures cost { result ≡ step_cost scene.now step }
+    ensures few { AreCostsAtMost 8364 result }
+{
+    laws_of_scenes(scene);
+    laws_of_operations();
+    laws_of_passes();
+    let (columns, rows) = scene.grid();
+    let count = step.count(scene);
+    let mut clocks = 0;
+    for at in 0..count {
+        let operation = step.operation(scene, layout, at);
+        clocks += u64::from(cycles(&operation, columns, rows));
+    }
+    Costs {
+        operations: count as u64,
+        clocks,
+    }
 }

@@ -1,184 +1,104 @@
 //! What a literal adds to the passes of its product.
-ghost use Rattle.std.specs.Prelude.{◌≡◌, ◌^◌, ◌<◌, ◌≤◌, ℕ, Bool, length};
-ghost use Rattle.px_face.specs.Faces.{face_count};
-ghost use Rattle.px_num.specs.declared.linear.Linear.{Linear};
-ghost use Rattle.px_model.specs.Cells.{Depths};
-ghost use Rattle.px_sched.specs.Layouts.{layout_with};
+ghost use Rattle.std.specs.Prelude.{◌≡◌, ◌^◌, ◌<◌, ◌≤◌, [], ◌∷◌, length};
+ghost use Rattle.px_model.specs.Cells.{depths_of};
+ghost use Rattle.px_sched.specs.Layouts.{layout_of};
 ghost use Rattle.px_sched.specs.Passes.{
-  candidate,
   candidate_faces,
-  drop_behind,
-  keep_covered,
-  turn,
+  confirm,
+  judge,
+  literal_steps,
+  solid_of,
+  where_fraction,
 };
-ghost use Rattle.px_control.specs.Costs.{
-  AreShort,
-  AreCostsAtMost,
-  clearing,
-  confirming,
-  cost_of,
-  own_passes,
-  passes_against,
-  share,
-};
+ghost use Rattle.px_control.specs.Costs.{AreCostsAtMost, share, steps_cost};
 
-use crate::costs::{Costs, Lengths};
-use px_face::face_count;
-use px_model::Solid;
+use crate::costs::{Costs, step_cost};
+use px_face::{face_count, laws_of_edges};
+use px_model::{Scene, Solid};
+use px_sched::{Layout, Literal, Step};
 
-/// What a literal adds to its product: its own passes, and those against it of each of the others.
-pub(crate) fn share(solid: &Solid, plain: bool, others: u64, lengths: &Lengths) -> Costs
-    requires short { AreShort lengths.now }
+/// What a literal adds to its product: its own steps, and those against it of each of the others.
+pub(crate) fn share(scene: &Scene, layout: &Layout, q: Literal, others: u64) -> Costs
+    requires layout { layout.now ≡ layout_of scene.now }
+    requires known { q.solid < length scene.now.solids }
     requires others { others ≤ 511 }
-    ensures cost { (d : Depths) → d.fraction_bits ≡ lengths.now.fraction →
-        result ≡ share lengths.now d solid.now plain others }
-    ensures few { AreCostsAtMost (2 ^ 28) result }
+    ensures cost { result ≡ share scene.now q others }
+    ensures few { AreCostsAtMost (2 ^ 29) result }
 {
-    own_cost(solid, plain, lengths).plus(&classify_cost(solid, lengths).times(others))
+    own_cost(scene, layout, q).plus(&judge_cost(scene, layout, q).times(others))
 }
 
-/// The passes of a literal but for those that compare it with others: two operations that begin
-/// it, its candidates, what confirms them, and the merge of four.
-fn own_cost(solid: &Solid, plain: bool, lengths: &Lengths) -> Costs
-    requires { AreShort lengths.now }
-    ensures cost { (d : Depths) → d.fraction_bits ≡ lengths.now.fraction →
-        result ≡ cost_of lengths.now (own_passes lengths.now d solid.now plain) }
-    ensures few { AreCostsAtMost 390000 result }
+/// The steps of a literal but for those of others: each of its faces costs as much as the first.
+fn own_cost(scene: &Scene, layout: &Layout, q: Literal) -> Costs
+    requires layout { layout.now ≡ layout_of scene.now }
+    requires known { q.solid < length scene.now.solids }
+    ensures cost { result ≡ steps_cost scene.now (literal_steps scene.now q []) }
+    ensures few { AreCostsAtMost (2 ^ 20) result }
 {
-    candidate_cost(solid, lengths)
-        .times(candidates(solid, plain))
-        .plus(&confirm_cost(solid, plain, lengths))
-        .plus(&Costs {
-            operations: 6,
-            clocks: 6 + 4 * (lengths.depth + lengths.fraction + lengths.number),
-        })
+    laws_of_edges();
+    step_cost(scene, layout, Step::Open)
+        .plus(&step_cost(scene, layout, Step::Candidate(q.solid, 0)).times(candidates(scene, q)))
+        .plus(&confirm_cost(scene, layout, q))
+        .plus(&step_cost(scene, layout, Step::Merge))
 }
 
 /// How many faces become the candidate.
-fn candidates(solid: &Solid, plain: bool) -> u64
-    ensures faces { result ≡ length (candidate_faces solid.now plain) }
+fn candidates(scene: &Scene, q: Literal) -> u64
+    requires known { q.solid < length scene.now.solids }
+    ensures faces { result ≡ length (candidate_faces (solid_of scene.now q.solid) q.plain) }
     ensures few { result ≤ 33 }
 {
-    if plain {
+    let solid = solid_at(scene, q.solid);
+    if q.plain {
         solid.fronts().len() as u64 + 1
     } else {
         solid.backs().len() as u64
     }
 }
 
-/// What confirms a candidate, where a depth has a fraction: for a plain solid each back drops it,
-/// for a barred one each front turns the parity, between two operations and three.
-fn confirm_cost(solid: &Solid, plain: bool, lengths: &Lengths) -> Costs
-    requires { AreShort lengths.now }
-    ensures cost { (d : Depths) → d.fraction_bits ≡ lengths.now.fraction →
-        result ≡ cost_of lengths.now (confirming lengths.now d solid.now plain) }
-    ensures few { AreCostsAtMost 195000 result }
+/// What confirms a candidate, where a depth has a fraction.
+fn confirm_cost(scene: &Scene, layout: &Layout, q: Literal) -> Costs
+    requires layout { layout.now ≡ layout_of scene.now }
+    requires known { q.solid < length scene.now.solids }
+    ensures cost { result ≡ steps_cost scene.now
+        (where_fraction (depths_of scene.now) (confirm scene.now q)) }
+    ensures few { AreCostsAtMost 300000 result }
 {
-    if lengths.fraction == 0 {
+    laws_of_edges();
+    let solid = solid_at(scene, q.solid);
+    if scene.fraction_bits() == 0 {
         Costs {
             operations: 0,
             clocks: 0,
         }
-    } else if plain {
-        turn_cost(solid, lengths).times(solid.backs().len() as u64 + 1)
+    } else if q.plain {
+        step_cost(scene, layout, Step::Drop(q.solid, 0)).times(solid.backs().len() as u64 + 1)
     } else {
-        turn_cost(solid, lengths)
-            .times(solid.fronts().len() as u64 + 1)
-            .plus(&Costs {
-                operations: 5,
-                clocks: 5,
-            })
+        step_cost(scene, layout, Step::Clear)
+            .plus(&step_cost(scene, layout, Step::Front(q.solid, 0)).times(
+                solid.fronts().len() as u64 + 1,
+            ))
+            .plus(&step_cost(scene, layout, Step::Confirm))
     }
 }
 
-/// A candidate's fraction is cleared, where a depth has one.
-fn clear_cost(lengths: &Lengths) -> Costs
-    requires { AreShort lengths.now }
-    ensures cost { (d : Depths) → d.fraction_bits ≡ lengths.now.fraction →
-        result ≡ cost_of lengths.now (clearing lengths.now d) }
-    ensures few { AreCostsAtMost 8 result }
+/// The steps in which a literal judges a candidate of another one.
+fn judge_cost(scene: &Scene, layout: &Layout, r: Literal) -> Costs
+    requires layout { layout.now ≡ layout_of scene.now }
+    requires known { r.solid < length scene.now.solids }
+    ensures cost { result ≡ steps_cost scene.now (judge scene.now (r ∷ []) 0) }
+    ensures few { AreCostsAtMost 570000 result }
 {
-    if lengths.fraction == 0 {
-        Costs {
-            operations: 0,
-            clocks: 0,
-        }
-    } else {
-        Costs {
-            operations: 1,
-            clocks: lengths.fraction,
-        }
-    }
+    laws_of_edges();
+    let faces = face_count(solid_at(scene, r.solid)) as u64;
+    step_cost(scene, layout, Step::Begin(0))
+        .plus(&step_cost(scene, layout, Step::Turn(0, r.solid, 0)).times(faces))
+        .plus(&step_cost(scene, layout, Step::Close(0, r.plain)))
 }
 
-/// A face becomes the candidate where it covers a pixel: all, covered, its plane, no
-/// fraction, its number, alive.
-fn candidate_cost(solid: &Solid, lengths: &Lengths) -> Costs
-    requires { AreShort lengths.now }
-    ensures cost { (d : Depths) (face : ℕ) → d.fraction_bits ≡ lengths.now.fraction →
-        face < face_count solid.now → result ≡ cost_of lengths.now (candidate
-        (layout_with lengths.now.depth lengths.now.fraction lengths.now.number) d solid.now face) }
-    ensures few { AreCostsAtMost 5800 result }
+fn solid_at(scene: &Scene, solid: u8) -> &Solid
+    requires { solid < length scene.now.solids }
+    ensures { result.now ≡ solid_of scene.now solid }
 {
-    keep_covered_cost(solid, lengths)
-        .plus(&clear_cost(lengths))
-        .plus(&Costs {
-            operations: 4,
-            clocks: 3
-                + lengths.columns
-                + lengths.rows
-                + lengths.depth
-                + lengths.fraction
-                + lengths.number,
-        })
-}
-
-/// The passes that compare with a solid: two operations that begin them, each face's turn of the
-/// parity, and three that judge.
-fn classify_cost(solid: &Solid, lengths: &Lengths) -> Costs
-    requires { AreShort lengths.now }
-    ensures cost { (end : ℕ) (plain : Bool) →
-        result ≡ cost_of lengths.now (passes_against lengths.now end solid.now plain) }
-    ensures few { AreCostsAtMost 400000 result }
-{
-    turn_cost(solid, lengths)
-        .times(face_count(solid) as u64)
-        .plus(&Costs {
-            operations: 5,
-            clocks: 5,
-        })
-}
-
-/// A face turns the parity where it covers a pixel: all, alive, covered, at most the key, toggle.
-/// Where it drops a candidate it sets a bit and does not toggle one.
-fn turn_cost(solid: &Solid, lengths: &Lengths) -> Costs
-    requires { AreShort lengths.now }
-    ensures cost { (end face : ℕ) (form : Linear) → face < face_count solid.now →
-        result ≡ cost_of lengths.now (turn
-        (layout_with lengths.now.depth lengths.now.fraction lengths.now.number) end solid.now face form) }
-    ensures drops { (end face : ℕ) → face < face_count solid.now → result ≡ cost_of lengths.now
-        (drop_behind (layout_with lengths.now.depth lengths.now.fraction lengths.now.number)
-        end solid.now face) }
-    ensures faces { face_count solid.now ≤ 66 }
-    ensures few { AreCostsAtMost 5800 result }
-{
-    keep_covered_cost(solid, lengths).plus(&Costs {
-        operations: 4,
-        clocks: 5 + lengths.columns + lengths.rows + lengths.depth + lengths.fraction,
-    })
-}
-
-/// The pixels that a face covers stay enabled: an operation for each of its edges.
-fn keep_covered_cost(solid: &Solid, lengths: &Lengths) -> Costs
-    requires { AreShort lengths.now }
-    ensures cost { (far face : ℕ) → face < face_count solid.now →
-        result ≡ cost_of lengths.now (keep_covered far solid.now face) }
-    ensures faces { face_count solid.now ≤ 66 }
-    ensures few { AreCostsAtMost 5723 result }
-{
-    let edge = Costs {
-        operations: 1,
-        clocks: 41 + lengths.columns + lengths.rows,
-    };
-    edge.times((solid.sides().len() + face_count(solid) - 1) as u64)
+    &scene.solids()[usize::from(solid)]
 }

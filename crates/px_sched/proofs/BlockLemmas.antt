@@ -1,16 +1,16 @@
 -- What the passes of one literal leave, and what all of them leave.
 use Rattle.std.proofs.Common.{◌≡◌, ◌<◌, ◌≤◌, ◌+◌, ◌+ℤ◌, ◌-◌, ◌*◌, ◌^◌, ◌||◌, ◌==◌, pos, ℕ, Bool, true, false, ◌&&◌}
-use Rattle.std.proofs.Common.{nat_lt, min, List, [], ◌∷◌, ◌++◌, length, eqb, refl, ap, sym, ◌∙◌, arith, inl, inr}
+use Rattle.std.proofs.Common.{nat_lt, min, List, [], ◌∷◌, ◌++◌, length, eqb, map, refl, ap, sym, ◌∙◌, arith, inl, inr}
 use Rattle.std.proofs.Common.{if◌then◌else◌}
-use Rattle.std.specs.Bool.{beq}
-use Rattle.std.specs.List.{fold, flat_map, list_all}
+use Rattle.std.specs.List.{fold, flat_map, list_all, range_with_len}
+use Rattle.std.proofs.lemmas.List.Folds.{fold-map}
 use Rattle.std.proofs.lemmas.Bool.{cases_Bool, cases_lt}
 use Rattle.std.proofs.lemmas.Bool.Decides.{nat_tests}
 use Rattle.std.proofs.lemmas.List.Sums.{fold-append}
 use Rattle.px_num.specs.Bits.{modulo}
 use Rattle.px_num.specs.Forms.{plus}
 use Rattle.px_num.proofs.FormLaws.{value_at-plus}
-use Rattle.px_num.proofs.TruthLaws.{and_both, and_false, and_left, and_true, beq_true, lt_fails, lt_false, lt_holds}
+use Rattle.px_num.proofs.TruthLaws.{and_both, and_false, and_left, and_true, lt_fails, lt_false, lt_holds}
 use Rattle.px_num.proofs.TruthLaws.{lt_true}
 use Rattle.px_model.specs.Scenes.{SolidView, SceneView}
 use Rattle.px_model.specs.Cells.{Depths, cell_of, depths_of, end_of, enters_at, is_inside, is_inside_before}
@@ -20,15 +20,15 @@ use Rattle.px_face.specs.Edges.{covers}
 use Rattle.px_face.specs.Faces.{face_number, face_plane}
 use Rattle.px_normal.specs.declared.product.Product.{Product}
 use Rattle.px_sched.specs.declared.literal.Literal.{Literal}
-use Rattle.px_sched.specs.Passes.{candidate_faces, literals, others, solid_of}
-use Rattle.px_sched.specs.Numbers.{Keys, Numbers, KeyedPixel, after_passes, all, candidate_on_numbers}
-use Rattle.px_sched.specs.Numbers.{classify_on_numbers}
-use Rattle.px_sched.specs.Numbers.{key, literal_on_numbers, load_best, merge_on_numbers, passes_on_numbers, residue}
-use Rattle.px_sched.specs.Numbers.{set_alive, without_fraction, confirm_on_numbers, passes_where_fraction}
-use Rattle.px_sched.proofs.RunLemmas.{HasRoom, after-append, at, candidate_keys, classified, classify_keys, end_small}
-use Rattle.px_sched.proofs.RunLemmas.{keys_in_range, loaded, part_along, rounded, suits}
+use Rattle.px_sched.specs.declared.step.Step.TheVariants.{Candidate, Merge}
+use Rattle.px_sched.specs.Passes.{candidate_faces, confirm, judge, literal_at, literal_steps, literals, no_literal, others}
+use Rattle.px_sched.specs.Passes.{product_steps, solid_of, steps_with, where_fraction}
+use Rattle.px_sched.specs.Numbers.{Keys, KeyedPixel, after_step, after_steps, dropped, key, loaded, residue}
+use Rattle.px_sched.specs.Numbers.{without_fraction}
+use Rattle.px_sched.proofs.MemberLaws.{by_places}
+use Rattle.px_sched.proofs.RunLemmas.{HasRoom, classified, end_small, judge_keys, part_along, rounded, suits}
 use Rattle.px_sched.proofs.CoverLaws.{enters_depth, leaves_depth}
-use Rattle.px_sched.proofs.FoldLemmas.{elsewhere, fold_none, fold_single, where_test}
+use Rattle.px_sched.proofs.FoldLemmas.{elsewhere, fold_none, fold_single}
 use Rattle.px_sched.proofs.ConfirmLemmas.{IsConfirmed, barred_test, confirmed, plain_test, test}
 
 -- a candidate face covers the pixel
@@ -86,11 +86,9 @@ pick false a b = refl
 abbrev merged : KeyedPixel → Keys → ℕ
 merged l k = if k.alive && nat_lt (key l k.deep k.number) k.best then key l k.deep k.number else k.best
 
-merge_best : (l : KeyedPixel) (p : Numbers) → (after_passes l merge_on_numbers p).keys.best ≡ merged l p.keys
-merge_best l p =
-    let less = nat_lt (key l p.keys.deep p.keys.number) p.keys.best in
-    pick ((true && beq p.keys.alive true) && less) (record p.keys { best = key l p.keys.deep p.keys.number }) p.keys
-    ∙ ap (λ a. if (true && a) && less then key l p.keys.deep p.keys.number else p.keys.best) (beq_true p.keys.alive)
+merge_best : (scene : SceneView) (l : KeyedPixel) (k : Keys) → (after_step scene l k Merge).best ≡ merged l k
+merge_best scene l k =
+    pick (k.alive && nat_lt (key l k.deep k.number) k.best) (record k { best = key l k.deep k.number }) k
 
 merged_is : (l : KeyedPixel) (k : Keys) (a : Bool) (b d n : ℕ) → k.alive ≡ a → k.best ≡ b → k.deep ≡ d → k.number ≡ n
     → merged l k ≡ (if a && nat_lt (key l d n) b then key l d n else b)
@@ -112,35 +110,35 @@ module _ (covering : CoveringLaw) (parity : ValueParityLaw) (scene : SceneView) 
   far = end_of d
 
   -- the candidate of a literal
-  candidates_keys : (s : SolidView) (plain : Bool) (p : Numbers)
-      → (after_passes l (flat_map (candidate_on_numbers d s) (candidate_faces s plain)) p).keys
-      ≡ (if is_covered s plain far l.x l.y then loaded l d s p.keys (face_found s plain far l.x l.y) else p.keys)
-  candidates_keys s true p =
+  candidates_keys : (solid : ℕ) (plain : Bool) (k : Keys) → let s = solid_of scene solid in
+      after_steps scene l k (map (Candidate solid) (candidate_faces s plain))
+      ≡ (if is_covered s plain far l.x l.y then loaded l d s k (face_found s plain far l.x l.y) else k)
+  candidates_keys solid true k =
+      let s = solid_of scene solid in
       let law = covering s far l.x l.y in
       let nf = length s.fronts + 1 in
       let t : ℕ → Bool = λ i. covers s far i l.x l.y in
-      keys_in_range l (candidate_on_numbers d s) (where_test t (loaded l d s)) 0 nf
-      (λ i low high e k. candidate_keys l d room s i e k) p
-      ∙ fold_single t (loaded l d s) p.keys 0 nf (covering_front s l.x l.y) (is_met s far l.x l.y)
+      fold-map (after_step scene l) (Candidate solid) k (range_with_len 0 nf)
+      ∙ fold_single t (loaded l d s) k 0 nf (covering_front s l.x l.y) (is_met s far l.x l.y)
       (λ i low high. law.fronts i (lt_true i nf (omega arith)))
       (omega arith) (omega (arith, lt_holds (covering_front s l.x l.y) nf law.front_there))
-  candidates_keys s false p =
+  candidates_keys solid false k =
+      let s = solid_of scene solid in
       let law = covering s far l.x l.y in
       let nf = length s.fronts + 1 in
       let nb = length s.backs in
-      let k = covering_back s far l.x l.y in
+      let kb = covering_back s far l.x l.y in
       let m = is_met s far l.x l.y in
       let t : ℕ → Bool = λ i. covers s far i l.x l.y in
-      let back : (i : ℕ) → nf ≤ i → i < nf + nb → t i ≡ (m && eqb i k) =
+      let back : (i : ℕ) → nf ≤ i → i < nf + nb → t i ≡ (m && eqb i kb) =
       λ i low high. law.backs i (omega arith) (lt_false i nf low) in
-      keys_in_range l (candidate_on_numbers d s) (where_test t (loaded l d s)) nf nb
-      (λ i low high e k. candidate_keys l d room s i e k) p
-      ∙ elim (cases_lt k (nf + nb)) [
-        | inl numbered ↦ rw (lt_true k (nf + nb) numbered, and_true m) (fold_single t (loaded l d s) p.keys nf nb k m
-            back (lt_fails k nf law.back_behind) numbered)
-        | inr limit ↦ rw (lt_false k (nf + nb) limit, and_false m) (fold_none t (loaded l d s) p.keys nf nb
+      fold-map (after_step scene l) (Candidate solid) k (range_with_len nf nb)
+      ∙ elim (cases_lt kb (nf + nb)) [
+        | inl numbered ↦ rw (lt_true kb (nf + nb) numbered, and_true m) (fold_single t (loaded l d s) k nf nb kb m
+            back (lt_fails kb nf law.back_behind) numbered)
+        | inr limit ↦ rw (lt_false kb (nf + nb) limit, and_false m) (fold_none t (loaded l d s) k nf nb
             (λ i low high. back i low high
-            ∙ elsewhere m i (nf + nb) k high limit))
+            ∙ elsewhere m i (nf + nb) kb high limit))
       ]
 
   abbrev classified_by : Keys → Literal → Keys
@@ -202,12 +200,14 @@ module _ (covering : CoveringLaw) (parity : ValueParityLaw) (scene : SceneView) 
       ∙ ap (λ v. v +ℤ pos more) (covering s far l.x l.y).back_value)
       ∙ rounded l d room (leaves_at s far l.x l.y) (leaves_depth covering far s l.x l.y met)
 
-  cell_test : (s : SolidView) (plain : Bool) → is_covered s plain far l.x l.y ≡ true
-      → ((d.fraction_bits == 0) || test covering l d room s plain (value_of d (cell_found s plain d l.x l.y)))
+  cell_test : (solid : ℕ) (plain : Bool) → let s = solid_of scene solid in is_covered s plain far l.x l.y ≡ true
+      → ((d.fraction_bits == 0) || test covering scene l room solid plain (value_of d (cell_found s plain d l.x l.y)))
       ≡ has_cell s plain d l.x l.y (cell_found s plain d l.x l.y)
-  cell_test s true met = plain_test covering l d room s (cell_found s true d l.x l.y) refl met
-  cell_test s false both =
-      barred_test covering l d room s (cell_found s false d l.x l.y) refl (and_left (is_met s far l.x l.y) _ both)
+  cell_test solid true met =
+      plain_test covering scene l room solid (cell_found (solid_of scene solid) true d l.x l.y) refl met
+  cell_test solid false both =
+      barred_test covering scene l room solid (cell_found (solid_of scene solid) false d l.x l.y) refl
+      (and_left (is_met (solid_of scene solid) far l.x l.y) _ both)
 
   -- the candidate of a literal that stays alive
   record IsKept (s : SolidView) (plain : Bool) (k new : Keys) : Type 0 where
@@ -216,10 +216,10 @@ module _ (covering : CoveringLaw) (parity : ValueParityLaw) (scene : SceneView) 
     has : is_found s plain d l.x l.y ≡ true → HasKey new (value_of d (cell_found s plain d l.x l.y))
         (number_found s plain d l.x l.y)
 
-  kept : (s : SolidView) (plain : Bool) (k start new : Keys) → k.alive ≡ false
+  kept : (solid : ℕ) (plain : Bool) (k start new : Keys) → let s = solid_of scene solid in k.alive ≡ false
       → start ≡ (if is_covered s plain far l.x l.y then loaded l d s k (face_found s plain far l.x l.y) else k)
-      → IsConfirmed covering l d room s plain start new → IsKept s plain k new
-  kept s plain k start new dead is c = elim (cases_Bool (is_covered s plain far l.x l.y)) [
+      → IsConfirmed covering scene l room solid plain start new → IsKept s plain k new
+  kept solid plain k start new dead is c = let s = solid_of scene solid in elim (cases_Bool (is_covered s plain far l.x l.y)) [
     | inl yea ↦
         let z = cell_found s plain d l.x l.y in
         let some = loaded l d s k (face_found s plain far l.x l.y) in
@@ -228,9 +228,9 @@ module _ (covering : CoveringLaw) (parity : ValueParityLaw) (scene : SceneView) 
         record {
           best = c.best ∙ ap (λ (k : Keys). k.best) here;
           alive = c.alive
-              ∙ ap (λ (k : Keys). k.alive && ((d.fraction_bits == 0) || test covering l d room s plain k.deep)) here
-              ∙ ap (λ v. (d.fraction_bits == 0) || test covering l d room s plain v) deep
-              ∙ cell_test s plain yea ∙ rw yea refl;
+              ∙ ap (λ (k : Keys). k.alive && ((d.fraction_bits == 0) || test covering scene l room solid plain k.deep)) here
+              ∙ ap (λ v. (d.fraction_bits == 0) || test covering scene l room solid plain v) deep
+              ∙ cell_test solid plain yea ∙ rw yea refl;
           has = λ _. record {
             is_deep = c.deep ∙ ap (λ (k : Keys). k.deep) here ∙ deep;
             is_number = c.number
@@ -242,57 +242,59 @@ module _ (covering : CoveringLaw) (parity : ValueParityLaw) (scene : SceneView) 
         record {
           best = c.best ∙ ap (λ (k : Keys). k.best) here;
           alive = c.alive
-              ∙ ap (λ (k : Keys). k.alive && ((d.fraction_bits == 0) || test covering l d room s plain k.deep)) here
+              ∙ ap (λ (k : Keys). k.alive && ((d.fraction_bits == 0) || test covering scene l room solid plain k.deep)) here
               ∙ rw (dead, nay) refl;
           has = λ e. absurd (never (is_covered s plain far l.x l.y)
               (has_cell s plain d l.x l.y (cell_found s plain d l.x l.y)) nay e);
         }
   ]
 
-  -- the passes of one literal
-  literal_best : (product : Product) (q : Literal) (e : Bool) (k : Keys)
-      → (after_passes l (literal_on_numbers scene product q) (at e k)).keys.best
+  -- what the other literals leave
+  judged_keys : (rs : List Literal) (k : Keys)
+      → after_steps scene l k (flat_map (judge scene rs) (range_with_len 0 (length rs))) ≡ fold classified_by k rs
+  judged_keys rs k =
+      let places = range_with_len 0 (length rs) in
+      part_along scene l (λ k. k) (judge scene rs) (λ k other. classified_by k (literal_at rs other))
+      (λ other k. judge_keys covering parity scene l (end_small l d room) rs other k) places k
+      ∙ sym (fold-map classified_by (literal_at rs) k places)
+      ∙ ap (fold classified_by k) (by_places no_literal rs)
+
+  -- the steps of one literal
+  literal_best : (product : Product) (q : Literal) (k : Keys)
+      → (after_steps scene l k (literal_steps scene q (others q product))).best
       ≡ fold min k.best (keys_found scene l product q)
-  literal_best product q e k =
+  literal_best product q k =
       let s = solid_of scene q.solid in
       let rs = others q product in
       let z = cell_found s q.plain d l.x l.y in
-      let tests = flat_map (λ r. classify_on_numbers far (solid_of scene r.solid) r.plain) rs in
-      let fresh = record k { alive = false } in
-      let first = all ∷ set_alive false ∷ flat_map (candidate_on_numbers d s) (candidate_faces s q.plain) in
-      let confirm = passes_where_fraction d.fraction_bits (confirm_on_numbers d s q.plain) in
-      let start = after_passes l first (at e k) in
-      let new = (after_passes l confirm start).keys in
-      let same : (after_passes l (first ++ confirm) (at e k)).keys ≡ new =
-      ap (λ (p : Numbers). p.keys) (after-append l first confirm (at e k)) in
-      let r = kept s q.plain fresh start.keys new refl (candidates_keys s q.plain (at true fresh))
-      (confirmed covering l d room s q.plain start.enable start.keys) in
-      let middle : (after_passes l ((first ++ confirm) ++ tests) (at e k)).keys ≡ fold classified_by new rs =
-      ap (λ (p : Numbers). p.keys) (after-append l (first ++ confirm) tests (at e k))
-      ∙ part_along l (λ k. k) (λ r. classify_on_numbers far (solid_of scene r.solid) r.plain) classified_by
-      (λ r e k. classify_keys covering parity far l (end_small l d room) (solid_of scene r.solid) r.plain e k) rs
-      (after_passes l (first ++ confirm) (at e k))
-      ∙ ap (λ c. fold classified_by c rs) same in
-      ap (λ (p : Numbers). p.keys.best) (after-append l ((first ++ confirm) ++ tests) merge_on_numbers (at e k))
-      ∙ merge_best l (after_passes l ((first ++ confirm) ++ tests) (at e k))
-      ∙ ap (merged l) middle
+      let step = after_step scene l in
+      let tests = flat_map (judge scene rs) (range_with_len 0 (length rs)) in
+      let sure = where_fraction d (confirm scene q) in
+      let found = map (Candidate q.solid) (candidate_faces s q.plain) in
+      let start = after_steps scene l (dropped k) found in
+      let new = after_steps scene l start sure in
+      let r = kept q.solid q.plain (dropped k) start new refl (candidates_keys q.solid q.plain (dropped k))
+      (confirmed covering scene l room q.solid q.plain start) in
+      ap (λ (k : Keys). k.best) (fold-append step (dropped k) found (sure ++ (tests ++ Merge ∷ []))
+      ∙ fold-append step start sure (tests ++ Merge ∷ []) ∙ fold-append step new tests (Merge ∷ []))
+      ∙ merge_best scene l (after_steps scene l new tests)
+      ∙ ap (merged l) (judged_keys rs new)
       ∙ ended new k.best (value_of d z) (number_found s q.plain d l.x l.y) (is_found s q.plain d l.x l.y)
       (list_all (suited scene l z) rs) rs r.best r.alive r.has refl
 
   background : far * 2 ^ l.number_bits ≡ key l far 0
   background = omega arith
 
-  -- the passes of all literals of all products
-  pub passes_best : (products : List Product) (p : Numbers)
-      → (after_passes l (passes_on_numbers scene l.number_bits products) p).keys.best ≡ fold min (key l far 0)
-      (all_found scene l products)
-  passes_best products p =
-      part_along l (λ k. k.best) (λ product. flat_map (literal_on_numbers scene product) (literals product))
+  -- the steps of all literals of all products
+  pub steps_best : (products : List Product) (k : Keys)
+      → (after_steps scene l k (steps_with scene products)).best ≡ fold min (key l far 0) (all_found scene l products)
+  steps_best products k =
+      part_along scene l (λ k. k.best) (product_steps scene)
       (λ b product. fold min b (flat_map (keys_found scene l product) (literals product)))
-      (λ product e k. part_along l (λ k. k.best) (literal_on_numbers scene product)
-      (λ b q. fold min b (keys_found scene l product q)) (literal_best product) (literals product) (at e k)
+      (λ product k. part_along scene l (λ k. k.best) (λ q. literal_steps scene q (others q product))
+      (λ b q. fold min b (keys_found scene l product q)) (literal_best product) (literals product) k
       ∙ fold-flat_map min (keys_found scene l product) (literals product) k.best)
-      products (after_passes l (all ∷ load_best (far * 2 ^ l.number_bits) ∷ []) p)
+      products (record k { best = far * 2 ^ l.number_bits })
       ∙ fold-flat_map min (λ product. flat_map (keys_found scene l product) (literals product)) products
       (far * 2 ^ l.number_bits)
       ∙ ap (λ b. fold min b (all_found scene l products)) background

@@ -1,25 +1,37 @@
--- What each operation of the passes does to the bits of a pixel is what its pass does to the numbers.
-use Rattle.std.proofs.Common.{◌≡◌, ℕ, ◌+◌, ◌*◌, ◌/◌, ◌%◌, ◌^◌, ◌<◌, ◌≤◌, Bool, true, false, List, [], ◌∷◌, All}
-use Rattle.std.proofs.Common.{length, map, slice_set, inl, inr, refl, ap, sym, ◌∙◌, arith}
-use Rattle.std.proofs.Common.{get_or-set_same, get_or-set_other}
-use Rattle.std.specs.Bool.{⊤}
+-- What the operations of each step do to the bits of a pixel is what the step does to the numbers.
+use Rattle.std.proofs.Common.{◌≡◌, ℕ, ◌+◌, ◌-◌, ◌*◌, ◌/◌, ◌%◌, ◌^◌, ◌<◌, ◌≤◌, ◌==◌, Bool, true, false, ◌&&◌, not, nat_le}
+use Rattle.std.proofs.Common.{nat_lt, List, [], ◌∷◌, ◌++◌, length, map, slice_set, inl, inr, refl, ap, sym, ◌∙◌, arith}
+use Rattle.std.proofs.Common.{get_or-set_same, get_or-set_other, if◌then◌else◌}
+use Rattle.std.specs.Bool.{beq}
+use Rattle.std.specs.Int.{is_negative}
+use Rattle.std.specs.List.{flat_map}
+use Rattle.std.proofs.lemmas.Bool.{cases_Bool}
 use Rattle.std.proofs.lemmas.Bool.Decides.{nat_tests}
-use Rattle.std.proofs.lemmas.List.Elements.{All-head, All-tail}
 use Rattle.std.proofs.lemmas.Nat.{div-mul-add, mod_low}
 use Rattle.px_num.proofs.BitLaws.{modulo_below, pow_above}
+use Rattle.px_num.proofs.TruthLaws.{and_both, and_true, beq_true}
 use Rattle.px_num.specs.Bits.{bit_at}
+use Rattle.px_num.specs.Forms.{plus, value_at}
+use Rattle.px_num.specs.declared.linear.Linear.{Linear}
+use Rattle.px_model.specs.Scenes.{SceneView, SolidView}
+use Rattle.px_model.specs.Cells.{Depths, depths_of, end_of}
+use Rattle.px_face.specs.Edges.{covers, edges, hold_at}
+use Rattle.px_face.specs.Faces.{face_number, face_plane}
 use Rattle.px_macro.specs.FieldLaws.{BitBesideIsKept, NumberBesideIsKept, NumberIsBelow, NumberIsKept, NumberIsRead}
 use Rattle.px_macro.specs.FieldLaws.{NumberOfParts}
 use Rattle.px_macro.specs.Fields.{is_in, number_in, with_number}
-use Rattle.px_macro.specs.Macros.{MemoryStaysLong, PixelBits, after_macro, after_macros}
+use Rattle.px_macro.specs.Macros.{MeaningsJoin, MemoryStaysLong, PixelBits, after_macro, after_macros}
 use Rattle.px_macro.specs.declared.field.Field.{Field}
 use Rattle.px_macro.specs.declared.operation.Macro.{Macro}
 use Rattle.px_macro.specs.declared.operation.Macro.TheVariants as m
-use Rattle.px_sched.specs.Layouts.{deep_part, depth_part, fraction_part, layout_with, number_part}
-use Rattle.px_sched.specs.Numbers.{Keys, Numbers, Pass, KeyedPixel, after_passes, key, meaning, all, keep_sign}
-use Rattle.px_sched.specs.Numbers.{keep_at_most}
-use Rattle.px_sched.specs.Numbers.{keep_alive, keep_par, keep_less, load_deep, clear_fraction, load_number, load_best}
-use Rattle.px_sched.specs.Numbers.{set_alive, set_par, toggle_par, copy}
+use Rattle.px_sched.specs.declared.step.Step.{Step}
+use Rattle.px_sched.specs.declared.step.Step.TheVariants.{Start, Open, Candidate, Drop, Clear, Front, Confirm}
+use Rattle.px_sched.specs.declared.step.Step.TheVariants.{Begin, Turn, Close, Merge}
+use Rattle.px_sched.specs.Layouts.{LayoutView, deep_part, depth_part, fraction_part, layout_with, number_part}
+use Rattle.px_sched.specs.Numbers.{Keys, KeyedPixel, after_step, after_steps, dropped, flipped, key, loaded, residue}
+use Rattle.px_sched.specs.Numbers.{where_passing, without_fraction}
+use Rattle.px_sched.specs.Passes.{keep_covered, operations, solid_of, where_fraction, where_passed}
+use Rattle.px_sched.proofs.CoverLaws.{not_negative}
 
 -- the laws of fields that the bridge stands on
 pub record FieldLaws : Type 0 where
@@ -30,6 +42,7 @@ pub record FieldLaws : Type 0 where
   pub number_beside : NumberBesideIsKept
   pub parts : NumberOfParts
   pub size : MemoryStaysLong
+  pub join : MeaningsJoin
 
 -- the parts of the memory, by the bits of a depth and of a face number
 abbrev pub b_field : (w f i : ℕ) → Field
@@ -65,43 +78,6 @@ keys_in w f i memory = record {
   alive = bit_at memory (alive_at w f i);
   par = bit_at memory (par_at w f i);
 }
-
-abbrev pub numbers_in : (w f i : ℕ) → PixelBits → Numbers
-numbers_in w f i p = record { enable = p.enable; keys = keys_in w f i p.memory }
-
--- the operation that carries a pass out
-abbrev pub macro_of : (w f i : ℕ) → Pass → Macro
-macro_of w f i all = m.All
-macro_of w f i (keep_sign form) = m.KeepSign form
-macro_of w f i (keep_at_most form) = m.KeepAtMost form (t_deep w f i)
-macro_of w f i (keep_alive v) = m.KeepBit (alive_at w f i) v
-macro_of w f i (keep_par v) = m.KeepBit (par_at w f i) v
-macro_of w f i keep_less = m.KeepLess (t_field w f i) (b_field w f i)
-macro_of w f i (load_deep form) = m.LoadLinear form (t_deep w f i)
-macro_of w f i clear_fraction = m.LoadConst (t_fraction w f i) 0
-macro_of w f i (load_number n) = m.LoadConst (t_number w f i) n
-macro_of w f i (load_best n) = m.LoadConst (b_field w f i) n
-macro_of w f i (set_alive v) = m.SetBit (alive_at w f i) v
-macro_of w f i (set_par v) = m.SetBit (par_at w f i) v
-macro_of w f i toggle_par = m.Toggle (par_at w f i)
-macro_of w f i copy = m.Copy (t_field w f i) (b_field w f i)
-
--- the number that a pass loads has room
-abbrev pub HasRoom : (w f i : ℕ) → Pass → Type 0
-HasRoom w f i all = ⊤
-HasRoom w f i (keep_sign form) = ⊤
-HasRoom w f i (keep_at_most form) = ⊤
-HasRoom w f i (keep_alive v) = ⊤
-HasRoom w f i (keep_par v) = ⊤
-HasRoom w f i keep_less = ⊤
-HasRoom w f i (load_deep form) = ⊤
-HasRoom w f i clear_fraction = ⊤
-HasRoom w f i (load_number n) = n < 2 ^ i
-HasRoom w f i (load_best n) = n < 2 ^ (w + f + i)
-HasRoom w f i (set_alive v) = ⊤
-HasRoom w f i (set_par v) = ⊤
-HasRoom w f i toggle_par = ⊤
-HasRoom w f i copy = ⊤
 
 -- a number that has room is read as it was written
 read_back : FieldLaws → (f : Field) (n : ℕ) (memory : List Bool) → f.at + f.len ≤ length memory → n < 2 ^ f.len →
@@ -213,71 +189,226 @@ par_written laws w f i v memory long =
       get_or-set_other memory (par_at w f i) (alive_at w f i) v false (λ e. omega arith),
     ) refl
 
--- the steps, by whether the pixel is enabled
-pub step_on_numbers : FieldLaws → (w f i x y : ℕ) (pass : Pass) → HasRoom w f i pass → (p : PixelBits)
-    → need w f i ≤ length p.memory →
-    let place : KeyedPixel = record { depth_bits = w; fraction_bits = f; number_bits = i; x = x; y = y } in
-    numbers_in w f i (after_macro (macro_of w f i pass) x y p) ≡ meaning place pass (numbers_in w f i p)
-step_on_numbers laws w f i x y pass room p long = by_enable pass room p.enable p.memory long
-  where
-    place : KeyedPixel
-    place = record { depth_bits = w; fraction_bits = f; number_bits = i; x = x; y = y }
+-- a pixel by its memory, and whether it is enabled
+abbrev pixel : List Bool → Bool → PixelBits
+pixel memory e = record { memory = memory; enable = e }
 
-    -- the number of key T by those of its parts
-    t_key : (memory : List Bool) → number_in (t_field w f i) memory ≡ key place (number_in (t_deep w f i) memory)
-        (number_in (t_number w f i) memory)
-    t_key memory =
-        let e : w + f + i ≡ i + (w + f) = omega arith in
-        ap (λ n. number_in (record { at = w + f + i; len = n }) memory) e ∙ laws.parts (w + f + i) i (w + f) memory
+-- the pixels at which all of these forms are at least 0 stay enabled
+pub signed : (forms : List Linear) (x y : ℕ) (memory : List Bool) (e : Bool)
+    → after_macros (map m.KeepSign forms) x y (pixel memory e) ≡ pixel memory (e && hold_at forms x y)
+signed [] x y memory e = ap (pixel memory) (sym (and_true e))
+signed (f ∷ fs) x y memory e =
+    let v = value_at f x y in
+    signed fs x y memory (e && not (is_negative v))
+    ∙ ap (pixel memory) (and_both e (not (is_negative v)) (hold_at fs x y)
+    ∙ ap (λ b. e && (b && hold_at fs x y)) (not_negative v))
 
-    by_enable : (pass : Pass) → HasRoom w f i pass → (enable : Bool) (memory : List Bool) → need w f i ≤ length memory →
-        let p : PixelBits = record { memory = memory; enable = enable } in
-        numbers_in w f i (after_macro (macro_of w f i pass) x y p) ≡ meaning place pass (numbers_in w f i p)
-    by_enable all room enable memory long = refl
-    by_enable (keep_sign form) room enable memory long = refl
-    by_enable (keep_at_most form) room enable memory long = refl
-    by_enable (keep_alive v) room enable memory long = refl
-    by_enable (keep_par v) room enable memory long = refl
-    by_enable keep_less room enable memory long = rw (t_key memory) refl
-    by_enable (load_deep form) room true memory long =
-        ap (λ k. record { enable = true; keys = k }) (deep_written laws w f i _ memory long (modulo_below _ (w + f)))
-    by_enable (load_deep form) room false memory long = refl
-    by_enable clear_fraction room true memory long =
-        ap (λ k. record { enable = true; keys = k }) (fraction_written laws w f i memory long)
-    by_enable clear_fraction room false memory long = refl
-    by_enable (load_number n) room true memory long =
-        ap (λ k. record { enable = true; keys = k }) (number_written laws w f i n memory long room)
-    by_enable (load_number n) room false memory long = refl
-    by_enable (load_best n) room true memory long =
-        ap (λ k. record { enable = true; keys = k }) (best_written laws w f i n memory long room)
-    by_enable (load_best n) room false memory long = refl
-    by_enable (set_alive v) room true memory long =
-        ap (λ k. record { enable = true; keys = k }) (alive_written laws w f i v memory long)
-    by_enable (set_alive v) room false memory long = refl
-    by_enable (set_par v) room true memory long =
-        ap (λ k. record { enable = true; keys = k }) (par_written laws w f i v memory long)
-    by_enable (set_par v) room false memory long = refl
-    by_enable toggle_par room true memory long =
-        ap (λ k. record { enable = true; keys = k }) (par_written laws w f i _ memory long)
-    by_enable toggle_par room false memory long = refl
-    by_enable copy room true memory long =
-        ap (λ k. record { enable = true; keys = k })
-        (best_written laws w f i _ memory long (laws.below (t_field w f i) memory))
-        ∙ ap (λ n. record { enable = true; keys = record (keys_in w f i memory) { best = n } }) (t_key memory)
-    by_enable copy room false memory long = refl
+stays_long : MemoryStaysLong → (ms : List Macro) (x y : ℕ) (p : PixelBits)
+    → length (after_macros ms x y p).memory ≡ length p.memory
+stays_long size [] x y p = refl
+stays_long size (m ∷ ms) x y p = stays_long size ms x y (after_macro m x y p) ∙ size m x y p
 
--- passes one after another
-pub all_on_numbers : FieldLaws → (w f i x y : ℕ) (passes : List Pass) → All (HasRoom w f i) passes → (p : PixelBits)
-    → need w f i ≤ length p.memory →
-    let place : KeyedPixel = record { depth_bits = w; fraction_bits = f; number_bits = i; x = x; y = y } in
-    numbers_in w f i (after_macros (map (macro_of w f i) passes) x y p) ≡ after_passes place passes (numbers_in w f i p)
-all_on_numbers laws w f i x y [] room p long = refl
-all_on_numbers laws w f i x y (pass ∷ passes) room p long =
-    let place : KeyedPixel = record { depth_bits = w; fraction_bits = f; number_bits = i; x = x; y = y }
-    in let next = after_macro (macro_of w f i pass) x y p
-    in all_on_numbers laws w f i x y passes (All-tail (HasRoom w f i) pass passes room) next
-    (omega (arith, laws.size (macro_of w f i pass) x y p))
-    ∙ ap (after_passes place passes) (step_on_numbers laws w f i x y pass (All-head (HasRoom w f i) pass passes room) p long)
+-- without fraction bits a depth is as it is
+cleared_none : (f n : ℕ) → f ≡ 0 → n ≡ n / 2 ^ f * 2 ^ f
+cleared_none f n e = rw e (omega arith)
+
+no_fraction : (f : ℕ) → (f == 0) ≡ true → f ≡ 0
+no_fraction f e = grind (arith, nat_tests)
+
+module _ (laws : FieldLaws) (scene : SceneView) (w i x y : ℕ)
+    (faces : (solid face : ℕ) → face_number (solid_of scene solid) face < 2 ^ i)
+    (background : end_of (depths_of scene) * 2 ^ i < 2 ^ (w + scene.fraction_bits + i)) where
+  abbrev d : Depths
+  d = depths_of scene
+
+  abbrev f : ℕ
+  f = scene.fraction_bits
+
+  abbrev l : LayoutView
+  l = layout_with w f i
+
+  abbrev place : KeyedPixel
+  place = record { depth_bits = w; fraction_bits = f; number_bits = i; x = x; y = y }
+
+  abbrev keys : List Bool → Keys
+  keys memory = keys_in w f i memory
+
+  abbrev IsLong : List Bool → Type 0
+  IsLong memory = need w f i ≤ length memory
+
+  -- the number of key T by those of its parts
+  t_key : (memory : List Bool) → number_in (t_field w f i) memory ≡ key place (number_in (t_deep w f i) memory)
+      (number_in (t_number w f i) memory)
+  t_key memory =
+      let e : w + f + i ≡ i + (w + f) = omega arith in
+      ap (λ n. number_in (record { at = w + f + i; len = n }) memory) e ∙ laws.parts (w + f + i) i (w + f) memory
+
+  -- operations behind those of the edges of a face
+  covered : (s : SolidView) (face : ℕ) (behind : List Macro) (memory : List Bool) (e : Bool)
+      → after_macros (keep_covered (end_of d) s face ++ behind) x y (pixel memory e)
+      ≡ after_macros behind x y (pixel memory (e && covers s (end_of d) face x y))
+  covered s face behind memory e =
+      laws.join (keep_covered (end_of d) s face) behind x y (pixel memory e)
+      ∙ ap (after_macros behind x y) (signed (edges s (end_of d) face) x y memory e)
+
+  either : (b : Bool) (changed memory : List Bool) (k : Keys) → keys changed ≡ k
+      → keys (if b then changed else memory) ≡ (if b then k else keys memory)
+  either true changed memory k same = same
+  either false changed memory k same = refl
+
+  -- a face becomes the candidate
+  module _ (s : SolidView) (face : ℕ) (small : face_number s face < 2 ^ i) where
+    abbrev form : Linear
+    form = plus (face_plane s (end_of d) face) (2 ^ f - 1)
+
+    abbrev numbered : Macro
+    numbered = m.LoadConst (t_number w f i) (face_number s face)
+
+    abbrev risen : Macro
+    risen = m.SetBit (alive_at w f i) true
+
+    -- behind a depth its number, and that it is alive
+    named : (memory : List Bool) (k : Keys) → IsLong memory → keys memory ≡ k
+        → keys (after_macros (numbered ∷ risen ∷ []) x y (pixel memory true)).memory
+        ≡ record k { number = face_number s face; alive = true }
+    named memory k long same =
+        let next = with_number (t_number w f i) (face_number s face) memory in
+        alive_written laws w f i true next (omega (arith, long, laws.size numbered x y (pixel memory true)))
+        ∙ ap (λ (k : Keys). record k { alive = true }) (number_written laws w f i (face_number s face) memory long small
+        ∙ ap (λ (k : Keys). record k { number = face_number s face }) same)
+
+    loading : (memory : List Bool) (c : Bool) → IsLong memory
+        → keys (after_macros (m.LoadLinear form (t_deep w f i) ∷ where_fraction d (m.LoadConst (t_fraction w f i) 0 ∷ [])
+        ++ numbered ∷ risen ∷ []) x y (pixel memory c)).memory
+        ≡ (if c then loaded place d s (keys memory) face else keys memory)
+    loading memory c long = elim (cases_Bool (f == 0)) [
+      | inl none ↦ rw none (without c (no_fraction f none))
+      | inr some ↦ rw some (with_one c)
+    ]
+      where
+        next : List Bool
+        next = with_number (t_deep w f i) (residue place form) memory
+
+        next_long : IsLong next
+        next_long = omega (arith, long, laws.size (m.LoadLinear form (t_deep w f i)) x y (pixel memory true))
+
+        written : keys next ≡ record (keys memory) { deep = residue place form }
+        written = deep_written laws w f i (residue place form) memory long (modulo_below _ (w + f))
+
+        without : (c : Bool) → f ≡ 0
+            → keys (after_macros (m.LoadLinear form (t_deep w f i) ∷ numbered ∷ risen ∷ []) x y (pixel memory c)).memory
+            ≡ (if c then loaded place d s (keys memory) face else keys memory)
+        without true e = named next (record (keys memory) { deep = without_fraction place (residue place form) })
+            next_long (written ∙ ap (λ n. record (keys memory) { deep = n }) (cleared_none f (residue place form) e))
+        without false e = refl
+
+        with_one : (c : Bool)
+            → keys (after_macros (m.LoadLinear form (t_deep w f i) ∷ m.LoadConst (t_fraction w f i) 0 ∷ numbered ∷ risen
+            ∷ []) x y (pixel memory c)).memory
+            ≡ (if c then loaded place d s (keys memory) face else keys memory)
+        with_one true =
+            let last = with_number (t_fraction w f i) 0 next in
+            named last (record (keys memory) { deep = without_fraction place (residue place form) })
+            (omega (arith, next_long, laws.size (m.LoadConst (t_fraction w f i) 0) x y (pixel next true)))
+            (fraction_written laws w f i next next_long
+            ∙ ap (λ (k : Keys). record k { deep = without_fraction place k.deep }) written)
+        with_one false = refl
+
+  -- an operation where a face covers and a form is not above a live candidate
+  passing : (s : SolidView) (face : ℕ) (form : Linear) (operation : Macro) (change : Keys → Keys) (memory : List Bool)
+      → ((e : Bool) → keys (after_macro operation x y (pixel memory e)).memory
+      ≡ (if e then change (keys memory) else keys memory))
+      → keys (after_macros (where_passed l (end_of d) s face form operation) x y (pixel memory true)).memory
+      ≡ where_passing place (end_of d) s face form change (keys memory)
+  passing s face form operation change memory done =
+      let a = bit_at memory (alive_at w f i) in
+      let c = covers s (end_of d) face x y in
+      let n = nat_le (residue place form) (number_in (t_deep w f i) memory) in
+      ap (λ (p : PixelBits). keys p.memory)
+      (covered s face (m.KeepAtMost form (t_deep w f i) ∷ operation ∷ []) memory (true && beq a true))
+      ∙ done (((true && beq a true) && c) && n)
+      ∙ ap (λ b. if b then change (keys memory) else keys memory)
+      (ap (λ a. ((true && a) && c) && n) (beq_true a) ∙ and_both a c n)
+
+  raised : (v : Bool) (memory : List Bool) → IsLong memory → (e : Bool)
+      → keys (if e then slice_set memory (alive_at w f i) v else memory)
+      ≡ (if e then record (keys memory) { alive = v } else keys memory)
+  raised v memory long e =
+      either e (slice_set memory (alive_at w f i) v) memory _ (alive_written laws w f i v memory long)
+
+  turned : (v : Bool) (memory : List Bool) → IsLong memory → (e : Bool)
+      → keys (if e then slice_set memory (par_at w f i) v else memory)
+      ≡ (if e then record (keys memory) { par = v } else keys memory)
+  turned v memory long e =
+      either e (slice_set memory (par_at w f i) v) memory _ (par_written laws w f i v memory long)
+
+  merged : (memory : List Bool) → IsLong memory
+      → keys (after_macros (operations scene l Merge) x y (pixel memory true)).memory
+      ≡ after_step scene place (keys memory) Merge
+  merged memory long =
+      let a = bit_at memory (alive_at w f i) in
+      let b = number_in (b_field w f i) memory in
+      let t = number_in (t_field w f i) memory in
+      either ((true && beq a true) && nat_lt t b) (with_number (b_field w f i) t memory) memory _
+      (best_written laws w f i t memory long (laws.below (t_field w f i) memory))
+      ∙ ap (λ n. if (true && beq a true) && nat_lt n b then record (keys memory) { best = n } else keys memory)
+      (t_key memory)
+      ∙ ap (λ v. if v && nat_lt (key place (keys memory).deep (keys memory).number) b
+      then record (keys memory) { best = key place (keys memory).deep (keys memory).number } else keys memory)
+      (beq_true a)
+
+  -- one step, by its cases
+  by_step : (step : Step) (memory : List Bool) → IsLong memory
+      → keys (after_macros (operations scene l step) x y (pixel memory true)).memory
+      ≡ after_step scene place (keys memory) step
+  by_step Start memory long = best_written laws w f i _ memory long background
+  by_step Open memory long = alive_written laws w f i false memory long
+  by_step (Candidate solid face) memory long =
+      let s = solid_of scene solid in
+      ap (λ (p : PixelBits). keys p.memory) (covered s face _ memory true)
+      ∙ loading s face (faces solid face) memory (covers s (end_of d) face x y) long
+  by_step (Drop solid face) memory long =
+      passing (solid_of scene solid) face (face_plane (solid_of scene solid) (end_of d) face) (m.SetBit l.alive false)
+      dropped memory (raised false memory long)
+  by_step Clear memory long = par_written laws w f i false memory long
+  by_step (Front solid face) memory long =
+      passing (solid_of scene solid) face (plus (face_plane (solid_of scene solid) (end_of d) face) (2 ^ f))
+      (m.Toggle l.par) flipped memory (turned _ memory long)
+  by_step Confirm memory long = raised false memory long (beq (bit_at memory (par_at w f i)) false)
+  by_step (Begin other) memory long = par_written laws w f i false memory long
+  by_step (Turn other solid face) memory long =
+      passing (solid_of scene solid) face (face_plane (solid_of scene solid) (end_of d) face) (m.Toggle l.par) flipped
+      memory (turned _ memory long)
+  by_step (Close other plain) memory long = raised false memory long (beq (bit_at memory (par_at w f i)) (not plain))
+  by_step Merge memory long = merged memory long
+
+  -- whether a pixel was enabled before a step does not matter
+  anew : (step : Step) (p : PixelBits) → after_macros (operations scene l step) x y p
+      ≡ after_macros (operations scene l step) x y (pixel p.memory true)
+  anew Start p = refl
+  anew Open p = refl
+  anew (Candidate solid face) p = refl
+  anew (Drop solid face) p = refl
+  anew Clear p = refl
+  anew (Front solid face) p = refl
+  anew Confirm p = refl
+  anew (Begin other) p = refl
+  anew (Turn other solid face) p = refl
+  anew (Close other plain) p = refl
+  anew Merge p = refl
+
+  -- steps one after another
+  pub all_steps : (steps : List Step) (p : PixelBits) → IsLong p.memory
+      → keys (after_macros (flat_map (operations scene l) steps) x y p).memory
+      ≡ after_steps scene place (keys p.memory) steps
+  all_steps [] p long = refl
+  all_steps (step ∷ steps) p long =
+      let own = operations scene l step in
+      let next = after_macros own x y p in
+      ap (λ (q : PixelBits). keys q.memory) (laws.join own (flat_map (operations scene l) steps) x y p)
+      ∙ all_steps steps next (omega (arith, long, stays_long laws.size own x y p))
+      ∙ ap (λ k. after_steps scene place k steps)
+      (ap (λ (q : PixelBits). keys q.memory) (anew step p) ∙ by_step step p.memory long)
 
 -- two numbers are what their joined number is cut into
 low_part : (i a b c d : ℕ) → a < 2 ^ i → c < 2 ^ i → a + 2 ^ i * b ≡ c + 2 ^ i * d → a ≡ c

@@ -1,9 +1,11 @@
 -- Which candidates stay alive: those of pixels at which their solid has a cell.
-use Rattle.std.proofs.Common.{◌≡◌, ◌<◌, ◌≤◌, ◌+◌, ◌^◌, ◌+ℤ◌, ◌<ℤ◌, ◌≤ℤ◌, ℕ, zero, suc, ℤ, pos, Bool, true, false}
-use Rattle.std.proofs.Common.{◌&&◌, ◌||◌, ◌==◌, ◌*◌, ◌-◌, inl, inr, not, nat_le, nat_lt, List, [], ◌∷◌, length, eqb}
+use Rattle.std.proofs.Common.{◌≡◌, ◌<◌, ◌+◌, ◌^◌, ◌+ℤ◌, ◌<ℤ◌, ◌≤ℤ◌, ℕ, zero, suc, ℤ, pos, Bool, true, false}
+use Rattle.std.proofs.Common.{◌&&◌, ◌||◌, ◌==◌, ◌*◌, ◌-◌, inl, inr, not, nat_le, nat_lt, List, [], ◌∷◌, ◌++◌, length, eqb, map}
 use Rattle.std.proofs.Common.{refl, ap, sym, ◌∙◌, arith, if◌then◌else◌}
 use Rattle.std.specs.Bool.{beq}
-use Rattle.std.specs.List.{fold, flat_map, range_with_len}
+use Rattle.std.specs.List.{fold, range_with_len}
+use Rattle.std.proofs.lemmas.List.Folds.{fold-map}
+use Rattle.std.proofs.lemmas.List.Sums.{fold-append}
 use Rattle.std.proofs.lemmas.Int.{ints}
 use Rattle.std.proofs.lemmas.Bool.Decides.{nat_tests}
 use lib.Signed.{le_z, lt_z}
@@ -12,20 +14,19 @@ use Rattle.std.proofs.lemmas.Nat.{pow_pos}
 use Rattle.px_num.specs.Bits.{modulo}
 use Rattle.px_num.specs.Forms.{plus, value_at}
 use Rattle.px_num.proofs.FormLaws.{value_at-plus}
-use Rattle.px_num.proofs.TruthLaws.{and_both, and_true, beq_true, eqb_holds, le_same, lt_fails, lt_false, lt_holds}
+use Rattle.px_num.proofs.TruthLaws.{and_true, eqb_holds, le_same, lt_fails, lt_false, lt_holds}
 use Rattle.px_num.proofs.TruthLaws.{lt_is_not_le, lt_true, turned_from_false}
-use Rattle.px_model.specs.Scenes.{SolidView}
-use Rattle.px_model.specs.Cells.{Depths, cell_of, end_of, enters_at, is_inside, is_inside_before, leaves_at, value_of}
+use Rattle.px_model.specs.Scenes.{SceneView, SolidView}
+use Rattle.px_model.specs.Cells.{Depths, cell_of, depths_of, end_of, enters_at, is_inside, is_inside_before, leaves_at, value_of}
 use Rattle.px_model.proofs.CellLaws.{cell_is_first, cell_is_least}
 use Rattle.px_face.specs.Covering.{CoveringLaw, covering_back, covering_front, is_met}
-use Rattle.px_face.specs.Edges.{covers, edges}
+use Rattle.px_face.specs.Edges.{covers}
 use Rattle.px_face.specs.Faces.{face_plane}
-use Rattle.px_sched.specs.Numbers.{Keys, Numbers, Pass, KeyedPixel, after_passes, all, confirm_on_numbers}
-use Rattle.px_sched.specs.Numbers.{drop_on_numbers}
-use Rattle.px_sched.specs.Numbers.{keep_at_most, keep_covered_on_numbers, keep_par, residue, set_alive}
-use Rattle.px_sched.specs.Numbers.{turn_on_numbers, passes_where_fraction}
-use Rattle.px_sched.proofs.RunLemmas.{HasRoom, after-append, at, end_room, end_small, ended, flip_step}
-use Rattle.px_sched.proofs.RunLemmas.{flips, keys_in_range, keys_of, more_at_most, signed, turn_keys}
+use Rattle.px_sched.specs.declared.step.Step.{Step}
+use Rattle.px_sched.specs.declared.step.Step.TheVariants.{Clear, Confirm, Drop, Front}
+use Rattle.px_sched.specs.Numbers.{Keys, KeyedPixel, after_step, after_steps, dropped, is_passing, residue}
+use Rattle.px_sched.specs.Passes.{solid_of, where_fraction}
+use Rattle.px_sched.proofs.RunLemmas.{HasRoom, end_room, end_small, ended, flips, keys_of, more_at_most}
 use Rattle.px_sched.proofs.CoverLaws.{at_most_is, enters_depth, leaves_depth}
 use Rattle.px_sched.proofs.FoldLemmas.{fold_single, where_test}
 
@@ -37,24 +38,6 @@ where_here true false passed true h = refl
 where_here true false passed false h = refl
 where_here true true passed true h = h refl refl
 where_here true true passed false h = h refl refl
-
-abbrev dropped : Keys → Keys
-dropped k = record k { alive = false }
-
--- what a back drops
-drop_keys : (l : KeyedPixel) (end : ℕ) (s : SolidView) (i : ℕ) (e : Bool) (k : Keys)
-    → (after_passes l (drop_on_numbers end s i) (at e k)).keys
-    ≡ (if k.alive && (covers s end i l.x l.y && nat_le (residue l (face_plane s end i)) k.deep) then dropped k else k)
-drop_keys l end s i e k =
-    let c = covers s end i l.x l.y in
-    let form = face_plane s end i in
-    let last = keep_at_most form ∷ set_alive false ∷ [] in
-    ap (λ (q : Numbers). q.keys) (after-append l (keep_covered_on_numbers end s i) last
-    (at (true && beq k.alive true) k))
-    ∙ ap (λ (q : Numbers). (after_passes l last q).keys) (signed l (edges s end i) (true && beq k.alive true) k)
-    ∙ ap (λ b. if b then dropped k else k)
-    (ap (λ a. ((true && a) && c) && nat_le (residue l form) k.deep) (beq_true k.alive)
-    ∙ and_both k.alive c (nat_le (residue l form) k.deep))
 
 abbrev drop_step : (ℕ → ℕ → Bool) → Keys → ℕ → Keys
 drop_step t k i = if k.alive && t k.deep i then dropped k else k
@@ -107,7 +90,14 @@ first_unit n u some = grind (arith, ints)
 one_more : (v : ℤ) (z u : ℕ) → (le_z v (pos (z * u)) && true) ≡ le_z (v +ℤ pos u) (pos (suc z * u))
 one_more v z u = let e : suc z * u ≡ z * u + u = grind arith in grind (arith, ints)
 
-module _ (covering : CoveringLaw) (l : KeyedPixel) (d : Depths) (room : HasRoom l d) (s : SolidView) where
+module _ (covering : CoveringLaw) (scene : SceneView) (l : KeyedPixel) (room : HasRoom l (depths_of scene))
+    (solid : ℕ) where
+  abbrev d : Depths
+  d = depths_of scene
+
+  abbrev s : SolidView
+  s = solid_of scene solid
+
   abbrev end : ℕ
   end = end_of d
 
@@ -154,18 +144,23 @@ module _ (covering : CoveringLaw) (l : KeyedPixel) (d : Depths) (room : HasRoom 
       (eqb_holds i (covering_front s l.x l.y) here) ∙ (covering s end l.x l.y).front_value))
       ∙ more_at_most enters end bits v e unit (omega (arith, less, end_room l d room))))
 
+  abbrev drop_steps : List Step
+  drop_steps = map (Drop solid) (range_with_len (length s.fronts + 1) (length s.backs + 1))
+
+  abbrev turns : List Step
+  turns = map (Front solid) (range_with_len 0 (length s.fronts + 1))
+
   -- a plain solid's candidate stays alive where its depth is before the least back
-  pub confirm_plain : (e : Bool) (k : Keys)
-      → (after_passes l (confirm_on_numbers d s true) (at e k)).keys
+  confirm_plain : (k : Keys) → after_steps scene l k drop_steps
       ≡ record k { alive = k.alive && not (met && le_z leaves (pos k.deep)) }
-  confirm_plain e k =
+  confirm_plain k =
       let law = covering s end l.x l.y in
       let nf = length s.fronts + 1 in
       let nb = length s.backs + 1 in
       let kb = covering_back s end l.x l.y in
       let g = met && le_z leaves (pos k.deep) in
-      let t : ℕ → ℕ → Bool = λ v i. covers s end i l.x l.y && nat_le (residue l (face_plane s end i)) v in
-      keys_in_range l (drop_on_numbers end s) (drop_step t) nf nb (λ i low high e k. drop_keys l end s i e k) (at e k)
+      let t : ℕ → ℕ → Bool = λ v i. is_passing l end s i (face_plane s end i) v in
+      fold-map (after_step scene l) (Drop solid) k (range_with_len nf nb)
       ∙ drops t k (range_with_len nf nb)
       ∙ ap (λ a. record k { alive = a })
       (fold_single (t k.deep) (λ alive i. false) k.alive nf nb kb g
@@ -173,29 +168,23 @@ module _ (covering : CoveringLaw) (l : KeyedPixel) (d : Depths) (room : HasRoom 
       (lt_fails kb nf law.back_behind) (omega (arith, law.back_there))
       ∙ and_not g k.alive)
 
-  abbrev turns : List Pass
-  turns = flat_map (λ i. turn_on_numbers end s i (plus (face_plane s end i) unit))
-      (range_with_len 0 (length s.fronts + 1))
-
   and_here : (a b c g h : Bool) → (b && c) ≡ (g && h) → (a && (b && c)) ≡ ((a && g) && h)
   and_here true b c g h e = e
   and_here false b c g h e = refl
 
   -- a barred solid's where the greatest front is a whole cell before it, or more
-  pub confirm_barred : (e : Bool) (k : Keys)
+  confirm_barred : (k : Keys)
       → (let g = k.alive && (met && le_z (enters +ℤ pos unit) (pos k.deep)) in
-      (after_passes l (confirm_on_numbers d s false) (at e k)).keys ≡ keys_of k.best k.deep k.number g g)
-  confirm_barred e k =
+      after_steps scene l k (Clear ∷ turns ++ Confirm ∷ []) ≡ keys_of k.best k.deep k.number g g)
+  confirm_barred k =
       let law = covering s end l.x l.y in
       let nf = length s.fronts + 1 in
       let kf = covering_front s l.x l.y in
       let g = met && le_z (enters +ℤ pos unit) (pos k.deep) in
-      let t : ℕ → ℕ → Bool = λ v i. covers s end i l.x l.y && nat_le (residue l (plus (face_plane s end i) unit)) v in
+      let t : ℕ → ℕ → Bool = λ v i. is_passing l end s i (plus (face_plane s end i) unit) v in
       let start = record k { par = false } in
-      let last = all ∷ keep_par false ∷ set_alive false ∷ [] in
-      let turned : (after_passes l turns (at true start)).keys ≡ keys_of k.best k.deep k.number k.alive (k.alive && g) =
-      keys_in_range l (λ i. turn_on_numbers end s i (plus (face_plane s end i) unit)) (flip_step t) 0 nf
-      (λ i low high e k. turn_keys l end s i (plus (face_plane s end i) unit) e k) (at true start)
+      let turned : after_steps scene l start turns ≡ keys_of k.best k.deep k.number k.alive (k.alive && g) =
+      fold-map (after_step scene l) (Front solid) start (range_with_len 0 nf)
       ∙ flips t start (range_with_len 0 nf)
       ∙ ap (λ b. keys_of k.best k.deep k.number k.alive b)
       (fold_single (λ i. k.alive && t k.deep i) (λ odd i. not odd) false 0 nf kf (k.alive && g)
@@ -203,8 +192,8 @@ module _ (covering : CoveringLaw) (l : KeyedPixel) (d : Depths) (room : HasRoom 
       k.deep) g (eqb i kf) (front_turns k.deep i (law.fronts i (lt_true i nf (omega arith)))))
       (omega arith) (omega (arith, lt_holds kf nf law.front_there))
       ∙ turned_from_false (k.alive && g)) in
-      ap (λ (q : Numbers). q.keys) (after-append l turns last (at true start))
-      ∙ ap (λ (q : Keys). if true && beq q.par false then record q { alive = false } else q) turned
+      fold-append (after_step scene l) start turns (Confirm ∷ [])
+      ∙ ap (λ (q : Keys). if beq q.par false then record q { alive = false } else q) turned
       ∙ ended k.best k.deep k.number k.alive g true
 
   abbrev pub test : (plain : Bool) → (v : ℕ) → Bool
@@ -217,18 +206,21 @@ module _ (covering : CoveringLaw) (l : KeyedPixel) (d : Depths) (room : HasRoom 
     pub number : new.number ≡ k.number
     pub alive : new.alive ≡ (k.alive && ((d.fraction_bits == 0) || test plain k.deep))
 
-  by_kind : (plain e : Bool) (k : Keys) → (d.fraction_bits == 0) ≡ false
-      → IsConfirmed plain k (after_passes l (confirm_on_numbers d s plain) (at e k)).keys
-  by_kind true e k some =
-      rw (confirm_plain e k) (record { best = refl; deep = refl; number = refl; alive = rw some refl })
-  by_kind false e k some =
-      rw (confirm_barred e k) (record { best = refl; deep = refl; number = refl; alive = rw some refl })
+  abbrev confirming : (plain : Bool) → List Step
+  confirming plain = if plain then drop_steps else (Clear ∷ turns ++ Confirm ∷ [])
 
-  pub confirmed : (plain e : Bool) (k : Keys)
-      → IsConfirmed plain k (after_passes l (passes_where_fraction d.fraction_bits (confirm_on_numbers d s plain)) (at e k)).keys
-  confirmed plain e k = elim (cases_Bool (d.fraction_bits == 0)) [
+  by_kind : (plain : Bool) (k : Keys) → (d.fraction_bits == 0) ≡ false
+      → IsConfirmed plain k (after_steps scene l k (confirming plain))
+  by_kind true k some =
+      rw (confirm_plain k) (record { best = refl; deep = refl; number = refl; alive = rw some refl })
+  by_kind false k some =
+      rw (confirm_barred k) (record { best = refl; deep = refl; number = refl; alive = rw some refl })
+
+  pub confirmed : (plain : Bool) (k : Keys)
+      → IsConfirmed plain k (after_steps scene l k (where_fraction d (confirming plain)))
+  confirmed plain k = elim (cases_Bool (d.fraction_bits == 0)) [
     | inl none ↦ rw none (record { best = refl; deep = refl; number = refl; alive = rw none (sym (and_true k.alive)) })
-    | inr some ↦ rw some (by_kind plain e k some)
+    | inr some ↦ rw some (by_kind plain k some)
   ]
 
   -- the cell of a plain solid's candidate

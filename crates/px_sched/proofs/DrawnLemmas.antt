@@ -15,9 +15,8 @@ use Rattle.px_normal.specs.Sets.{below, has, solids}
 use Rattle.px_prune.specs.Kept.{kept_of}
 use Rattle.px_prune.specs.PruningLaw.{PlainIsKept}
 use Rattle.px_model.specs.Scenes.{IsLawfulScene, SceneView}
-use Rattle.px_sched.specs.declared.literal.Literal.{Literal}
 use Rattle.px_sched.specs.Onward.{HasKnownLiterals}
-use Rattle.px_sched.specs.Passes.{literals_of}
+use Rattle.px_sched.specs.Passes.{literal, literals_of}
 
 abbrev is_known : ℕ → ℕ → Bool
 is_known count q = nat_lt q count
@@ -59,7 +58,7 @@ known_solids count p (plain, barred) = record {
 known_literals : (count : ℕ) (plain : Bool) (qs : List ℕ) → list_all (is_known count) qs ≡ true
     → All (λ r. r.solid < count) (literals_of plain qs)
 known_literals count plain qs known =
-    All-map (λ r. r.solid < count) (λ solid. record { solid = solid; plain = plain }) qs
+    All-map (λ r. r.solid < count) (literal plain) qs
     (All-weaker (λ q. is_known count q ≡ true) (λ q. q < count) (λ q e. lt_holds q count e) qs
     (AllPass-from_list_all (is_known count) qs known))
 
@@ -69,16 +68,13 @@ drawn scene p plain known = record {
     arith,
     plain,
     length-append (literals_of true (solids p.plain)) (literals_of false (solids p.barred)),
-    length-map (solids p.plain) (λ solid. one true solid),
+    length-map (solids p.plain) (literal true),
   );
   known = All-append (λ r. r.solid < length scene.solids) (literals_of true (solids p.plain))
       (literals_of false (solids p.barred))
       (known_literals (length scene.solids) true (solids p.plain) known.plain)
       (known_literals (length scene.solids) false (solids p.barred) known.barred);
 }
-  where
-    one : Bool → ℕ → Literal
-    one plain solid = record { solid = solid; plain = plain }
 
 both_drawn : (scene : SceneView) (ps : List Product) → All HasPlain ps
     → All (HasSolids (is_known (length scene.solids))) ps → All (HasKnownLiterals scene) ps

@@ -18,10 +18,10 @@ use Rattle.px_sched.specs.Passes.{literals, no_solid, others, solid_of}
 use Rattle.px_sched.proofs.RunLemmas.{suits}
 use Rattle.px_sched.proofs.BlockLemmas.{all_found, cell_found, is_covered, is_found, keys_found}
 use Rattle.px_sched.proofs.BlockLemmas.{number_found, suited}
-use Rattle.px_sched.proofs.MemberLemmas.{In, all_kept, all_of, any_in, any_out, in_filter, in_flat, in_where}
-use Rattle.px_sched.proofs.MemberLemmas.{min_below, min_reached, min_start, one_of, out_flat}
+use Rattle.px_sched.proofs.MemberLaws.{In, all_kept, all_of, any_in, any_out, in_filter, in_flat, in_where}
+use Rattle.px_sched.proofs.MemberLaws.{min_below, min_reached, min_start, one_of, out_flat}
 use Rattle.px_sched.proofs.LiteralLemmas.{backs_below, barred_seen, barred_there, fronts_below, plain_seen, plain_shows}
-use Rattle.px_sched.proofs.ProductLemmas.{IsFit, each_holds, holds_there, numbered_at, shown_of, shows_out, shows_there}
+use Rattle.px_sched.proofs.ProductLaws.{IsFit, each_holds, holds_there, numbered_at, shown_of, shows_out, shows_there}
 
 module _ (covering : CoveringLaw) (cells : CellsLaw) (d : Depths) (s : SolidView) (x y : ℕ) where
   -- what is found at a literal

@@ -1,14 +1,20 @@
--- The passes are lawful in any memory that has room for them; what holds of all operations of lists.
-use Rattle.std.proofs.Common.{ℕ, ◌≤◌, List, [], ◌∷◌}
+-- The passes are lawful in any memory that has room for them; what holds of all elements of lists.
+use Rattle.std.proofs.Common.{◌≡◌, refl, ℕ, ◌≤◌, List, [], ◌∷◌}
 use Rattle.std.specs.List.{flat_map}
 use Rattle.std.specs.Prelude.{All}
 use Rattle.std.proofs.lemmas.List.Elements.{All-append, All-head, All-nil, All-tail, All-weaker}
 use Rattle.px_macro.specs.Macros.{IsLawful, IsLawfulInMore}
-use Rattle.px_macro.specs.declared.operation.Macro.{Macro}
 use Rattle.px_model.specs.Scenes.{IsLawfulScene, SceneView, IsLawfulSolid}
 use Rattle.px_sched.specs.Layouts.{layout_of, need_of}
+use Rattle.px_prune.specs.Kept.{plan_of}
 use Rattle.px_sched.specs.Passes.{passes}
+use Rattle.px_sched.specs.Steps.{passes_with}
 use Rattle.px_sched.specs.PassesFacts.{PassesAreLawful}
+
+-- the passes are those over the plan of the scene, by its layout
+pub passes_are : (scene : SceneView) → passes scene ≡ passes_with scene (layout_of scene) (plan_of scene)
+unfolding passes
+passes_are scene = refl
 
 pub passes_lawful : IsLawfulInMore → PassesAreLawful → (bits : ℕ) (scene : SceneView) → IsLawfulScene scene
     → All IsLawfulSolid scene.solids
@@ -17,7 +23,7 @@ passes_lawful more lawful bits scene h solids enough =
     All-weaker (λ m. IsLawful m (need_of (layout_of scene))) (λ m. IsLawful m bits)
     (λ m small. more m (need_of (layout_of scene)) bits enough small) (passes scene) (lawful scene h solids)
 
-pub all_flat : {X : Type 0} (P : Macro → Type 0) (Q : X → Type 0) (f : X → List Macro) → ((x : X) → Q x → All P (f x))
+pub all_flat : {X Y : Type 0} (P : Y → Type 0) (Q : X → Type 0) (f : X → List Y) → ((x : X) → Q x → All P (f x))
     → (xs : List X) → All Q xs → All P (flat_map f xs)
 all_flat P Q f each [] all = All-nil P
 all_flat P Q f each (x ∷ xs) all =

@@ -11,12 +11,12 @@ pub mod JoinLemmas
 pub mod LawfulLaws
 pub mod LayoutLaws
 pub mod LiteralLemmas
-pub mod MemberLemmas
+pub mod MemberLaws
 pub mod NumbersLemmas
-pub mod ProductLemmas
+pub mod OperationLaws
+pub mod ProductLaws
 pub mod RoomLemmas
 pub mod RunLemmas
-pub mod ShapeLemmas
 pub mod SightLemmas
 pub mod StandingLemmas
 pub mod StepLemmas

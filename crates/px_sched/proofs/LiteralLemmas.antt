@@ -19,7 +19,7 @@ use Rattle.px_face.specs.Covering.{CoveringLaw, covering_back, covering_front}
 use Rattle.px_face.specs.Faces.{back_planes, front_planes, is_front_face, level, face_number, numbers_in_faces}
 use Rattle.px_face.specs.Faces.{face_plane, planes_in_faces}
 use Rattle.px_face.proofs.DepthLaws.{value_at-level}
-use Rattle.px_sched.proofs.MemberLemmas.{In, all_in, in_either, in_right, out_filter, out_map}
+use Rattle.px_sched.proofs.MemberLaws.{In, all_in, in_either, in_right, out_filter, out_map}
 
 -- faces among others, by their places
 module _ (planes : List Linear) (numbers : List ℕ) (x y : ℕ) (v : ℤ) where

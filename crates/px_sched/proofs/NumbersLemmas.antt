@@ -20,12 +20,12 @@ use Rattle.px_normal.specs.NormalLaw.{IsNormalForm, some_shows}
 use Rattle.px_normal.specs.Live.{is_void}
 use Rattle.px_prune.specs.Kept.{kept_of}
 use Rattle.px_prune.specs.PruningLaw.{PruningLaw}
-use Rattle.px_sched.specs.Numbers.{KeyedPixel, after_passes, key}
+use Rattle.px_sched.specs.Numbers.{KeyedPixel, key}
 use Rattle.px_sched.specs.NumbersLaw.{IsKeyOf, IsPixelOf, NumbersShowThePicture}
 use Rattle.px_sched.proofs.RunLemmas.{HasRoom}
-use Rattle.px_sched.proofs.BlockLemmas.{all_found, passes_best}
-use Rattle.px_sched.proofs.MemberLemmas.{In, all_in, face_in, in_face}
-use Rattle.px_sched.proofs.ProductLemmas.{IsFit, fit}
+use Rattle.px_sched.proofs.BlockLemmas.{all_found, steps_best}
+use Rattle.px_sched.proofs.MemberLaws.{In, all_in, face_in, in_face}
+use Rattle.px_sched.proofs.ProductLaws.{IsFit, fit}
 use Rattle.px_sched.proofs.JoinLemmas.{best_is_least}
 
 least_in : (ns : List ℕ) → 0 < length ns → In (least ns) ns
@@ -153,8 +153,8 @@ module _ (laws : Laws) (scene : SceneView) (lawful : IsLawfulScene scene) (l : K
             )
             | inr o ↦ elim o [
               | inl before ↦ absurd (omega (arith, k.is, low.0, key_before l d t k.depth face k.number before small))
-              | inr after_passes ↦
-                  absurd (never (test k.depth) (r.none_before k.depth after_passes)
+              | inr after ↦
+                  absurd (never (test k.depth) (r.none_before k.depth after)
                   (member_at k.depth k.number (omega (arith, r.below)) k.shown))
             ]
           ]
@@ -192,7 +192,7 @@ module _ (laws : Laws) (scene : SceneView) (lawful : IsLawfulScene scene) (l : K
     best_is_picture = best_found (first_cell scene l.x l.y) (laws.first scene l.x l.y)
 
 pub numbers_show_the_picture : Laws → NumbersShowThePicture
-numbers_show_the_picture laws scene lawful solids l place p =
-    let best = passes_best laws.covering laws.parity scene l (room laws scene lawful l place)
-    (kept_of scene (sum_of_products scene.show)) p in
+numbers_show_the_picture laws scene lawful solids l place k =
+    let best = steps_best laws.covering laws.parity scene l (room laws scene lawful l place)
+    (kept_of scene (sum_of_products scene.show)) k in
     subst (IsKeyOf l (picture scene l.x l.y)) (sym best) (best_is_picture laws scene lawful l place solids)

@@ -1,34 +1,21 @@
--- Each number that the passes load has room.
-use Rattle.std.proofs.Common.{◌≡◌, ℕ, suc, zero, ◌+◌, ◌-◌, ◌*◌, ◌^◌, ◌==◌, ◌<◌, inl, inr, length, Bool, true, false}
-use Rattle.std.proofs.Common.{not, List, [], ◌∷◌, ◌++◌, All, map, get_or, refl, arith}
-use Rattle.std.specs.List.{flat_map, range_with_len}
-use Rattle.std.proofs.lemmas.List.Elements.{All-append, All-cons, All-head, All-nil, All-tail}
+-- The numbers of the keys have room in their bits.
+use Rattle.std.proofs.Common.{◌≡◌, ℕ, suc, zero, ◌+◌, ◌*◌, ◌^◌, ◌<◌, ◌≤◌, ◌∙◌, List, [], ◌∷◌, ◌++◌, All, get_or, refl}
+use Rattle.std.proofs.Common.{true, false, cond, nat_le, count_by, ap, inl, inr, arith}
+use Rattle.std.specs.List.{range_with_len}
+use Rattle.std.proofs.lemmas.List.Elements.{All-head, All-tail}
+use Rattle.std.proofs.lemmas.List.Sums.{sum_by-append}
 use Rattle.std.proofs.lemmas.Nat.{pow-add}
-use Rattle.std.proofs.lemmas.Bool.{cases_Bool}
-use Rattle.px_num.specs.Forms.{plus}
+use Rattle.std.proofs.lemmas.Bool.{cases_lt}
+use Rattle.std.proofs.lemmas.Bool.Decides.{nat_tests}
 use Rattle.px_num.proofs.BitLaws.{pow_above}
-use Rattle.px_num.specs.declared.linear.Linear.{Linear}
-use Rattle.px_model.specs.Scenes.{SceneView, AreNumberedFrom, IsNumberedFrom, faces_of, SolidView, faces_in}
-use Rattle.px_model.specs.Cells.{Depths, depths_of, end_of}
+use Rattle.px_num.proofs.RangeLaws.{range_more}
+use Rattle.px_num.proofs.TruthLaws.{double_pow}
+use Rattle.px_model.specs.Scenes.{SceneView, AreNumberedFrom, IsLawfulScene, IsNumberedFrom, faces_of, SolidView, faces_in}
 use Rattle.px_model.specs.declared.solid.Face.{Face}
 use Rattle.px_model.proofs.FaceLaws.{faces_of-cons}
-use Rattle.px_face.specs.Edges.{edges}
-use Rattle.px_face.specs.Faces.{face_count, face_number, numbers_in_faces, face_plane}
-use Rattle.px_normal.specs.declared.product.Product.{Product}
-use Rattle.px_sched.specs.declared.literal.Literal.{Literal}
-use Rattle.px_sched.specs.Numbers.{Pass, passes_where_fraction, confirm_on_numbers, drop_on_numbers}
-use Rattle.px_sched.specs.Numbers.{candidate_on_numbers}
-use Rattle.px_sched.specs.Numbers.{classify_on_numbers, keep_covered_on_numbers, literal_on_numbers, merge_on_numbers}
-use Rattle.px_sched.specs.Numbers.{passes_on_numbers, turn_on_numbers, all, keep_sign, load_deep, clear_fraction}
-use Rattle.px_sched.specs.Numbers.{load_number, load_best, set_alive, set_par, keep_par, keep_alive, keep_at_most}
-use Rattle.px_sched.specs.Numbers.{keep_less, toggle_par, copy}
-use Rattle.px_sched.specs.Passes.{candidate_faces, literals, no_solid, others, solid_of}
-use Rattle.px_sched.proofs.BridgeLemmas.{HasRoom}
-
-All-flat_map : {X Y : Type 0} (P : Y → Type 0) (f : X → List Y) → ((x : X) → All P (f x)) → (xs : List X)
-    → All P (flat_map f xs)
-All-flat_map P f each [] = All-nil P
-All-flat_map P f each (x ∷ xs) = All-append P (f x) (flat_map f xs) (each x) (All-flat_map P f each xs)
+use Rattle.px_face.specs.Faces.{face_number, numbers_in_faces}
+use Rattle.px_sched.specs.Layouts.{bit_length}
+use Rattle.px_sched.specs.Passes.{no_solid, solid_of}
 
 -- the numbers of some faces, or 0 past them
 number_among : (faces : List Face) (bound place : ℕ) → 0 < bound → All (λ f. f.number < bound) faces
@@ -64,125 +51,54 @@ numbers_below first (s ∷ ss) some h zero face = omega (arith, number_below fir
 numbers_below first (s ∷ ss) some h (suc q) face =
     omega (arith, numbers_below (first + faces_in s) ss (omega arith) h.1 q face, faces_of-cons s ss)
 
-covered_room : (w f i end : ℕ) (s : SolidView) (face : ℕ) → All (HasRoom w f i) (keep_covered_on_numbers end s face)
-covered_room w f i end s face = signs (edges s end face)
-  where
-    signs : (forms : List Linear) → All (HasRoom w f i) (map keep_sign forms)
-    signs [] = All-nil (HasRoom w f i)
-    signs (form ∷ forms) = All-cons (HasRoom w f i) (keep_sign form) (map keep_sign forms) tt (signs forms)
+-- of the powers of 2 below a bound, those that are not above n
+abbrev powers : (n bound : ℕ) → ℕ
+powers n bound = count_by (λ t. nat_le (2 ^ t) n) (range_with_len 0 bound)
 
+one_more : (n bound : ℕ) → powers n (suc bound) ≡ powers n bound + cond (nat_le (2 ^ bound) n) 1 0
+one_more n bound =
+    let e : 0 + bound ≡ bound = omega arith
+    in ap (count_by (λ t. nat_le (2 ^ t) n)) (range_more 0 bound ∙ ap (λ k. range_with_len 0 bound ++ (k ∷ [])) e)
+    ∙ sum_by-append (λ t. cond (nat_le (2 ^ t) n) 1 0) (range_with_len 0 bound) (bound ∷ []) ∙ omega arith
+
+counted : (n bound : ℕ) → 2 ^ bound ≤ n → powers n (suc bound) ≡ powers n bound + 1
+counted n bound h =
+    let yes : nat_le (2 ^ bound) n ≡ true = grind (arith, nat_tests)
+    in one_more n bound ∙ rw yes refl
+
+passed_over : (n bound : ℕ) → n < 2 ^ bound → powers n (suc bound) ≡ powers n bound
+passed_over n bound h =
+    let no : nat_le (2 ^ bound) n ≡ false = grind (arith, nat_tests)
+    in one_more n bound ∙ rw no (omega arith)
+
+all_counted : (n bound : ℕ) → 2 ^ bound ≤ n → powers n (suc bound) ≡ suc bound
+all_counted n zero h = counted n 0 h
+all_counted n (suc bound) h =
+    omega (arith, counted n (suc bound) h, all_counted n bound (omega (arith, double_pow bound)))
+
+below_power : (n bound : ℕ) → n < 2 ^ bound → n < 2 ^ powers n bound
+below_power n zero h = h
+below_power n (suc bound) h = elim (cases_lt n (2 ^ bound)) [
+  | inl below ↦ rw (passed_over n bound below) (below_power n bound below)
+  | inr above ↦ rw (all_counted n bound above) h
+]
+
+-- a face number has room in the bits of the greatest one
+pub bits_enough : (n : ℕ) → n ≤ 4095 → n < 2 ^ bit_length n
+bits_enough n h = below_power n 12 (omega arith)
+
+pub numbers_fit : (scene : SceneView) → IsLawfulScene scene → (solid face : ℕ)
+    → face_number (solid_of scene solid) face < 2 ^ bit_length (faces_of scene.solids)
+numbers_fit scene lawful solid face =
+    omega (
+      arith,
+      numbers_below 1 scene.solids (omega arith) lawful.numbers solid face,
+      bits_enough (faces_of scene.solids) lawful.faces,
+    )
+
+-- a depth before the bits of a number
 times_room : (m a b : ℕ) → m < a → 0 < b → m * b < a * b
 times_room m a b less some = grind arith
 
--- in the passes of a scene whose face numbers have so many bits, and its depths so many
-pub passes_have_room : (w i : ℕ) (scene : SceneView) (products : List Product) → AreNumberedFrom 1 scene.solids →
-    faces_of scene.solids < 2 ^ i → end_of (depths_of scene) < 2 ^ (w + scene.fraction_bits)
-    → All (HasRoom w scene.fraction_bits i) (passes_on_numbers scene i products)
-passes_have_room w i scene products numbered faces small =
-    let of_product : Product → List Pass = λ product. flat_map (literal_on_numbers scene product) (literals product)
-    in let first = load_best (end * 2 ^ i)
-    in cons all (first ∷ flat_map of_product products) tt (cons first (flat_map of_product products) best
-    (All-flat_map P of_product (λ product. All-flat_map P (literal_on_numbers scene product) (literal product)
-    (literals product)) products))
-  where
-    d : Depths
-    d = depths_of scene
-
-    end : ℕ
-    end = end_of d
-
-    P : Pass → Type 0
-    P = HasRoom w scene.fraction_bits i
-
-    cons : (p : Pass) (ps : List Pass) → P p → All P ps → All P (p ∷ ps)
-    cons p ps room rest = All-cons P p ps room rest
-
-    best : end * 2 ^ i < 2 ^ (w + scene.fraction_bits + i)
-    best = rw (pow-add 2 (w + scene.fraction_bits) i) (times_room end (2 ^ (w + scene.fraction_bits)) (2 ^ i) small
-        (pow_above i))
-
-    number : (q face : ℕ) → face_number (solid_of scene q) face < 2 ^ i
-    number q face = omega (arith, numbers_below 1 scene.solids (omega arith) numbered q face)
-
-    -- a short list, by its passes
-    one : (p : Pass) → P p → All P (p ∷ [])
-    one p room = All-cons P p [] room (All-nil P)
-
-    two : (p q : Pass) → P p → P q → All P (p ∷ q ∷ [])
-    two p q first second = All-cons P p (q ∷ []) first (one q second)
-
-    three : (p q r : Pass) → P p → P q → P r → All P (p ∷ q ∷ r ∷ [])
-    three p q r first second third = All-cons P p (q ∷ r ∷ []) first (two q r second third)
-
-    covered : (s : SolidView) (face : ℕ) → All P (keep_covered_on_numbers end s face)
-    covered s face = covered_room w scene.fraction_bits i end s face
-
-    fraction : (ps : List Pass) → All P ps → All P (passes_where_fraction d.fraction_bits ps)
-    fraction ps fits = elim (cases_Bool (d.fraction_bits == 0)) [
-      | inl none ↦ rw none (All-nil P)
-      | inr some ↦ rw some fits
-    ]
-
-    candidate : (q face : ℕ) → All P (candidate_on_numbers d (solid_of scene q) face)
-    candidate q face =
-        let s = solid_of scene q
-        in let load = load_deep (plus (face_plane s end face) (2 ^ d.fraction_bits - 1))
-        in let clear = passes_where_fraction d.fraction_bits (clear_fraction ∷ [])
-        in let label = load_number (face_number s face)
-        in let rest = load ∷ clear ++ label ∷ set_alive true ∷ []
-        in cons all (keep_covered_on_numbers end s face ++ rest) tt
-        (All-append P (keep_covered_on_numbers end s face) rest (covered s face)
-        (All-append P (load ∷ clear) (label ∷ set_alive true ∷ [])
-        (cons load clear tt (fraction (clear_fraction ∷ []) (one clear_fraction tt)))
-        (two label (set_alive true) (number q face) tt)))
-
-    turned : (s : SolidView) (face : ℕ) (form : Linear) → All P (turn_on_numbers end s face form)
-    turned s face form =
-        let signs = keep_covered_on_numbers end s face
-        in let last = keep_at_most form ∷ toggle_par ∷ []
-        in cons all (keep_alive true ∷ signs ++ last) tt (cons (keep_alive true) (signs ++ last) tt
-        (All-append P signs last (covered s face) (two (keep_at_most form) toggle_par tt tt)))
-
-    dropped : (s : SolidView) (face : ℕ) → All P (drop_on_numbers end s face)
-    dropped s face =
-        let signs = keep_covered_on_numbers end s face
-        in let form = face_plane s end face
-        in let last = keep_at_most form ∷ set_alive false ∷ []
-        in cons all (keep_alive true ∷ signs ++ last) tt (cons (keep_alive true) (signs ++ last) tt
-        (All-append P signs last (covered s face) (two (keep_at_most form) (set_alive false) tt tt)))
-
-    judged : (s : SolidView) (form : ℕ → Linear) (faces : List ℕ) (v : Bool)
-        → All P (all ∷ set_par false ∷ flat_map (λ face. turn_on_numbers end s face (form face)) faces ++ all
-        ∷ keep_par v ∷ set_alive false ∷ [])
-    judged s form faces v =
-        let turns = flat_map (λ face. turn_on_numbers end s face (form face)) faces
-        in let last = all ∷ keep_par v ∷ set_alive false ∷ []
-        in cons all (set_par false ∷ turns ++ last) tt (cons (set_par false) (turns ++ last) tt
-        (All-append P turns last (All-flat_map P (λ face. turn_on_numbers end s face (form face))
-        (λ face. turned s face (form face)) faces)
-        (three all (keep_par v) (set_alive false) tt tt tt)))
-
-    confirmed : (s : SolidView) (plain : Bool) → All P (confirm_on_numbers d s plain)
-    confirmed s true =
-        All-flat_map P (drop_on_numbers end s) (dropped s) (range_with_len (length s.fronts + 1) (length s.backs + 1))
-    confirmed s false = judged s (λ face. plus (face_plane s end face) (2 ^ d.fraction_bits))
-        (range_with_len 0 (length s.fronts + 1)) false
-
-    literal : (product : Product) (q : Literal) → All P (literal_on_numbers scene product q)
-    literal product q =
-        let s = solid_of scene q.solid
-        in let candidates = flat_map (candidate_on_numbers d s) (candidate_faces s q.plain)
-        in let sure = passes_where_fraction d.fraction_bits (confirm_on_numbers d s q.plain)
-        in let tests : List Pass =
-        flat_map (λ r. classify_on_numbers end (solid_of scene r.solid) r.plain) (others q product)
-        in cons all (set_alive false ∷ ((candidates ++ sure) ++ tests) ++ merge_on_numbers) tt
-        (cons (set_alive false) (((candidates ++ sure) ++ tests) ++ merge_on_numbers) tt
-        (All-append P ((candidates ++ sure) ++ tests) merge_on_numbers
-        (All-append P (candidates ++ sure) tests
-        (All-append P candidates sure
-        (All-flat_map P (candidate_on_numbers d s) (candidate q.solid) (candidate_faces s q.plain))
-        (fraction (confirm_on_numbers d s q.plain) (confirmed s q.plain)))
-        (All-flat_map P (λ r. classify_on_numbers end (solid_of scene r.solid) r.plain)
-        (λ r. judged (solid_of scene r.solid) (face_plane (solid_of scene r.solid) end)
-        (range_with_len 0 (face_count (solid_of scene r.solid))) (not r.plain)) (others q product)))
-        (cons all (keep_alive true ∷ keep_less ∷ copy ∷ []) tt (three (keep_alive true) keep_less copy tt tt tt))))
+pub shifted : (depth w i : ℕ) → depth < 2 ^ w → depth * 2 ^ i < 2 ^ (w + i)
+shifted depth w i small = rw (pow-add 2 w i) (times_room depth (2 ^ w) (2 ^ i) small (pow_above i))

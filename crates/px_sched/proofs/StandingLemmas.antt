@@ -1,10 +1,11 @@
 -- A cursor gives the passes in their order.
 use Rattle.std.proofs.Common.{◌≡◌, ◌≢◌, ℕ, ◌+◌, ◌^◌, ◌<◌, ◌≤◌, List, [], ◌∷◌, ◌++◌, drop, get_or, length, slice_get}
-use Rattle.std.proofs.Common.{Some, None, refl, ap, sym, subst, ◌∙◌, arith, length-append}
+use Rattle.std.proofs.Common.{Option, Some, None, IfNone, refl, ap, sym, subst, ◌∙◌, arith, length-append}
 use Rattle.std.proofs.lemmas.List.{drop-drop, get_or-drop, length-drop}
 use Rattle.std.proofs.lemmas.Option.{slice_get-get_or, slice_get_past}
 use Rattle.std.proofs.Math.Seq.{drop-cons}
 use Prim.Native.Nat.{zero, suc}
+use Rattle.std.specs.List.{flat_map}
 use Rattle.px_macro.specs.declared.operation.Macro.{Macro}
 use Rattle.px_macro.specs.declared.operation.Macro.TheVariants as m
 use Rattle.px_normal.specs.declared.product.Product.{Product}
@@ -15,12 +16,15 @@ use Rattle.px_sched.specs.declared.group.Stage.TheVariants.{At, End, Start}
 use Rattle.px_sched.specs.declared.step.Step.{Step}
 use Rattle.px_sched.specs.declared.step.Step.TheVariants.{Begin, Candidate, Clear, Close, Confirm, Drop, Front, Merge}
 use Rattle.px_sched.specs.declared.step.Step.TheVariants.{Open, Turn}
-use Rattle.px_sched.specs.Cursors.{IsWithinStage, StandsIn}
+use Rattle.px_sched.specs.declared.step.Step.TheVariants as step
+use Rattle.px_sched.specs.Cursors.{IsWithinStage, Stands, StandsIn}
 use Rattle.px_sched.specs.Groups.{IsStage, behind_stage, stage_operations}
 use Rattle.px_sched.specs.Onward.{from_stage}
-use Rattle.px_sched.specs.Layouts.{LayoutView}
-use Rattle.px_sched.specs.Passes.{passes_with}
-use Rattle.px_sched.specs.Steps.{step_operations}
+use Rattle.px_prune.specs.Kept.{plan_of}
+use Rattle.px_sched.specs.Layouts.{LayoutView, layout_of}
+use Rattle.px_sched.specs.Passes.{operations, passes}
+use Rattle.px_sched.specs.Steps.{passes_with}
+use Rattle.px_sched.proofs.LawfulLaws.{passes_are}
 
 -- one element further in a list whose rest is known
 here : {X : Type 0} (xs : List X) (k : ℕ) (ls rs : List X) (i : ℕ) (d : X) → i < length ls → drop k xs ≡ drop i ls
@@ -58,19 +62,29 @@ module _ (scene : SceneView) (l : LayoutView) (products : List Product) where
   abbrev whole : List Macro
   whole = passes_with scene l products
 
+  -- the operations from a stage on are its own and those behind it
+  stage_cut : (st : Stage) → flat_map (operations scene l) (from_stage scene products st)
+      ≡ stage_operations scene l st ++ flat_map (operations scene l) (behind_stage scene products st)
+  stage_cut Start = refl
+  stage_cut (At g) = refl
+  stage_cut End = refl
+
   module _ (c : Cursor) (stands : StandsIn scene l products c)
       (inside : c.at < length (stage_operations scene l c.stage)) where
     abbrev ops : List Macro
     ops = stage_operations scene l c.stage
 
+    abbrev behind : List Macro
+    behind = flat_map (operations scene l) (behind_stage scene products c.stage)
+
     pub below : c.given < length whole
-    below = more_left whole c.given ops (behind_stage scene l products c.stage) c.at inside stands.left
+    below = more_left whole c.given ops behind c.at inside stands.left
 
     pub given_is : get_or whole c.given m.All ≡ get_or ops c.at m.All
-    given_is = here whole c.given ops (behind_stage scene l products c.stage) c.at m.All inside stands.left
+    given_is = here whole c.given ops behind c.at m.All inside stands.left
 
-    left_more : drop (c.given + 1) whole ≡ drop (c.at + 1) ops ++ behind_stage scene l products c.stage
-    left_more = further whole c.given ops (behind_stage scene l products c.stage) c.at m.All inside stands.left
+    left_more : drop (c.given + 1) whole ≡ drop (c.at + 1) ops ++ behind
+    left_more = further whole c.given ops behind c.at m.All inside stands.left
 
     pub along : (d : Cursor) → d.given ≡ c.given + 1 → d.at ≡ c.at + 1 → d.stage ≡ c.stage → c.at + 1 < length ops
         → IsWithinStage scene l c.stage (c.at + 1) → StandsIn scene l products d
@@ -83,13 +97,13 @@ module _ (scene : SceneView) (l : LayoutView) (products : List Product) where
     }
 
     pub onward : (d : Cursor) (next : Stage) → d.given ≡ c.given + 1 → d.at ≡ 0 → d.stage ≡ next → length ops ≤ c.at
-        + 1 → behind_stage scene l products c.stage ≡ from_stage scene l products next
+        + 1 → behind_stage scene products c.stage ≡ from_stage scene products next
         → IsStage scene products next → IsWithinStage scene l next 0 → StandsIn scene l products d
     onward d next given at stage past left is place = record {
       stage = subst (IsStage scene products) (sym stage) is;
       place = rw (stage, at) place;
-      left = rw (given, at, stage) (left_more ∙ ap (λ ms. ms ++ behind_stage scene l products c.stage)
-          (past_all ops (c.at + 1) past) ∙ left);
+      left = rw (given, at, stage) (left_more ∙ ap (λ ms. ms ++ behind) (past_all ops (c.at + 1) past)
+          ∙ ap (flat_map (operations scene l)) left ∙ stage_cut next);
       within = omega (arith, given, below);
       few = stands.few;
     }
@@ -99,10 +113,11 @@ module _ (scene : SceneView) (l : LayoutView) (products : List Product) where
       let none : drop c.given whole ≡ [] = stands.left ∙ nothing c.stage stage c.at in
       omega (arith, ap length none, length-drop c.given whole, stands.within)
     where
-      nothing : (st : Stage) → st ≡ End → (i : ℕ) → drop i (stage_operations scene l st) ++ behind_stage scene l
-          products st ≡ []
+      nothing : (st : Stage) → st ≡ End → (i : ℕ) → drop i (stage_operations scene l st)
+          ++ flat_map (operations scene l) (behind_stage scene products st) ≡ []
       nothing st e i = rw e (empty i) where
-        empty : (i : ℕ) → drop i (stage_operations scene l End) ++ behind_stage scene l products End ≡ []
+        empty : (i : ℕ) → drop i (stage_operations scene l End)
+            ++ flat_map (operations scene l) (behind_stage scene products End) ≡ []
         empty zero = refl
         empty (suc i) = refl
 
@@ -131,7 +146,8 @@ module _ (scene : SceneView) (l : LayoutView) (products : List Product) where
   place_zero : (st : Stage) → IsWithinStage scene l st 0
   place_zero Start = omega arith
   place_zero (At g) = step_some g.step where
-    step_some : (step : Step) → 0 < length (step_operations scene l step)
+    step_some : (step : Step) → 0 < length (operations scene l step)
+    step_some step.Start = omega arith
     step_some Open = omega arith
     step_some (Candidate solid face) = omega arith
     step_some (Drop solid face) = omega arith
@@ -154,9 +170,40 @@ module _ (scene : SceneView) (l : LayoutView) (products : List Product) where
 
   pub stands_onward : (c d : Cursor) (next : Stage) (n : ℕ)
       → ((l : LayoutView) → length (stage_operations scene l c.stage) ≡ n) → c.at < n → n ≤ c.at + 1
-      → ((l : LayoutView) → behind_stage scene l products c.stage ≡ from_stage scene l products next)
+      → behind_stage scene products c.stage ≡ from_stage scene products next
       → IsStage scene products next
       → d.given ≡ c.given + 1 → d.at ≡ 0 → d.stage ≡ next → StandsIn scene l products c → StandsIn scene l products d
   stands_onward c d next n count low past left is given at stage stands =
-      onward c stands (omega (arith, low, count l)) d next given at stage (omega (arith, past, count l)) (left l) is
+      onward c stands (omega (arith, low, count l)) d next given at stage (omega (arith, past, count l)) left is
       (place_zero next)
+
+-- the passes of a scene are those over its plan, by its layout
+module _ (scene : SceneView) (l : LayoutView) (products : List Product) (plan : products ≡ plan_of scene)
+    (layout : l ≡ layout_of scene) where
+  pub given_for : (n : ℕ) (o : Option Macro) → o ≡ slice_get (passes_with scene l products) n
+      → o ≡ slice_get (passes scene) n
+  given_for n o given =
+      given ∙ ap (λ k. slice_get (passes_with scene k products) n) layout
+      ∙ ap (λ ps. slice_get (passes_with scene (layout_of scene) ps) n) plan
+      ∙ ap (λ ms. slice_get ms n) (sym (passes_are scene))
+
+  pub stands_for : (c : Cursor) → StandsIn scene l products c → Stands scene c
+  stands_for c stands = subst (λ k. StandsIn scene k (plan_of scene) c) layout
+      (subst (λ ps. StandsIn scene l ps c) plan stands)
+
+  pub end_for : (n : ℕ) (o : Option Macro) → IfNone o (n ≡ length (passes_with scene l products))
+      → IfNone o (n ≡ length (passes scene))
+  end_for n (Some one) all = all
+  end_for n None all =
+      all ∙ ap (λ k. length (passes_with scene k products)) layout
+      ∙ ap (λ ps. length (passes_with scene (layout_of scene) ps)) plan ∙ ap length (sym (passes_are scene))
+
+pub stands_first : (scene : SceneView) → length (passes scene) < 2 ^ 64
+    → Stands scene (record { given = 0; stage = Start; at = 0 })
+stands_first scene few = record {
+  stage = tt;
+  place = omega arith;
+  left = refl;
+  within = omega arith;
+  few = subst (λ ms. length ms < 2 ^ 64) (passes_are scene) few;
+}

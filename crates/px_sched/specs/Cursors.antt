@@ -1,5 +1,6 @@
 -- Where a cursor stands in the passes of a scene. Clauses of public calls stand on it.
 use Rattle.std.specs.Prelude.{◌≡◌, ℕ, ◌^◌, ◌<◌, ◌≤◌, ⊤, List, ◌++◌, drop, length}
+use Rattle.std.specs.List.{flat_map}
 use Rattle.px_normal.specs.declared.product.Product.{Product}
 use Rattle.px_prune.specs.Kept.{plan_of}
 use Rattle.px_model.specs.Scenes.{SceneView}
@@ -8,7 +9,8 @@ use Rattle.px_sched.specs.declared.group.Stage.{Stage}
 use Rattle.px_sched.specs.declared.group.Stage.TheVariants.{At, End, Start}
 use Rattle.px_sched.specs.Layouts.{LayoutView, layout_of}
 use Rattle.px_sched.specs.Groups.{IsStage, behind_stage, stage_operations}
-use Rattle.px_sched.specs.Passes.{passes_with}
+use Rattle.px_sched.specs.Passes.{operations}
+use Rattle.px_sched.specs.Steps.{passes_with}
 
 -- where there are operations, the place is one of theirs
 abbrev pub IsWithinStage : SceneView → LayoutView → Stage → (at : ℕ) → Type 0
@@ -21,7 +23,8 @@ pub record StandsIn (scene : SceneView) (l : LayoutView) (products : List Produc
   pub stage : IsStage scene products cursor.stage
   pub place : IsWithinStage scene l cursor.stage cursor.at
   pub left : drop cursor.given (passes_with scene l products)
-      ≡ drop cursor.at (stage_operations scene l cursor.stage) ++ behind_stage scene l products cursor.stage
+      ≡ drop cursor.at (stage_operations scene l cursor.stage)
+      ++ flat_map (operations scene l) (behind_stage scene products cursor.stage)
   pub within : cursor.given ≤ length (passes_with scene l products)
   pub few : length (passes_with scene l products) < 2 ^ 64
 

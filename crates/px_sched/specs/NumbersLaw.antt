@@ -5,7 +5,8 @@ use Rattle.px_model.specs.Scenes.{IsLawfulScene, SceneView, faces_of, IsLawfulSo
 use Rattle.px_model.specs.Cells.{Sight, picture}
 use Rattle.px_normal.specs.Forms.{sum_of_products}
 use Rattle.px_prune.specs.Kept.{kept_of}
-use Rattle.px_sched.specs.Numbers.{Numbers, KeyedPixel, after_passes, key, passes_on_numbers}
+use Rattle.px_sched.specs.Numbers.{Keys, KeyedPixel, after_steps, key}
+use Rattle.px_sched.specs.Passes.{steps_with}
 
 -- the best key is that of a depth and a face number, which have room in it
 pub record IsKeyOf (l : KeyedPixel) (sight : Sight) (best : ℕ) : Type 0 where
@@ -23,6 +24,6 @@ pub record IsPixelOf (scene : SceneView) (l : KeyedPixel) : Type 0 where
 
 abbrev pub NumbersShowThePicture : Type 0
 NumbersShowThePicture = (scene : SceneView) → IsLawfulScene scene → All IsLawfulSolid scene.solids →
-    (l : KeyedPixel) → IsPixelOf scene l → (p : Numbers) →
+    (l : KeyedPixel) → IsPixelOf scene l → (k : Keys) →
     IsKeyOf l (picture scene l.x l.y)
-    (after_passes l (passes_on_numbers scene l.number_bits (kept_of scene (sum_of_products scene.show))) p).keys.best
+    (after_steps scene l k (steps_with scene (kept_of scene (sum_of_products scene.show)))).best

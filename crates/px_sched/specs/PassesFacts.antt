@@ -4,7 +4,9 @@ use Rattle.px_macro.specs.Macros.{IsLawful}
 use Rattle.px_prune.specs.Kept.{plan_of}
 use Rattle.px_model.specs.Scenes.{IsLawfulScene, SceneView, IsLawfulSolid}
 use Rattle.px_sched.specs.Layouts.{IsLayout, layout_of, need_of}
-use Rattle.px_sched.specs.Passes.{passes}
+use Rattle.px_sched.specs.Passes.{operations, passes}
+use Rattle.px_sched.specs.Steps.{IsStep}
+use Rattle.px_sched.specs.declared.step.Step.{Step}
 use Rattle.px_normal.specs.declared.product.TheConstants.{MAX_PRODUCTS}
 
 abbrev pub LayoutsAreLawful : Type 0
@@ -14,6 +16,12 @@ LayoutsAreLawful = (scene : SceneView) → IsLawfulScene scene → IsLayout (lay
 abbrev pub PassesAreLawful : Type 0
 PassesAreLawful = (scene : SceneView) → IsLawfulScene scene → All IsLawfulSolid scene.solids →
     All (λ m. IsLawful m (need_of (layout_of scene))) (passes scene)
+
+-- and the operations of any step of the scene
+abbrev pub StepsAreLawful : Type 0
+StepsAreLawful = (scene : SceneView) → IsLawfulScene scene → All IsLawfulSolid scene.solids →
+    (step : Step) → IsStep scene step →
+    All (λ m. IsLawful m (need_of (layout_of scene))) (operations scene (layout_of scene) step)
 
 abbrev pub PassesAreFew : Type 0
 PassesAreFew = (scene : SceneView) → All IsLawfulSolid scene.solids →

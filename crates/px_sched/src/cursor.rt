@@ -17,7 +17,8 @@ ghost use Rattle.px_sched.specs.Cursors.{Stands, StandsIn};
 ghost use Rattle.px_sched.specs.Groups.{IsStage, stage_operations};
 ghost use Rattle.px_sched.specs.Onward.{HasKnownLiterals};
 ghost use Rattle.px_sched.specs.Layouts.{LayoutView, layout_of};
-ghost use Rattle.px_sched.specs.Passes.{passes, passes_with};
+ghost use Rattle.px_sched.specs.Passes.{passes};
+ghost use Rattle.px_sched.specs.Steps.{passes_with};
 
 use crate::group::Stage;
 use crate::layout::Layout;

@@ -1,8 +1,7 @@
 //! The groups of operations, in the order of the passes.
 ghost use Rattle.std.specs.Bool.{OnFalse, OnTrue};
-ghost use Rattle.std.specs.Prelude.{◌≡◌, ◌≢◌, ◌+◌, ◌*◌, ◌^◌, ◌<◌, ◌≤◌, All, IfSome, get_or, length};
+ghost use Rattle.std.specs.Prelude.{◌≡◌, ◌≢◌, ◌+◌, ◌<◌, ◌≤◌, All, IfSome, get_or, length};
 ghost use Rattle.px_macro.specs.declared.operation.Macro.TheVariants as m;
-ghost use Rattle.px_model.specs.Cells.{depths_of, end_of};
 ghost use Rattle.px_sched.specs.Groups.{
   IsGroup,
   IsStage,
@@ -28,7 +27,6 @@ use arrayvec::ArrayVec;
 use px_macro::Macro;
 use px_model::Scene;
 use px_normal::Product;
-use px_num::power;
 
 /// A step of the passes of one literal of a product, by their indices.
 #[derive(Clone, Copy, Debug, PartialEq, Eq)]
@@ -63,7 +61,7 @@ impl Stage {
         ensures few { result ≤ 102 }
     {
         match self {
-            Stage::Start => 2,
+            Stage::Start => Step::Start.count(scene),
             Stage::At(group) => group.step.count(scene),
             Stage::End => 0,
         }
@@ -83,7 +81,7 @@ impl Stage {
         ensures { result ≡ get_or (stage_operations scene.now layout.now self) at m.All }
     {
         match self {
-            Stage::Start => [Macro::All, background(scene, layout)][at],
+            Stage::Start => Step::Start.operation(scene, layout, at),
             Stage::At(group) => group.step.operation(scene, layout, at),
             Stage::End => Macro::All,
         }
@@ -93,8 +91,8 @@ impl Stage {
     pub(crate) fn next(self, scene: &Scene, products: &[Product]) -> Stage
         requires drawn { All (HasKnownLiterals scene.now) products.now }
         requires stage { IsStage scene.now products.now self }
-        ensures left { (l : LayoutView) → behind_stage scene.now l products.now self ≡
-            from_stage scene.now l products.now result }
+        ensures left { behind_stage scene.now products.now self ≡
+            from_stage scene.now products.now result }
         ensures stage { IsStage scene.now products.now result }
     {
         match self {
@@ -110,8 +108,8 @@ impl Group {
     fn next(self, scene: &Scene, products: &[Product]) -> Stage
         requires drawn { All (HasKnownLiterals scene.now) products.now }
         requires group { IsGroup scene.now products.now self }
-        ensures left { (l : LayoutView) → behind_stage scene.now l products.now (s.At self) ≡
-            from_stage scene.now l products.now result }
+        ensures left { behind_stage scene.now products.now (s.At self) ≡
+            from_stage scene.now products.now result }
         ensures stage { IsStage scene.now products.now result }
     {
         match self.next_step(scene, products) {
@@ -124,10 +122,9 @@ impl Group {
     fn next_step(self, scene: &Scene, products: &[Product]) -> Option<Step>
         requires drawn { All (HasKnownLiterals scene.now) products.now }
         requires group { IsGroup scene.now products.now self }
-        ensures left { (l : LayoutView) →
-            behind_step scene.now l (literal_of products.now self)
+        ensures left { behind_step scene.now (literal_of products.now self)
             (others_of products.now self) self.step ≡
-            from_step_if_any scene.now l (literal_of products.now self)
+            from_step_if_any scene.now (literal_of products.now self)
             (others_of products.now self) result }
         ensures group { IfSome result (λ step.
             IsGroup scene.now products.now (record self { step = step })) }
@@ -155,8 +152,8 @@ impl Group {
 fn literal_from(scene: &Scene, products: &[Product], product: usize, literal: usize) -> Stage
     requires drawn { All (HasKnownLiterals scene.now) products.now }
     requires product { product < length products.now }
-    ensures left { (l : LayoutView) → literals_from scene.now l products.now product literal ≡
-        from_stage scene.now l products.now result }
+    ensures left { literals_from scene.now products.now product literal ≡
+        from_stage scene.now products.now result }
     ensures stage { IsStage scene.now products.now result }
 {
     if literal < literals(&products[product]).len() {
@@ -173,8 +170,8 @@ fn literal_from(scene: &Scene, products: &[Product], product: usize, literal: us
 /// The products from one on.
 fn product_from(scene: &Scene, products: &[Product], product: usize) -> Stage
     requires drawn { All (HasKnownLiterals scene.now) products.now }
-    ensures left { (l : LayoutView) → products_from scene.now l products.now product ≡
-        from_stage scene.now l products.now result }
+    ensures left { products_from scene.now products.now product ≡
+        from_stage scene.now products.now result }
     ensures stage { IsStage scene.now products.now result }
 {
     if product < products.len() {
@@ -186,13 +183,4 @@ fn product_from(scene: &Scene, products: &[Product], product: usize) -> Stage
     } else {
         Stage::End
     }
-}
-
-/// The background becomes the best.
-fn background(scene: &Scene, layout: &Layout) -> Macro
-    ensures { result ≡
-        m.LoadConst layout.now.key_b (end_of (depths_of scene.now) * 2 ^ layout.now.number_bits) }
-{
-    let number = u64::from(scene.end()) * power(layout.number_bits) as u64;
-    Macro::LoadConst(layout.key_b, number)
 }

@@ -13,3 +13,4 @@ pub use cursor::Cursor;
 pub use layout::{Layout, NeedBits};
 pub use literal::Literal;
 pub use passes::laws_of_passes;
+pub use step::Step;

@@ -5,7 +5,7 @@ use px_face::{laws_of_covering, laws_of_surfaces};
 use px_normal::laws_of_normal_forms;
 use px_prune::laws_of_pruning;
 
-/// The passes, one after another on the numbers of a pixel, leave the key of what it shows.
+/// The steps, one after another on the numbers of a pixel, leave the key of what it shows.
 pub fn law_of_numbers()
     ensures { NumbersShowThePicture }
 {

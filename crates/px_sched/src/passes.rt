@@ -1,5 +1,5 @@
 //! What holds of the passes of every scene.
-ghost use Rattle.px_sched.specs.PassesFacts.{LayoutsAreLawful, PassesAreFew, PassesAreLawful};
+ghost use Rattle.px_sched.specs.PassesFacts.{LayoutsAreLawful, PassesAreFew, PassesAreLawful, StepsAreLawful};
 ghost use Rattle.px_sched.specs.PassesLaw.{PassesLaw};
 
 use crate::numbers::law_of_numbers;
@@ -13,6 +13,7 @@ use px_macro::{laws_of_fields, laws_of_operations};
 pub fn laws_of_passes()
     ensures layout { LayoutsAreLawful }
     ensures lawful { PassesAreLawful }
+    ensures steps { StepsAreLawful }
     ensures few { PassesAreFew }
     ensures picture { PassesLaw }
 {

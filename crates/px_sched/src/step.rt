@@ -1,13 +1,14 @@
 //! The steps of a literal's passes. Each is a few operations that begin with "all".
-ghost use Rattle.std.specs.Prelude.{◌≡◌, ◌+◌, ◌<◌, ◌≤◌, ◌++◌, ◌==◌, if◌then◌else◌, All, IfSome, get_or, length};
+ghost use Rattle.std.specs.Prelude.{◌≡◌, ◌+◌, ◌*◌, ◌^◌, ◌<◌, ◌≤◌, ◌++◌, ◌==◌, if◌then◌else◌, All, IfSome, get_or, length};
 ghost use Rattle.px_face.specs.Edges.{edge_count};
-ghost use Rattle.px_face.specs.Faces.{face_count};
+ghost use Rattle.px_face.specs.Faces.{face_count, face_plane};
 ghost use Rattle.px_macro.specs.declared.operation.Macro.TheVariants as m;
 ghost use Rattle.px_model.specs.Cells.{depths_of, end_of};
 ghost use Rattle.px_model.specs.Scenes.{SceneView};
+ghost use Rattle.px_num.specs.Forms.{IsInHalfRange, plus};
 ghost use Rattle.px_sched.specs.declared.literal.Literal.{Literal};
 ghost use Rattle.px_sched.specs.Layouts.{LayoutView};
-ghost use Rattle.px_sched.specs.Passes.{candidate, drop_behind, keep_covered, solid_of, turn};
+ghost use Rattle.px_sched.specs.Passes.{candidate, keep_covered, operations, solid_of, where_passed};
 ghost use Rattle.px_sched.specs.Steps.{
   IsFace,
   IsStep,
@@ -17,13 +18,9 @@ ghost use Rattle.px_sched.specs.Steps.{
   candidates_from,
   confirmed_from,
   drops_from,
-  face_turn,
-  front_turn,
   fronts_from,
   first_candidate,
   judged_from,
-  literal_at,
-  step_operations,
   turns_from,
 };
 ghost use Rattle.px_sched.specs.Onward.{AreKnown, from_step, from_step_if_any};
@@ -40,7 +37,9 @@ use px_num::{Linear, power};
 /// A solid stands by its index in the scene, and another literal by its place among the literals
 /// of the product that are of other solids.
 #[derive(Clone, Copy, Debug, PartialEq, Eq)]
-pub(crate) enum Step {
+pub enum Step {
+    /// The background becomes the best.
+    Start,
     /// No candidate is alive.
     Open,
     /// A face of the literal's solid becomes the candidate where it covers.
@@ -65,13 +64,13 @@ pub(crate) enum Step {
 
 impl Step {
     /// How many operations there are.
-    pub(crate) fn count(self, scene: &Scene) -> usize
+    pub fn count(self, scene: &Scene) -> usize
         requires { IsStep scene.now self }
-        ensures count { (l : LayoutView) → length (step_operations scene.now l self) ≡ result }
+        ensures count { (l : LayoutView) → length (operations scene.now l self) ≡ result }
         ensures few { result ≤ 102 }
     {
         match self {
-            Step::Open | Step::Clear | Step::Begin(_) => 2,
+            Step::Start | Step::Open | Step::Clear | Step::Begin(_) => 2,
             Step::Candidate(solid, _) => candidate_count(scene, solid_at(scene, solid)),
             Step::Drop(solid, _) => edge_count(solid_at(scene, solid)) + 4,
             Step::Front(solid, _) => edge_count(solid_at(scene, solid)) + 4,
@@ -82,33 +81,54 @@ impl Step {
     }
 
     /// One of the operations.
-    pub(crate) fn operation(self, scene: &Scene, layout: &Layout, at: usize) -> Macro
+    pub fn operation(self, scene: &Scene, layout: &Layout, at: usize) -> Macro
         requires step { IsStep scene.now self }
         requires bits { layout.now.fraction_bits ≡ scene.now.fraction_bits }
-        requires at { at < length (step_operations scene.now layout.now self) }
-        ensures { result ≡ get_or (step_operations scene.now layout.now self) at m.All }
+        requires at { at < length (operations scene.now layout.now self) }
+        ensures { result ≡ get_or (operations scene.now layout.now self) at m.All }
     {
         match self {
+            Step::Start => [Macro::All, background(scene, layout)][at],
             Step::Open => [Macro::All, Macro::SetBit(layout.alive, false)][at],
             Step::Candidate(solid, face) => {
                 candidate(scene, solid_at(scene, solid), face, layout, at)
             }
-            Step::Drop(solid, face) => drop_behind(scene, solid_at(scene, solid), face, layout, at),
+            Step::Drop(solid, face) => {
+                let plane = plane_at(scene, solid, face);
+                let set = Macro::SetBit(layout.alive, false);
+                where_passed(scene, solid, face, &plane, layout, set, at)
+            }
             Step::Clear => [Macro::All, Macro::SetBit(layout.par, false)][at],
-            Step::Front(solid, face) => front_turn(scene, solid_at(scene, solid), face, layout, at),
+            Step::Front(solid, face) => {
+                let form = cell_behind(scene, solid, face);
+                where_passed(
+                    scene,
+                    solid,
+                    face,
+                    &form,
+                    layout,
+                    Macro::Toggle(layout.par),
+                    at,
+                )
+            }
             Step::Confirm => [
                 Macro::All,
                 Macro::KeepBit(layout.par, false),
                 Macro::SetBit(layout.alive, false),
             ][at],
             Step::Begin(_) => [Macro::All, Macro::SetBit(layout.par, false)][at],
-            Step::Turn(_, solid, face) => face_turn(
-                scene,
-                solid_at(scene, solid),
-                face,
-                layout,
-                at,
-            ),
+            Step::Turn(_, solid, face) => {
+                let plane = plane_at(scene, solid, face);
+                where_passed(
+                    scene,
+                    solid,
+                    face,
+                    &plane,
+                    layout,
+                    Macro::Toggle(layout.par),
+                    at,
+                )
+            }
             Step::Close(_, plain) => [
                 Macro::All,
                 Macro::KeepBit(layout.par, !plain),
@@ -129,8 +149,8 @@ impl Step {
         requires faces { IsStep scene.now self }
         requires q { q.solid < length scene.now.solids }
         requires rs { AreKnown scene.now rs.now }
-        ensures left { (l : LayoutView) → behind_step scene.now l q rs.now self ≡
-            from_step_if_any scene.now l q rs.now result }
+        ensures left { behind_step scene.now q rs.now self ≡
+            from_step_if_any scene.now q rs.now result }
         ensures step { IfSome result (λ step. IsStepOf scene.now q rs.now step) }
         ensures faces { IfSome result (λ step. IsStep scene.now step) }
     {
@@ -144,7 +164,7 @@ impl Step {
             Step::Begin(other) => Some(turn_from(scene, rs, other, 0)),
             Step::Turn(other, _, face) => Some(turn_from(scene, rs, other, face + 1)),
             Step::Close(other, _) => Some(judge_from(rs, other + 1)),
-            Step::Merge => None,
+            Step::Start | Step::Merge => None,
         }
     }
 }
@@ -152,8 +172,8 @@ impl Step {
 /// The candidate faces from one on, and the other literals behind them.
 fn candidate_from(scene: &Scene, q: Literal, rs: &[Literal], face: usize) -> Step
     requires q { q.solid < length scene.now.solids }
-    ensures left { (l : LayoutView) → candidates_from scene.now l q rs.now face ≡
-        from_step scene.now l q rs.now result }
+    ensures left { candidates_from scene.now q rs.now face ≡
+        from_step scene.now q rs.now result }
     ensures step { IsStepOf scene.now q rs.now result }
     ensures faces { IsStep scene.now result }
 {
@@ -167,8 +187,8 @@ fn candidate_from(scene: &Scene, q: Literal, rs: &[Literal], face: usize) -> Ste
 /// The steps that confirm a candidate, where there is a fraction, and the other literals behind them.
 fn confirm_from(scene: &Scene, q: Literal, rs: &[Literal]) -> Step
     requires q { q.solid < length scene.now.solids }
-    ensures left { (l : LayoutView) → confirmed_from scene.now l q rs.now ≡
-        from_step scene.now l q rs.now result }
+    ensures left { confirmed_from scene.now q rs.now ≡
+        from_step scene.now q rs.now result }
     ensures step { IsStepOf scene.now q rs.now result }
     ensures faces { IsStep scene.now result }
 {
@@ -185,8 +205,8 @@ fn confirm_from(scene: &Scene, q: Literal, rs: &[Literal]) -> Step
 /// The backs that drop a plain solid's candidates, from one on, and the other literals behind them.
 fn drop_from(scene: &Scene, q: Literal, rs: &[Literal], face: usize) -> Step
     requires q { q.solid < length scene.now.solids }
-    ensures left { (l : LayoutView) → drops_from scene.now l q rs.now face ≡
-        from_step scene.now l q rs.now result }
+    ensures left { drops_from scene.now q rs.now face ≡
+        from_step scene.now q rs.now result }
     ensures step { IsStepOf scene.now q rs.now result }
     ensures faces { IsStep scene.now result }
 {
@@ -200,8 +220,8 @@ fn drop_from(scene: &Scene, q: Literal, rs: &[Literal], face: usize) -> Step
 /// The fronts that a barred solid's candidates stand behind, from one on, and what is behind them.
 fn front_from(scene: &Scene, q: Literal, rs: &[Literal], face: usize) -> Step
     requires q { q.solid < length scene.now.solids }
-    ensures left { (l : LayoutView) → fronts_from scene.now l q rs.now face ≡
-        from_step scene.now l q rs.now result }
+    ensures left { fronts_from scene.now q rs.now face ≡
+        from_step scene.now q rs.now result }
     ensures step { IsStepOf scene.now q rs.now result }
     ensures faces { IsStep scene.now result }
 {
@@ -239,8 +259,8 @@ fn candidates_end(scene: &Scene, q: Literal) -> usize
 
 /// The other literals from one on, and the merge behind them.
 fn judge_from(rs: &[Literal], other: usize) -> Step
-    ensures left { (scene : SceneView) (l : LayoutView) (q : Literal) →
-        judged_from scene l rs.now other ≡ from_step scene l q rs.now result }
+    ensures left { (scene : SceneView) (q : Literal) →
+        judged_from scene rs.now other ≡ from_step scene q rs.now result }
     ensures step { (scene : SceneView) (q : Literal) → IsStepOf scene q rs.now result }
     ensures faces { (scene : SceneView) → IsStep scene result }
 {
@@ -255,8 +275,8 @@ fn judge_from(rs: &[Literal], other: usize) -> Step
 fn turn_from(scene: &Scene, rs: &[Literal], other: usize, face: usize) -> Step
     requires other { other < length rs.now }
     requires rs { AreKnown scene.now rs.now }
-    ensures left { (l : LayoutView) (q : Literal) → turns_from scene.now l rs.now other face ≡
-        from_step scene.now l q rs.now result }
+    ensures left { (q : Literal) → turns_from scene.now rs.now other face ≡
+        from_step scene.now q rs.now result }
     ensures step { (q : Literal) → IsStepOf scene.now q rs.now result }
     ensures faces { IsStep scene.now result }
 {
@@ -316,56 +336,46 @@ fn candidate(scene: &Scene, solid: &Solid, face: usize, layout: &Layout, at: usi
     }
 }
 
-/// An operation of a step that drops candidates which are not before a back.
-fn drop_behind(scene: &Scene, solid: &Solid, face: usize, layout: &Layout, at: usize) -> Macro
-    requires face { face < face_count solid.now }
-    requires at { at < length (drop_behind layout.now (end_of (depths_of scene.now)) solid.now face) }
-    ensures { result ≡
-        get_or (drop_behind layout.now (end_of (depths_of scene.now)) solid.now face) at m.All }
+/// The plane of a face.
+fn plane_at(scene: &Scene, solid: u8, face: usize) -> Linear
+    requires solid { solid < length scene.now.solids }
+    requires face { face < face_count (solid_of scene.now solid) }
+    ensures plane { result ≡ face_plane (solid_of scene.now solid) (end_of (depths_of scene.now)) face }
+    ensures half { IsInHalfRange result }
 {
-    let end = scene.end();
-    let head = [Macro::All, Macro::KeepBit(layout.alive, true)];
-    let tail = [
-        Macro::KeepAtMost(plane_of(solid, end, face), layout.t_deep()),
-        Macro::SetBit(layout.alive, false),
-    ];
-    where_covered(solid, end, face, &head, &tail, at)
+    plane_of(solid_at(scene, solid), scene.end(), face)
 }
 
-/// An operation of a step in which a front turns the parity.
-fn front_turn(scene: &Scene, solid: &Solid, face: usize, layout: &Layout, at: usize) -> Macro
-    requires face { face < face_count solid.now }
-    requires at { at < length (front_turn scene.now layout.now solid.now face) }
-    ensures { result ≡ get_or (front_turn scene.now layout.now solid.now face) at m.All }
+/// Its plane a whole cell further.
+fn cell_behind(scene: &Scene, solid: u8, face: usize) -> Linear
+    requires solid { solid < length scene.now.solids }
+    requires face { face < face_count (solid_of scene.now solid) }
+    ensures { result ≡ plus (face_plane (solid_of scene.now solid) (end_of (depths_of scene.now)) face)
+        (2 ^ scene.now.fraction_bits) }
 {
-    let end = scene.end();
-    let form = plane_of(solid, end, face).plus(power(scene.fraction_bits()) as u32);
-    turn(solid, end, face, &form, layout, at)
+    plane_at(scene, solid, face).plus(power(scene.fraction_bits()) as u32)
 }
 
-/// An operation of a step in which a face turns the parity.
-fn face_turn(scene: &Scene, solid: &Solid, face: usize, layout: &Layout, at: usize) -> Macro
-    requires face { face < face_count solid.now }
-    requires at { at < length (face_turn scene.now layout.now solid.now face) }
-    ensures { result ≡ get_or (face_turn scene.now layout.now solid.now face) at m.All }
-{
-    let end = scene.end();
-    let form = plane_of(solid, end, face);
-    turn(solid, end, face, &form, layout, at)
-}
-
-/// An operation of a step that turns the parity where a form is not above the candidate.
-fn turn(solid: &Solid, end: u32, face: usize, form: &Linear, layout: &Layout, at: usize) -> Macro
-    requires face { face < face_count solid.now }
-    requires at { at < length (turn layout.now end solid.now face form.now) }
-    ensures { result ≡ get_or (turn layout.now end solid.now face form.now) at m.All }
+/// An operation of a step that does something where a face covers and a form is not above the candidate.
+fn where_passed(
+    scene: &Scene,
+    solid: u8,
+    face: usize,
+    form: &Linear,
+    layout: &Layout,
+    operation: Macro,
+    at: usize,
+) -> Macro
+    requires solid { solid < length scene.now.solids }
+    requires face { face < face_count (solid_of scene.now solid) }
+    requires at { at < length (where_passed layout.now (end_of (depths_of scene.now))
+        (solid_of scene.now solid) face form.now operation) }
+    ensures { result ≡ get_or (where_passed layout.now (end_of (depths_of scene.now))
+        (solid_of scene.now solid) face form.now operation) at m.All }
 {
     let head = [Macro::All, Macro::KeepBit(layout.alive, true)];
-    let tail = [
-        Macro::KeepAtMost(*form, layout.t_deep()),
-        Macro::Toggle(layout.par),
-    ];
-    where_covered(solid, end, face, &head, &tail, at)
+    let tail = [Macro::KeepAtMost(*form, layout.t_deep()), operation];
+    where_covered(solid_at(scene, solid), scene.end(), face, &head, &tail, at)
 }
 
 /// One of some operations: a head, those that keep the pixels that a face covers, and a tail.
@@ -390,4 +400,13 @@ fn where_covered(
     } else {
         tail[at - head.len() - edges]
     }
+}
+
+/// The key of the background.
+fn background(scene: &Scene, layout: &Layout) -> Macro
+    ensures { result ≡
+        m.LoadConst layout.now.key_b (end_of (depths_of scene.now) * 2 ^ layout.now.number_bits) }
+{
+    let number = u64::from(scene.end()) * power(layout.number_bits) as u64;
+    Macro::LoadConst(layout.key_b, number)
 }

@@ -1,21 +1,28 @@
-use Rattle.std.proofs.Common.{◌∙◌, length, ap, arith}
-use Rattle.px_model.specs.Cells.{end_of}
-use Rattle.px_control.proofs.CostLemmas.{barred_costs, not_none, plain_costs}
+use Rattle.std.proofs.Common.{◌∙◌, ap, arith, length}
+use Rattle.px_model.specs.Scenes.{SolidView}
+use Rattle.px_control.proofs.CostLemmas.{barred_confirm, not_none, plain_confirm}
 use Rattle.px_control.proofs.literal.confirm_cost.Goals as goal
 
-pub returns-then-plain-clause-cost : goal.returns-then-plain-clause-cost
-returns-then-plain-clause-cost c d same =
+pub returns-then-q-clause-cost : goal.returns-then-q-clause-cost
+returns-then-q-clause-cost c =
     c.times.ensures
-    ∙ rw c.if-plain.true
-    (plain_costs c.args.lengths.now d c.args.solid.now _ c.turn_cost.result
-    (rw same (not_none c.args.lengths.now.fraction c.if-lengths-eq0.false))
-    (omega (arith, ap length c.backs.ensures.value)) (c.turn_cost.ensures.drops (end_of d)))
+    ∙ rw c.step_cost.ensures.cost
+    (plain_confirm c.laws_of_edges.ensures.count c.args.scene.now c.args.q _
+    (not_none c.args.scene.now.fraction_bits (λ e. omega (arith, c.if-fraction_bits-eq0.false, c.fraction_bits.ensures.value, e)))
+    c.if-q.true
+    (omega (arith, ap length c.backs.ensures.value, ap (λ (s : SolidView). length s.backs) c.solid_at-solid.ensures)))
 
-pub returns-else-plain-clause-cost : goal.returns-else-plain-clause-cost
-returns-else-plain-clause-cost c d same =
-    c.plus.ensures
-    ∙ rw (c.times-else-plain.ensures, c.if-plain.false)
-    (barred_costs c.args.lengths.now d c.args.solid.now _ c.turn_cost-else-plain.result
-    (rw same (not_none c.args.lengths.now.fraction c.if-lengths-eq0.false))
-    (omega (arith, ap length c.fronts.ensures.value))
-    (λ face form there. c.turn_cost-else-plain.ensures.cost (end_of d) face form there))
+pub returns-else-q-clause-cost : goal.returns-else-q-clause-cost
+returns-else-q-clause-cost c =
+    c.plus-else-q.ensures
+    ∙ rw (
+      c.plus.ensures,
+      c.times-else-q.ensures,
+      c.step_cost-else-q.ensures.cost,
+      c.step_cost-else-q-2.ensures.cost,
+      c.step_cost-else-q-3.ensures.cost,
+    )
+    (barred_confirm c.laws_of_edges.ensures.count c.args.scene.now c.args.q _
+    (not_none c.args.scene.now.fraction_bits (λ e. omega (arith, c.if-fraction_bits-eq0.false, c.fraction_bits.ensures.value, e)))
+    c.if-q.false
+    (omega (arith, ap length c.fronts.ensures.value, ap (λ (s : SolidView). length s.fronts) c.solid_at-solid.ensures)))

@@ -9,7 +9,7 @@ products_cost-costs-requires-clause-few c =
 pub products_cost-costs-requires-clause-known : goal.products_cost-costs-requires-clause-known
 products_cost-costs-requires-clause-known c =
     rw (c.as_slice.ensures.value, c.requires.products)
-    (kept_known c.args.scene.now c.lengths_of-lengths.ensures.lawful (record {
+    (kept_known c.args.scene.now c.laws_of_scenes.ensures.scene (record {
       whole = c.laws_of_normal_forms.ensures.known;
       kept = c.laws_of_pruning.ensures.known;
       apart = c.laws_of_pruning.ensures.apart;
@@ -17,12 +17,12 @@ products_cost-costs-requires-clause-known c =
 
 pub returns-clause-clocks : goal.returns-clause-clocks
 returns-clause-clocks c =
-    (counted_passes c.args.scene.now c.lengths_of-lengths.result c.as_slice.result.now c.products_cost-costs.result
-    c.lengths_of-lengths.ensures.lengths (c.as_slice.ensures.value ∙ c.requires.products)
+    (counted_passes c.args.scene.now c.as_slice.result.now c.products_cost-costs.result
+    (c.as_slice.ensures.value ∙ c.requires.products)
     c.products_cost-costs.ensures).1
 
 pub returns-clause-macros : goal.returns-clause-macros
 returns-clause-macros c =
-    (counted_passes c.args.scene.now c.lengths_of-lengths.result c.as_slice.result.now c.products_cost-costs.result
-    c.lengths_of-lengths.ensures.lengths (c.as_slice.ensures.value ∙ c.requires.products)
+    (counted_passes c.args.scene.now c.as_slice.result.now c.products_cost-costs.result
+    (c.as_slice.ensures.value ∙ c.requires.products)
     c.products_cost-costs.ensures).0

@@ -3,7 +3,7 @@ use Rattle.px_control.proofs.total.law_of_clocks.Goals as goal
 
 pub returns-clause-bound : goal.returns-clause-bound
 returns-clause-bound c scene lawful each few =
-    few_clocks scene lawful each
+    few_clocks c.laws_of_edges.ensures.count scene lawful each
     (record {
       whole = c.laws_of_normal_forms.ensures.known;
       kept = c.laws_of_pruning.ensures.known;

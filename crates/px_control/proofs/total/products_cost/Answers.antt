@@ -2,7 +2,7 @@ use Rattle.std.proofs.Common.{◌+◌, ◌*◌, ◌^◌, ◌∙◌, [], take, ge
 use Rattle.std.proofs.lemmas.List.{take_more}
 use Rattle.px_normal.specs.declared.product.Product.{Product}
 use Rattle.px_control.proofs.CostLemmas.{at_most_more, plus_at_most}
-use Rattle.px_control.proofs.ProductLemmas.{passes_more}
+use Rattle.px_control.proofs.ProductLemmas.{steps_more}
 use Rattle.px_control.proofs.total.products_cost.Goals as goal
 
 abbrev no_product : Product
@@ -20,11 +20,11 @@ loop-product-preserved c =
             c.product_cost.ensures.cost,
             take_more products i no_product c.loop-product-test.true,
           )
-          (passes_more c.args.lengths.now c.args.scene.now (take i products) (get_or products i no_product));
+          (steps_more c.args.scene.now (take i products) (get_or products i no_product));
       few =
           rw c.plus-costs.ensures
-          (at_most_more (100 + i * 2 ^ 37 + 2 ^ 37) _ _ (omega arith)
-          (plus_at_most (100 + i * 2 ^ 37) (2 ^ 37) _ _ c.loop-product.invariant.few c.product_cost.ensures.few));
+          (at_most_more (8364 + i * 2 ^ 38 + 2 ^ 38) _ _ (omega arith)
+          (plus_at_most (8364 + i * 2 ^ 38) (2 ^ 38) _ _ c.loop-product.invariant.few c.product_cost.ensures.few));
     }
 
 pub product_cost-requires-clause-known : goal.product_cost-requires-clause-known

@@ -11,12 +11,12 @@ returns-then-fraction_bits-eq0-clause-faces c = c.judge_from.ensures.faces c.arg
 
 pub returns-then-q-clause-left : goal.returns-then-q-clause-left
 returns-then-q-clause-left c =
-    λ l. drops_begin c.args.scene.now l c.args.q c.args.rs.now
+    drops_begin c.args.scene.now c.args.q c.args.rs.now
     (λ e. omega (arith, c.if-fraction_bits-eq0.false, c.fraction_bits.ensures.value, e)) c.if-q.true
     (length c.fronts.result.now + 1)
     (omega (arith, ap length c.fronts.ensures.value, ap (λ (s : SolidView). length s.fronts) c.solid_at-solid.ensures))
 
 pub returns-else-q-clause-left : goal.returns-else-q-clause-left
 returns-else-q-clause-left c =
-    λ l. clear_begins c.args.scene.now l c.args.q c.args.rs.now
+    clear_begins c.args.scene.now c.args.q c.args.rs.now
     (λ e. omega (arith, c.if-fraction_bits-eq0.false, c.fraction_bits.ensures.value, e)) c.if-q.false

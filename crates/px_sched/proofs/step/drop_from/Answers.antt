@@ -5,7 +5,7 @@ use Rattle.px_sched.proofs.step.drop_from.Goals as goal
 
 pub returns-then-face-face_count-clause-left : goal.returns-then-face-face_count-clause-left
 returns-then-face-face_count-clause-left c =
-    λ l. back_more c.args.scene.now l c.args.q c.args.rs.now c.args.face
+    back_more c.args.scene.now c.args.q c.args.rs.now c.args.face
     (omega (arith, c.if-face-face_count.true, c.face_count.ensures.count, ap face_count c.solid_at.ensures))
 
 pub returns-else-face-face_count-clause-step : goal.returns-else-face-face_count-clause-step

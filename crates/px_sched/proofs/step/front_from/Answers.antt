@@ -5,7 +5,7 @@ use Rattle.px_sched.proofs.step.front_from.Goals as goal
 
 pub returns-then-face-fronts-clause-left : goal.returns-then-face-fronts-clause-left
 returns-then-face-fronts-clause-left c =
-    λ l. front_more c.args.scene.now l c.args.q c.args.rs.now c.args.face
+    front_more c.args.scene.now c.args.q c.args.rs.now c.args.face
     (omega (
       arith,
       c.if-face-fronts.true,

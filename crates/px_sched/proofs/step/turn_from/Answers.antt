@@ -5,5 +5,5 @@ use Rattle.px_sched.proofs.step.turn_from.Goals as goal
 
 pub returns-then-face-face_count-clause-left : goal.returns-then-face-face_count-clause-left
 returns-then-face-face_count-clause-left c =
-    λ l q. turn_more c.args.scene.now l q c.args.rs.now c.args.other c.args.face
+    λ q. turn_more c.args.scene.now q c.args.rs.now c.args.other c.args.face
     (omega (arith, c.if-face-face_count.true, c.face_count.ensures.count, ap face_count c.solid_at.ensures))

@@ -1,10 +1,4 @@
-use Rattle.std.proofs.Common.{◌≡◌, ◌∙◌, ap, arith}
-use Rattle.px_array.specs.Arrays.{Device}
-use Rattle.px_array.specs.Clocks.{all_clocked}
-use Rattle.px_array.proofs.ClockLaws.{nx-after_clocks, ny-after_clocks}
-use Rattle.px_asm.specs.Micros.{micros}
-use Rattle.px_asm.proofs.MakingLemmas.{count_of_them}
-use Rattle.px_control.specs.Program.{columns_of, rows_of}
+use Rattle.std.proofs.Common.{arith}
 use Rattle.px_control.proofs.PlaceLemmas.{here_of}
 use Rattle.px_control.proofs.WholeLemmas.{left_more, made_law, none_left, sized_more}
 use Rattle.px_control.proofs.program.Program.make_one.Goals as goal

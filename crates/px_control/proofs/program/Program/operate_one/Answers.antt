@@ -1,4 +1,4 @@
-use Rattle.std.proofs.Common.{◌≡◌, arith}
+use Rattle.std.proofs.Common.{arith}
 use Rattle.px_control.proofs.PlaceLemmas.{here_of}
 use Rattle.px_control.proofs.WholeLemmas.{cycles_here, near_more, none_left}
 use Rattle.px_control.proofs.program.Program.operate_one.Goals as goal

@@ -1,6 +1,6 @@
 use Rattle.std.proofs.Common.{List, ap, ◌∙◌, get_or}
 use Rattle.px_sched.specs.declared.literal.Literal.{Literal}
-use Rattle.px_sched.specs.Steps.{no_literal}
+use Rattle.px_sched.specs.Passes.{no_literal}
 use Rattle.px_sched.proofs.GroupLemmas.{others_are}
 use Rattle.px_sched.proofs.group.Group.literal_and_others.Goals as goal
 

@@ -1,7 +1,7 @@
--- Members of lists, and the least of them.
-use Rattle.std.proofs.Common.{◌≡◌, ◌≤◌, ℕ, suc, Bool, true, false, List, [], ◌∷◌, ◌++◌, map, min, refl, ap, sym}
+-- Members of lists, by their places too, and the least of them.
+use Rattle.std.proofs.Common.{◌≡◌, ◌≤◌, ◌+◌, ℕ, zero, suc, get_or, length, Bool, true, false, List, [], ◌∷◌, ◌++◌, map, min, refl, ap, sym}
 use Rattle.std.proofs.Common.{◌∙◌, subst, arith, inl, inr, ◌⊎◌, if◌then◌else◌, ◌==◌}
-use Rattle.std.specs.List.{All, filter, flat_map, fold, list_all, list_any}
+use Rattle.std.specs.List.{All, filter, flat_map, fold, list_all, list_any, range_with_len}
 use Rattle.std.proofs.lemmas.Bool.{cases_Bool}
 use Rattle.std.proofs.lemmas.Bool.Decides.{nat_tests}
 use Rattle.px_num.proofs.TruthLaws.{and_left, and_right, or_true}
@@ -109,6 +109,20 @@ pub in_where : {X : Type 0} (b : Bool) (x y : X) → In x (if b then y ∷ [] el
 in_where true x y (inl e) = (refl, e)
 in_where true x y (inr h) = absurd h
 in_where false x y h = absurd h
+
+-- the elements of a list, by their places
+shift : {X : Type 0} (f g : ℕ → X) → ((i : ℕ) → f (i + 1) ≡ g i) → (a n : ℕ)
+    → map f (range_with_len (a + 1) n) ≡ map g (range_with_len a n)
+shift f g same a zero = refl
+shift f g same a (suc n) = rw (same a, shift f g same (a + 1) n) refl
+
+pub by_places : {X : Type 0} (d : X) (xs : List X) → map (λ i. get_or xs i d) (range_with_len 0 (length xs)) ≡ xs
+by_places d [] = refl
+by_places d (x ∷ xs) =
+    ap (λ ys. x ∷ ys) (shift (λ i. get_or (x ∷ xs) i d) (λ i. get_or xs i d) next 0 (length xs) ∙ by_places d xs)
+  where
+    next : (i : ℕ) → get_or (x ∷ xs) (i + 1) d ≡ get_or xs i d
+    next i = let e : i + 1 ≡ suc i = omega arith in rw e refl
 
 -- faces by their numbers
 pub face_in : (n : ℕ) (ns : List ℕ) → has_face n ns ≡ true → In n ns

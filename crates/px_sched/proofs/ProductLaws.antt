@@ -3,7 +3,7 @@ use Rattle.std.proofs.Common.{◌≡◌, ◌<◌, ◌≤◌, ◌+◌, ℕ, zero,
 use Rattle.std.proofs.Common.{get_or, ap, sym, ◌∙◌, subst, arith, inl, inr, if◌then◌else◌}
 use Rattle.std.specs.List.{filter, list_all, list_any}
 use Rattle.std.specs.Option.{option_map_or}
-use Rattle.std.proofs.lemmas.Bool.{cases_Bool}
+use Rattle.std.proofs.lemmas.Bool.{cases_Bool, cases_eq}
 use Rattle.std.proofs.lemmas.List.Sums.{sum_by-cons}
 use Rattle.std.proofs.lemmas.Option.{slice_get-get_or}
 use Rattle.px_num.proofs.TruthLaws.{and_left, and_right, or_left, or_right}
@@ -18,10 +18,10 @@ use Rattle.px_normal.specs.NormalLaw.{holds, shows}
 use Rattle.px_normal.specs.Live.{is_void}
 use Rattle.px_sched.specs.declared.literal.Literal.{Literal}
 use Rattle.px_sched.specs.Numbers.{KeyedPixel}
-use Rattle.px_sched.specs.Passes.{literals, literals_of, no_solid, solid_of}
+use Rattle.px_sched.specs.Passes.{literal, literals, literals_of, no_solid, solid_of}
 use Rattle.px_sched.proofs.BlockLemmas.{suited}
-use Rattle.px_sched.proofs.MemberLemmas.{From, In, all_of, any_in, any_out, face_in, in_either, in_face, in_left}
-use Rattle.px_sched.proofs.MemberLemmas.{in_map, in_right, one_of, out_filter, out_map}
+use Rattle.px_sched.proofs.MemberLaws.{From, In, all_of, any_in, any_out, face_in, in_either, in_face, in_filter, in_left}
+use Rattle.px_sched.proofs.MemberLaws.{in_map, in_right, one_of, out_filter, out_map}
 
 in_below : (n q : ℕ) → In q (below n) → q < n
 in_below zero q h = absurd h
@@ -33,12 +33,20 @@ in_below (suc n) q h = elim (in_either q (below n) (n ∷ []) h) [
 in_filtered : (f : ℕ → Bool) (n q : ℕ) → In q (filter f (below n)) → (q < n) × (f q ≡ true)
 in_filtered f n q h = let r = out_filter f (below n) q h in (in_below n q r.0, r.1)
 
-in_solids : (set : SolidSet) (q : ℕ) → In q (solids set) → (q < 256) × (has set q ≡ true)
+pub in_solids : (set : SolidSet) (q : ℕ) → In q (solids set) → (q < 256) × (has set q ≡ true)
 unfolding solids
 in_solids set q h = in_filtered (has set) 256 q h
 
-abbrev pub literal : Bool → ℕ → Literal
-literal plain solid = record { solid = solid; plain = plain }
+below_in : (n q : ℕ) → q < n → In q (below n)
+below_in zero q low = absurd (omega arith)
+below_in (suc n) q low = elim (cases_eq q n) [
+  | inl e ↦ in_right q (below n) (n ∷ []) (inl (sym e))
+  | inr ne ↦ in_left q (below n) (n ∷ []) (below_in n q (omega arith))
+]
+
+pub in_solids_of : (set : SolidSet) (q : ℕ) → q < 256 → has set q ≡ true → In q (solids set)
+unfolding solids
+in_solids_of set q low is = in_filter (has set) (below 256) q (below_in 256 q low) is
 
 module _ (p : Product) where
   pub plain_literal : (q : ℕ) → In q (solids p.plain) → In (literal true q) (literals p)

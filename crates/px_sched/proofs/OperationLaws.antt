@@ -1,0 +1,206 @@
+-- What holds of all operations of the passes, by the cases of a step; the face of each step is there.
+use Rattle.std.proofs.Common.{◌≡◌, ℕ, ◌+◌, ◌-◌, ◌*◌, ◌^◌, ◌==◌, ◌<◌, ◌≤◌, All, Bool, true, false, not, List, [], ◌∷◌, ◌++◌}
+use Rattle.std.proofs.Common.{length, map, inl, inr, arith, if◌then◌else◌}
+use Rattle.std.specs.List.{flat_map, range_with_len}
+use Rattle.std.proofs.lemmas.Bool.{cases_Bool}
+use Rattle.std.proofs.lemmas.List.Elements.{All-append, All-cons, All-map, All-nil}
+use Rattle.px_num.specs.Forms.{plus}
+use Rattle.px_num.specs.declared.linear.Linear.{Linear}
+use Rattle.px_num.proofs.RangeLaws.{range_all}
+use Rattle.px_face.specs.Edges.{edges}
+use Rattle.px_face.specs.Faces.{face_count, face_number, face_plane}
+use Rattle.px_macro.specs.declared.operation.Macro.{Macro}
+use Rattle.px_macro.specs.declared.operation.Macro.TheVariants as m
+use Rattle.px_normal.specs.declared.product.Product.{Product}
+use Rattle.px_model.specs.Cells.{Depths, depths_of, end_of}
+use Rattle.px_model.specs.Scenes.{SceneView, SolidView}
+use Rattle.px_sched.specs.declared.literal.Literal.{Literal}
+use Rattle.px_sched.specs.declared.step.Step.{Step}
+use Rattle.px_sched.specs.declared.step.Step.TheVariants.{Start, Open, Candidate, Drop, Clear, Front, Confirm}
+use Rattle.px_sched.specs.declared.step.Step.TheVariants.{Begin, Turn, Close, Merge}
+use Rattle.px_sched.specs.Layouts.{LayoutView, deep_part, fraction_part, number_part}
+use Rattle.px_sched.specs.Passes.{candidate_faces, confirm, judge, keep_covered, literal_at, literal_steps, literals}
+use Rattle.px_sched.specs.Passes.{operations, others, product_steps, solid_of, steps_with, where_fraction, where_passed}
+use Rattle.px_sched.specs.Steps.{HasFace, IsStep, IsThere, passes_with}
+use Rattle.px_sched.proofs.LawfulLaws.{all_flat}
+
+pub anything : {X : Type 0} (xs : List X) → All (λ _. Unit {0}) xs
+anything xs k d low = tt
+
+fraction_all : {X : Type 0} (P : X → Type 0) (d : Depths) (xs : List X) → ((d.fraction_bits == 0) ≡ false → All P xs)
+    → All P (where_fraction d xs)
+fraction_all P d xs holds = elim (cases_Bool (d.fraction_bits == 0)) [
+  | inl none ↦ rw none (All-nil P)
+  | inr some ↦ rw some (holds some)
+]
+
+-- each step has a face of its solid, if any
+module _ (scene : SceneView) where
+  abbrev There : Step → Type 0
+  There step = HasFace (IsThere scene) step
+
+  in_faces : (s : SolidView) (first count : ℕ) → first + count ≤ face_count s
+      → All (λ face. face < face_count s) (range_with_len first count)
+  in_faces s first count low = range_all (λ face. face < face_count s) first count (λ i from to. omega (arith, low))
+
+  candidates_there : (solid : ℕ) (plain : Bool)
+      → All There (map (Candidate solid) (candidate_faces (solid_of scene solid) plain))
+  candidates_there solid true =
+      let s = solid_of scene solid in
+      let n = length s.fronts + 1 in
+      All-map There (Candidate solid) (range_with_len 0 n) (in_faces s 0 n (omega arith))
+  candidates_there solid false =
+      let s = solid_of scene solid in
+      let n = length s.fronts + 1 in
+      All-map There (Candidate solid) (range_with_len n (length s.backs)) (in_faces s n (length s.backs) (omega arith))
+
+  confirm_there : (q : Literal) → All There (confirm scene q)
+  confirm_there q = by_kind q.plain where
+    s : SolidView
+    s = solid_of scene q.solid
+
+    by_kind : (plain : Bool) → All There (if plain
+        then map (Drop q.solid) (range_with_len (length s.fronts + 1) (length s.backs + 1))
+        else (Clear ∷ map (Front q.solid) (range_with_len 0 (length s.fronts + 1)) ++ Confirm ∷ []))
+    by_kind true =
+        let n = length s.fronts + 1 in
+        All-map There (Drop q.solid) (range_with_len n (length s.backs + 1))
+        (in_faces s n (length s.backs + 1) (omega arith))
+    by_kind false =
+        let n = length s.fronts + 1 in
+        let turns = map (Front q.solid) (range_with_len 0 n) in
+        All-cons There Clear (turns ++ Confirm ∷ []) tt (All-append There turns (Confirm ∷ [])
+        (All-map There (Front q.solid) (range_with_len 0 n) (in_faces s 0 n (omega arith)))
+        (All-cons There Confirm [] tt (All-nil There)))
+
+  judge_there : (rs : List Literal) (other : ℕ) → All There (judge scene rs other)
+  judge_there rs other =
+      let r = literal_at rs other in
+      let n = face_count (solid_of scene r.solid) in
+      let turns = map (Turn other r.solid) (range_with_len 0 n) in
+      let close = Close other r.plain in
+      All-cons There (Begin other) (turns ++ close ∷ []) tt (All-append There turns (close ∷ [])
+      (All-map There (Turn other r.solid) (range_with_len 0 n) (in_faces (solid_of scene r.solid) 0 n (omega arith)))
+      (All-cons There close [] tt (All-nil There)))
+
+  literal_there : (q : Literal) (rs : List Literal) → All There (literal_steps scene q rs)
+  literal_there q rs =
+      let found = map (Candidate q.solid) (candidate_faces (solid_of scene q.solid) q.plain) in
+      let sure = where_fraction (depths_of scene) (confirm scene q) in
+      let places = range_with_len 0 (length rs) in
+      let tests = flat_map (judge scene rs) places in
+      All-cons There Open (found ++ (sure ++ (tests ++ Merge ∷ []))) tt
+      (All-append There found (sure ++ (tests ++ Merge ∷ [])) (candidates_there q.solid q.plain)
+      (All-append There sure (tests ++ Merge ∷ [])
+      (fraction_all There (depths_of scene) (confirm scene q) (λ some. confirm_there q))
+      (All-append There tests (Merge ∷ [])
+      (all_flat There (λ _. Unit {0}) (judge scene rs) (λ other _. judge_there rs other) places (anything places))
+      (All-cons There Merge [] tt (All-nil There)))))
+
+  pub steps_there : (products : List Product) → All There (steps_with scene products)
+  steps_there products =
+      All-cons There Start (flat_map (product_steps scene) products) tt
+      (all_flat There (λ _. Unit {0}) (product_steps scene)
+      (λ product _. all_flat There (λ _. Unit {0}) (λ q. literal_steps scene q (others q product))
+      (λ q _. literal_there q (others q product)) (literals product) (anything (literals product)))
+      products (anything products))
+
+pub is_there : (scene : SceneView) (step : Step) → IsStep scene step → HasFace (IsThere scene) step
+is_there scene Start is = tt
+is_there scene Open is = tt
+is_there scene (Candidate solid face) is = is.there
+is_there scene (Drop solid face) is = is.there
+is_there scene Clear is = tt
+is_there scene (Front solid face) is = is.there
+is_there scene Confirm is = tt
+is_there scene (Begin other) is = tt
+is_there scene (Turn other solid face) is = is.there
+is_there scene (Close other plain) is = tt
+is_there scene Merge is = tt
+
+-- what holds of the operations that steps have
+pub record HoldsOf (scene : SceneView) (l : LayoutView) (P : Macro → Type 0) : Type 0 where
+  pub all : P m.All
+  pub best : P (m.LoadConst l.key_b (end_of (depths_of scene) * 2 ^ l.number_bits))
+  pub alive : (v : Bool) → P (m.SetBit l.alive v)
+  pub par : P (m.SetBit l.par false)
+  pub turned : P (m.Toggle l.par)
+  pub where_alive : P (m.KeepBit l.alive true)
+  pub where_par : (v : Bool) → P (m.KeepBit l.par v)
+  pub less : P (m.KeepLess l.key_t l.key_b)
+  pub copy : P (m.Copy l.key_t l.key_b)
+  pub cleared : (scene.fraction_bits == 0) ≡ false → P (m.LoadConst (fraction_part l l.key_t) 0)
+  pub number : (solid face : ℕ) → P (m.LoadConst (number_part l l.key_t) (face_number (solid_of scene solid) face))
+  pub signs : (solid face : ℕ) → IsThere scene solid face
+      → All (λ form. P (m.KeepSign form)) (edges (solid_of scene solid) (end_of (depths_of scene)) face)
+  pub load : (solid face : ℕ) → IsThere scene solid face
+      → P (m.LoadLinear (plus (face_plane (solid_of scene solid) (end_of (depths_of scene)) face)
+      (2 ^ scene.fraction_bits - 1)) (deep_part l l.key_t))
+  pub at_most : (solid face : ℕ) → IsThere scene solid face
+      → P (m.KeepAtMost (face_plane (solid_of scene solid) (end_of (depths_of scene)) face) (deep_part l l.key_t))
+  pub behind : (solid face : ℕ) → IsThere scene solid face
+      → P (m.KeepAtMost (plus (face_plane (solid_of scene solid) (end_of (depths_of scene)) face)
+      (2 ^ scene.fraction_bits)) (deep_part l l.key_t))
+
+module _ (scene : SceneView) (l : LayoutView) (P : Macro → Type 0) (h : HoldsOf scene l P) where
+  abbrev end : ℕ
+  end = end_of (depths_of scene)
+
+  nil : All P []
+  nil = All-nil P
+
+  cons : (m : Macro) (ms : List Macro) → P m → All P ms → All P (m ∷ ms)
+  cons m ms holds rest = All-cons P m ms holds rest
+
+  two : (first second : Macro) → P first → P second → All P (first ∷ second ∷ [])
+  two first second a b = cons first (second ∷ []) a (cons second [] b nil)
+
+  three : (first second third : Macro) → P first → P second → P third → All P (first ∷ second ∷ third ∷ [])
+  three first second third a b c = cons first (second ∷ third ∷ []) a (two second third b c)
+
+  covered : (solid face : ℕ) → IsThere scene solid face → All P (keep_covered end (solid_of scene solid) face)
+  covered solid face there = All-map P m.KeepSign (edges (solid_of scene solid) end face) (h.signs solid face there)
+
+  passed : (solid face : ℕ) (form : Linear) (operation : Macro) → IsThere scene solid face
+      → P (m.KeepAtMost form (deep_part l l.key_t)) → P operation
+      → All P (where_passed l end (solid_of scene solid) face form operation)
+  passed solid face form operation there test done =
+      let signs = keep_covered end (solid_of scene solid) face in
+      let tail : List Macro = m.KeepAtMost form (deep_part l l.key_t) ∷ operation ∷ [] in
+      cons m.All (m.KeepBit l.alive true ∷ (signs ++ tail)) h.all
+      (cons (m.KeepBit l.alive true) (signs ++ tail) h.where_alive
+      (All-append P signs tail (covered solid face there)
+      (two (m.KeepAtMost form (deep_part l l.key_t)) operation test done)))
+
+  pub each_operation : (step : Step) → HasFace (IsThere scene) step → All P (operations scene l step)
+  each_operation Start there = two m.All _ h.all h.best
+  each_operation Open there = two m.All _ h.all (h.alive false)
+  each_operation (Candidate solid face) there =
+      let s = solid_of scene solid in
+      let load = m.LoadLinear (plus (face_plane s end face) (2 ^ scene.fraction_bits - 1)) (deep_part l l.key_t) in
+      let zero = m.LoadConst (fraction_part l l.key_t) 0 in
+      let clear = where_fraction (depths_of scene) (zero ∷ []) in
+      let last : List Macro = m.LoadConst (number_part l l.key_t) (face_number s face) ∷ m.SetBit l.alive true ∷ [] in
+      cons m.All (keep_covered end s face ++ (load ∷ clear ++ last)) h.all
+      (All-append P (keep_covered end s face) (load ∷ clear ++ last) (covered solid face there)
+      (All-append P (load ∷ clear) last
+      (cons load clear (h.load solid face there)
+      (fraction_all P (depths_of scene) (zero ∷ []) (λ some. cons zero [] (h.cleared some) nil)))
+      (two _ _ (h.number solid face) (h.alive true))))
+  each_operation (Drop solid face) there = passed solid face _ _ there (h.at_most solid face there) (h.alive false)
+  each_operation Clear there = two m.All _ h.all h.par
+  each_operation (Front solid face) there = passed solid face _ _ there (h.behind solid face there) h.turned
+  each_operation Confirm there = three m.All _ _ h.all (h.where_par false) (h.alive false)
+  each_operation (Begin other) there = two m.All _ h.all h.par
+  each_operation (Turn other solid face) there = passed solid face _ _ there (h.at_most solid face there) h.turned
+  each_operation (Close other plain) there = three m.All _ _ h.all (h.where_par (not plain)) (h.alive false)
+  each_operation Merge there =
+      let less = m.KeepLess l.key_t l.key_b in
+      let copy = m.Copy l.key_t l.key_b in
+      cons m.All (m.KeepBit l.alive true ∷ less ∷ copy ∷ []) h.all
+      (three (m.KeepBit l.alive true) less copy h.where_alive h.less h.copy)
+
+  pub each_pass : (products : List Product) → All P (passes_with scene l products)
+  each_pass products =
+      all_flat P (HasFace (IsThere scene)) (operations scene l) each_operation (steps_with scene products)
+      (steps_there scene products)

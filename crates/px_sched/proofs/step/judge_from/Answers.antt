@@ -1,0 +1,7 @@
+use Rattle.std.proofs.Common.{arith}
+use Rattle.px_sched.proofs.StepLemmas.{begins}
+use Rattle.px_sched.proofs.step.judge_from.Goals as goal
+
+pub returns-then-other-rs-clause-left : goal.returns-then-other-rs-clause-left
+returns-then-other-rs-clause-left c =
+    λ scene q. begins scene q c.args.rs.now c.args.other (omega (arith, c.if-other-rs.true))
