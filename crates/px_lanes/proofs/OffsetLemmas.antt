@@ -22,9 +22,9 @@ offset_zero form ny =
     nothing a b = omega (arith, ints)
 
 -- adding r and K, of which K alone or their columns are whole
-record Splits (p r k : ℕ) : Type 0 where
-  column : (r + k) / p ≡ r / p + k / p
-  row : (r + k) % p ≡ r % p + k % p
+pub record Splits (p r k : ℕ) : Type 0 where
+  pub column : (r + k) / p ≡ r / p + k / p
+  pub row : (r + k) % p ≡ r % p + k % p
 
 splits_below : (p r k : ℕ) → r < k → k + k ≤ p → Splits p r k
 splits_below p r k small fits =
@@ -36,7 +36,7 @@ splits_below p r k small fits =
     let f : k % p ≡ k = mod-eq_of_lt (omega arith) in
     record { column = omega arith; row = omega arith }
 
-splits_above : (p r q : ℕ) → 0 < p → Splits p r (p * q)
+pub splits_above : (p r q : ℕ) → 0 < p → Splits p r (p * q)
 splits_above p r q some =
     let a : (r + p * q) / p ≡ r / p + q = add-mul-div_left r q some in
     let b : (r + p * q) % p ≡ r % p = add-mul-mod_self_left r p q in
@@ -99,7 +99,7 @@ offset_step form ny j k =
 
 -- ---- the first pixel of a word
 
-sum_of_values : (a b k : ℤ) (c d e f x y : ℕ) → x ≡ c + e → y ≡ d + f
+pub sum_of_values : (a b k : ℤ) (c d e f x y : ℕ) → x ≡ c + e → y ≡ d + f
     → ((a *ℤ pos x) +ℤ (b *ℤ pos y)) +ℤ k ≡ ((a *ℤ pos c) +ℤ (b *ℤ pos d)) +ℤ (((a *ℤ pos e) +ℤ (b *ℤ pos f)) +ℤ k)
 sum_of_values a b k c d e f x y columns rows = rw (columns, rows) (omega (arith, ints))
 
@@ -160,3 +160,11 @@ value_in_word form ny w j small =
     sum_of_values form.a form.b form.c (j / 2 ^ ny) (j % 2 ^ ny) (64 * w / 2 ^ ny) (64 * w % 2 ^ ny)
     ((64 * w + j) / 2 ^ ny) ((64 * w + j) % 2 ^ ny) (ap (λ n. n / 2 ^ ny) turn ∙ s.column)
     (ap (λ n. n % 2 ^ ny) turn ∙ s.row)
+
+-- a form without its constant has the offset of a pixel as its value
+pub value_of_steps : (form : Linear) (a b : ℤ) (ny p : ℕ) → a ≡ form.a → b ≡ form.b
+    → value_at (record { a = a; b = b; c = pos 0 }) (p / 2 ^ ny) (p % 2 ^ ny) ≡ offset form ny p
+value_of_steps form a b ny p first second = rw (first, second) (nothing_more (offset form ny p))
+  where
+    nothing_more : (z : ℤ) → z +ℤ pos 0 ≡ z
+    nothing_more z = omega (arith, ints)

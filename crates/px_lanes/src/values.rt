@@ -88,6 +88,7 @@ pub fn base_of(form: &Linear, ny: u32, w: usize) -> i64
     requires word { 64 * w < 2 ^ (9 + ny) }
     ensures value { (j : ℕ) → j < 64 → value_at form.now ((64 * w + j) / 2 ^ ny) ((64 * w + j) % 2 ^ ny)
         ≡ offset form.now ny j +ℤ result }
+    ensures first { result ≡ value_at form.now (64 * w / 2 ^ ny) (64 * w % 2 ^ ny) }
     ensures size { IsWithin (2 ^ 39) result }
 {
     let place = 64 * w as u32;

@@ -18,14 +18,17 @@ use Rattle.px_text.specs.Text.{Words, worded}
 use Rattle.px_scene.specs.Lines.{numbers_of, plane_of, size_of}
 use Rattle.px_listing.specs.AcceptedLaw.{AcceptedIsLawful, MemoryIsNoRefusal}
 use Rattle.px_listing.specs.Keywords.{keyword_of}
-use Rattle.px_listing.specs.Limits.{end_past, field_past, fields_past, form_past, limit_of, overlap, past, size_past}
+use Rattle.px_listing.specs.Kinds.{shape_of}
+use Rattle.px_listing.specs.Limits.{end_past, field_past, fields_past, form_past, limit_of, overlap, past, shape_past, size_past}
 use Rattle.px_listing.specs.Limits.{value_past}
 use Rattle.px_listing.specs.Lines.{cause_of}
-use Rattle.px_listing.specs.Operations.{field_of, operation_of}
+use Rattle.px_listing.specs.Operations.{field_of, operation_of, operation_with}
 use Rattle.px_listing.specs.Reading.{at_line, due_behind, fault_of, first_bad, line_judged, operation_in, refused}
 use Rattle.px_listing.specs.declared.keyword.Due.{Due}
 use Rattle.px_listing.specs.declared.keyword.Keyword.{Keyword}
 use Rattle.px_listing.specs.declared.keyword.Keyword.TheVariants as k
+use Rattle.px_listing.specs.declared.kind.Kind.{Kind}
+use Rattle.px_listing.specs.declared.kind.Kind.TheVariants as n
 use Rattle.px_listing.specs.declared.limit.LineFault.{LineFault}
 use Rattle.px_listing.specs.declared.limit.LineFault.TheVariants as f
 use Rattle.px_listing.specs.declared.read.ListFault.TheVariants as fault
@@ -110,71 +113,76 @@ copies bits at len to e =
     (none_second (fields_past bits at len to) _ e) in
     (of_one_length bits at len to fields, apart)
 
+-- the operation that numbers write which pass no limit
+kind_lawful : (bits : ℕ) (kind : Kind) (zs : List ℤ) → shape_past bits (shape_of kind) zs ≡ None
+    → IfSome (operation_with kind zs) (λ op. IsLawful op bits)
+kind_lawful bits n.All [] none = tt
+kind_lawful bits n.All (z ∷ zs) none = tt
+kind_lawful bits n.KeepSign [] none = tt
+kind_lawful bits n.KeepSign (a ∷ []) none = tt
+kind_lawful bits n.KeepSign (a ∷ b ∷ []) none = tt
+kind_lawful bits n.KeepSign (a ∷ b ∷ c ∷ []) none = form_in_range a b c none
+kind_lawful bits n.KeepSign (a ∷ b ∷ c ∷ z ∷ zs) none = tt
+kind_lawful bits n.KeepBit [] none = tt
+kind_lawful bits n.KeepBit (at ∷ []) none = tt
+kind_lawful bits n.KeepBit (at ∷ v ∷ []) none = place_is bits at (none_first _ (past kind.Value (pos 0) (pos 1) v) none)
+kind_lawful bits n.KeepBit (at ∷ v ∷ z ∷ zs) none = tt
+kind_lawful bits n.LoadLinear [] none = tt
+kind_lawful bits n.LoadLinear (a ∷ []) none = tt
+kind_lawful bits n.LoadLinear (a ∷ b ∷ []) none = tt
+kind_lawful bits n.LoadLinear (a ∷ b ∷ c ∷ []) none = tt
+kind_lawful bits n.LoadLinear (a ∷ b ∷ c ∷ at ∷ []) none = tt
+kind_lawful bits n.LoadLinear (a ∷ b ∷ c ∷ at ∷ len ∷ []) none =
+    (form_in_range a b c (none_first _ (field_past bits at len) none), field_is bits at len
+    (none_second (form_past a b c) _ none))
+kind_lawful bits n.LoadLinear (a ∷ b ∷ c ∷ at ∷ len ∷ z ∷ zs) none = tt
+kind_lawful bits n.KeepAtMost [] none = tt
+kind_lawful bits n.KeepAtMost (a ∷ []) none = tt
+kind_lawful bits n.KeepAtMost (a ∷ b ∷ []) none = tt
+kind_lawful bits n.KeepAtMost (a ∷ b ∷ c ∷ []) none = tt
+kind_lawful bits n.KeepAtMost (a ∷ b ∷ c ∷ at ∷ []) none = tt
+kind_lawful bits n.KeepAtMost (a ∷ b ∷ c ∷ at ∷ len ∷ []) none =
+    (form_in_range a b c (none_first _ (field_past bits at len) none), field_is bits at len
+    (none_second (form_past a b c) _ none))
+kind_lawful bits n.KeepAtMost (a ∷ b ∷ c ∷ at ∷ len ∷ z ∷ zs) none = tt
+kind_lawful bits n.AddLinear [] none = tt
+kind_lawful bits n.AddLinear (a ∷ []) none = tt
+kind_lawful bits n.AddLinear (a ∷ b ∷ []) none = tt
+kind_lawful bits n.AddLinear (a ∷ b ∷ c ∷ []) none = tt
+kind_lawful bits n.AddLinear (a ∷ b ∷ c ∷ at ∷ []) none = tt
+kind_lawful bits n.AddLinear (a ∷ b ∷ c ∷ at ∷ len ∷ []) none =
+    (form_in_range a b c (none_first _ (field_past bits at len) none), field_is bits at len
+    (none_second (form_past a b c) _ none))
+kind_lawful bits n.AddLinear (a ∷ b ∷ c ∷ at ∷ len ∷ z ∷ zs) none = tt
+kind_lawful bits n.LoadConst [] none = tt
+kind_lawful bits n.LoadConst (at ∷ []) none = tt
+kind_lawful bits n.LoadConst (at ∷ len ∷ []) none = tt
+kind_lawful bits n.LoadConst (at ∷ len ∷ number ∷ []) none =
+    (field_is bits at len (none_first _ (value_past len number) none), number_fits len number
+    (none_second (field_past bits at len) _ none))
+kind_lawful bits n.LoadConst (at ∷ len ∷ number ∷ z ∷ zs) none = tt
+kind_lawful bits n.SetBit [] none = tt
+kind_lawful bits n.SetBit (at ∷ []) none = tt
+kind_lawful bits n.SetBit (at ∷ v ∷ []) none = place_is bits at (none_first _ (past kind.Value (pos 0) (pos 1) v) none)
+kind_lawful bits n.SetBit (at ∷ v ∷ z ∷ zs) none = tt
+kind_lawful bits n.Toggle [] none = tt
+kind_lawful bits n.Toggle (at ∷ []) none = place_is bits at none
+kind_lawful bits n.Toggle (at ∷ z ∷ zs) none = tt
+kind_lawful bits n.Copy [] none = tt
+kind_lawful bits n.Copy (at ∷ []) none = tt
+kind_lawful bits n.Copy (at ∷ len ∷ []) none = tt
+kind_lawful bits n.Copy (at ∷ len ∷ to ∷ []) none = copies bits at len to none
+kind_lawful bits n.Copy (at ∷ len ∷ to ∷ z ∷ zs) none = tt
+kind_lawful bits n.KeepLess [] none = tt
+kind_lawful bits n.KeepLess (at ∷ []) none = tt
+kind_lawful bits n.KeepLess (at ∷ len ∷ []) none = tt
+kind_lawful bits n.KeepLess (at ∷ len ∷ to ∷ []) none = of_one_length bits at len to none
+kind_lawful bits n.KeepLess (at ∷ len ∷ to ∷ z ∷ zs) none = tt
+
 -- the operation of a line that passes no limit
 op_lawful : (bits : ℕ) (keyword : Keyword) (zs : List ℤ) → limit_of bits keyword zs ≡ None
     → IfSome (operation_of keyword zs) (λ op. IsLawful op bits)
-op_lawful bits k.All [] none = tt
-op_lawful bits k.All (z ∷ zs) none = tt
-op_lawful bits k.KeepSign [] none = tt
-op_lawful bits k.KeepSign (a ∷ []) none = tt
-op_lawful bits k.KeepSign (a ∷ b ∷ []) none = tt
-op_lawful bits k.KeepSign (a ∷ b ∷ c ∷ []) none = form_in_range a b c none
-op_lawful bits k.KeepSign (a ∷ b ∷ c ∷ z ∷ zs) none = tt
-op_lawful bits k.KeepBit [] none = tt
-op_lawful bits k.KeepBit (at ∷ []) none = tt
-op_lawful bits k.KeepBit (at ∷ v ∷ []) none = place_is bits at (none_first _ (past kind.Value (pos 0) (pos 1) v) none)
-op_lawful bits k.KeepBit (at ∷ v ∷ z ∷ zs) none = tt
-op_lawful bits k.LoadLinear [] none = tt
-op_lawful bits k.LoadLinear (a ∷ []) none = tt
-op_lawful bits k.LoadLinear (a ∷ b ∷ []) none = tt
-op_lawful bits k.LoadLinear (a ∷ b ∷ c ∷ []) none = tt
-op_lawful bits k.LoadLinear (a ∷ b ∷ c ∷ at ∷ []) none = tt
-op_lawful bits k.LoadLinear (a ∷ b ∷ c ∷ at ∷ len ∷ []) none =
-    (form_in_range a b c (none_first _ (field_past bits at len) none), field_is bits at len
-    (none_second (form_past a b c) _ none))
-op_lawful bits k.LoadLinear (a ∷ b ∷ c ∷ at ∷ len ∷ z ∷ zs) none = tt
-op_lawful bits k.KeepAtMost [] none = tt
-op_lawful bits k.KeepAtMost (a ∷ []) none = tt
-op_lawful bits k.KeepAtMost (a ∷ b ∷ []) none = tt
-op_lawful bits k.KeepAtMost (a ∷ b ∷ c ∷ []) none = tt
-op_lawful bits k.KeepAtMost (a ∷ b ∷ c ∷ at ∷ []) none = tt
-op_lawful bits k.KeepAtMost (a ∷ b ∷ c ∷ at ∷ len ∷ []) none =
-    (form_in_range a b c (none_first _ (field_past bits at len) none), field_is bits at len
-    (none_second (form_past a b c) _ none))
-op_lawful bits k.KeepAtMost (a ∷ b ∷ c ∷ at ∷ len ∷ z ∷ zs) none = tt
-op_lawful bits k.AddLinear [] none = tt
-op_lawful bits k.AddLinear (a ∷ []) none = tt
-op_lawful bits k.AddLinear (a ∷ b ∷ []) none = tt
-op_lawful bits k.AddLinear (a ∷ b ∷ c ∷ []) none = tt
-op_lawful bits k.AddLinear (a ∷ b ∷ c ∷ at ∷ []) none = tt
-op_lawful bits k.AddLinear (a ∷ b ∷ c ∷ at ∷ len ∷ []) none =
-    (form_in_range a b c (none_first _ (field_past bits at len) none), field_is bits at len
-    (none_second (form_past a b c) _ none))
-op_lawful bits k.AddLinear (a ∷ b ∷ c ∷ at ∷ len ∷ z ∷ zs) none = tt
-op_lawful bits k.LoadConst [] none = tt
-op_lawful bits k.LoadConst (at ∷ []) none = tt
-op_lawful bits k.LoadConst (at ∷ len ∷ []) none = tt
-op_lawful bits k.LoadConst (at ∷ len ∷ number ∷ []) none =
-    (field_is bits at len (none_first _ (value_past len number) none), number_fits len number
-    (none_second (field_past bits at len) _ none))
-op_lawful bits k.LoadConst (at ∷ len ∷ number ∷ z ∷ zs) none = tt
-op_lawful bits k.SetBit [] none = tt
-op_lawful bits k.SetBit (at ∷ []) none = tt
-op_lawful bits k.SetBit (at ∷ v ∷ []) none = place_is bits at (none_first _ (past kind.Value (pos 0) (pos 1) v) none)
-op_lawful bits k.SetBit (at ∷ v ∷ z ∷ zs) none = tt
-op_lawful bits k.Toggle [] none = tt
-op_lawful bits k.Toggle (at ∷ []) none = place_is bits at none
-op_lawful bits k.Toggle (at ∷ z ∷ zs) none = tt
-op_lawful bits k.Copy [] none = tt
-op_lawful bits k.Copy (at ∷ []) none = tt
-op_lawful bits k.Copy (at ∷ len ∷ []) none = tt
-op_lawful bits k.Copy (at ∷ len ∷ to ∷ []) none = copies bits at len to none
-op_lawful bits k.Copy (at ∷ len ∷ to ∷ z ∷ zs) none = tt
-op_lawful bits k.KeepLess [] none = tt
-op_lawful bits k.KeepLess (at ∷ []) none = tt
-op_lawful bits k.KeepLess (at ∷ len ∷ []) none = tt
-op_lawful bits k.KeepLess (at ∷ len ∷ to ∷ []) none = of_one_length bits at len to none
-op_lawful bits k.KeepLess (at ∷ len ∷ to ∷ z ∷ zs) none = tt
+op_lawful bits (k.Operation kind) zs none = kind_lawful bits kind zs none
 op_lawful bits k.Pxlist zs none = tt
 op_lawful bits k.Grid zs none = tt
 op_lawful bits k.End zs none = tt

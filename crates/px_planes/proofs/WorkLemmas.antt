@@ -7,7 +7,7 @@ use Rattle.px_pixel.specs.Acts.{kept, stored}
 use Rattle.px_pixel.specs.Pixels.{PixelState}
 use Rattle.px_rows.specs.Rows.{row_bit}
 use Rattle.px_rows.proofs.BitLaws.{bit-and}
-use Rattle.px_planes.specs.Operations.{IsLike, IsWorked, stored_bits}
+use Rattle.px_planes.specs.Operations.{IsLike, IsWorked, IsWorkedIn, stored_bits}
 use Rattle.px_planes.specs.Pixels.{HasWords, pixel_in}
 use Rattle.px_planes.specs.declared.planes.Planes.{Planes}
 use Rattle.px_planes.proofs.StoredLemmas.{stored_row, words_stored}
@@ -22,6 +22,42 @@ bit_beside row w word p other = ap (λ (n : ℕ). nat_bit n (p % 64)) (get_or-se
 like_self : (n : ℕ) (planes : Planes) → HasWords n planes → IsLike n planes planes
 like_self n planes words = record { words = words; memory = refl; carry = refl; latch = refl; full = refl }
 
+abbrev with_memory : Planes → ℕ → List Bool → PixelState
+with_memory planes p memory = record {
+  memory = memory;
+  enable = row_bit planes.enable p;
+  carry = row_bit planes.carry p;
+  latch = row_bit planes.latch p;
+}
+
+-- a row of which a part is stored where the pixels are enabled
+pub put_row_law : (size w at : ℕ) (old : Planes) (row : List ℕ) (v : ℕ → Bool) → HasWords (length old.enable) old
+    → at < length old.memory.items → length row ≡ length old.enable
+    → ((p : ℕ) → p < 64 * length old.enable → p / size ≡ w
+    → row_bit row p ≡ cond (row_bit old.enable p) (v p) (row_bit (get_or old.memory.items at []) p))
+    → ((p : ℕ) → p < 64 * length old.enable → p / size ≢ w → row_bit row p ≡ row_bit (get_or old.memory.items at []) p)
+    → IsWorkedIn size w (length old.enable) (λ p x. stored at (v p) x) old
+    (record old { memory = with_item old.memory at row })
+put_row_law size w at old row v words place long here beside =
+    record {
+      each = λ p within is.
+          ap (with_memory old p) (stored_row old.memory.items at p row (row_bit old.enable p) (v p) place (here p within is));
+      others = λ p within other.
+          ap (with_memory old p) (stored_row old.memory.items at p row false false place (beside p within other));
+      like = record {
+        words = record {
+          memory = words_stored old.enable old at row place words long;
+          enable = words.enable;
+          carry = words.carry;
+          latch = words.latch;
+        };
+        memory = length-set old.memory.items at row;
+        carry = refl;
+        latch = refl;
+        full = refl;
+      };
+    }
+
 pub put_law : (old : Planes) (at w value word : ℕ) → HasWords (length old.enable) old → at < length old.memory.items
     → w < length old.enable
     → ((j : ℕ) → j < 64 → nat_bit word j ≡ cond (nat_bit (get_or old.enable w 0) j) (nat_bit value j)
@@ -31,37 +67,12 @@ pub put_law : (old : Planes) (at w value word : ℕ) → HasWords (length old.en
 put_law old at w value word words place inside bits =
     let row = get_or old.memory.items at [] in
     let in_row : w < length row = omega (arith, words.memory at place) in
-    record {
-      each = λ p within here.
-          let j_small : p % 64 < 64 = omega arith in
-          let written : row_bit (set row w word) p ≡ cond (row_bit old.enable p) (nat_bit value (p % 64)) (row_bit row p) =
-          bit_set row w word p in_row here ∙ (bits (p % 64) j_small ∙ rw (← here) refl) in
-          ap (λ (memory : List Bool). record {
-            memory = memory;
-            enable = row_bit old.enable p;
-            carry = row_bit old.carry p;
-            latch = row_bit old.latch p;
-          }) (stored_row old.memory.items at p (set row w word) (row_bit old.enable p) (nat_bit value (p % 64)) place written);
-      others = λ p within other.
-          ap (λ (memory : List Bool). record {
-            memory = memory;
-            enable = row_bit old.enable p;
-            carry = row_bit old.carry p;
-            latch = row_bit old.latch p;
-          }) (stored_row old.memory.items at p (set row w word) false false place (bit_beside row w word p other));
-      like = record {
-        words = record {
-          memory = words_stored old.enable old at (set row w word) place words (length-set row w word ∙ words.memory at place);
-          enable = words.enable;
-          carry = words.carry;
-          latch = words.latch;
-        };
-        memory = length-set old.memory.items at (set row w word);
-        carry = refl;
-        latch = refl;
-        full = refl;
-      };
-    }
+    put_row_law 64 w at old (set row w word) (λ p. nat_bit value (p % 64)) words place
+    (length-set row w word ∙ words.memory at place)
+    (λ p within here.
+    let j_small : p % 64 < 64 = omega arith in
+    bit_set row w word p in_row here ∙ (bits (p % 64) j_small ∙ rw (← here) refl))
+    (λ p within other. bit_beside row w word p other)
 
 pub keep_law : (old : Planes) (w mask : ℕ) → HasWords (length old.enable) old → w < length old.enable
     → IsWorked w (length old.enable) (λ p x. kept (nat_bit mask (p % 64)) x) old
@@ -106,16 +117,16 @@ like_then n a b c first second = record {
   full = second.full ∙ first.full;
 }
 
-pub worked_then : (w n : ℕ) (f g : ℕ → PixelState → PixelState) (a b c : Planes) → IsWorked w n f a b → IsWorked w n g b c
-    → IsWorked w n (λ p x. g p (f p x)) a c
-worked_then w n f g a b c first second = record {
+pub worked_then : (size w n : ℕ) (f g : ℕ → PixelState → PixelState) (a b c : Planes) → IsWorkedIn size w n f a b
+    → IsWorkedIn size w n g b c → IsWorkedIn size w n (λ p x. g p (f p x)) a c
+worked_then size w n f g a b c first second = record {
   each = λ p within here. second.each p within here ∙ ap (g p) (first.each p within here);
   others = λ p within other. second.others p within other ∙ first.others p within other;
   like = like_then n a b c first.like second.like;
 }
 
-pub none_worked : (w n : ℕ) (planes : Planes) → HasWords n planes → IsWorked w n (λ p x. x) planes planes
-none_worked w n planes words = record {
+pub none_worked : (size w n : ℕ) (planes : Planes) → HasWords n planes → IsWorkedIn size w n (λ p x. x) planes planes
+none_worked size w n planes words = record {
   each = λ p within here. refl;
   others = λ p within other. refl;
   like = like_self n planes words;
@@ -137,17 +148,17 @@ bit_above at v (suc n) k x above =
     stored_beside (at + n) k (v n) (stored_bits at v n x) other ∙ bit_above at v n k x (omega arith)
 
 -- one bit more is stored
-pub stored_more : (w n at t : ℕ) (v : ℕ → ℕ → Bool) (word : ℕ) (a b c : Planes)
-    → IsWorked w n (λ p x. stored_bits at (v p) t x) a b
-    → IsWorked w n (λ p x. stored (at + t) (nat_bit word (p % 64)) x) b c
-    → ((p : ℕ) → p < 64 * n → p / 64 ≡ w → nat_bit word (p % 64) ≡ v p t)
-    → IsWorked w n (λ p x. stored_bits at (v p) (suc t) x) a c
-stored_more w n at t v word a b c first second bit =
-    let both = worked_then w n _ _ a b c first second in
+pub stored_more : (size w n at t : ℕ) (v : ℕ → ℕ → Bool) (e : ℕ → Bool) (a b c : Planes)
+    → IsWorkedIn size w n (λ p x. stored_bits at (v p) t x) a b
+    → IsWorkedIn size w n (λ p x. stored (at + t) (e p) x) b c
+    → ((p : ℕ) → p < 64 * n → p / size ≡ w → e p ≡ v p t)
+    → IsWorkedIn size w n (λ p x. stored_bits at (v p) (suc t) x) a c
+stored_more size w n at t v e a b c first second bit =
+    let both = worked_then size w n _ _ a b c first second in
     record {
       each = λ p within here.
           both.each p within here
-          ∙ ap (λ (e : Bool). stored (at + t) e (stored_bits at (v p) t (pixel_in a p))) (bit p within here);
+          ∙ ap (λ (b : Bool). stored (at + t) b (stored_bits at (v p) t (pixel_in a p))) (bit p within here);
       others = both.others;
       like = both.like;
     }

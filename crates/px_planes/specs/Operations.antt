@@ -29,16 +29,26 @@ pub record IsLike (n : ℕ) (old new : Planes) : Type 0 where
   pub latch : new.latch ≡ old.latch
   pub full : new.full ≡ old.full
 
--- the pixels of word w became what f says, and all others are as they were
-pub record IsWorked (w n : ℕ) (f : ℕ → PixelState → PixelState) (old new : Planes) : Type 0 where
-  pub each : (p : ℕ) → p < 64 * n → p / 64 ≡ w → pixel_in new p ≡ f p (pixel_in old p)
-  pub others : (p : ℕ) → p < 64 * n → p / 64 ≢ w → pixel_in new p ≡ pixel_in old p
+-- of rows of n words, parted into so many pixels each, the pixels of part w became what f says, and all others are as they were
+pub record IsWorkedIn (size w n : ℕ) (f : ℕ → PixelState → PixelState) (old new : Planes) : Type 0 where
+  pub each : (p : ℕ) → p < 64 * n → p / size ≡ w → pixel_in new p ≡ f p (pixel_in old p)
+  pub others : (p : ℕ) → p < 64 * n → p / size ≢ w → pixel_in new p ≡ pixel_in old p
   pub like : IsLike n old new
+
+-- the same of the pixels of word w
+abbrev pub IsWorked : (w n : ℕ) → (ℕ → PixelState → PixelState) → (old new : Planes) → Type 0
+IsWorked w n f old new = IsWorkedIn 64 w n f old new
 
 -- the operation was made in the pixels of word w
 pub record IsWordDone (op : Macro) (ny w n : ℕ) (old new : Planes) : Type 0 where
   pub each : (p : ℕ) → p < 64 * n → p / 64 ≡ w → bits_of (pixel_in new p) ≡ after_macro op (p / 2 ^ ny) (p % 2 ^ ny) (bits_of (pixel_in old p))
   pub others : (p : ℕ) → p < 64 * n → p / 64 ≢ w → pixel_in new p ≡ pixel_in old p
+  pub like : IsLike n old new
+
+-- the operation was made in the pixels of a strip of 512 words
+pub record IsStripDone (op : Macro) (ny strip n : ℕ) (old new : Planes) : Type 0 where
+  pub each : (p : ℕ) → p < 64 * n → p / 32768 ≡ strip → bits_of (pixel_in new p) ≡ after_macro op (p / 2 ^ ny) (p % 2 ^ ny) (bits_of (pixel_in old p))
+  pub others : (p : ℕ) → p < 64 * n → p / 32768 ≢ strip → pixel_in new p ≡ pixel_in old p
   pub like : IsLike n old new
 
 -- the operation was made everywhere

@@ -22,6 +22,7 @@ mod row_operations;
 mod shelf;
 mod slot;
 mod small;
+mod strips;
 mod word_acts;
 mod word_operations;
 

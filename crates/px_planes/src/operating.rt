@@ -8,8 +8,9 @@ ghost use Rattle.px_tree.specs.Nodes.{IsGrid};
 
 use crate::edges::keep_sign;
 use crate::planes::Planes;
-use crate::reach::{Reach, narrowed, whole};
+use crate::reach::{Reach, is_crowd, narrowed, whole};
 use crate::row_operations::{enable_every, keep_bit, set_bit, toggle};
+use crate::strips::{STRIP, add_in_strips};
 use crate::word_operations::{add_linear, copy, keep_at_most, keep_less, load_const, load_linear};
 use px_lanes::offsets;
 use px_macro::Macro;
@@ -45,12 +46,12 @@ pub(crate) fn operate_planes<const N: usize>(
     }
 }
 
-/// Whether an operation looks at each word in which a pixel is enabled bit by bit.
+/// Whether an operation looks at each word in which a pixel is enabled bit by bit, however many these
+/// are.
 pub(crate) fn is_made_by_words(m: &Macro) -> bool {
     match m {
         Macro::LoadLinear(..)
         | Macro::KeepAtMost(..)
-        | Macro::AddLinear(..)
         | Macro::LoadConst(..)
         | Macro::Copy(..)
         | Macro::KeepLess(..) => true,
@@ -74,6 +75,13 @@ fn operate_part(planes: &mut Planes, reach: Reach, m: &Macro, ny: u32)
         Macro::SetBit(at, v) => set_bit(planes, *at, *v, ny),
         Macro::Toggle(at) => toggle(planes, *at, ny),
         Macro::KeepSign(form) => keep_sign(planes, reach, form, ny),
+        Macro::AddLinear(form, field) => {
+            if planes.enable.words().len() % STRIP == 0 && is_crowd(planes, reach) {
+                add_in_strips(planes, form, field, ny);
+            } else {
+                operate_words(planes, reach, m, ny);
+            }
+        }
         _ => operate_words(planes, reach, m, ny),
     }
 }

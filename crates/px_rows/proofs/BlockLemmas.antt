@@ -1,5 +1,6 @@
 -- Blocks of eight words that are read and written.
-use Rattle.std.proofs.Common.{◌≡◌, ℕ, ◌+◌, ◌-◌, ◌<◌, ◌≤◌, List, length, get_or, ap, ◌∙◌, arith}
+use Rattle.std.proofs.Common.{◌≡◌, ℕ, ◌+◌, ◌-◌, ◌*◌, ◌<◌, ◌≤◌, List, length, get_or, ap, ◌∙◌, arith, inl, inr}
+use Rattle.std.proofs.lemmas.Bool.{cases_lt}
 use Rattle.std.specs.Simd.Lanes.{put_chunk}
 use Rattle.std.proofs.lemmas.Simd.{get_or-put_chunk_at, get_or-put_chunk_below, get_or-put_chunk_above}
 use Rattle.px_rows.specs.Words.{IsBlock, IsWritten}
@@ -22,3 +23,18 @@ word_written at k old new words w low high = w.inside k low high (k - at) (omega
 pub word_read : (at k : ℕ) (row words : List ℕ) → IsBlock at row words → at ≤ k → k < at + 8 → get_or words (k - at) 0
     ≡ get_or row k 0
 word_read at k row words b low high = b.each (k - at) (omega arith) ∙ ap (λ n. get_or row n 0) (omega arith)
+
+-- a loop that writes a block a turn
+pub blocks_more : (P Q : ℕ → ℕ → Type 0) (block : ℕ) (old new : List ℕ) → IsWritten P (8 * block) old new
+    → ((k : ℕ) → k < 8 * block → Q k (get_or old k 0))
+    → ((k : ℕ) → 8 * block ≤ k → k < 8 * block + 8 → P k (get_or new k 0) → Q k (get_or new k 0))
+    → (k : ℕ) → k < 8 * (block + 1) → Q k (get_or new k 0)
+blocks_more P Q block old new w done now k low = elim (cases_lt k (8 * block)) [
+  | inl before ↦ rw (w.before k before) (done k before)
+  | inr past ↦ let high : k < 8 * block + 8 = omega arith in now k past high (w.inside k past high)
+]
+
+pub blocks_rest : (P : ℕ → ℕ → Type 0) (block : ℕ) (start old new : List ℕ) → IsWritten P (8 * block) old new
+    → ((k : ℕ) → 8 * block ≤ k → get_or old k 0 ≡ get_or start k 0)
+    → (k : ℕ) → 8 * (block + 1) ≤ k → get_or new k 0 ≡ get_or start k 0
+blocks_rest P block start old new w rest k high = w.after k (omega arith) ∙ rest k (omega arith)

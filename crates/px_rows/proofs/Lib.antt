@@ -1,4 +1,5 @@
 pub mod BitLaws
 pub mod BlockLemmas
+pub mod PartLemmas
 pub mod WordLemmas
 pub mod WriteLemmas

@@ -1,5 +1,5 @@
 -- Single words: the bits of what the calls on rows make of them. Only proofs and private functions stand on it.
-use Rattle.std.specs.Prelude.{◌≡◌, ℕ, ◌+◌, ◌<◌, ◌≤◌, ◌&&◌, Bool, cond, List, slice_index}
+use Rattle.std.specs.Prelude.{◌≡◌, ℕ, ◌+◌, ◌<◌, ◌≤◌, ◌&&◌, cond, List, slice_index}
 use Rattle.px_num.specs.Bits.{majority, nat_bit, xor}
 
 pub record IsKeptWord (result mask other turn : ℕ) : Type 0 where
@@ -17,6 +17,18 @@ pub record IsAdded (result target carry value mask : ℕ) : Type 0 where
 
 pub record IsCarried (result target carry value : ℕ) : Type 0 where
   pub each : (i : ℕ) → i < 64 → nat_bit result i ≡ majority (nat_bit value i) (nat_bit target i) (nat_bit carry i)
+
+-- the sum of three bits
+pub record IsSummed (result a b c : ℕ) : Type 0 where
+  pub each : (i : ℕ) → i < 64 → nat_bit result i ≡ xor (nat_bit a i) (xor (nat_bit b i) (nat_bit c i))
+
+-- the sum of target and carry and of three bits more where the mask is 1, and else the target
+pub record IsAddedTo (result target carry a b c mask : ℕ) : Type 0 where
+  pub each : (i : ℕ) → i < 64 → nat_bit result i ≡ cond (nat_bit mask i) (xor (xor (nat_bit a i) (xor (nat_bit b i) (nat_bit c i))) (xor (nat_bit target i) (nat_bit carry i))) (nat_bit target i)
+
+-- at least two of target, carry and the sum of three bits
+pub record IsCarriedOn (result target carry a b c : ℕ) : Type 0 where
+  pub each : (i : ℕ) → i < 64 → nat_bit result i ≡ majority (xor (nat_bit a i) (xor (nat_bit b i) (nat_bit c i))) (nat_bit target i) (nat_bit carry i)
 
 -- the eight words of a row from `at` on
 pub record IsBlock (at : ℕ) (row words : List ℕ) : Type 0 where

@@ -37,7 +37,8 @@ loop-t-preserved c =
     ∙ (bit_above f.at (λ s. bit_of ((o p +ℤ base) +ℤ number p) s) t (f.at + t) (pixel_in planes p) (omega arith)
     ∙ sym (c.laws_of_fields.ensures.bits f (pixel_in planes p).memory t low))) in
     record {
-      worked = rw next (stored_more c.args.w n f.at t (λ p s. bit_of ((o p +ℤ base) +ℤ number p) s) c.added_bit-sum.result planes
+      worked = rw next (stored_more 64 c.args.w n f.at t (λ p s. bit_of ((o p +ℤ base) +ℤ number p) s)
+          (λ p. nat_bit c.added_bit-sum.result (p % 64)) planes
           c.loop-t.planes c.put_word.new.planes i.worked (rw long at c.put_word.ensures)
           (λ p within here.
           let small : p % 64 < 64 = omega arith in

@@ -1,0 +1,34 @@
+use Rattle.std.proofs.Common.{◌≡◌, ◌≢◌, ◌∙◌, ◌/◌, ◌^◌, ◌%◌, length, ap, arith, inl, inr}
+use Rattle.std.proofs.lemmas.Bool.{cases_lt}
+use Rattle.px_asm.specs.Microprograms.{bits_of}
+use Rattle.px_macro.specs.Macros.{after_macro}
+use Rattle.px_macro.specs.declared.operation.Macro.TheVariants.{AddLinear}
+use Rattle.px_pixel.specs.Pixels.{PixelState}
+use Rattle.px_planes.proofs.WorkLemmas.{like_then}
+use Rattle.px_planes.proofs.strips.add_in_strips.Goals as goal
+
+pub loop-strip-preserved : goal.loop-strip-preserved
+loop-strip-preserved c =
+    let planes = c.args.planes.now in
+    let n = length planes.enable in
+    let i = c.loop-strip.invariant in
+    let strip = c.loop-strip.strip in
+    let ny = c.args.ny in
+    let op = AddLinear c.args.form.now c.args.field.now in
+    let long : length c.loop-strip.planes.enable ≡ n = i.like.words.enable in
+    let work = rw long at c.add_to_strip.ensures in
+    record {
+      done = λ p within before. elim (cases_lt (p / 32768) strip) [
+        | inl done ↦
+            let other : p / 32768 ≢ strip = omega arith in
+            ap bits_of (work.others p within other) ∙ i.done p within done
+        | inr past ↦
+            let here : p / 32768 ≡ strip = omega arith in
+            work.each p within here
+            ∙ ap (λ (x : PixelState). after_macro op (p / 2 ^ ny) (p % 2 ^ ny) (bits_of x)) (i.rest p within past)
+      ];
+      rest = λ p within past.
+          let other : p / 32768 ≢ strip = omega arith in
+          work.others p within other ∙ i.rest p within (omega arith);
+      like = like_then n planes c.loop-strip.planes c.add_to_strip.new.planes i.like work.like;
+    }

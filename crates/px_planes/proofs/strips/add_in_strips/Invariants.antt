@@ -1,0 +1,17 @@
+use Rattle.std.proofs.Common.{◌≡◌, ℕ, ◌*◌, ◌/◌, ◌%◌, ◌^◌, ◌<◌, ◌≤◌, length}
+use Rattle.px_asm.specs.Microprograms.{bits_of}
+use Rattle.px_macro.specs.Macros.{after_macro}
+use Rattle.px_macro.specs.declared.operation.Macro.TheVariants.{AddLinear}
+use Rattle.px_planes.specs.Operations.{IsLike}
+use Rattle.px_planes.specs.Pixels.{pixel_in}
+use Rattle.px_planes.proofs.strips.add_in_strips.Given as goal
+
+abbrev pub invariant-loop-strip : goal.invariant-loop-strip
+invariant-loop-strip l =
+    let n = length l.fn.planes.enable
+    in record {
+      done : (p : ℕ) → p < 64 * n → p / 32768 < l.strip
+          → bits_of (pixel_in l.planes p) ≡ after_macro (AddLinear l.form l.field) (p / 2 ^ l.ny) (p % 2 ^ l.ny) (bits_of (pixel_in l.fn.planes p));
+      rest : (p : ℕ) → p < 64 * n → l.strip ≤ p / 32768 → pixel_in l.planes p ≡ pixel_in l.fn.planes p;
+      like : IsLike n l.fn.planes l.planes;
+    }
