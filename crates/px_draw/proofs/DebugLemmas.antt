@@ -110,7 +110,7 @@ pub record Laws : Type 0 where
   pub scene : SceneStays
 
 -- what is known of the bytes, where there are more of them
-record Holds (bits : ℕ) (found : SceneView) (bytes : List ℕ) : Type 0 where
+pub record Holds (bits : ℕ) (found : SceneView) (bytes : List ℕ) : Type 0 where
   pub scene : part_scene bytes ≡ found
   pub admits : (o : Outcome) → admitted (scene_part_of bytes) bits o ≡ o
   pub part : has_part bytes ≡ true
@@ -122,7 +122,7 @@ admits_is part bits scene good same draws o =
     let drawn : drawable bits (scene_written part) o ≡ o = subst (λ s. drawable bits s o ≡ o) same (draws o) in
     ap (λ reason. unless_refused reason (drawable bits (scene_written part) o)) good ∙ drawn
 
-holds : Laws → (bits n : ℕ) (text : List ℕ) (scene : SceneView) → Seated bits n text scene → (z : List ℕ)
+pub holds : Laws → (bits n : ℕ) (text : List ℕ) (scene : SceneView) → Seated bits n text scene → (z : List ℕ)
     → Holds bits scene (text ++ z)
 holds laws bits n text scene seated z =
     let more = grown laws.kept laws.within text z n seated.part in

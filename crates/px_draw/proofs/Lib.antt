@@ -1,3 +1,4 @@
+pub mod AskingLemmas
 pub mod DebugLemmas
 pub mod ErrLemmas
 pub mod LimitLemmas

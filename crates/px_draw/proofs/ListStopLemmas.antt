@@ -1,5 +1,5 @@
 -- What the stop of a listing's fault says of its text.
-use Rattle.std.proofs.Common.{ℕ, ◌≡◌, ◌⊎◌, ◌<◌, ◌≤◌, inl, inr, List, Some, length, refl}
+use Rattle.std.proofs.Common.{ℕ, ◌≡◌, ◌⊎◌, ◌<◌, inl, inr, List, Some, length, refl}
 use Rattle.px_listing.specs.Reading.{refusal_of}
 use Rattle.px_listing.specs.declared.read.ListFault.{ListFault}
 use Rattle.px_listing.specs.declared.read.ListFault.TheVariants as fault

@@ -1,6 +1,6 @@
 -- The text of a scene's passes, played.
 use Rattle.std.proofs.Common.{ℕ, ◌≡◌, ◌≢◌, ◌≤◌, List, length, Bool, true, false, nat_lt, if◌then◌else◌, Option, Some}
-use Rattle.std.proofs.Common.{None, refl, ap, subst, sym, ◌∙◌, All, []}
+use Rattle.std.proofs.Common.{None, refl, ap, subst, sym, ◌∙◌, All}
 use Rattle.px_macro.specs.Macros.{IsLawful, IsLawfulInMore}
 use Rattle.px_num.proofs.TruthLaws.{lt_fails}
 use Rattle.px_text.specs.declared.text.TheConstants.{MAX_TEXT_BYTES}

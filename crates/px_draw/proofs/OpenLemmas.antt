@@ -19,7 +19,7 @@ use Rattle.px_draw.specs.declared.refusal.Refusal.TheVariants as r
 use Rattle.px_draw.specs.declared.stop.Stop.{Stop}
 use Rattle.px_draw.specs.declared.stop.Stop.TheVariants as s
 use Rattle.px_draw.specs.Debugs.{IsAfter, IsKeptOrOpened, IsOver, LeavesAtMemory, admitted, all_commands, answered, command_text, debugged}
-use Rattle.px_draw.specs.Debugs.{has_part, is_long, scene_part_of, part_scene, scene_written, session_of, within_limit}
+use Rattle.px_draw.specs.Debugs.{has_part, is_long, scene_part_of, scene_written, session_of, within_limit}
 use Rattle.px_draw.specs.Outcomes.{Outcome, done, drawable, output, refused, unless_refused}
 use Rattle.px_draw.specs.Runs.{HasOutput}
 use Rattle.px_draw.specs.Refusals.{text_refusal, too_long}
@@ -79,7 +79,7 @@ no_memory bits taken known rest a p before now consumed kept =
       leaves = (keeps_same a, refl, kept);
     }
 
-no_part : (bytes : List ℕ) → part_end (within_limit bytes) ≡ None → has_part bytes ≡ true → ⊥
+pub no_part : (bytes : List ℕ) → part_end (within_limit bytes) ≡ None → has_part bytes ≡ true → ⊥
 unfolding has_part
 no_part bytes none part = (let two : false ≡ true = sym (ap is_some none) ∙ part in cc)
 
@@ -235,6 +235,11 @@ nothing_behind : (text : List ℕ) → part_end (within_limit text) ≡ None →
 unfolding command_text
 nothing_behind text none = rw none (drop-length (within_limit text))
 
+pub appended : (a b : Option (List ℕ)) → Keeps a b → Appends a b []
+appended None b kept = tt
+appended (Some xs) None kept = absurd kept
+appended (Some xs) (Some ys) kept = rw kept (sym (append-nil xs))
+
 -- the scene part is the whole input
 pub performs_empty : (laws : Laws) (result : Result (Unit {0}) Stop) (bits : ℕ) (o : Opening) (scene : SceneView)
     (known rest a b : Option (List ℕ)) (p q : Option Bool)
@@ -272,11 +277,6 @@ performs_empty laws result bits o scene known rest a b p q before array opens on
       fits = subst (λ s. Fits bits (session_opened s) array.device array.slots) on.scene fits;
       work = omega (arith, none_made);
     }
-
-    appended : (a b : Option (List ℕ)) → Keeps a b → Appends a b []
-    appended None b kept = tt
-    appended (Some xs) None kept = absurd kept
-    appended (Some xs) (Some ys) kept = rw kept (sym (append-nil xs))
 
     by_result : (result : Result (Unit {0}) Stop) → Finishes result p q → Performs result (Some c.Debug) bits known
         rest a b p q before array

@@ -8,6 +8,7 @@ pub use Rattle.px_deliver.specs.Images
 pub use Rattle.px_face.specs.Surfaces
 pub use Rattle.px_words.specs.Words
 pub mod Arrays
+pub mod Askings
 pub mod Countings
 pub mod Debugs
 pub mod ListedScenes

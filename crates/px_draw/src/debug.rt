@@ -1,13 +1,16 @@
 //! The command `debug`: a session over the scene part of the input, whose command lines are the rest.
-ghost use Rattle.std.specs.Prelude.{◌≡◌, ◌≢◌, ◌+◌, ◌-◌, ◌^◌, ◌<◌, ◌≤◌, ℕ, IfErr, IfOk, OnOk, Err, Some, drop, length};
+ghost use Rattle.std.specs.Prelude.{◌≡◌, ◌≢◌, ◌+◌, ◌-◌, ◌^◌, ◌<◌, ◌≤◌, ℕ, IfErr, IfOk, OnErr, OnOk, Err, Some, drop, length};
 ghost use Rattle.std.specs.Io.KnownBytes.{Keeps};
 ghost use Rattle.px_io.specs.Told.{ConsumesAtMost};
 ghost use Rattle.px_array.specs.Slots.{array_view};
 ghost use Rattle.px_debug.specs.Moves.{Fits};
+ghost use Rattle.px_lines.specs.Listenings.{ListenedTo, Listens};
 ghost use Rattle.px_lines.specs.Parts.{part_end};
+ghost use Rattle.px_session.specs.Prompts.{Prompts};
 ghost use Rattle.px_session.specs.Sessions.{session_opened, stand};
 ghost use Rattle.px_command.specs.declared.command.Command.{Command};
 ghost use Rattle.px_draw.specs.declared.stop.Stop.{Stop};
+ghost use Rattle.px_draw.specs.Askings.{AnswersInTime};
 ghost use Rattle.px_draw.specs.Debugs.{command_text, within_limit};
 ghost use Rattle.px_draw.specs.Outcomes.{Outcome, drawable};
 ghost use Rattle.px_draw.specs.Runs.{Took};
@@ -46,6 +49,8 @@ pub(crate) fn debug<S: Asks<O>, O: Sink, A: Operating>(
     ensures took { Took (Some Command.Debug) (status_in result) (S.rest input.old)
         (S.rest input.new) }
     ensures worded { result ≢ Err Stop.Usage }
+    ensures in_time { AnswersInTime A.BITS (S.asks input.old) (S.asks input.new)
+        (S.rest input.old) (S.rest input.new) (O.written out.old) }
 {
     laws_of_parts();
     laws_of_sessions();
@@ -67,6 +72,10 @@ fn open_input<S: Asks<O>, O: Sink>(alloc: Global, input: &mut S, out: &O) -> Res
     ensures opens { IfOk result (λ o. Opens o (S.rest input.old) (S.rest input.new)) }
     ensures err { IfErr result (λ stop. IsOpenStop stop (S.rest input.old) (S.rest input.new)) }
     ensures most { ConsumesAtMost (S.rest input.old) (S.rest input.new) READ_LIMIT }
+    ensures listens { IfOk result (λ o. Listens READ_LIMIT (S.asks input.old) (S.asks input.new)
+        (O.written out.now) o.text.items) }
+    ensures listened { OnErr result (ListenedTo READ_LIMIT (S.asks input.old) (S.asks input.new)
+        (O.written out.now) (S.rest input.old) (S.rest input.new)) }
     ensures calm { OnOk result (S.faults input.new ≡ S.faults input.old) }
     ensures cause { IfErr result (λ stop.
         IsReadStop stop (S.faults input.old) (S.faults input.new)) }
@@ -151,6 +160,8 @@ fn sit<S: Asks<O>, O: Sink, A: Operating>(
         (O.finished out.old) (O.finished out.new) }
     ensures causes { HasStopCauses result (S.faults input.old) (S.faults input.new) (O.faults out.old)
         (O.faults out.new) }
+    ensures prompt { Prompts A.BITS session.old read.now more (S.asks input.old) (S.asks input.new)
+        (S.rest input.old) (S.rest input.new) (O.written out.old) }
 {
     match serve(session, array, read, input, more, out) {
         Ending::Quit | Ending::End => Ok(()),

@@ -1,10 +1,12 @@
 //! The program as a function of its words, its input and its outputs.
-ghost use Rattle.std.specs.Prelude.{◌≡◌, ◌↔◌, ◌≤◌, List, ℕ, Err, map, string_bytes, None};
+ghost use Rattle.std.specs.Prelude.{◌≡◌, ◌↔◌, ◌≤◌, List, ℕ, Err, map, string_bytes, None, Some};
 ghost use Rattle.std.specs.Io.KnownBytes.{Consumes};
 ghost use Rattle.px_array.specs.Slots.{array_view};
 ghost use Rattle.px_draw.specs.declared.stop.Stop.{Stop};
 ghost use Rattle.px_draw.specs.declared.status.Status.{Status};
 ghost use Rattle.px_command.specs.Commands.{command_of};
+ghost use Rattle.px_command.specs.declared.command.Command.{Command};
+ghost use Rattle.px_draw.specs.Askings.{AnswersInTime};
 ghost use Rattle.px_draw.specs.Runs.{HasRisen, IsInput, IsRunOf, Took};
 ghost use Rattle.px_draw.specs.Stops.{HasStopCauses, Performs, status_in};
 
@@ -28,6 +30,9 @@ use std::alloc::Global;
 /// bits of a pixel. A fault of the input or the output is answered only where its count rose in
 /// this call, and `Memory` may be answered anywhere. Every status but `Done` writes its line to the
 /// notes, whose own faults change neither status nor output.
+///
+/// `debug` asks for more only when it has answered all lines that are whole (docs/DEBUGGER.md,
+/// "Sessions").
 ///
 /// `render`, `colour`, `refine`, `tile`, `shadow`, `sample` and `play` open the array and clock it, and
 /// `debug` holds its session on it. Every other command and every refusal leaves it as it was, its
@@ -56,6 +61,9 @@ pub fn run<S: Asks<O>, O: Sink, E: Sink, A: Operating>(
         (O.faults out.new) }
     ensures took { Took (command_of (map string_bytes words.now)) result
         (S.rest input.old) (S.rest input.new) }
+    ensures in_time { command_of (map string_bytes words.now) ≡ Some Command.Debug →
+        AnswersInTime A.BITS (S.asks input.old) (S.asks input.new)
+        (S.rest input.old) (S.rest input.new) (O.written out.old) }
 {
     match perform(alloc, words, input, out, array) {
         Ok(()) => Status::Done,
@@ -85,6 +93,9 @@ fn perform<S: Asks<O>, O: Sink, A: Operating>(
     ensures took { Took (command_of (map string_bytes words.now)) (status_in result)
         (S.rest input.old) (S.rest input.new) }
     ensures usage { (result ≡ Err Stop.Usage) ↔ (command_of (map string_bytes words.now) ≡ None) }
+    ensures in_time { command_of (map string_bytes words.now) ≡ Some Command.Debug →
+        AnswersInTime A.BITS (S.asks input.old) (S.asks input.new)
+        (S.rest input.old) (S.rest input.new) (O.written out.old) }
 {
     match command_of(words) {
         Some(Command::Make(work)) => make_of_input(work, alloc, input, out, array),

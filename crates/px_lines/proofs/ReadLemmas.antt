@@ -4,6 +4,8 @@ use Rattle.std.proofs.lemmas.List.{drop-append-le, length-append, length-drop, l
 use Rattle.std.proofs.Math.Nat.{min-le_left, min-le_right}
 use Rattle.std.specs.Io.KnownBytes.{Consumes}
 use Rattle.px_io.specs.Told.{ConsumesAtMost}
+use Rattle.px_asked.specs.Asks.{Ask}
+use Rattle.px_lines.specs.Hearings.{Begun, Heard, Waits}
 use Rattle.px_lines.specs.Parts.{part_end}
 use Rattle.px_lines.specs.Searches.{HasSeen}
 use Rattle.px_lines.specs.declared.search.Search.{Search}
@@ -52,3 +54,10 @@ least_front xs ys m n limit same long least =
 -- a text that was searched to its end holds no part
 pub seen_all : (s : Search) (text : List ℕ) → HasSeen s text → s.at ≡ length text → part_end text ≡ None
 seen_all s text seen all = ap part_end (sym (take_all s.at text (omega (arith, all)))) ∙ seen.none
+
+-- so that more may be asked for
+pub waits_of : (s : Search) (b : Begun) (asks : Option (List Ask)) (rest w : Option (List ℕ)) (text : List ℕ)
+    → Heard b asks rest w text → HasSeen s (take (b.limit - 1) text) → s.at ≡ length (take (b.limit - 1) text)
+    → Waits b asks rest w text
+waits_of s b asks rest w text heard seen all =
+    record { heard = heard; none = seen_all s (take (b.limit - 1) text) seen all }

@@ -4,7 +4,7 @@ ghost use Rattle.std.specs.Io.KnownBytes.{Consumes, IsAtEnd};
 ghost use Rattle.px_io.specs.Counts.{Rose};
 ghost use Rattle.px_io.specs.Told.{ConsumesAtMost};
 ghost use Rattle.px_asked.specs.Asks.{Ask};
-ghost use Rattle.px_lines.specs.Hearings.{Begun, Heard};
+ghost use Rattle.px_lines.specs.Hearings.{Begun, Heard, Waits};
 ghost use Rattle.px_lines.specs.Listenings.{ListenedTo, Listens};
 ghost use Rattle.px_lines.specs.Parts.{part_end};
 ghost use Rattle.px_lines.specs.Readings.{TookNoPart};
@@ -47,9 +47,9 @@ pub fn read_part<S: Asks<O>, O: Sink>(
         Rose (S.faults input.old) (S.faults input.new) }
     ensures calm { OnOk result (S.faults input.new ≡ S.faults input.old) }
     ensures memory { IsErrOf result ReadError.Memory → S.faults input.new ≡ S.faults input.old }
-    ensures listens { IfOk result (λ o. Listens (S.asks input.old) (S.asks input.new)
+    ensures listens { IfOk result (λ o. Listens limit (S.asks input.old) (S.asks input.new)
         (O.written out.now) o.text.items) }
-    ensures listened { OnErr result (ListenedTo (S.asks input.old) (S.asks input.new)
+    ensures listened { OnErr result (ListenedTo limit (S.asks input.old) (S.asks input.new)
         (O.written out.now) (S.rest input.old) (S.rest input.new)) }
 {
     let mut text = Vec::new(alloc);
@@ -74,7 +74,7 @@ fn read_piece<S: Asks<O>, O: Sink>(
     bytes: &mut Vec<u8>,
 ) -> Result<usize, ReadError>
     requires { 0 < length piece.old }
-    ensures heard { (begun : Begun) → Heard begun (S.asks input.old) (S.rest input.old)
+    ensures heard { (begun : Begun) → Waits begun (S.asks input.old) (S.rest input.old)
         (O.written out.now) bytes.old.items →
         OnOk result (Heard begun (S.asks input.new) (S.rest input.new) (O.written out.now)
         bytes.new.items) }
@@ -93,10 +93,10 @@ fn read_piece<S: Asks<O>, O: Sink>(
         Rose (S.faults input.old) (S.faults input.new) }
     ensures calm { OnOk result (S.faults input.new ≡ S.faults input.old) }
     ensures memory { IsErrOf result ReadError.Memory → S.faults input.new ≡ S.faults input.old }
-    ensures listened { (begun : Begun) → Heard begun (S.asks input.old) (S.rest input.old)
+    ensures listened { (begun : Begun) → Waits begun (S.asks input.old) (S.rest input.old)
         (O.written out.now) bytes.old.items →
-        OnErr result (ListenedTo begun.asks (S.asks input.new) (O.written out.now) begun.rest
-        (S.rest input.new)) }
+        OnErr result (ListenedTo begun.limit begun.asks (S.asks input.new) (O.written out.now)
+        begun.rest (S.rest input.new)) }
 {
     let count = input.ask(out, piece)?;
     bytes.extend_from_slice(&piece[..count])?;

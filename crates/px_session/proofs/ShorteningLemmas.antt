@@ -1,6 +1,6 @@
 -- A line's first 256 bytes say what the line says.
 use Rattle.std.proofs.Common.{◌≡◌, ℕ, ◌+◌, Bool, true, false, ◌==◌, List, [], ◌∷◌, ◌++◌, Option, length}
-use Rattle.std.proofs.Common.{take, map, refl, sym, ap, ◌∙◌, ◌≤◌, inl, inr, length-append, length-take, arith}
+use Rattle.std.proofs.Common.{take, map, refl, sym, ap, ◌∙◌, inl, inr, length-append, length-take, arith}
 use Rattle.std.proofs.Common.{if◌then◌else◌}
 use Rattle.std.proofs.lemmas.Bool.{cases_lt}
 use Rattle.std.proofs.lemmas.List.{length-map, take_all, take-append-le, take-map}

@@ -55,7 +55,7 @@ pub fn serve<S: Asks<O>, O: Sink, A: Operating>(
         (O.finished out.old) (O.finished out.new) }
     ensures causes { HasCauses result (S.faults input.old) (S.faults input.new)
         (O.faults out.old) (O.faults out.new) }
-    ensures prompt { Prompts A.BITS session.old read.now
+    ensures prompt { Prompts A.BITS session.old read.now more
         (S.asks input.old) (S.asks input.new)
         (S.rest input.old) (S.rest input.new) (O.written out.old) }
 {
@@ -97,7 +97,7 @@ fn answer_all<S: Asks<O>, O: Sink, A: Operating>(
         (O.finished out.old) (O.finished out.new) }
     ensures causes { HasCauses result (S.faults input.old) (S.faults input.new)
         (O.faults out.old) (O.faults out.new) }
-    ensures prompt { Prompts A.BITS session.old read.now
+    ensures prompt { Prompts A.BITS session.old read.now more
         (S.asks input.old) (S.asks input.new)
         (S.rest input.old) (S.rest input.new) (O.written out.old) }
 {
@@ -127,7 +127,7 @@ fn read_on<S: Asks<O>, O: Sink, A: Operating>(
         (O.finished out.old) (O.finished out.new) }
     ensures causes { HasCauses result (S.faults input.old) (S.faults input.new)
         (O.faults out.old) (O.faults out.new) }
-    ensures prompt { (b : Begun) → Caught A.BITS b
+    ensures prompt { (b : Begun) → Caught A.BITS b limit
         (stand session.old (A.work array.old)) held.old.items (S.asks input.old) (S.rest input.old)
         (O.written out.old) (O.finished out.old)
         → PromptsFrom A.BITS b (S.asks input.new) (S.rest input.new) }
@@ -172,14 +172,14 @@ fn turn<S: Asks<O>, O: Sink, A: Operating>(
         (O.written out.old) (O.written out.new) (O.finished out.old) (O.finished out.new)) }
     ensures causes { IfErr result (λ ending. HasCauses ending
         (S.faults input.old) (S.faults input.new) (O.faults out.old) (O.faults out.new)) }
-    ensures prompt { (b : Begun) → Caught A.BITS b
+    ensures prompt { (b : Begun) → Caught A.BITS b limit
         (stand session.old (A.work array.old)) held.old.items (S.asks input.old) (S.rest input.old)
         (O.written out.old) (O.finished out.old)
         → PromptsFrom A.BITS b (S.asks input.new) (S.rest input.new) }
-    ensures caught { IfOk result (λ count. (b : Begun) → Caught A.BITS b
+    ensures caught { IfOk result (λ count. (b : Begun) → Caught A.BITS b limit
         (stand session.old (A.work array.old)) held.old.items (S.asks input.old) (S.rest input.old)
         (O.written out.old) (O.finished out.old)
-        → count < limit → Caught A.BITS b
+        → count < limit → Caught A.BITS b (limit - count)
         (stand session.new (A.work array.new)) held.new.items (S.asks input.new) (S.rest input.new)
         (O.written out.new) (O.finished out.new)) }
 {

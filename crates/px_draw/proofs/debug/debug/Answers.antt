@@ -2,6 +2,7 @@ use Rattle.std.proofs.Common.{◌≡◌, ◌-◌, Err, ap, arith, length, refl, 
 use Rattle.px_debug.specs.Moves.{Fits}
 use Rattle.px_session.specs.Sessions.{session_opened}
 use Rattle.px_draw.specs.Debugs.{command_text}
+use Rattle.px_draw.proofs.AskingLemmas.{answers_listened, answers_served, answers_unread}
 use Rattle.px_draw.proofs.DebugLemmas.{Laws, Seated, performs_sat, took_sat}
 use Rattle.px_draw.proofs.OpenLemmas.{causes_behind, performs_closed, performs_empty, performs_open, performs_part}
 use Rattle.px_draw.proofs.debug.debug.Goals as goal
@@ -84,3 +85,37 @@ returns-clause-performs g c =
 
 pub returns-clause-causes : goal.returns-clause-causes
 returns-clause-causes g c = causes_behind _ _ _ _ _ c.in_ok-opening.ensures.calm c.finish.ensures.causes
+
+pub returns-in_err-opening-clause-in_time : goal.returns-in_err-opening-clause-in_time
+returns-in_err-opening-clause-in_time g c = answers_unread _ _ _ _ _ _ c.in_err-opening.ensures.listened
+
+pub returns-in_err-scene-clause-in_time : goal.returns-in_err-scene-clause-in_time
+returns-in_err-scene-clause-in_time g c =
+    answers_listened _ _ _ _ _ _ _ c.in_ok-opening.ensures.opens.taken c.in_ok-opening.ensures.listens
+
+pub returns-in_err-session-clause-in_time : goal.returns-in_err-session-clause-in_time
+returns-in_err-session-clause-in_time g c =
+    answers_listened _ _ _ _ _ _ _ c.in_ok-opening.ensures.opens.taken c.in_ok-opening.ensures.listens
+
+pub returns-in-Some-clause-in_time : goal.returns-in-Some-clause-in_time
+returns-in-Some-clause-in_time g c =
+    let o = c.in_ok-opening.ensures.opens in
+    let on = c.in_ok-scene.ensures.ok in
+    let text = c.in_ok-opening.opening.text.items in
+    let laws : Laws = record {
+      kept = c.laws_of_parts.ensures.kept;
+      within = c.laws_of_parts.ensures.within;
+      quit = c.laws_of_sessions.ensures.quit;
+      scene = c.laws_of_sessions.ensures.scene;
+    } in
+    let part = sym o.part ∙ c.in-Some.is in
+    let seated : Seated g.A.Array.BITS c.in-Some.length text c.in_ok-scene.scene =
+    record { part = part; good = on.good; scene = on.scene; draws = c.in_ok-session.ensures.draws } in
+    let left : 1048577 - c.len-more.result ≡ 1048577 - length text = omega (arith, c.len-more.ensures) in
+    answers_served laws _ _ _ _ _ _ _ _ _ text _ _ _ _ seated o.taken c.in_ok-opening.ensures.listens
+    c.in_ok-session.ensures.session left (c.commands-read.ensures ∙ ap command_text c.as_slice.ensures.value)
+    c.sit.ensures.prompt
+
+pub returns-clause-in_time : goal.returns-clause-in_time
+returns-clause-in_time g c =
+    answers_listened _ _ _ _ _ _ _ c.in_ok-opening.ensures.opens.taken c.in_ok-opening.ensures.listens

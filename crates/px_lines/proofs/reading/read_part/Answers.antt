@@ -1,6 +1,6 @@
-use Rattle.std.proofs.Common.{rules, arith, ◌≡◌, ◌-◌, length, take, None, ◌∙◌, sym}
+use Rattle.std.proofs.Common.{rules, ◌≡◌, ◌-◌, take, None, ◌∙◌, sym}
 use Rattle.px_io.proofs.ToldLaws.{on_err}
-use Rattle.px_lines.proofs.ReadLemmas.{least_front, seen_all, seen_more}
+use Rattle.px_lines.proofs.ReadLemmas.{least_front, seen_all, seen_more, waits_of}
 use Rattle.px_lines.proofs.reading.read_part.Goals as goal
 
 pub returns-in_err-count-clause-failed : goal.returns-in_err-count-clause-failed
@@ -16,7 +16,9 @@ pub returns-in_err-count-clause-err : goal.returns-in_err-count-clause-err
 returns-in_err-count-clause-err g c = search (rules, c.in_err-count.ensures.err _ c.loop-piece.invariant.heard)
 
 pub returns-in_err-count-clause-listened : goal.returns-in_err-count-clause-listened
-returns-in_err-count-clause-listened g c = on_err _ (c.in_err-count.ensures.listened _ c.loop-piece.invariant.heard)
+returns-in_err-count-clause-listened g c =
+    let inv = c.loop-piece.invariant in
+    on_err _ (c.in_err-count.ensures.listened _ (waits_of _ _ _ _ _ _ inv.heard inv.seen inv.all))
 
 pub find-part-requires : goal.find-part-requires
 find-part-requires g c =
@@ -28,10 +30,14 @@ find-part-requires g c =
     }
 
 pub returns-then-count-eq0-clause-taken : goal.returns-then-count-eq0-clause-taken
-returns-then-count-eq0-clause-taken g c = (c.in_ok-count.ensures.heard _ c.loop-piece.invariant.heard).taken
+returns-then-count-eq0-clause-taken g c =
+    let inv = c.loop-piece.invariant in
+    (c.in_ok-count.ensures.heard _ (waits_of _ _ _ _ _ _ inv.heard inv.seen inv.all)).taken
 
 pub returns-then-count-eq0-clause-listens : goal.returns-then-count-eq0-clause-listens
-returns-then-count-eq0-clause-listens g c = (c.in_ok-count.ensures.heard _ c.loop-piece.invariant.heard).listens
+returns-then-count-eq0-clause-listens g c =
+    let inv = c.loop-piece.invariant in
+    (c.in_ok-count.ensures.heard _ (waits_of _ _ _ _ _ _ inv.heard inv.seen inv.all)).listens
 
 pub loop-piece-preserved : goal.loop-piece-preserved
 loop-piece-preserved g c =
@@ -41,7 +47,7 @@ loop-piece-preserved g c =
     let none : c.find-part.result ≡ None = search rules in
     record {
       within = search rules;
-      heard = c.in_ok-count.ensures.heard _ inv.heard;
+      heard = c.in_ok-count.ensures.heard _ (waits_of _ _ _ _ _ _ inv.heard inv.seen inv.all);
       calm = c.in_ok-count.ensures.calm ∙ inv.calm;
       seen = rw (sym same) (c.find-part.ensures.seen none);
       all = rw (sym same) (c.find-part.ensures.all none);

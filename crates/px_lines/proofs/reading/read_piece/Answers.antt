@@ -12,14 +12,14 @@ returns-in_err-extend_from_slice-clause-err g c begun heard =
     (grind (arith, common_steps, c.in_ok-count.ensures.bound))
 
 pub returns-in_err-count-clause-listened : goal.returns-in_err-count-clause-listened
-returns-in_err-count-clause-listened g c begun heard =
-    on_err _ (listened_more _ _ _ _ _ _ _ _ heard c.ask.ensures.noted (read_gave _ _ _ _ c.ask.ensures.bytes))
+returns-in_err-count-clause-listened g c begun waits =
+    on_err _ (listened_more _ _ _ _ _ _ _ _ waits c.ask.ensures.noted (read_gave _ _ _ _ c.ask.ensures.bytes))
 
 pub returns-in_err-extend_from_slice-clause-listened : goal.returns-in_err-extend_from_slice-clause-listened
-returns-in_err-extend_from_slice-clause-listened g c begun heard =
-    on_err _ (listened_more _ _ _ _ _ _ _ _ heard c.ask.ensures.noted (read_gave _ _ _ _ c.ask.ensures.bytes))
+returns-in_err-extend_from_slice-clause-listened g c begun waits =
+    on_err _ (listened_more _ _ _ _ _ _ _ _ waits c.ask.ensures.noted (read_gave _ _ _ _ c.ask.ensures.bytes))
 
 pub returns-clause-heard : goal.returns-clause-heard
-returns-clause-heard g c begun heard =
+returns-clause-heard g c begun waits =
     rw c.in_ok-extend_from_slice.ensures.items
-    (heard_more _ _ _ _ _ _ _ _ heard c.in_ok-count.ensures.noted c.in_ok-count.ensures.bytes.0)
+    (heard_more _ _ _ _ _ _ _ _ waits c.in_ok-count.ensures.noted c.in_ok-count.ensures.bytes.0)

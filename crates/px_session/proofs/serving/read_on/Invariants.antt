@@ -14,12 +14,12 @@ invariant-loop-more g l = record {
       (g.S.Source.rest l.fn.input) (g.S.Source.rest l.input) (g.O.Sink.written l.fn.out) (g.O.Sink.written l.out)
       (g.O.Sink.finished l.fn.out) (g.O.Sink.finished l.out);
   few : l.session.lines + l.more < 2 ^ 64 - 1;
-  prompt : (b : Begun) → Caught g.A.Array.BITS b (stand l.fn.session (g.A.Array.work l.fn.array)) l.fn.held.items (g.S.Asks.asks l.fn.input) (g.S.Source.rest l.fn.input)
+  prompt : (b : Begun) → Caught g.A.Array.BITS b l.limit (stand l.fn.session (g.A.Array.work l.fn.array)) l.fn.held.items (g.S.Asks.asks l.fn.input) (g.S.Source.rest l.fn.input)
       (g.O.Sink.written l.fn.out) (g.O.Sink.finished l.fn.out)
       → PromptsFrom g.A.Array.BITS b (g.S.Asks.asks l.input) (g.S.Source.rest l.input);
-  caught : (b : Begun) → Caught g.A.Array.BITS b (stand l.fn.session (g.A.Array.work l.fn.array)) l.fn.held.items (g.S.Asks.asks l.fn.input) (g.S.Source.rest l.fn.input)
+  caught : (b : Begun) → Caught g.A.Array.BITS b l.limit (stand l.fn.session (g.A.Array.work l.fn.array)) l.fn.held.items (g.S.Asks.asks l.fn.input) (g.S.Source.rest l.fn.input)
       (g.O.Sink.written l.fn.out) (g.O.Sink.finished l.fn.out)
-      → 0 < l.more → Caught g.A.Array.BITS b (stand l.session (g.A.Array.work l.array)) l.held.items (g.S.Asks.asks l.input) (g.S.Source.rest l.input)
+      → 0 < l.more → Caught g.A.Array.BITS b l.more (stand l.session (g.A.Array.work l.array)) l.held.items (g.S.Asks.asks l.input) (g.S.Source.rest l.input)
       (g.O.Sink.written l.out) (g.O.Sink.finished l.out);
   calm_in : g.S.Source.faults l.input ≡ g.S.Source.faults l.fn.input;
   calm_out : g.O.Sink.faults l.out ≡ g.O.Sink.faults l.fn.out;

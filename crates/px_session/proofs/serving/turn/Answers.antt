@@ -1,4 +1,4 @@
-use Rattle.std.proofs.Common.{◌≤◌, ◌<◌, ◌∙◌, length, take, drop, arith}
+use Rattle.std.proofs.Common.{◌≤◌, ◌∙◌, length, take, drop, arith}
 use Rattle.std.proofs.lemmas.List.{length-take}
 use Rattle.px_session.proofs.FeedingLemmas.{last_more, last_quit}
 use Rattle.px_asked.proofs.AskLaws.{read_gave}
@@ -53,27 +53,27 @@ returns-in-Ok-Quit-clause-off g c =
 
 pub returns-in_default-clause-prompt : goal.returns-in_default-clause-prompt
 returns-in_default-clause-prompt g c = λ b caught.
-    prompts_ask _ b _ _ _ _ _ _ _ _ _ caught c.ask.ensures.noted (read_gave _ _ _ _ c.ask.ensures.bytes)
+    prompts_ask _ b _ _ _ _ _ _ _ _ _ _ caught c.requires.some c.ask.ensures.noted (read_gave _ _ _ _ c.ask.ensures.bytes)
 
 pub returns-in-Ok-finish_line-clause-prompt : goal.returns-in-Ok-finish_line-clause-prompt
 returns-in-Ok-finish_line-clause-prompt g c = λ b caught.
-    prompts_ask _ b _ _ _ _ _ _ _ _ _ caught c.ask.ensures.noted (read_gave _ _ _ _ c.ask.ensures.bytes)
+    prompts_ask _ b _ _ _ _ _ _ _ _ _ _ caught c.requires.some c.ask.ensures.noted (read_gave _ _ _ _ c.ask.ensures.bytes)
 
 pub returns-in-Err-clause-prompt : goal.returns-in-Err-clause-prompt
 returns-in-Err-clause-prompt g c = λ b caught.
-    prompts_ask _ b _ _ _ _ _ _ _ _ _ caught c.ask.ensures.noted (read_gave _ _ _ _ c.ask.ensures.bytes)
+    prompts_ask _ b _ _ _ _ _ _ _ _ _ _ caught c.requires.some c.ask.ensures.noted (read_gave _ _ _ _ c.ask.ensures.bytes)
 
 pub returns-in-Ok-More-clause-prompt : goal.returns-in-Ok-More-clause-prompt
 returns-in-Ok-More-clause-prompt g c = λ b caught.
-    prompts_ask _ b _ _ _ _ _ _ _ _ _ caught c.ask.ensures.noted (read_gave _ _ _ _ c.ask.ensures.bytes)
+    prompts_ask _ b _ _ _ _ _ _ _ _ _ _ caught c.requires.some c.ask.ensures.noted (read_gave _ _ _ _ c.ask.ensures.bytes)
 
 pub returns-in-Ok-Quit-clause-prompt : goal.returns-in-Ok-Quit-clause-prompt
 returns-in-Ok-Quit-clause-prompt g c = λ b caught.
-    prompts_ask _ b _ _ _ _ _ _ _ _ _ caught c.ask.ensures.noted (read_gave _ _ _ _ c.ask.ensures.bytes)
+    prompts_ask _ b _ _ _ _ _ _ _ _ _ _ caught c.requires.some c.ask.ensures.noted (read_gave _ _ _ _ c.ask.ensures.bytes)
 
 pub returns-in-Err-feed-clause-prompt : goal.returns-in-Err-feed-clause-prompt
 returns-in-Err-feed-clause-prompt g c = λ b caught.
-    prompts_ask _ b _ _ _ _ _ _ _ _ _ caught c.ask.ensures.noted (read_gave _ _ _ _ c.ask.ensures.bytes)
+    prompts_ask _ b _ _ _ _ _ _ _ _ _ _ caught c.requires.some c.ask.ensures.noted (read_gave _ _ _ _ c.ask.ensures.bytes)
 
 pub returns-in-Ok-More-clause-caught : goal.returns-in-Ok-More-clause-caught
 returns-in-Ok-More-clause-caught g c = λ b caught less.
@@ -82,7 +82,7 @@ returns-in-Ok-More-clause-caught g c = λ b caught less.
     let bound : n ≤ length buf = omega (arith, c.in-Ok.ensures.bound) in
     let fed = seen_read c.args.limit n c.min.result buf (drop c.min-room.result c.args.piece.now) bound c.min.ensures in
     let all = seen_all c.args.limit (take n buf) (omega (arith, length-take n buf, less)) in
-    caught_fed _ b _ _ _ _ _ _ _ _ _ _ _ _ (take n buf) _ caught c.in-Ok.ensures.noted c.in-Ok.ensures.bytes.0 (fed ∙ all)
+    caught_fed _ b _ _ _ _ _ _ _ _ _ _ _ _ _ _ (take n buf) _ caught c.requires.some (omega (arith, length-take n buf, less)) c.in-Ok.ensures.noted c.in-Ok.ensures.bytes.0 (fed ∙ all)
     c.in-Ok-More.ensures.ok (last_more _ _ c.in-Ok-More.field-0-is c.in-Ok-More.ensures.going)
     (c.in-Ok-More.ensures.held c.in-Ok-More.field-0-is)
 
