@@ -76,7 +76,8 @@ pub counted_passes : (scene : SceneView) (products : List Product) (costs : Cost
     (costs.operations ≡ length (passes scene)) × (costs.clocks ≡ total scene)
 counted_passes scene products costs products_is costs_is =
     let whole : costs ≡ cost_of scene (passes scene) =
-    costs_is ∙ ap (λ ps. steps_cost scene (steps_with scene ps)) products_is ∙ ap (cost_of scene) (sym (passes_are scene)) in
+    costs_is ∙ ap (λ ps. steps_cost scene (steps_with scene ps)) products_is
+    ∙ ap (cost_of scene) (sym (passes_are scene)) in
     (ap (λ (c : Costs). c.operations) whole, ap (λ (c : Costs). c.clocks) whole ∙ sym (total_is scene))
 
 -- how many steps there are

@@ -23,7 +23,8 @@ use Rattle.px_macro.specs.Macros.{IsLawful, IsLawfulInMore}
 use Rattle.px_model.specs.Scenes.{IsLawfulScene, IsLawfulSolid, SceneView}
 use Rattle.px_sched.specs.declared.literal.Literal.{Literal}
 use Rattle.px_sched.specs.declared.step.Step.{Step}
-use Rattle.px_sched.specs.declared.step.Step.TheVariants.{Begin, Candidate, Clear, Close, Confirm, Drop, Front, Merge, Open}
+use Rattle.px_sched.specs.declared.step.Step.TheVariants.{Begin, Candidate, Clear, Close, Confirm, Drop, Front, Merge}
+use Rattle.px_sched.specs.declared.step.Step.TheVariants.{Open}
 use Rattle.px_sched.specs.declared.step.Step.TheVariants.{Turn}
 use Rattle.px_sched.specs.Layouts.{LayoutView, deep_part, fraction_part, layout_of, need_of, number_part}
 use Rattle.px_sched.specs.Passes.{candidate_faces, confirm, judge, keep_covered, literal_at, literal_steps, no_literal}
@@ -85,7 +86,8 @@ module _ (scene : SceneView) where
       (micro_at o (columns_of scene) (rows_of scene))) ms
 
   -- operations that take as many clocks, one after another
-  as_long : (ms ns : List Macro) → map (cycles_in scene) ms ≡ map (cycles_in scene) ns → cost_of scene ms ≡ cost_of scene ns
+  as_long : (ms ns : List Macro) → map (cycles_in scene) ms ≡ map (cycles_in scene) ns
+      → cost_of scene ms ≡ cost_of scene ns
   as_long ms ns same =
       let id : ℕ → ℕ = λ n. n in
       same_costs (cost_of scene ms) (cost_of scene ns)
@@ -399,7 +401,8 @@ module _ (count : EdgesAreCounted) (scene : SceneView) where
 
   pub barred_confirm : (q : Literal) (n : ℕ) → (scene.fraction_bits == 0) ≡ false → q.plain ≡ false
       → n ≡ length (solid_of scene q.solid).fronts + 1
-      → costs_plus (costs_plus (step_cost scene Clear) (times n (step_cost scene (Front q.solid 0)))) (step_cost scene Confirm)
+      → costs_plus (costs_plus (step_cost scene Clear) (times n (step_cost scene (Front q.solid 0))))
+      (step_cost scene Confirm)
       ≡ steps_cost scene (where_fraction (depths_of scene) (confirm scene q))
   barred_confirm q n some barred same =
       let faces = range_with_len 0 (length (solid_of scene q.solid).fronts + 1) in

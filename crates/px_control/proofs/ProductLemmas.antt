@@ -23,7 +23,8 @@ use Rattle.px_sched.proofs.ProductLaws.{each_literal, in_solids, in_solids_of}
 use Rattle.px_control.specs.declared.costs.Costs.{Costs}
 use Rattle.px_control.specs.Costs.{costs_plus, share, step_cost, steps_cost, sum_of}
 use Rattle.px_control.proofs.CostLemmas.{IsAlike, clocks_in, clocks_of_steps, cost_is, costs_alike, flat_sum, judged}
-use Rattle.px_control.proofs.CostLemmas.{literal_sum, operations_in, operations_of_steps, part_alike, sum_by-agree, sum_map}
+use Rattle.px_control.proofs.CostLemmas.{literal_sum, operations_in, operations_of_steps, part_alike, sum_by-agree}
+use Rattle.px_control.proofs.CostLemmas.{sum_map}
 
 -- the solids of a set stand in ascending order
 range_push : (from count : ℕ) → range_with_len from count ++ (from + count) ∷ [] ≡ range_with_len from (suc count)
@@ -88,7 +89,8 @@ module _ (f : Literal → ℕ) (plain : Bool) (test : ℕ → Bool) where
     other : (from == q) ≡ false
     other = grind (arith, nat_tests)
 
-    step : (b : Bool) → met_in q (later from count) ≡ 0 → met_in q (cond b (from ∷ later from count) (later from count)) ≡ 0
+    step : (b : Bool) → met_in q (later from count) ≡ 0
+        → met_in q (cond b (from ∷ later from count) (later from count)) ≡ 0
     step true rest = rw other rest
     step false rest = rest
 
@@ -103,7 +105,8 @@ module _ (f : Literal → ℕ) (plain : Bool) (test : ℕ → Bool) where
       itself : (from == from) ≡ true
       itself = grind (arith, nat_tests)
 
-      here : (b : Bool) → met_in from (cond b (from ∷ later from count) (later from count)) ≡ cond b (f (literal plain from)) 0
+      here : (b : Bool) → met_in from (cond b (from ∷ later from count) (later from count))
+          ≡ cond b (f (literal plain from)) 0
       here true =
           let rest = filter (λ r. r.solid == from) (map (literal plain) (later from count)) in
           rw itself
@@ -133,7 +136,8 @@ module _ (f : Literal → ℕ) (p : Product) where
         ))
 
   -- each literal and those of other solids are all
-  others_sum : is_void p ≡ false → (q : Literal) → In q (literals p) → sum_by f (others q p) + f q ≡ sum_by f (literals p)
+  others_sum : is_void p ≡ false → (q : Literal) → In q (literals p)
+      → sum_by f (others q p) + f q ≡ sum_by f (literals p)
   others_sum apart =
       each_literal p (λ q. sum_by f (others q p) + f q ≡ sum_by f (literals p))
       (λ q h. let at = in_solids p.plain q h in
@@ -206,7 +210,8 @@ module _ (scene : SceneView) (v : Step → ℕ) (h : IsAlike scene v) (product :
             (λ q. literal_sum scene v h q (others q product)) (literals product),
         sum_plus own (λ q. sum_by against (others q product)) (literals product),
         less_one_times (length (literals product)) _ _
-            (sum_in (λ q. sum_by against (others q product)) against (sum_by against (literals product)) (literals product)
+            (sum_in (λ q. sum_by against (others q product)) against (sum_by against (literals product))
+            (literals product)
             (others_sum against product apart)),
         sum_plus own (λ q. n * against q) (literals product),
         sum_times n against (literals product),
@@ -231,7 +236,8 @@ module _ (count : EdgesAreCounted) (scene : SceneView) (product : Product) (n : 
   abbrev shares_of : Bool → ℕ → Costs
   shares_of plain solid = share scene (literal plain solid) n
 
-  parts : (v : Step → ℕ) (h : IsAlike scene v) (part : List Step → ℕ) → ((steps : List Step) → part steps ≡ sum_by v steps)
+  parts : (v : Step → ℕ) (h : IsAlike scene v) (part : List Step → ℕ)
+      → ((steps : List Step) → part steps ≡ sum_by v steps)
       → n ≡ length (literals product) - 1 → is_void product ≡ false →
       let added : Bool → ℕ → ℕ =
       λ plain solid. part (literal_steps scene (literal plain solid) [])
@@ -260,7 +266,8 @@ module _ (count : EdgesAreCounted) (scene : SceneView) (product : Product) (n : 
       ≡ steps_cost scene (product_steps scene product)
   product_costs all apart =
       cost_is scene _ (product_steps scene product)
-      (parts (operations_in scene) (part_alike scene (λ costs. costs.operations) (step_cost scene) (costs_alike count scene))
+      (parts (operations_in scene)
+      (part_alike scene (λ costs. costs.operations) (step_cost scene) (costs_alike count scene))
       (λ steps. (steps_cost scene steps).operations) (operations_of_steps scene) all apart)
       (parts (clocks_in scene) (part_alike scene (λ costs. costs.clocks) (step_cost scene) (costs_alike count scene))
       (λ steps. (steps_cost scene steps).clocks) (clocks_of_steps scene) all apart)
@@ -278,7 +285,8 @@ literals_length product =
 -- the steps of products are the background's, and then those of each product
 module _ (scene : SceneView) where
   pub steps_sum : (v : Step → ℕ) (products : List Product) →
-      sum_by v (steps_with scene products) ≡ v Start + sum_by (λ product. sum_by v (product_steps scene product)) products
+      sum_by v (steps_with scene products)
+      ≡ v Start + sum_by (λ product. sum_by v (product_steps scene product)) products
   steps_sum v products =
       omega (
         arith,

@@ -21,7 +21,8 @@ use Rattle.px_face.specs.Faces.{face_number, face_plane}
 use Rattle.px_normal.specs.declared.product.Product.{Product}
 use Rattle.px_sched.specs.declared.literal.Literal.{Literal}
 use Rattle.px_sched.specs.declared.step.Step.TheVariants.{Candidate, Merge}
-use Rattle.px_sched.specs.Passes.{candidate_faces, confirm, judge, literal_at, literal_steps, literals, no_literal, others}
+use Rattle.px_sched.specs.Passes.{candidate_faces, confirm, judge, literal_at, literal_steps, literals, no_literal}
+use Rattle.px_sched.specs.Passes.{others}
 use Rattle.px_sched.specs.Passes.{product_steps, solid_of, steps_with, where_fraction}
 use Rattle.px_sched.specs.Numbers.{Keys, KeyedPixel, after_step, after_steps, dropped, key, loaded, residue}
 use Rattle.px_sched.specs.Numbers.{without_fraction}
@@ -219,7 +220,8 @@ module _ (covering : CoveringLaw) (parity : ValueParityLaw) (scene : SceneView) 
   kept : (solid : ℕ) (plain : Bool) (k start new : Keys) → let s = solid_of scene solid in k.alive ≡ false
       → start ≡ (if is_covered s plain far l.x l.y then loaded l d s k (face_found s plain far l.x l.y) else k)
       → IsConfirmed covering scene l room solid plain start new → IsKept s plain k new
-  kept solid plain k start new dead is c = let s = solid_of scene solid in elim (cases_Bool (is_covered s plain far l.x l.y)) [
+  kept solid plain k start new dead is c = let s = solid_of scene solid in
+      elim (cases_Bool (is_covered s plain far l.x l.y)) [
     | inl yea ↦
         let z = cell_found s plain d l.x l.y in
         let some = loaded l d s k (face_found s plain far l.x l.y) in
@@ -228,7 +230,8 @@ module _ (covering : CoveringLaw) (parity : ValueParityLaw) (scene : SceneView) 
         record {
           best = c.best ∙ ap (λ (k : Keys). k.best) here;
           alive = c.alive
-              ∙ ap (λ (k : Keys). k.alive && ((d.fraction_bits == 0) || test covering scene l room solid plain k.deep)) here
+              ∙ ap (λ (k : Keys). k.alive && ((d.fraction_bits == 0) || test covering scene l room solid plain k.deep))
+              here
               ∙ ap (λ v. (d.fraction_bits == 0) || test covering scene l room solid plain v) deep
               ∙ cell_test solid plain yea ∙ rw yea refl;
           has = λ _. record {
@@ -242,7 +245,8 @@ module _ (covering : CoveringLaw) (parity : ValueParityLaw) (scene : SceneView) 
         record {
           best = c.best ∙ ap (λ (k : Keys). k.best) here;
           alive = c.alive
-              ∙ ap (λ (k : Keys). k.alive && ((d.fraction_bits == 0) || test covering scene l room solid plain k.deep)) here
+              ∙ ap (λ (k : Keys). k.alive && ((d.fraction_bits == 0) || test covering scene l room solid plain k.deep))
+              here
               ∙ rw (dead, nay) refl;
           has = λ e. absurd (never (is_covered s plain far l.x l.y)
               (has_cell s plain d l.x l.y (cell_found s plain d l.x l.y)) nay e);

@@ -1,5 +1,6 @@
 -- What the operations of each step do to the bits of a pixel is what the step does to the numbers.
-use Rattle.std.proofs.Common.{◌≡◌, ℕ, ◌+◌, ◌-◌, ◌*◌, ◌/◌, ◌%◌, ◌^◌, ◌<◌, ◌≤◌, ◌==◌, Bool, true, false, ◌&&◌, not, nat_le}
+use Rattle.std.proofs.Common.{◌≡◌, ℕ, ◌+◌, ◌-◌, ◌*◌, ◌/◌, ◌%◌, ◌^◌, ◌<◌, ◌≤◌, ◌==◌, Bool, true, false, ◌&&◌, not}
+use Rattle.std.proofs.Common.{nat_le}
 use Rattle.std.proofs.Common.{nat_lt, List, [], ◌∷◌, ◌++◌, length, map, slice_set, inl, inr, refl, ap, sym, ◌∙◌, arith}
 use Rattle.std.proofs.Common.{get_or-set_same, get_or-set_other, if◌then◌else◌}
 use Rattle.std.specs.Bool.{beq}
@@ -278,8 +279,8 @@ module _ (laws : FieldLaws) (scene : SceneView) (w i x y : ℕ)
         ∙ ap (λ (k : Keys). record k { number = face_number s face }) same)
 
     loading : (memory : List Bool) (c : Bool) → IsLong memory
-        → keys (after_macros (m.LoadLinear form (t_deep w f i) ∷ where_fraction d (m.LoadConst (t_fraction w f i) 0 ∷ [])
-        ++ numbered ∷ risen ∷ []) x y (pixel memory c)).memory
+        → keys (after_macros (m.LoadLinear form (t_deep w f i)
+        ∷ where_fraction d (m.LoadConst (t_fraction w f i) 0 ∷ []) ++ numbered ∷ risen ∷ []) x y (pixel memory c)).memory
         ≡ (if c then loaded place d s (keys memory) face else keys memory)
     loading memory c long = elim (cases_Bool (f == 0)) [
       | inl none ↦ rw none (without c (no_fraction f none))

@@ -1,6 +1,7 @@
 -- Which candidates stay alive: those of pixels at which their solid has a cell.
 use Rattle.std.proofs.Common.{◌≡◌, ◌<◌, ◌+◌, ◌^◌, ◌+ℤ◌, ◌<ℤ◌, ◌≤ℤ◌, ℕ, zero, suc, ℤ, pos, Bool, true, false}
-use Rattle.std.proofs.Common.{◌&&◌, ◌||◌, ◌==◌, ◌*◌, ◌-◌, inl, inr, not, nat_le, nat_lt, List, [], ◌∷◌, ◌++◌, length, eqb, map}
+use Rattle.std.proofs.Common.{◌&&◌, ◌||◌, ◌==◌, ◌*◌, ◌-◌, inl, inr, not, nat_le, nat_lt, List, [], ◌∷◌, ◌++◌, length}
+use Rattle.std.proofs.Common.{eqb, map}
 use Rattle.std.proofs.Common.{refl, ap, sym, ◌∙◌, arith, if◌then◌else◌}
 use Rattle.std.specs.Bool.{beq}
 use Rattle.std.specs.List.{fold, range_with_len}
@@ -17,7 +18,8 @@ use Rattle.px_num.proofs.FormLaws.{value_at-plus}
 use Rattle.px_num.proofs.TruthLaws.{and_true, eqb_holds, le_same, lt_fails, lt_false, lt_holds}
 use Rattle.px_num.proofs.TruthLaws.{lt_is_not_le, lt_true, turned_from_false}
 use Rattle.px_model.specs.Scenes.{SceneView, SolidView}
-use Rattle.px_model.specs.Cells.{Depths, cell_of, depths_of, end_of, enters_at, is_inside, is_inside_before, leaves_at, value_of}
+use Rattle.px_model.specs.Cells.{Depths, cell_of, depths_of, end_of, enters_at, is_inside, is_inside_before}
+use Rattle.px_model.specs.Cells.{leaves_at, value_of}
 use Rattle.px_model.proofs.CellLaws.{cell_is_first, cell_is_least}
 use Rattle.px_face.specs.Covering.{CoveringLaw, covering_back, covering_front, is_met}
 use Rattle.px_face.specs.Edges.{covers}

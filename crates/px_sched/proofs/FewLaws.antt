@@ -25,7 +25,8 @@ use Rattle.px_sched.specs.declared.step.Step.{Step}
 use Rattle.px_sched.specs.declared.step.Step.TheVariants.{Start, Open, Candidate, Drop, Clear, Front, Confirm}
 use Rattle.px_sched.specs.declared.step.Step.TheVariants.{Begin, Turn, Close, Merge}
 use Rattle.px_sched.specs.Layouts.{LayoutView, deep_part, fraction_part, number_part}
-use Rattle.px_sched.specs.Passes.{candidate_faces, confirm, judge, keep_covered, literal, literal_at, literal_steps, literals}
+use Rattle.px_sched.specs.Passes.{candidate_faces, confirm, judge, keep_covered, literal, literal_at, literal_steps}
+use Rattle.px_sched.specs.Passes.{literals}
 use Rattle.px_sched.specs.Passes.{literals_of, no_solid, operations, others, product_steps, solid_of, steps_with}
 use Rattle.px_sched.specs.Passes.{where_fraction, where_passed}
 use Rattle.px_sched.specs.Steps.{HasFace, IsThere, passes_with}
@@ -236,7 +237,8 @@ module _ (counted : EdgesAreCounted) (scene : SceneView) (l : LayoutView)
   few_product p =
       omega (
         arith,
-        few_flat (λ _. Unit {0}) (λ q. literal_steps scene q (others q p)) (2 ^ 16) (λ q _. few_literal p q) (literals p)
+        few_flat (λ _. Unit {0}) (λ q. literal_steps scene q (others q p)) (2 ^ 16) (λ q _. few_literal p q)
+            (literals p)
             (anything (literals p)),
         few_literals p,
       )

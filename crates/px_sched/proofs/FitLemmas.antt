@@ -86,7 +86,11 @@ module _ (ranges : EdgesAreInRange) (planes : PlanesAreInRange) (scene : SceneVi
   }
 
   deep : IsField (deep_part l l.key_t) (need_of l)
-  deep = record { from_one = omega (arith, lawful.some_depth); to_forty = omega (arith, lawful.depth); within = omega arith }
+  deep = record {
+    from_one = omega (arith, lawful.some_depth);
+    to_forty = omega (arith, lawful.depth);
+    within = omega arith;
+  }
 
   fraction : (f == 0) ≡ false → IsField (fraction_part l l.key_t) (need_of l)
   fraction some = record {
@@ -111,14 +115,16 @@ module _ (ranges : EdgesAreInRange) (planes : PlanesAreInRange) (scene : SceneVi
     copy = (record { fields = (field_t, field_b); length = refl }, inr (omega arith));
     cleared = λ some. (fraction some, pow_pos f);
     number = λ solid face. (number, numbers_fit scene lawful solid face);
-    signs = λ solid face there. ranges (solid_of scene solid) (any_solid IsLawfulSolid scene solids no_solid_lawful solid)
+    signs = λ solid face there.
+        ranges (solid_of scene solid) (any_solid IsLawfulSolid scene solids no_solid_lawful solid)
         end face end_small there;
     load = λ solid face there. (
       plus_range (face_plane (solid_of scene solid) end face) (2 ^ f - 1) (omega (arith, unit_most))
           (plane solid face there),
       deep,
     );
-    at_most = λ solid face there. (plane_range (face_plane (solid_of scene solid) end face) (plane solid face there), deep);
+    at_most = λ solid face there.
+        (plane_range (face_plane (solid_of scene solid) end face) (plane solid face there), deep);
     behind = λ solid face there. (
       plus_range (face_plane (solid_of scene solid) end face) (2 ^ f) (omega (arith, unit_most))
           (plane solid face there),

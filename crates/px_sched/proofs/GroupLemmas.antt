@@ -1,5 +1,6 @@
 -- The step behind a step of a group, by the literal and the others that were found.
-use Rattle.std.proofs.Common.{◌≡◌, ℕ, ◌+◌, ◌<◌, All, not, ◌==◌, List, filter, length, Option, Some, None, IfSome, ap, sym}
+use Rattle.std.proofs.Common.{◌≡◌, ℕ, ◌+◌, ◌<◌, All, not, ◌==◌, List, filter, length, Option, Some, None, IfSome, ap}
+use Rattle.std.proofs.Common.{sym}
 use Rattle.std.proofs.Common.{subst, ◌++◌, ◌∙◌, append_assoc, drop}
 use Rattle.std.specs.List.{flat_map}
 use Rattle.std.proofs.lemmas.List.Elements.{All-filter, All-get_or}

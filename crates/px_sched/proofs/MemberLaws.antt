@@ -1,5 +1,6 @@
 -- Members of lists, by their places too, and the least of them.
-use Rattle.std.proofs.Common.{◌≡◌, ◌≤◌, ◌+◌, ℕ, zero, suc, get_or, length, Bool, true, false, List, [], ◌∷◌, ◌++◌, map, min, refl, ap, sym}
+use Rattle.std.proofs.Common.{◌≡◌, ◌≤◌, ◌+◌, ℕ, zero, suc, get_or, length, Bool, true, false, List, [], ◌∷◌, ◌++◌}
+use Rattle.std.proofs.Common.{map, min, refl, ap, sym}
 use Rattle.std.proofs.Common.{◌∙◌, subst, arith, inl, inr, ◌⊎◌, if◌then◌else◌, ◌==◌}
 use Rattle.std.specs.List.{All, filter, flat_map, fold, list_all, list_any, range_with_len}
 use Rattle.std.proofs.lemmas.Bool.{cases_Bool}

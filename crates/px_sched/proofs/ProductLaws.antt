@@ -20,7 +20,8 @@ use Rattle.px_sched.specs.declared.literal.Literal.{Literal}
 use Rattle.px_sched.specs.Numbers.{KeyedPixel}
 use Rattle.px_sched.specs.Passes.{literal, literals, literals_of, no_solid, solid_of}
 use Rattle.px_sched.proofs.BlockLemmas.{suited}
-use Rattle.px_sched.proofs.MemberLaws.{From, In, all_of, any_in, any_out, face_in, in_either, in_face, in_filter, in_left}
+use Rattle.px_sched.proofs.MemberLaws.{From, In, all_of, any_in, any_out, face_in, in_either, in_face, in_filter}
+use Rattle.px_sched.proofs.MemberLaws.{in_left}
 use Rattle.px_sched.proofs.MemberLaws.{in_map, in_right, one_of, out_filter, out_map}
 
 in_below : (n q : ℕ) → In q (below n) → q < n

@@ -10,7 +10,8 @@ use Rattle.std.proofs.lemmas.Bool.Decides.{nat_tests}
 use Rattle.px_num.proofs.BitLaws.{pow_above}
 use Rattle.px_num.proofs.RangeLaws.{range_more}
 use Rattle.px_num.proofs.TruthLaws.{double_pow}
-use Rattle.px_model.specs.Scenes.{SceneView, AreNumberedFrom, IsLawfulScene, IsNumberedFrom, faces_of, SolidView, faces_in}
+use Rattle.px_model.specs.Scenes.{SceneView, AreNumberedFrom, IsLawfulScene, IsNumberedFrom, faces_of, SolidView}
+use Rattle.px_model.specs.Scenes.{faces_in}
 use Rattle.px_model.specs.declared.solid.Face.{Face}
 use Rattle.px_model.proofs.FaceLaws.{faces_of-cons}
 use Rattle.px_face.specs.Faces.{face_number, numbers_in_faces}

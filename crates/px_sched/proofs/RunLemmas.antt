@@ -28,7 +28,8 @@ use Rattle.px_sched.proofs.CoverLaws.{and_same, IsDepth, mod_small, le_same}
 use Rattle.px_sched.proofs.CoverLaws.{at_most_is, covering_value}
 
 -- a part of the keys after some steps for each element
-pub part_along : {X Y : Type 0} (scene : SceneView) (l : KeyedPixel) (part : Keys → Y) (f : X → List Step) (g : Y → X → Y)
+pub part_along : {X Y : Type 0} (scene : SceneView) (l : KeyedPixel) (part : Keys → Y) (f : X → List Step)
+    (g : Y → X → Y)
     → ((x : X) (k : Keys) → part (after_steps scene l k (f x)) ≡ g (part k) x)
     → (xs : List X) (k : Keys) → part (after_steps scene l k (flat_map f xs)) ≡ fold g (part k) xs
 part_along scene l part f g same [] k = refl

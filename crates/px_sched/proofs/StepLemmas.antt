@@ -171,7 +171,8 @@ operation_of_tail head tail es n at size from past =
     ap (λ k. get_or tail k m.All) (sym place)
     ∙ sym (get_or-append_right (head ++ signs) tail (length head + n) at m.All before (omega arith))
 
-pub passed_operation : (l : LayoutView) (s t : SolidView) (face end limit : ℕ) (form : Linear) (deep : Field) (alive : ℕ)
+pub passed_operation : (l : LayoutView) (s t : SolidView) (face end limit : ℕ) (form : Linear) (deep : Field)
+    (alive : ℕ)
     (operation r : Macro) (at : ℕ) → t ≡ s → limit ≡ end → deep ≡ deep_part l l.key_t → alive ≡ l.alive
     → r ≡ get_or ((m.All ∷ m.KeepBit alive true ∷ []) ++ keep_covered limit t face
     ++ (m.KeepAtMost form deep ∷ operation ∷ [])) at m.All

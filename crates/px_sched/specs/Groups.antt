@@ -1,4 +1,5 @@
--- The steps of a scene as a start and groups, a group for each step of each literal of each product. Clauses of public calls stand on it.
+-- The steps of a scene as a start and groups, a group for each step of each literal of each product.
+-- Clauses of public calls stand on it.
 use Rattle.std.specs.Prelude.{ℕ, ◌+◌, ◌<◌, ⊤, List, [], ◌++◌, drop, length, get_or}
 use Rattle.std.specs.List.{flat_map}
 use Rattle.px_macro.specs.declared.operation.Macro.{Macro}

@@ -8,7 +8,8 @@ returns-then-q-clause-cost c =
     c.times.ensures
     ∙ rw c.step_cost.ensures.cost
     (plain_confirm c.laws_of_edges.ensures.count c.args.scene.now c.args.q _
-    (not_none c.args.scene.now.fraction_bits (λ e. omega (arith, c.if-fraction_bits-eq0.false, c.fraction_bits.ensures.value, e)))
+    (not_none c.args.scene.now.fraction_bits
+    (λ e. omega (arith, c.if-fraction_bits-eq0.false, c.fraction_bits.ensures.value, e)))
     c.if-q.true
     (omega (arith, ap length c.backs.ensures.value, ap (λ (s : SolidView). length s.backs) c.solid_at-solid.ensures)))
 
@@ -23,6 +24,7 @@ returns-else-q-clause-cost c =
       c.step_cost-else-q-3.ensures.cost,
     )
     (barred_confirm c.laws_of_edges.ensures.count c.args.scene.now c.args.q _
-    (not_none c.args.scene.now.fraction_bits (λ e. omega (arith, c.if-fraction_bits-eq0.false, c.fraction_bits.ensures.value, e)))
+    (not_none c.args.scene.now.fraction_bits
+    (λ e. omega (arith, c.if-fraction_bits-eq0.false, c.fraction_bits.ensures.value, e)))
     c.if-q.false
     (omega (arith, ap length c.fronts.ensures.value, ap (λ (s : SolidView). length s.fronts) c.solid_at-solid.ensures)))

@@ -34,5 +34,6 @@ returns-clause-cost c =
       c.solids-plain.ensures,
       c.solids-barred.ensures,
     )
-    (product_costs c.laws_of_edges.ensures.count c.args.scene.now c.args.product.now c.saturating_sub-others.result others
+    (product_costs c.laws_of_edges.ensures.count c.args.scene.now c.args.product.now
+    c.saturating_sub-others.result others
     c.requires.apart)

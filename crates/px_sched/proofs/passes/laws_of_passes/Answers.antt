@@ -25,7 +25,8 @@ returns-clause-steps c =
 
 pub returns-clause-few : goal.returns-clause-few
 returns-clause-few c = λ scene lawful few. subst (λ ms. length ms ≤ 2 ^ 43) (sym (passes_are scene))
-    (few_passes c.laws_of_edges.ensures.count scene (layout_of scene) lawful (kept_of scene (sum_of_products scene.show))
+    (few_passes c.laws_of_edges.ensures.count scene (layout_of scene) lawful
+    (kept_of scene (sum_of_products scene.show))
     few)
 
 pub returns-clause-picture : goal.returns-clause-picture
