@@ -1,5 +1,5 @@
 //! What an array is, however it keeps its pixels and nodes.
-ghost use Rattle.std.specs.Prelude.{◌≡◌, ◌-◌, ◌^◌, ◌<◌, ◌≤◌, ℕ, List, OnErr, OnOk, Option, length};
+ghost use Rattle.std.specs.Prelude.{◌≡◌, ◌-◌, ◌*◌, ◌^◌, ◌<◌, ◌≤◌, ℕ, List, OnErr, OnOk, Option, length};
 ghost use Rattle.px_num.specs.Bits.{bit_at};
 ghost use Rattle.px_pixel.specs.Acts.{HasPlace};
 ghost use Rattle.px_tree.specs.Nodes.{IsGrid, leaf_bit, node_at};
@@ -7,6 +7,7 @@ ghost use Rattle.px_array.specs.Arrays.{Device, HasPixel, IsClosed, IsOpen, clos
 ghost use Rattle.px_array.specs.Arrays.{levels_of, pixel_of, registers_of};
 ghost use Rattle.px_array.specs.Clocks.{clocked};
 ghost use Rattle.px_array.specs.Slots.{IsSaved, after_save, no_slots, slot_of, worked};
+ghost use Rattle.px_array.specs.Words.{IsMemoryWord};
 ghost use Rattle.std.specs.Prelude.{Some};
 
 use crate::micro::{Micro, Registers};
@@ -63,6 +64,16 @@ pub trait Array {
         requires pixel { HasPixel (device self.now) x y }
         requires place { at < BITS }
         ensures { result ≡ bit_at (pixel_of (device self.now).state x y).memory at };
+
+    /// Bit `at` of the memories of 64 pixels.
+    ///
+    /// Bit `i` is that of the pixel at the place `64 * w + i`, where pixel `(x, y)` stands at the place
+    /// `x * 2^ny + y`, and 0 past the last pixel.
+    fn word(&self, at: u32, w: usize) -> u64
+        requires is_open { IsOpen (device self.now) }
+        requires place { at < BITS }
+        requires word { 64 * w < 2 ^ levels_of (device self.now).state.tree }
+        ensures { IsMemoryWord (device self.now).state at w result };
 
     /// The registers of a pixel.
     fn registers(&self, x: u32, y: u32) -> Registers

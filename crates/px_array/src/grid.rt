@@ -1,9 +1,10 @@
 //! An open array: its pixels, its tree and its clocks.
-ghost use Rattle.std.specs.Prelude.{◌≡◌, ◌+◌, ◌-◌, ◌^◌, ◌<◌, ◌≤◌, IfOk, length};
+ghost use Rattle.std.specs.Prelude.{◌≡◌, ◌+◌, ◌-◌, ◌*◌, ◌^◌, ◌<◌, ◌≤◌, IfOk, length};
 ghost use Rattle.px_pixel.specs.Acts.{HasPlace};
 ghost use Rattle.px_tree.specs.Nodes.{IsGrid, leaf_bit, leaf_output, node_at};
 ghost use Rattle.px_array.specs.Arrays.{HasPixel, IsOpen, opened, pixel_of};
 ghost use Rattle.px_array.specs.Clocks.{acted, after_tree_op, clocked};
+ghost use Rattle.px_array.specs.Words.{IsMemoryWord, memory_bit};
 
 use crate::micro::{Micro, TreeOp};
 use px_num::{Memory, power};
@@ -91,6 +92,33 @@ impl<const N: usize> Grid<N> {
     {
         let (nx, ny) = self.tree.size();
         &self.pixels[leaf_index(nx, ny, x, y)]
+    }
+
+    /// Bit `at` of the memories of the 64 pixels from the place `64 * w` on.
+    pub(crate) fn word(&self, at: u32, w: usize) -> u64
+        requires place { at < N }
+        requires word { 64 * w < 2 ^ (self.now.state.tree.nx + self.now.state.tree.ny) }
+        ensures { IsMemoryWord self.now.state at w result }
+    {
+        let mut word = 0;
+        for i in 0..64 {
+            if self.bit_of_word(at, w, i) {
+                word |= 1 << i;
+            }
+        }
+        word
+    }
+
+    /// Bit `i` of that word.
+    fn bit_of_word(&self, at: u32, w: usize, i: usize) -> bool
+        requires place { at < N }
+        requires word { 64 * w < 2 ^ (self.now.state.tree.nx + self.now.state.tree.ny) }
+        requires bit { i < 64 }
+        ensures { result ≡ memory_bit self.now.state at (64 * w + i) }
+    {
+        let pixels = self.pixels.len();
+        let place = 64 * w + i;
+        place < pixels && self.pixels[place].memory.get(at)
     }
 
     pub(crate) fn tree_bit(&self, x: u32, y: u32) -> bool

@@ -75,6 +75,13 @@ impl<const N: usize> Array for PixelArray<N> {
         }
     }
 
+    fn word(&self, at: u32, w: usize) -> u64 {
+        match &self.array {
+            Some(array) => array.grid.word(at, w),
+            None => 0,
+        }
+    }
+
     fn registers(&self, x: u32, y: u32) -> Registers {
         match &self.array {
             Some(array) => Registers::of(array.grid.pixel(x, y)),

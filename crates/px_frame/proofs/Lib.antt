@@ -1,3 +1,4 @@
 pub mod FaceLemmas
 pub mod ImageLemmas
 pub mod RowLaws
+pub mod StripLemmas

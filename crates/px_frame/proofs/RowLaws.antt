@@ -1,5 +1,5 @@
 -- Rows by their pixels, and images by their rows, as they are written one after another; images of the same numbers.
-use Rattle.std.proofs.Common.{◌≡◌, ℕ, ◌+◌, ◌-◌, ◌<◌, ap, sym, ◌∙◌, arith}
+use Rattle.std.proofs.Common.{◌≡◌, ℕ, ◌+◌, ◌-◌, ◌/◌, ◌^◌, ◌<◌, refl, ap, sym, ◌∙◌, arith}
 use Rattle.std.proofs.Common.{Bool, List, [], ◌∷◌, ◌++◌, Option, append_assoc}
 use Rattle.std.proofs.lemmas.List.{append-nil}
 use Rattle.std.proofs.lemmas.Grind.{flat_map-append}
@@ -8,7 +8,16 @@ use Rattle.px_num.proofs.RangeLaws.{range_cut, same_parts}
 use Rattle.px_io.specs.Told.{TakesAll, TakesFront}
 use Rattle.px_io.proofs.ToldLaws.{front_after, front_before, takes_both}
 use Rattle.px_frame.specs.Picture.{header, image_of, image_of_pixels, number_pixel, row_of_pixels, three_bytes}
-use Rattle.px_frame.specs.Rows.{row_bytes}
+use Rattle.px_array.specs.Arrays.{State, pixel_of}
+use Rattle.px_macro.specs.Fields.{number_in}
+use Rattle.px_macro.specs.declared.field.Field.{Field}
+use Rattle.px_model.specs.Scenes.{SceneView}
+use Rattle.px_sched.specs.Layouts.{LayoutView}
+use Rattle.px_frame.specs.declared.plane.Plane.{Plane}
+use Rattle.px_frame.specs.declared.plane.Plane.TheVariants as p
+use Rattle.px_frame.specs.Rows.{IsShown, field_of, row_bytes, shown_pixel, strip_pixel}
+use Rattle.px_frame.specs.Stored.{StoresFaces, stored_pixel}
+use Rattle.px_frame.specs.Strips.{HoldsRow, strip_number}
 
 range_join : (n m : ℕ) → range_with_len 0 n ++ range_with_len n m ≡ range_with_len 0 (n + m)
 range_join n m =
@@ -61,6 +70,14 @@ rows_broken a b c f g h front row y height above written next =
     rw whole at (front_before a c f h (front ++ made row (y + 1)) (flat_map row (range_with_len (y + 1) rest))
     (rw more at (front_after a b c f g h (front ++ made row y) (row y) written next)))
 
+-- a stored pixel is what the image shows of the number in its field
+pixel_shown : (scene : SceneView) (layout : LayoutView) (state : State) (plane : Plane) (x y : ℕ)
+    → shown_pixel scene plane (number_in (field_of layout plane) (pixel_of state x y).memory)
+    ≡ stored_pixel scene layout state plane x y
+pixel_shown scene layout state p.Depth x y = refl
+pixel_shown scene layout state p.Face x y = refl
+pixel_shown scene layout state p.Colour x y = refl
+
 -- an image is that of the pixels in the picture
 pub same_pixels : (width height : ℕ) (f g : (x y : ℕ) → List ℕ)
     → ((x y : ℕ) → x < width → y < height → f x y ≡ g x y)
@@ -75,3 +92,32 @@ pub same_image : (width height : ℕ) (f g : (x y : ℕ) → ℕ) → ((x y : �
 same_image width height f g same =
     same_pixels width height (number_pixel f) (number_pixel g)
     (λ x y left above. ap three_bytes (same x y left above))
+
+-- a row of what a strip holds is one of what the array stores
+pub row_shown : (scene : SceneView) (layout : LayoutView) (state : State) (plane : Plane) (strip : List ℕ) (y : ℕ)
+    → y < 2 ^ state.tree.ny → HoldsRow strip (field_of layout plane) state scene.width y
+    → row_of_pixels scene.width (strip_pixel scene plane strip) y
+    ≡ row_of_pixels scene.width (stored_pixel scene layout state plane) y
+row_shown scene layout state plane strip y above held =
+    same_parts (λ x. strip_pixel scene plane strip x y) (λ x. stored_pixel scene layout state plane x y) 0 scene.width
+    (λ x low left. ap (shown_pixel scene plane) (held.each x y (omega arith) refl above)
+    ∙ pixel_shown scene layout state plane x y)
+
+-- what a strip holds is shown where the array stores faces
+pub faces_shown : (scene : SceneView) (layout : LayoutView) (state : State) (plane : Plane) (strip : List ℕ) (y : ℕ)
+    → y < scene.height → y < 2 ^ state.tree.ny → StoresFaces scene layout state
+    → HoldsRow strip (field_of layout plane) state scene.width y
+    → (x : ℕ) → x < scene.width → IsShown scene plane (strip_number strip x y)
+faces_shown scene layout state p.Depth strip y high above faces held x left = tt
+faces_shown scene layout state p.Face strip y high above faces held x left = tt
+faces_shown scene layout state p.Colour strip y high above faces held x left =
+    omega (arith, held.each x y left refl above, faces x y left high)
+
+-- a strip that has the numbers of a row has those of another one of its eight
+pub other_row : (strip : List ℕ) (field : Field) (state : State) (width y other : ℕ) → other / 8 ≡ y / 8
+    → HoldsRow strip field state width y → HoldsRow strip field state width other
+other_row strip field state width y other same held = record {
+  long = held.long;
+  each = λ x row low here above. held.each x row low (here ∙ same) above;
+  small = held.small;
+}

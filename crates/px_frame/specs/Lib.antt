@@ -6,3 +6,4 @@ pub mod ImagesLaw
 pub mod Picture
 pub mod Rows
 pub mod Stored
+pub mod Strips

@@ -1,13 +1,16 @@
 //! Image files in the raw form of Netpbm's pixel maps.
-ghost use Rattle.std.specs.Prelude.{◌≡◌, ◌<◌, ◌≤◌, ◌^◌, OnErr, OnOk};
+ghost use Rattle.std.specs.Prelude.{◌≡◌, ◌<◌, ◌≤◌, ◌*◌, ◌^◌, ℕ, OnErr, OnOk, length};
 ghost use Rattle.px_io.specs.Counts.{HasCause};
 ghost use Rattle.px_io.specs.Told.{TakesAll, TakesFront};
 ghost use Rattle.px_array.specs.Arrays.{IsOpen};
 ghost use Rattle.px_sched.specs.Layouts.{need_of};
 ghost use Rattle.px_frame.specs.Picture.{header, row_of_pixels, three_bytes};
-ghost use Rattle.px_frame.specs.Stored.{HasColumns, HasRows, StoresFaces, stored_image, stored_pixel};
+ghost use Rattle.px_frame.specs.Rows.{IsShown, strip_pixel};
+ghost use Rattle.px_frame.specs.Stored.{HasColumns, HasRows, StoresFaces, stored_image};
+ghost use Rattle.px_frame.specs.Strips.{strip_number};
 
-use crate::plane::{Plane, pixel_at};
+use crate::plane::{Plane, field_of, shown_pixel};
+use crate::strip::Strip;
 use arrayvec::{ArrayString, ArrayVec};
 use itoa::Buffer;
 use px_array::Array;
@@ -42,8 +45,11 @@ pub fn write_picture<A: Array, O: Sink>(
 {
     let header = header(scene.width(), scene.height());
     write_whole(out, header.as_str().as_bytes())?;
+    let field = field_of(plane, layout);
+    let mut strip = Strip::new();
     for y in 0..scene.height() {
-        let row = row_bytes(array, layout, scene, plane, y);
+        strip.enter_row(array, field, scene.width(), y);
+        let row = row_bytes(&strip, scene, plane, y);
         write_whole(out, row.as_slice())?;
     }
     Ok(())
@@ -65,25 +71,17 @@ pub fn header(width: u32, height: u32) -> ArrayString<128>
 }
 
 /// The pixels of row `y`, from the left.
-fn row_bytes<A: Array>(
-    array: &A,
-    layout: &Layout,
-    scene: &Scene,
-    plane: Plane,
-    y: u32,
-) -> ArrayVec<u8, ROW_BYTES>
-    requires open { IsOpen (A.device array.now) }
-    requires columns { HasColumns scene.now (A.device array.now).state }
-    requires rows { HasRows scene.now (A.device array.now).state }
-    requires room { need_of layout.now ≤ A.BITS }
-    requires faces { StoresFaces scene.now layout.now (A.device array.now).state }
-    requires y { y < scene.now.height }
+fn row_bytes(strip: &Strip, scene: &Scene, plane: Plane, y: u32) -> ArrayVec<u8, ROW_BYTES>
+    requires columns { length strip.now ≡ 8 * scene.now.width }
+    requires small { (x : ℕ) → x < scene.now.width → strip_number strip.now x y < 2 ^ 24 }
+    requires shown { (x : ℕ) → x < scene.now.width
+        → IsShown scene.now plane (strip_number strip.now x y) }
     ensures { result.items ≡ row_of_pixels scene.now.width
-        (stored_pixel scene.now layout.now (A.device array.now).state plane) y }
+        (strip_pixel scene.now plane strip.now) y }
 {
     let mut bytes = ArrayVec::new();
     for x in 0..scene.width() {
-        let pixel = pixel_at(array, layout, scene, plane, x, y);
+        let pixel = shown_pixel(plane, scene, strip.at(x, y));
         bytes.try_extend_from_slice(&pixel).unwrap();
     }
     bytes

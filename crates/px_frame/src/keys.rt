@@ -19,27 +19,9 @@ pub fn stored<A: Array>(array: &A, layout: &Layout, x: u32, y: u32) -> (u32, u32
     ensures face { result.1 ≡ stored_face layout.now (A.device array.now).state x y }
     ensures small { (result.0 < 2 ^ 24) × (result.1 < 2 ^ 24) }
 {
-    (depth_at(array, layout, x, y), face_at(array, layout, x, y))
-}
-
-/// The depth that the pixel (x, y) stores.
-pub(crate) fn depth_at<A: Array>(array: &A, layout: &Layout, x: u32, y: u32) -> u32
-    requires pixel { HasPixel (A.device array.now) x y }
-    requires room { need_of layout.now ≤ A.BITS }
-    ensures depth { result ≡ stored_depth layout.now (A.device array.now).state x y }
-    ensures small { result < 2 ^ 24 }
-{
-    short_number(array, layout.b_depth(), x, y)
-}
-
-/// The face number that the pixel (x, y) stores.
-pub(crate) fn face_at<A: Array>(array: &A, layout: &Layout, x: u32, y: u32) -> u32
-    requires pixel { HasPixel (A.device array.now) x y }
-    requires room { need_of layout.now ≤ A.BITS }
-    ensures face { result ≡ stored_face layout.now (A.device array.now).state x y }
-    ensures small { result < 2 ^ 24 }
-{
-    short_number(array, layout.b_number(), x, y)
+    let depth = short_number(array, layout.b_depth(), x, y);
+    let face = short_number(array, layout.b_number(), x, y);
+    (depth, face)
 }
 
 /// The number in a field of at most 24 bits of the memory of the pixel (x, y).

@@ -1,14 +1,11 @@
-//! What an image shows of each pixel, and its bytes as the array stores it.
-ghost use Rattle.std.specs.Prelude.{◌≡◌, ◌≤◌};
-ghost use Rattle.px_array.specs.Arrays.{HasPixel};
-ghost use Rattle.px_model.specs.Scenes.{faces_of};
+//! What an image shows of each pixel, and its bytes.
+ghost use Rattle.std.specs.Prelude.{◌≡◌, ◌+◌, ◌^◌, ◌<◌, ◌≤◌};
 ghost use Rattle.px_sched.specs.Layouts.{need_of};
 ghost use Rattle.px_frame.specs.Picture.{colour_bytes};
-ghost use Rattle.px_frame.specs.Stored.{stored_face, stored_pixel};
+ghost use Rattle.px_frame.specs.Rows.{IsShown, field_of, shown_pixel};
 
 use crate::image::three_bytes;
-use crate::keys::{depth_at, face_at};
-use px_array::Array;
+use px_macro::Field;
 use px_model::{Colour, Scene};
 use px_sched::Layout;
 
@@ -23,28 +20,30 @@ pub enum Plane {
     Colour,
 }
 
-/// The bytes that an image has for the pixel (x, y).
-pub(crate) fn pixel_at<A: Array>(
-    array: &A,
-    layout: &Layout,
-    scene: &Scene,
-    plane: Plane,
-    x: u32,
-    y: u32,
-) -> [u8; 3]
-    requires pixel { HasPixel (A.device array.now) x y }
-    requires room { need_of layout.now ≤ A.BITS }
-    requires face { stored_face layout.now (A.device array.now).state x y
-        ≤ faces_of scene.now.solids }
-    ensures { result ≡ stored_pixel scene.now layout.now (A.device array.now).state plane x y }
+/// Where a pixel stores the number that an image shows.
+pub(crate) fn field_of(plane: Plane, layout: &Layout) -> Field
+    ensures field { result ≡ field_of layout.now plane }
+    ensures room { result.at + result.len ≤ need_of layout.now }
+    ensures low { result.at ≤ 48 }
+    ensures few { result.len ≤ 24 }
 {
     match plane {
-        Plane::Depth => three_bytes(depth_at(array, layout, x, y)),
-        Plane::Face => three_bytes(face_at(array, layout, x, y)),
-        Plane::Colour => {
-            let face = face_at(array, layout, x, y);
-            colour_bytes(scene.colour_of(face))
-        }
+        Plane::Depth => layout.b_depth(),
+        Plane::Face => layout.b_number(),
+        Plane::Colour => layout.b_number(),
+    }
+}
+
+/// The bytes that an image has for a pixel that stores this number.
+pub(crate) fn shown_pixel(plane: Plane, scene: &Scene, number: u32) -> [u8; 3]
+    requires small { number < 2 ^ 24 }
+    requires shown { IsShown scene.now plane number }
+    ensures { result ≡ shown_pixel scene.now plane number }
+{
+    match plane {
+        Plane::Depth => three_bytes(number),
+        Plane::Face => three_bytes(number),
+        Plane::Colour => colour_bytes(scene.colour_of(number)),
     }
 }
 

@@ -1,12 +1,6 @@
 -- What the rows that an array lends hold. Clauses of public calls stand on it.
-use Rattle.std.specs.Prelude.{ℕ, ◌+◌, ◌^◌, Bool, false, if◌then◌else◌, nat_lt}
-use Rattle.px_array.specs.Arrays.{State, pixel_at}
-use Rattle.px_num.specs.Bits.{bit_at}
+use Rattle.std.specs.Prelude.{ℕ, ◌^◌, Bool, false, if◌then◌else◌, nat_lt}
 use Rattle.px_tree.specs.Nodes.{TreeState, node_at}
-
--- memory bit `at` of each pixel of an array, by their places, and 0 past the last
-abbrev pub memory_bit : State → (at p : ℕ) → Bool
-memory_bit s at p = if nat_lt p (2 ^ (s.tree.nx + s.tree.ny)) then bit_at (pixel_at s p).memory at else false
 
 -- the outputs of the nodes of a level, and 0 past the last
 abbrev pub output_bit : TreeState → (level p : ℕ) → Bool

@@ -3,8 +3,8 @@ ghost use Rattle.std.specs.Prelude.{◌≡◌, ◌<◌, ◌≤◌, ◌*◌, ◌^
 ghost use Rattle.std.specs.Prelude.{nat_lt};
 ghost use Rattle.px_array.specs.Arrays.{IsOpen, levels_of};
 ghost use Rattle.px_rows.specs.Rows.{EachBit, words_for};
-ghost use Rattle.px_planes.specs.Lent.{memory_bit};
 ghost use Rattle.px_array.specs.Slots.{none_open};
+ghost use Rattle.px_array.specs.Words.{memory_bit};
 
 use crate::open_planes::OpenPlanes;
 use px_array::{Array, Micro, Registers};
@@ -102,6 +102,13 @@ impl<const N: usize> Array for PlaneArray<N> {
         match &self.array {
             Some(array) => array.grid.bit(x, y, at),
             None => false,
+        }
+    }
+
+    fn word(&self, at: u32, w: usize) -> u64 {
+        match &self.array {
+            Some(array) => array.grid.word(at, w),
+            None => 0,
         }
     }
 

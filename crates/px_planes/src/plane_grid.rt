@@ -3,6 +3,7 @@ ghost use Rattle.std.specs.Prelude.{◌≡◌, ◌+◌, ◌-◌, ◌*◌, ◌^�
 ghost use Rattle.std.specs.Prelude.{IfOk, length, nat_lt, replicate};
 ghost use Rattle.px_array.specs.Arrays.{HasPixel, IsOpen, opened, pixel_at, pixel_of, registers_of};
 ghost use Rattle.px_array.specs.Clocks.{acted, after_tree_op, clocked};
+ghost use Rattle.px_array.specs.Words.{IsMemoryWord, memory_bit};
 ghost use Rattle.px_asm.specs.Making.{cycles_on};
 ghost use Rattle.px_asm.specs.Operated.{IsOperated};
 ghost use Rattle.px_macro.specs.Macros.{IsLawful};
@@ -11,7 +12,6 @@ ghost use Rattle.px_pixel.specs.Acts.{HasPlace};
 ghost use Rattle.px_pixel.specs.Pixels.{zero_pixel};
 ghost use Rattle.px_planes.specs.Pixels.{HasPixels, pixels_in};
 ghost use Rattle.px_rows.specs.Rows.{EachBit, words_for};
-ghost use Rattle.px_planes.specs.Lent.{memory_bit};
 ghost use Rattle.px_tree.specs.Nodes.{IsGrid, leaf_bit, node_at};
 
 use crate::acts::act_planes;
@@ -123,6 +123,15 @@ impl<const N: usize> PlaneGrid<N> {
         ensures bits { EachBit result.now (memory_bit self.now.state at) }
     {
         self.planes.memory[at as usize].words()
+    }
+
+    /// The word of memory bit `at` of the pixels from the place `64 * w` on.
+    pub(crate) fn word(&self, at: u32, w: usize) -> u64
+        requires place { at < N }
+        requires word { 64 * w < 2 ^ (self.now.state.tree.nx + self.now.state.tree.ny) }
+        ensures { IsMemoryWord self.now.state at w result }
+    {
+        self.planes.memory[at as usize].word(w)
     }
 
     pub(crate) fn bit(&self, x: u32, y: u32, at: u32) -> bool

@@ -54,10 +54,8 @@ pub fn plan_of(alloc: Global, scene: &Scene) -> Result<Plan, NormalFault>
     laws_of_pruning();
     let boxes = boxes_of(alloc, scene)?;
     let products = normalise(alloc, scene.show(), boxes.as_slice())?;
-    match prune(alloc, scene, &products) {
-        Ok(plan) => Ok(plan),
-        Err(_) => Err(NormalFault::Memory),
-    }
+    let kept = kept_products(alloc, boxes.as_slice(), products.as_slice())?;
+    Ok(Plan { products: kept })
 }
 
 /// What is kept by the boxes of the solids shows the same as the whole. No product of it has a solid
@@ -82,8 +80,9 @@ fn kept_products(
     boxes: &[Option<CellBox>],
     products: &[Product],
 ) -> Result<Vec<Product>, AllocError>
-    ensures { IfOk result (λ kept.
+    ensures kept { IfOk result (λ kept.
         kept.items ≡ kept_products (boxes_in boxes.now) products.now) }
+    ensures fewer { IfOk result (λ kept. length kept.items ≤ length products.now) }
 {
     let mut kept = Vec::new(alloc);
     for product in products.iter().filter_map(|product| pruned(boxes, product)) {

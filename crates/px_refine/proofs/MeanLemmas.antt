@@ -1,16 +1,23 @@
 -- Means of the same samples, and the image of means over the picture of the finer scene.
-use Rattle.std.proofs.Common.{◌≡◌, ℕ, zero, suc, ◌+◌, ◌*◌, ◌/◌, ◌^◌, ◌<◌, ◌≤◌, refl, ap, sym, ◌∙◌, arith}
-use Rattle.std.proofs.Math.Nat.{mul-div_cancel_left, mul-le-mul_left}
+use Rattle.std.proofs.Common.{◌≡◌, ◌≢◌, ℕ, zero, suc, ◌+◌, ◌*◌, ◌/◌, ◌%◌, ◌^◌, ◌<◌, ◌≤◌, List, refl, ap, sym, subst}
+use Rattle.std.proofs.Common.{◌∙◌, arith}
+use Rattle.std.proofs.Math.Nat.{mul-div-le, mul-div_cancel_left, mul-le-mul_left}
 use Rattle.std.proofs.lemmas.Nat.{pow_pos}
 use Rattle.std.specs.List.{range_with_len, sum_by}
 use Rattle.px_model.specs.declared.solid.Colour.{Colour}
-use Rattle.px_model.specs.Scenes.{colour_in_scene}
-use Rattle.px_frame.specs.Picture.{image_of_pixels, colour_at}
-use Rattle.px_frame.specs.Stored.{stored_colour}
+use Rattle.px_model.specs.declared.limits.TheConstants.{MAX_PICTURE_SIZE}
+use Rattle.px_model.specs.Scenes.{SceneView, colour_in_scene, faces_of}
+use Rattle.px_array.specs.Arrays.{State}
+use Rattle.px_sched.specs.Layouts.{LayoutView, number_part}
+use Rattle.px_num.proofs.RangeLaws.{same_parts}
+use Rattle.px_frame.specs.Picture.{image_of_pixels, colour_at, row_of_pixels}
+use Rattle.px_frame.specs.Stored.{HasRows, StoresFaces, stored_colour, stored_face}
+use Rattle.px_frame.specs.Strips.{HoldsRow, strip_number}
 use Rattle.px_frame.proofs.RowLaws.{same_pixels}
 use Rattle.px_refine.specs.Finer.{fine_scene}
 use Rattle.px_refine.specs.Refined.{mean, mean_pixel}
 use Rattle.px_refine.specs.RefinedLaw.{MeansAreRefined}
+use Rattle.px_refine.specs.Sums.{HoldsFaces, strip_colour}
 use Rattle.px_refine.proofs.SumLaws.{sum_more}
 
 sum_same : (f g : ℕ → ℕ) (count : ℕ) → ((k : ℕ) → k < count → f k ≡ g k)
@@ -30,14 +37,16 @@ in_block k x w i left inside =
     let most : k * (x + 1) ≤ k * w = mul-le-mul_left k (let next : x + 1 ≤ w = omega arith in next) in
     omega (arith, most, inside)
 
-module _ (s w h x y : ℕ) (left : x < w) (above : y < h) where
-  mean_same : (f g : (x y : ℕ) → ℕ) → ((i j : ℕ) → i < 2 ^ s * w → j < 2 ^ s * h → f i j ≡ g i j) → mean s f x y
-      ≡ mean s g x y
+module _ (s x y : ℕ) where
+  mean_same : (f g : (x y : ℕ) → ℕ)
+      → ((i j : ℕ) → i < 2 ^ s → j < 2 ^ s → f (2 ^ s * x + i) (2 ^ s * y + j) ≡ g (2 ^ s * x + i) (2 ^ s * y + j))
+      → mean s f x y ≡ mean s g x y
   mean_same f g same =
-      ap (λ n. n / (2 ^ s * 2 ^ s)) (sum_same _ _ (2 ^ s) (λ j down. sum_same _ _ (2 ^ s) (λ i across.
-      same (2 ^ s * x + i) (2 ^ s * y + j) (in_block (2 ^ s) x w i left across) (in_block (2 ^ s) y h j above down))))
+      ap (λ n. n / (2 ^ s * 2 ^ s))
+      (sum_same _ _ (2 ^ s) (λ j down. sum_same _ _ (2 ^ s) (λ i across. same i j across down)))
 
-  pixel_same : (c d : (x y : ℕ) → Colour) → ((i j : ℕ) → i < 2 ^ s * w → j < 2 ^ s * h → c i j ≡ d i j)
+  pixel_same : (c d : (x y : ℕ) → Colour)
+      → ((i j : ℕ) → i < 2 ^ s → j < 2 ^ s → c (2 ^ s * x + i) (2 ^ s * y + j) ≡ d (2 ^ s * x + i) (2 ^ s * y + j))
       → mean_pixel s c x y ≡ mean_pixel s d x y
   pixel_same c d same =
       let red = mean_same (λ i j. (c i j).red) (λ i j. (d i j).red)
@@ -57,6 +66,75 @@ means_refined s scene layout state shows =
     ∙ ap (λ m. image_of_pixels scene.width m (mean_pixel s (stored_colour fine layout state))) height
     ∙ same_pixels scene.width scene.height (mean_pixel s (stored_colour fine layout state))
     (mean_pixel s (colour_at fine))
-    (λ x y left above. pixel_same s scene.width scene.height x y left above (stored_colour fine layout state)
-    (colour_at fine)
-    (λ i j p q. ap (colour_in_scene fine.solids) ((shows i j p q).face)))
+    (λ x y left above. pixel_same s x y (stored_colour fine layout state) (colour_at fine)
+    (λ i j p q. ap (colour_in_scene fine.solids) ((shows (2 ^ s * x + i) (2 ^ s * y + j)
+    (in_block (2 ^ s) x scene.width i left p) (in_block (2 ^ s) y scene.height j above q)).face)))
+
+-- a block of so many rows as fit into a height
+pub block_fits : (s y height : ℕ) → y < height / 2 ^ s → 2 ^ s * y + 2 ^ s ≤ height
+block_fits s y height above =
+    let most : 2 ^ s * (y + 1) ≤ 2 ^ s * (height / 2 ^ s) =
+    mul-le-mul_left (2 ^ s) (let next : y + 1 ≤ height / 2 ^ s = omega (arith, above) in next) in
+    omega (arith, most, mul-div-le height (2 ^ s))
+
+-- the rows of a block are in one strip
+in_strip : (s y j : ℕ) → s ≤ 2 → j < 2 ^ s → (2 ^ s * y + j) / 8 ≡ 2 ^ s * y / 8
+in_strip zero y j few low = omega arith
+in_strip (suc zero) y j few low = omega arith
+in_strip (suc (suc zero)) y j few low = omega arith
+in_strip (suc (suc (suc k))) y j few low = absurd (omega arith)
+
+-- and those of the next one, where it does not begin a strip
+pub next_in_strip : (s y : ℕ) → s ≤ 2 → (2 ^ s * (y + 1)) % 8 ≢ 0 → 2 ^ s * (y + 1) / 8 ≡ 2 ^ s * y / 8
+next_in_strip zero y few further = omega (arith, further)
+next_in_strip (suc zero) y few further = omega (arith, further)
+next_in_strip (suc (suc zero)) y few further = omega (arith, further)
+next_in_strip (suc (suc (suc k))) y few further = absurd (omega arith)
+
+module _
+    (s y : ℕ) (fine : SceneView) (layout : LayoutView) (state : State) (strip : List ℕ) (few : s ≤ 2)
+    (high : 2 ^ s * y + 2 ^ s ≤ fine.height) (rows : HasRows fine state)
+    (held : HoldsRow strip (number_part layout layout.key_b) state fine.width (2 ^ s * y))
+  where
+    face_held : (x j : ℕ) → x < fine.width → j < 2 ^ s
+        → strip_number strip x (2 ^ s * y + j) ≡ stored_face layout state x (2 ^ s * y + j)
+    face_held x j left low = held.each x (2 ^ s * y + j) left (in_strip s y j few low) (omega (arith, high, rows, low))
+
+    -- a row of means over what a strip has is one over what the array stores
+    pub row_held : (width : ℕ) → 2 ^ s * width ≤ fine.width
+        → row_of_pixels width (mean_pixel s (strip_colour fine strip)) y
+        ≡ row_of_pixels width (mean_pixel s (stored_colour fine layout state)) y
+    row_held width wide =
+        same_parts (λ x. mean_pixel s (strip_colour fine strip) x y)
+        (λ x. mean_pixel s (stored_colour fine layout state) x y)
+        0 width (λ x from left. pixel_same s x y (strip_colour fine strip) (stored_colour fine layout state)
+        (λ i j p q. ap (colour_in_scene fine.solids) (face_held (2 ^ s * x + i) j
+        (omega (arith, in_block (2 ^ s) x width i (omega (arith, left)) p, wide)) q)))
+
+    pub faces_held : fine.width ≤ MAX_PICTURE_SIZE → fine.height ≤ MAX_PICTURE_SIZE → StoresFaces fine layout state
+        → HoldsFaces fine strip (2 ^ s * y) (2 ^ s)
+    faces_held wide most faces = record {
+      wide = wide;
+      high = omega (arith, high, most);
+      columns = held.long;
+      faces = λ x j left low.
+          omega (arith, face_held x j left low, faces x (2 ^ s * y + j) left (omega (arith, high, low)));
+    }
+
+-- one row of them
+pub one_row : (scene : SceneView) (strip : List ℕ) (top across j : ℕ) → j < across → HoldsFaces scene strip top across
+    → HoldsFaces scene strip (top + j) 1
+one_row scene strip top across j low held = record {
+  wide = held.wide;
+  high = omega (arith, held.high, low);
+  columns = held.columns;
+  faces = λ x k left one.
+      let here : top + j + k ≡ top + j = omega (arith, one) in
+      subst (λ y. strip_number strip x y ≤ faces_of scene.solids) (sym here) (held.faces x j left low);
+}
+
+pub faces_here : (scene : SceneView) (strip : List ℕ) (y x : ℕ) → x < scene.width → HoldsFaces scene strip y 1
+    → strip_number strip x y ≤ faces_of scene.solids
+faces_here scene strip y x left held =
+    let here : y + 0 ≡ y = omega arith in
+    subst (λ y. strip_number strip x y ≤ faces_of scene.solids) here (held.faces x 0 left (omega arith))

@@ -1,12 +1,10 @@
 -- Sums of samples as they are taken, row by row. Only proofs and private functions stand on it.
-use Rattle.std.specs.Prelude.{ℕ, ◌+◌, ◌*◌, ◌/◌, ◌^◌, ◌≤◌, sum_by}
+use Rattle.std.specs.Prelude.{◌≡◌, ℕ, ◌+◌, ◌*◌, ◌/◌, ◌^◌, ◌<◌, ◌≤◌, List, length, sum_by}
 use Rattle.std.specs.List.{range_with_len}
-use Rattle.px_array.specs.Arrays.{Device, IsOpen}
 use Rattle.px_model.specs.declared.limits.TheConstants.{MAX_PICTURE_SIZE}
 use Rattle.px_model.specs.declared.solid.Colour.{Colour}
-use Rattle.px_model.specs.Scenes.{SceneView}
-use Rattle.px_sched.specs.Layouts.{LayoutView, need_of}
-use Rattle.px_frame.specs.Stored.{HasColumns, HasRows, StoresFaces}
+use Rattle.px_model.specs.Scenes.{SceneView, colour_in_scene, faces_of}
+use Rattle.px_frame.specs.Strips.{strip_number}
 use Rattle.px_refine.specs.declared.sums.Sums.{Sums}
 
 abbrev pub no_sums : Sums
@@ -55,12 +53,13 @@ pub record AreSumsAtMost (n : ℕ) (sums : Sums) : Type 0 where
   pub green : sums.green ≤ n
   pub blue : sums.blue ≤ n
 
--- an open array has room for a layout, has the columns and rows of a scene, and stores its faces
-pub record HoldsFaces (bits : ℕ) (scene : SceneView) (layout : LayoutView) (device : Device) : Type 0 where
+-- the colour of the face that a strip has at a pixel
+abbrev pub strip_colour : SceneView → List ℕ → (x y : ℕ) → Colour
+strip_colour scene strip x y = colour_in_scene scene.solids (strip_number strip x y)
+
+-- a strip has the columns of a scene's picture, and faces of the scene in so many rows, from one of them down
+pub record HoldsFaces (scene : SceneView) (strip : List ℕ) (top count : ℕ) : Type 0 where
   pub wide : scene.width ≤ MAX_PICTURE_SIZE
-  pub high : scene.height ≤ MAX_PICTURE_SIZE
-  pub open_array : IsOpen device
-  pub columns : HasColumns scene device.state
-  pub rows : HasRows scene device.state
-  pub room : need_of layout ≤ bits
-  pub faces : StoresFaces scene layout device.state
+  pub high : top + count ≤ MAX_PICTURE_SIZE
+  pub columns : length strip ≡ 8 * scene.width
+  pub faces : (x j : ℕ) → x < scene.width → j < count → strip_number strip x (top + j) ≤ faces_of scene.solids

@@ -5,16 +5,15 @@ ghost use Rattle.px_io.specs.Told.{TakesAll, TakesFront};
 ghost use Rattle.px_array.specs.Arrays.{IsOpen};
 ghost use Rattle.px_sched.specs.Layouts.{need_of};
 ghost use Rattle.px_frame.specs.Picture.{row_of_pixels};
-ghost use Rattle.px_frame.specs.Stored.{HasColumns, HasRows, StoresFaces, stored_colour};
+ghost use Rattle.px_frame.specs.Stored.{HasColumns, HasRows, StoresFaces};
 ghost use Rattle.px_refine.specs.Refined.{mean_colour, mean_pixel, stored_means};
-ghost use Rattle.px_refine.specs.Sums.{AreSumsAtMost, HoldsFaces, block_sums, row_sums};
+ghost use Rattle.px_refine.specs.Sums.{AreSumsAtMost, HoldsFaces, block_sums, row_sums, strip_colour};
 
 use crate::finer::parts;
 use crate::sums::Sums;
 use arrayvec::ArrayVec;
 use px_array::Array;
-use px_asm::number_in;
-use px_frame::{colour_bytes, header};
+use px_frame::{Strip, colour_bytes, header};
 use px_io::{Failed, Sink, write_whole};
 use px_model::{Colour, MAX_PICTURE_SIZE, Scene};
 use px_sched::Layout;
@@ -48,110 +47,77 @@ pub fn write_refined<A: Array, O: Sink>(
         (stored_means s fine.now layout.now (A.device array.now).state)) }
     ensures cause { HasCause (O.faults out.old) (O.faults out.new) result }
 {
-    let width = fine.width() / parts(s);
-    let height = fine.height() / parts(s);
+    let across = parts(s);
+    let width = fine.width() / across;
+    let height = fine.height() / across;
     let header = header(width, height);
     write_whole(out, header.as_str().as_bytes())?;
+    let faces = layout.b_number();
+    let mut strip = Strip::new();
     for y in 0..height {
-        let row = mean_row(array, layout, fine, s, width, y);
+        strip.enter_row(array, faces, fine.width(), across * y);
+        let row = mean_row(&strip, fine, s, width, y);
         write_whole(out, row.as_slice())?;
     }
     Ok(())
 }
 
 /// The pixels of row `y`, from the left.
-fn mean_row<A: Array>(
-    array: &A,
-    layout: &Layout,
-    fine: &Scene,
-    s: u32,
-    width: u32,
-    y: u32,
-) -> ArrayVec<u8, ROW_BYTES>
+fn mean_row(strip: &Strip, fine: &Scene, s: u32, width: u32, y: u32) -> ArrayVec<u8, ROW_BYTES>
     requires few { s ≤ 2 }
     requires across { 2 ^ s * width ≤ fine.now.width }
     requires down { 2 ^ s * (y + 1) ≤ fine.now.height }
-    requires stored { HoldsFaces A.BITS fine.now layout.now (A.device array.now) }
+    requires faces { HoldsFaces fine.now strip.now (2 ^ s * y) (2 ^ s) }
     ensures { result.items ≡ row_of_pixels width
-        (mean_pixel s (stored_colour fine.now layout.now (A.device array.now).state)) y }
+        (mean_pixel s (strip_colour fine.now strip.now)) y }
 {
     let mut bytes = ArrayVec::new();
     for x in 0..width {
-        let mean = mean_at(array, layout, fine, s, x, y);
+        let mean = mean_at(strip, fine, s, x, y);
         bytes.try_extend_from_slice(&colour_bytes(mean)).unwrap();
     }
     bytes
 }
 
 /// The mean colour of the pixels that the pixel (x, y) is cut into.
-fn mean_at<A: Array>(array: &A, layout: &Layout, fine: &Scene, s: u32, x: u32, y: u32) -> Colour
+fn mean_at(strip: &Strip, fine: &Scene, s: u32, x: u32, y: u32) -> Colour
     requires few { s ≤ 2 }
     requires across { 2 ^ s * (x + 1) ≤ fine.now.width }
     requires down { 2 ^ s * (y + 1) ≤ fine.now.height }
-    requires stored { HoldsFaces A.BITS fine.now layout.now (A.device array.now) }
-    ensures { result ≡ mean_colour s
-        (stored_colour fine.now layout.now (A.device array.now).state) x y }
+    requires faces { HoldsFaces fine.now strip.now (2 ^ s * y) (2 ^ s) }
+    ensures { result ≡ mean_colour s (strip_colour fine.now strip.now) x y }
 {
     let across = parts(s);
-    block_sums(array, layout, fine, across * x, across * y, across).mean(s)
+    block_sums(strip, fine, across * x, across * y, across).mean(s)
 }
 
 /// Over so many rows of as many pixels.
-fn block_sums<A: Array>(
-    array: &A,
-    layout: &Layout,
-    fine: &Scene,
-    from: u32,
-    top: u32,
-    across: u32,
-) -> Sums
+fn block_sums(strip: &Strip, fine: &Scene, from: u32, top: u32, across: u32) -> Sums
     requires few { across ≤ 4 }
     requires across { from + across ≤ fine.now.width }
     requires down { top + across ≤ fine.now.height }
-    requires stored { HoldsFaces A.BITS fine.now layout.now (A.device array.now) }
-    ensures sums { result ≡ block_sums
-        (stored_colour fine.now layout.now (A.device array.now).state)
-        across from top across }
+    requires faces { HoldsFaces fine.now strip.now top across }
+    ensures sums { result ≡ block_sums (strip_colour fine.now strip.now) across from top across }
     ensures most { AreSumsAtMost (255 * (across * across)) result }
 {
     let mut sums = Sums::new();
     for j in 0..across {
-        sums = sums.plus(&row_sums(array, layout, fine, from, top + j, across));
+        sums = sums.plus(&row_sums(strip, fine, from, top + j, across));
     }
     sums
 }
 
 /// Over so many pixels of row `y`.
-fn row_sums<A: Array>(
-    array: &A,
-    layout: &Layout,
-    fine: &Scene,
-    from: u32,
-    y: u32,
-    across: u32,
-) -> Sums
+fn row_sums(strip: &Strip, fine: &Scene, from: u32, y: u32, across: u32) -> Sums
     requires few { across ≤ 4 }
     requires across { from + across ≤ fine.now.width }
-    requires down { y < fine.now.height }
-    requires stored { HoldsFaces A.BITS fine.now layout.now (A.device array.now) }
-    ensures sums { result ≡ row_sums
-        (stored_colour fine.now layout.now (A.device array.now).state) from y across }
+    requires faces { HoldsFaces fine.now strip.now y 1 }
+    ensures sums { result ≡ row_sums (strip_colour fine.now strip.now) from y across }
     ensures most { AreSumsAtMost (255 * across) result }
 {
     let mut sums = Sums::new();
     for i in 0..across {
-        sums = sums.with(colour_at(array, layout, fine, from + i, y));
+        sums = sums.with(fine.colour_of(strip.at(from + i, y)));
     }
     sums
-}
-
-/// The colour of the face that the array stores at the pixel (x, y).
-fn colour_at<A: Array>(array: &A, layout: &Layout, fine: &Scene, x: u32, y: u32) -> Colour
-    requires across { x < fine.now.width }
-    requires down { y < fine.now.height }
-    requires stored { HoldsFaces A.BITS fine.now layout.now (A.device array.now) }
-    ensures { result ≡ stored_colour fine.now layout.now (A.device array.now).state x y }
-{
-    let face = number_in(array, layout.b_number(), x, y) as u32;
-    fine.colour_of(face)
 }

@@ -79,6 +79,10 @@ impl Array for Watched {
         self.array.bit(x, y, at)
     }
 
+    fn word(&self, at: u32, w: usize) -> u64 {
+        self.array.word(at, w)
+    }
+
     fn registers(&self, x: u32, y: u32) -> Registers {
         self.array.registers(x, y)
     }

@@ -1,5 +1,5 @@
 -- Numbers that are put row by row into those of a wide picture.
-use Rattle.std.proofs.Common.{◌≡◌, ◌≢◌, ℕ, ◌+◌, ◌*◌, ◌<◌, ◌≤◌, ◌⊎◌, inl, inr, List, length, slice_set as set, refl}
+use Rattle.std.proofs.Common.{◌≡◌, ◌≢◌, ℕ, ◌+◌, ◌*◌, ◌^◌, ◌<◌, ◌≤◌, ◌⊎◌, inl, inr, List, length, slice_set as set, refl}
 use Rattle.std.proofs.Common.{ap, sym, ◌∙◌, arith, slice_index}
 use Rattle.std.proofs.Math.Nat.{mul-le-mul_right}
 use Rattle.std.proofs.lemmas.Bool.{cases_lt}
@@ -7,7 +7,11 @@ use Rattle.std.proofs.lemmas.List.{length-set, get_or-set_other, get_or-set_same
 use Rattle.px_model.specs.Scenes.{SceneView}
 use Rattle.px_model.specs.Cells.{Sight, picture}
 use Rattle.px_tile.specs.Found.{sight_number}
-use Rattle.px_tile.specs.Stored.{PutsRow, PutsRows}
+use Rattle.px_array.specs.Arrays.{State, pixel_of}
+use Rattle.px_frame.specs.Strips.{HoldsRow}
+use Rattle.px_sched.specs.Layouts.{LayoutView, depth_part, number_part}
+use Rattle.px_sched.specs.PassesLaw.{ShowsThePicture}
+use Rattle.px_tile.specs.Stored.{HoldSights, PutsRow, PutsRows}
 
 -- the number of what is stored
 pub number_shown : (depth face n : ℕ) (sight : Sight) → n ≡ sight_number (record { depth = depth; face = face })
@@ -91,3 +95,15 @@ rows_more scene y x0 y0 width start old mid new before put is fits = record {
             let same : row ≡ y0 + y = omega arith in beside x row same out
       ]
     ]
+
+-- what two strips hold of an array that stores a picture
+pub sights_held : (scene : SceneView) (layout : LayoutView) (state : State) (y : ℕ) (depths faces : List ℕ)
+    → y < scene.height → y < 2 ^ state.tree.ny → ShowsThePicture scene layout (λ x y. (pixel_of state x y).memory)
+    → HoldsRow depths (depth_part layout layout.key_b) state scene.width y
+    → HoldsRow faces (number_part layout layout.key_b) state scene.width y → HoldSights scene y depths faces
+sights_held scene layout state y depths faces high above shows depth face = record {
+  depth_columns = depth.long;
+  face_columns = face.long;
+  depth = λ x left. depth.each x y left refl above ∙ (shows x y left high).depth;
+  face = λ x left. face.each x y left refl above ∙ (shows x y left high).face;
+}

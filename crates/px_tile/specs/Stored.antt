@@ -1,8 +1,16 @@
 -- What is put into the numbers of a wide picture, row by row. Only proofs and private functions stand on it.
-use Rattle.std.specs.Prelude.{◌≡◌, ℕ, ◌+◌, ◌<◌, ◌≤◌, ◌⊎◌, List, length, slice_index}
+use Rattle.std.specs.Prelude.{◌≡◌, ℕ, ◌+◌, ◌*◌, ◌<◌, ◌≤◌, ◌⊎◌, List, length, slice_index}
+use Rattle.px_frame.specs.Strips.{strip_number}
 use Rattle.px_model.specs.Scenes.{SceneView}
 use Rattle.px_model.specs.Cells.{picture}
 use Rattle.px_tile.specs.Found.{number_at, sight_number}
+
+-- two strips have the depth and the face of each pixel of row y of a picture
+pub record HoldSights (scene : SceneView) (y : ℕ) (depths faces : List ℕ) : Type 0 where
+  pub depth_columns : length depths ≡ 8 * scene.width
+  pub face_columns : length faces ≡ 8 * scene.width
+  pub depth : (x : ℕ) → x < scene.width → strip_number depths x y ≡ (picture scene x y).depth
+  pub face : (x : ℕ) → x < scene.width → strip_number faces x y ≡ (picture scene x y).face
 
 -- the first so many pixels of row y were put from a place on, and the other numbers stayed
 pub record PutsRow (scene : SceneView) (count y start : ℕ) (old new : List ℕ) : Type 0 where

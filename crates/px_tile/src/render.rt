@@ -10,12 +10,12 @@ ghost use Rattle.px_sched.specs.Layouts.{layout_of, need_of};
 ghost use Rattle.px_sched.specs.PassesLaw.{ShowsThePicture};
 ghost use Rattle.px_tile.specs.Found.{PutsTile, sight_number};
 ghost use Rattle.px_tile.specs.Refusals.{tile_refusal};
-ghost use Rattle.px_tile.specs.Stored.{PutsRow, PutsRows};
+ghost use Rattle.px_tile.specs.Stored.{HoldSights, PutsRow};
 
 use px_array::Array;
 use px_asm::Operating;
 use px_control::{Job, JobFault, law_of_grids};
-use px_frame::stored;
+use px_frame::Strip;
 use px_model::{Scene, laws_of_scenes};
 use px_sched::Layout;
 use std::alloc::Global;
@@ -76,32 +76,25 @@ fn put_tile<A: Array>(
         (λ x y. (pixel_of (A.device array.now).state x y).memory) }
     ensures { PutsTile scene.now x0 y0 width found.old found.new }
 {
+    let (depth, face) = (layout.b_depth(), layout.b_number());
+    let (mut depths, mut faces) = (Strip::new(), Strip::new());
     for y in 0..scene.height() {
+        depths.enter_row(array, depth, scene.width(), y);
+        faces.enter_row(array, face, scene.width(), y);
         let start = (y0 as usize + y as usize) * width as usize + x0 as usize;
-        put_row(array, layout, scene, y, start, found);
+        put_row(&depths, &faces, scene, y, start, found);
     }
 }
 
 /// Puts row `y` of it from a place on.
-fn put_row<A: Array>(
-    array: &A,
-    layout: &Layout,
-    scene: &Scene,
-    y: u32,
-    start: usize,
-    found: &mut [u64],
-)
+fn put_row(depths: &Strip, faces: &Strip, scene: &Scene, y: u32, start: usize, found: &mut [u64])
     requires y { y < scene.now.height }
     requires fits { start + scene.now.width ≤ length found.old }
-    requires covers { CoversThePicture scene.now (A.device array.now) }
-    requires room { need_of layout.now ≤ A.BITS }
-    requires shows { ShowsThePicture scene.now layout.now
-        (λ x y. (pixel_of (A.device array.now).state x y).memory) }
+    requires sights { HoldSights scene.now y depths.now faces.now }
     ensures { PutsRow scene.now scene.now.width y start found.old found.new }
 {
     for x in 0..scene.width() {
-        let (depth, face) = stored(array, layout, x, y);
-        found[start + x as usize] = number_of(depth, face);
+        found[start + x as usize] = number_of(depths.at(x, y), faces.at(x, y));
     }
 }
 

@@ -1,8 +1,10 @@
-use Rattle.std.proofs.Common.{◌≡◌, ◌++◌}
+use Rattle.std.proofs.Common.{◌≡◌, ◌≢◌, ◌%◌, ◌++◌}
 use Rattle.std.specs.List.{flat_map, range_with_len}
 use Rattle.px_io.specs.Told.{TakesAll}
 use Rattle.px_frame.specs.Picture.{header, row_of_pixels}
 use Rattle.px_frame.specs.Stored.{stored_pixel}
+use Rattle.px_frame.specs.Rows.{field_of}
+use Rattle.px_frame.specs.Strips.{HoldsRow}
 use Rattle.px_frame.proofs.image.write_picture.Given as goal
 
 abbrev pub invariant-loop-y : goal.invariant-loop-y
@@ -13,5 +15,6 @@ invariant-loop-y g l =
       front : TakesAll (g.O.Sink.written l.fn.out) (g.O.Sink.written l.out)
           (g.O.Sink.finished l.fn.out) (g.O.Sink.finished l.out)
           (header l.scene.width l.scene.height ++ flat_map row (range_with_len 0 l.y));
+      strip : l.y % 8 ≢ 0 → HoldsRow l.strip (field_of l.layout l.plane) state l.scene.width l.y;
       calm : g.O.Sink.faults l.out ≡ g.O.Sink.faults l.fn.out;
     }

@@ -2,11 +2,13 @@ use Rattle.std.proofs.Common.{rules, tests, sym, ◌∙◌, None, slice_index_or
 use Rattle.std.proofs.lemmas.Iterator.{YieldsList-from_slice}
 use Rattle.std.proofs.lemmas.Iterator.Consumers.{YieldsList-at, YieldsList-end, YieldsList-from_filter_map}
 use Rattle.std.proofs.lemmas.List.{map-id}
+use Rattle.px_normal.specs.Live.{boxes_in}
 use Rattle.px_prune.specs.Kept.{pruned}
+use Rattle.px_prune.proofs.PruningLemmas.{kept_fewer}
 use Rattle.px_prune.proofs.plan.kept_products.Goals as goal
 
-pub returns : goal.returns
-returns c =
+pub returns-clause-kept : goal.returns-clause-kept
+returns-clause-kept c =
     c.loop-product.invariant ∙ sym (map-id c.loop-product.yielded)
     ∙ (YieldsList-end
     (YieldsList-at c.into_iter-product-iterator.ensures.into_iter_gives
@@ -14,3 +16,6 @@ returns c =
     (YieldsList-from_slice c.args.products.now (cc))
     c.filter_map-product-items.ensures.closure (λ x r q k. search (rules, tests))))
     c.loop-product.yielded _ c.loop-product.yielded_by _ _ c.in-None.is c.next.ensures.steps).0
+
+pub returns-clause-fewer : goal.returns-clause-fewer
+returns-clause-fewer c = kept_fewer (boxes_in c.args.boxes.now) c.args.products.now _ (returns-clause-kept c)

@@ -1,11 +1,9 @@
 use Rattle.std.proofs.Common.{◌≡◌, ◌*◌}
-use Rattle.px_frame.specs.Stored.{stored_colour}
-use Rattle.px_refine.specs.Sums.{AreSumsAtMost, block_sums}
+use Rattle.px_refine.specs.Sums.{AreSumsAtMost, block_sums, strip_colour}
 use Rattle.px_refine.proofs.refined.block_sums.Given as goal
 
 abbrev pub invariant-loop-j : goal.invariant-loop-j
-invariant-loop-j g l = record {
-  sums : l.sums ≡ block_sums (stored_colour l.fine l.layout (g.A.Array.device l.array).state) l.across l.from
-      l.top l.j;
+invariant-loop-j l = record {
+  sums : l.sums ≡ block_sums (strip_colour l.fine l.strip) l.across l.from l.top l.j;
   most : AreSumsAtMost (255 * (l.across * l.j)) l.sums;
 }

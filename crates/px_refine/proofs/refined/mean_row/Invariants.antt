@@ -1,13 +1,13 @@
 use Rattle.std.proofs.Common.{◌≡◌, ◌*◌}
 use Rattle.arrayvec.specs.ArrayVec.{array_vec_len}
 use Rattle.px_frame.specs.Picture.{row_of_pixels}
-use Rattle.px_frame.specs.Stored.{stored_colour}
 use Rattle.px_refine.specs.Refined.{mean_pixel}
+use Rattle.px_refine.specs.Sums.{strip_colour}
 use Rattle.px_refine.proofs.refined.mean_row.Given as goal
 
 abbrev pub invariant-loop-x : goal.invariant-loop-x
-invariant-loop-x g l = record {
+invariant-loop-x l = record {
   filled : l.bytes.items
-      ≡ row_of_pixels l.x (mean_pixel l.s (stored_colour l.fine l.layout (g.A.Array.device l.array).state)) l.y;
+      ≡ row_of_pixels l.x (mean_pixel l.s (strip_colour l.fine l.strip)) l.y;
   size : array_vec_len l.bytes ≡ 3 * l.x;
 }

@@ -1,8 +1,9 @@
-use Rattle.std.proofs.Common.{◌≡◌, ◌++◌}
+use Rattle.std.proofs.Common.{◌≡◌, ◌≢◌, ◌*◌, ◌%◌, ◌^◌, ◌++◌}
 use Rattle.std.specs.List.{flat_map, range_with_len}
 use Rattle.px_io.specs.Told.{TakesAll}
 use Rattle.px_frame.specs.Picture.{header, row_of_pixels}
 use Rattle.px_frame.specs.Stored.{stored_colour}
+use Rattle.px_frame.specs.Strips.{HoldsRow}
 use Rattle.px_refine.specs.Refined.{mean_pixel}
 use Rattle.px_refine.proofs.refined.write_refined.Given as goal
 
@@ -13,5 +14,7 @@ invariant-loop-y g l =
       front : TakesAll (g.O.Sink.written l.fn.out) (g.O.Sink.written l.out)
           (g.O.Sink.finished l.fn.out) (g.O.Sink.finished l.out)
           (header l.width l.height ++ flat_map row (range_with_len 0 l.y));
+      strip : (2 ^ l.s * l.y) % 8 ≢ 0
+          → HoldsRow l.strip l.faces (g.A.Array.device l.array).state l.fine.width (2 ^ l.s * l.y);
       calm : g.O.Sink.faults l.out ≡ g.O.Sink.faults l.fn.out;
     }

@@ -2,4 +2,4 @@ use Rattle.px_tile.specs.Stored.{PutsRow}
 use Rattle.px_tile.proofs.render.put_row.Given as goal
 
 abbrev pub invariant-loop-x : goal.invariant-loop-x
-invariant-loop-x g l = PutsRow l.scene l.x l.y l.start l.fn.found l.found
+invariant-loop-x l = PutsRow l.scene l.x l.y l.start l.fn.found l.found
