@@ -21,4 +21,3 @@ pub use names::{pxplanes_cause_name, pxplanes_kind_name, pxplanes_version};
 pub use products::pxplanes_products;
 pub use render::pxplanes_render;
 pub use state::{State, pxplanes_state};
-

@@ -42,21 +42,24 @@ drawn_back : (bits : ℕ) (scene : SceneView) (maps rest : List ℕ) → drawabl
     → job_refusal bits scene ≡ None
 drawn_back bits scene maps rest =
     by_bits (nat_lt bits (need_of (layout_of scene))) (need_of (layout_of scene)) (crowd_of scene) where
-  by_bits : (short : Bool) (need : ℕ) (crowd : Option ℕ)
-      → (if short then out.refused (short_of_bits need) else refused_past crowd (done maps)) ≡ done rest
-      → (if short then Some (f.PixelMemory need) else too_many_of crowd) ≡ None
-  by_bits true need crowd e = absurd cc
-  by_bits false need None e = refl
-  by_bits false need (Some n) e = absurd cc
+      by_bits : (short : Bool) (need : ℕ) (crowd : Option ℕ)
+          → (if short then out.refused (short_of_bits need) else refused_past crowd (done maps)) ≡ done rest
+          → (if short then Some (f.PixelMemory need) else too_many_of crowd) ≡ None
+      by_bits true need crowd e = absurd cc
+      by_bits false need None e = refl
+      by_bits false need (Some n) e = absurd cc
 
 pub accepted_is_rendered : AcceptedIsLawful → PicturesShowFirstCells → AcceptedIsRendered
 accepted_is_rendered lawful seen text bits good fits =
-    let scene = scene_of (worded text) in
-    (maps_of scene, rw good (drawn bits scene (done (maps_of scene)) fits), record {
-      sights = picture scene;
-      written = ap (λ more. depth_image scene ++ more) (append-nil (face_image scene));
-      shown = λ x y. seen scene (lawful text good).scene_is x y;
-    })
+    let scene = scene_of (worded text) in (
+      maps_of scene,
+      rw good (drawn bits scene (done (maps_of scene)) fits),
+      record {
+        sights = picture scene;
+        written = ap (λ more. depth_image scene ++ more) (append-nil (face_image scene));
+        shown = λ x y. seen scene (lawful text good).scene_is x y;
+      },
+    )
 
 -- a text is never refused for want of memory
 never_memory : (text : List ℕ) → refusal_of text ≡ Some s.Memory → ⊥

@@ -1,12 +1,11 @@
 -- A picture shows at each pixel the first cell and the lowest-numbered face shown there, or the background.
-use Rattle.std.proofs.Common.{◌≡◌, ◌<◌, ◌≤◌, ◌⊎◌, ◌||◌, ◌==◌, ℕ, Bool, true, false, List, [], ◌∷◌, length, min}
-use Rattle.std.proofs.Common.{Option, Some, None, refl, sym, arith, inl, inr}
+use Rattle.std.proofs.Common.{◌≡◌, ◌<◌, ◌≤◌, ◌⊎◌, ℕ, true, List, [], ◌∷◌, length}
+use Rattle.std.proofs.Common.{Option, Some, None, refl, arith, inl, inr}
 use Rattle.std.proofs.lemmas.Bool.Decides.{nat_tests}
 use Rattle.px_num.proofs.TruthLaws.{min_cases}
 use Rattle.px_expr.specs.Cells.{has_face}
-use Rattle.px_model.specs.Scenes.{IsLawfulScene, SceneView}
 use Rattle.px_model.specs.Cells.{far_of, first_cell, is_member_at, least, scene_cell, sight_at}
-use Rattle.px_face.specs.Surfaces.{FirstCellsAreFirst, IsFirst, IsFirstOf, ScenesHaveSurfaces}
+use Rattle.px_face.specs.Surfaces.{IsFirstOf, ScenesHaveSurfaces}
 use Rattle.px_face.specs.Seen.{PicturesShowFirstCells, ShowsBackgroundAlone, ShowsFirstCell}
 use Rattle.px_face.proofs.BackgroundLemmas.{begins, first_cells}
 

@@ -132,34 +132,42 @@ kind_lawful bits n.LoadLinear (a ∷ []) none = tt
 kind_lawful bits n.LoadLinear (a ∷ b ∷ []) none = tt
 kind_lawful bits n.LoadLinear (a ∷ b ∷ c ∷ []) none = tt
 kind_lawful bits n.LoadLinear (a ∷ b ∷ c ∷ at ∷ []) none = tt
-kind_lawful bits n.LoadLinear (a ∷ b ∷ c ∷ at ∷ len ∷ []) none =
-    (form_in_range a b c (none_first _ (field_past bits at len) none), field_is bits at len
-    (none_second (form_past a b c) _ none))
+kind_lawful bits n.LoadLinear (a ∷ b ∷ c ∷ at ∷ len ∷ []) none = (
+  form_in_range a b c (none_first _ (field_past bits at len) none),
+  field_is bits at len
+      (none_second (form_past a b c) _ none),
+)
 kind_lawful bits n.LoadLinear (a ∷ b ∷ c ∷ at ∷ len ∷ z ∷ zs) none = tt
 kind_lawful bits n.KeepAtMost [] none = tt
 kind_lawful bits n.KeepAtMost (a ∷ []) none = tt
 kind_lawful bits n.KeepAtMost (a ∷ b ∷ []) none = tt
 kind_lawful bits n.KeepAtMost (a ∷ b ∷ c ∷ []) none = tt
 kind_lawful bits n.KeepAtMost (a ∷ b ∷ c ∷ at ∷ []) none = tt
-kind_lawful bits n.KeepAtMost (a ∷ b ∷ c ∷ at ∷ len ∷ []) none =
-    (form_in_range a b c (none_first _ (field_past bits at len) none), field_is bits at len
-    (none_second (form_past a b c) _ none))
+kind_lawful bits n.KeepAtMost (a ∷ b ∷ c ∷ at ∷ len ∷ []) none = (
+  form_in_range a b c (none_first _ (field_past bits at len) none),
+  field_is bits at len
+      (none_second (form_past a b c) _ none),
+)
 kind_lawful bits n.KeepAtMost (a ∷ b ∷ c ∷ at ∷ len ∷ z ∷ zs) none = tt
 kind_lawful bits n.AddLinear [] none = tt
 kind_lawful bits n.AddLinear (a ∷ []) none = tt
 kind_lawful bits n.AddLinear (a ∷ b ∷ []) none = tt
 kind_lawful bits n.AddLinear (a ∷ b ∷ c ∷ []) none = tt
 kind_lawful bits n.AddLinear (a ∷ b ∷ c ∷ at ∷ []) none = tt
-kind_lawful bits n.AddLinear (a ∷ b ∷ c ∷ at ∷ len ∷ []) none =
-    (form_in_range a b c (none_first _ (field_past bits at len) none), field_is bits at len
-    (none_second (form_past a b c) _ none))
+kind_lawful bits n.AddLinear (a ∷ b ∷ c ∷ at ∷ len ∷ []) none = (
+  form_in_range a b c (none_first _ (field_past bits at len) none),
+  field_is bits at len
+      (none_second (form_past a b c) _ none),
+)
 kind_lawful bits n.AddLinear (a ∷ b ∷ c ∷ at ∷ len ∷ z ∷ zs) none = tt
 kind_lawful bits n.LoadConst [] none = tt
 kind_lawful bits n.LoadConst (at ∷ []) none = tt
 kind_lawful bits n.LoadConst (at ∷ len ∷ []) none = tt
-kind_lawful bits n.LoadConst (at ∷ len ∷ number ∷ []) none =
-    (field_is bits at len (none_first _ (value_past len number) none), number_fits len number
-    (none_second (field_past bits at len) _ none))
+kind_lawful bits n.LoadConst (at ∷ len ∷ number ∷ []) none = (
+  field_is bits at len (none_first _ (value_past len number) none),
+  number_fits len number
+      (none_second (field_past bits at len) _ none),
+)
 kind_lawful bits n.LoadConst (at ∷ len ∷ number ∷ z ∷ zs) none = tt
 kind_lawful bits n.SetBit [] none = tt
 kind_lawful bits n.SetBit (at ∷ []) none = tt
@@ -214,7 +222,7 @@ lines_lawful : (bits : ℕ) (before ls : List Words) → first_bad bits before l
 lines_lawful bits before [] none = All-nil (λ op. IsLawful op bits)
 lines_lawful bits before (l ∷ ls) none =
     let each = none_here (length before + 1) (fault_of bits (due_behind before) l)
-        (first_bad bits (before ++ l ∷ []) ls) none in
+    (first_bad bits (before ++ l ∷ []) ls) none in
     listed bits (operation_in l) (filter_map operation_in ls) (line_lawful bits (due_behind before) l each.0)
     (lines_lawful bits (before ++ l ∷ []) ls each.1)
 

@@ -1,12 +1,14 @@
 //! Each operation at once beside its micros, from one random state to the next.
 ghost use Rattle.std.specs.Prelude.{◌≡◌, ◌≤◌};
 ghost use Rattle.px_array.specs.Arrays.{IsOpen};
+ghost use Rattle.px_pixel.specs.Acts.{HasPlace};
 ghost use Rattle.px_machine_tests.specs.Ready.{IsReady};
 
 use crate::compared::{compare, compare_memories};
 use crate::drawn::operation;
 use crate::numbers::Numbers;
-use px_array::{Array, PixelArray};
+use crate::words::Draw;
+use px_array::{Array, Micro, PixelArray};
 use px_asm::{Operating, cycles, make_micros};
 use px_macro::{Field, Macro, lawful};
 use px_num::{Linear, Memory};
@@ -38,6 +40,42 @@ const HIGH: Field = Field { at: 2, len: 2 };
 
 const SLOPE: Linear = Linear { a: 3, b: -2, c: 5 };
 
+/// A field of a pixel of seven bits.
+const WIDE: Field = Field { at: 0, len: 7 };
+
+const INNER: Field = Field { at: 1, len: 5 };
+
+const FALL: Linear = Linear {
+    a: -5,
+    b: 7,
+    c: -100,
+};
+
+const STEEP: Linear = Linear {
+    a: 134217727,
+    b: -134217727,
+    c: 274877906943,
+};
+
+/// Operations after each of which pixels are enabled in most words of a large grid: additions, made in
+/// strips of words there, and others, made by their clocks.
+const CROWDED: [Macro; 14] = [
+    Macro::All,
+    Macro::LoadLinear(FALL, WIDE),
+    Macro::AddLinear(SLOPE, WIDE),
+    Macro::AddLinear(STEEP, INNER),
+    Macro::KeepBit(2, true),
+    Macro::AddLinear(FALL, WIDE),
+    Macro::KeepAtMost(SLOPE, INNER),
+    Macro::AddLinear(STEEP, WIDE),
+    Macro::Toggle(1),
+    Macro::All,
+    Macro::KeepLess(LOW, HIGH),
+    Macro::LoadConst(LOW, 2),
+    Macro::Copy(HIGH, LOW),
+    Macro::AddLinear(SLOPE, INNER),
+];
+
 #[test]
 fn five_bits(rt: HostRuntime) -> Result<(), Fail> {
     try_grids::<5>(&rt, rt.alloc(), 60)?;
@@ -54,6 +92,74 @@ fn seventy_two_bits(rt: HostRuntime) -> Result<(), Fail> {
 fn the_most_bits(rt: HostRuntime) -> Result<(), Fail> {
     try_grids::<256>(&rt, rt.alloc(), 20)?;
     Ok(())
+}
+
+#[test]
+fn a_crowd_of_words(rt: HostRuntime) -> Result<(), Fail> {
+    for (nx, ny) in [(8, 7), (6, 9)] {
+        try_crowd(&rt, rt.alloc(), nx, ny)?;
+    }
+    Ok(())
+}
+
+/// Those operations on a grid of 512 words.
+fn try_crowd(rt: &impl Abort, alloc: Global, nx: u32, ny: u32) -> Result<(), Memory> {
+    assert!(rt; 1 <= nx && nx <= 9 && 1 <= ny && ny <= 9);
+    let mut planes = PlaneArray::<7>::new(alloc);
+    let mut pixels = PixelArray::<7>::new(alloc);
+    planes.open(nx, ny)?;
+    pixels.open(nx, ny)?;
+    for m in CROWDED {
+        operate_both(rt, &mut planes, &mut pixels, &m);
+    }
+    renew_both(rt, &mut planes, &mut pixels);
+    Ok(())
+}
+
+/// A random operation in each of some states that random micros made.
+#[test]
+fn after_random_micros(rt: HostRuntime) -> Result<(), Fail> {
+    for (nx, ny) in GRIDS {
+        let mut draw = Draw::from(u64::from(8 * nx + ny));
+        for _ in 0..20 {
+            try_stirred(&rt, rt.alloc(), nx, ny, &mut draw)?;
+        }
+    }
+    Ok(())
+}
+
+fn try_stirred(
+    rt: &impl Abort,
+    alloc: Global,
+    nx: u32,
+    ny: u32,
+    draw: &mut Draw,
+) -> Result<(), Memory> {
+    assert!(rt; 1 <= nx && nx <= 9 && 1 <= ny && ny <= 9);
+    let mut planes = PlaneArray::<5>::new(alloc);
+    let mut pixels = PixelArray::<5>::new(alloc);
+    planes.open(nx, ny)?;
+    pixels.open(nx, ny)?;
+    for _ in 0..60 {
+        clock_each(rt, &mut planes, &mut pixels, draw.micro());
+    }
+    let m = operation(draw.numbers(), 5);
+    operate_both(rt, &mut planes, &mut pixels, &m);
+    renew_both(rt, &mut planes, &mut pixels);
+    Ok(())
+}
+
+/// Makes a clock on both arrays.
+fn clock_each(rt: &impl Abort, planes: &mut PlaneArray<5>, pixels: &mut PixelArray<5>, m: Micro)
+    requires place { HasPlace 5 m.act }
+    requires planes { IsReady 5 planes.old }
+    requires pixels { IsReady 5 pixels.old }
+    ensures planes { IsReady 5 planes.new }
+    ensures pixels { IsReady 5 pixels.new }
+{
+    assert!(rt; planes.clocks() < MANY && pixels.clocks() < MANY);
+    planes.clock(m);
+    pixels.clock(m);
 }
 
 /// So many random operations on each grid.

@@ -117,10 +117,7 @@ fn both_arrays_agree(rt: HostRuntime) -> Result<(), Fail> {
         let mut planes = PlaneArray::<5>::new(rt.alloc());
         pixels.open(nx, ny)?;
         planes.open(nx, ny)?;
-        let mut draw = Draw {
-            numbers: Numbers::from(7),
-            lines: 0,
-        };
+        let mut draw = Draw::from(7);
         for _ in 0..6 {
             assert!(rt; pixels.size().0 >= 1 && planes.size().0 >= 1);
             clock_both(&rt, &mut pixels, &mut planes, &mut draw, 40);
@@ -138,18 +135,30 @@ fn both_arrays_agree(rt: HostRuntime) -> Result<(), Fail> {
 
 /// Random numbers, and the lines of the last feed.
 #[derive(Drop)]
-struct Draw {
+pub(crate) struct Draw {
     numbers: Numbers,
     lines: u32,
 }
 
 impl Draw {
+    /// Those that come after a first one.
+    pub(crate) fn from(state: u64) -> Draw {
+        Draw {
+            numbers: Numbers::from(state),
+            lines: 0,
+        }
+    }
+
+    pub(crate) fn numbers(&mut self) -> &mut Numbers {
+        &mut self.numbers
+    }
+
     fn number(&mut self) -> u32 {
         self.numbers.draw()
     }
 
     /// A micro, which mostly feeds the tree, and more often than not by the lines of the feed before.
-    fn micro(&mut self) -> Micro
+    pub(crate) fn micro(&mut self) -> Micro
         ensures { HasPlace 5 result.act }
     {
         if self.number() % 3 == 0 {

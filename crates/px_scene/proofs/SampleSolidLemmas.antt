@@ -145,7 +145,7 @@ other_block i j less low = by_test (bytes_eq (decimal j) (decimal i)) refl
     by_test false e = e
     by_test true e =
         let is : j ≡ i = decimal_injective j i (omega arith) (omega arith)
-            ((bytes_eq-Decides (decimal j) (decimal i)).0 e) in
+        ((bytes_eq-Decides (decimal j) (decimal i)).0 e) in
         absurd (omega arith)
 
 names_with : (ss : List SolidView) (s : SolidView) → names_of (ss ++ s ∷ []) ≡ names_of ss ++ s.name ∷ []
@@ -187,8 +187,11 @@ fresh_cut (suc n) =
     (not_among (names_of (blocks n)) (block_name n) (codes "cut") (fresh_cut n) refl)
 
 names_are : (n : ℕ) → n ≤ 200 → AreNames (names_of (blocks n))
-names_are zero le = record { lawful = λ k d low. absurd (omega arith); different = λ i j d low less. absurd
-    (omega arith) }
+names_are zero le = record {
+  lawful = λ k d low. absurd (omega arith);
+  different = λ i j d low less. absurd
+      (omega arith);
+}
 names_are (suc n) le =
     subst AreNames (sym (names_more n))
     (names_push (names_of (blocks n)) (block_name n) (names_are n (omega arith)) (block_named n (omega arith))
@@ -216,7 +219,7 @@ block_planes i low =
     let zero_is = small 0 (omega arith) in
     let one_is = small 1 (omega arith) in
     All-cons IsPlane (left_side i) (right_side i ∷ top_side i ∷ bottom_side i ∷ [])
-        (plane_is (left_side i) one_is zero_is (down (4 * (i % 16)) (omega arith)))
+    (plane_is (left_side i) one_is zero_is (down (4 * (i % 16)) (omega arith)))
     (All-cons IsPlane (right_side i) (top_side i ∷ bottom_side i ∷ [])
     (plane_is (right_side i) small_down zero_is (up (4 * (i % 16) + 2) (omega arith)))
     (All-cons IsPlane (top_side i) (bottom_side i ∷ [])
@@ -235,7 +238,7 @@ back_plane = plane_is back_of (small 0 (omega arith)) (small 0 (omega arith)) (u
 pub cut_planes : All IsPlane (cut_side ∷ [])
 cut_planes =
     All-cons IsPlane cut_side [] (plane_is cut_side (small 1 (omega arith)) small_down (up 0 (omega arith)))
-        (All-nil IsPlane)
+    (All-nil IsPlane)
 
 pub cut_back_plane : IsPlane cut_back
 cut_back_plane = plane_is cut_back (small 0 (omega arith)) (small 0 (omega arith)) (up 300 (omega arith))

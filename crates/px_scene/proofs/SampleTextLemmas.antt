@@ -139,7 +139,7 @@ blocks_plain : (count first : ℕ) → first + count ≤ 200
 blocks_plain zero first few = refl
 blocks_plain (suc count) first few =
     and_all (block_words first) (flat_map block_words (range_with_len (first + 1) count))
-        (block_plain first (omega arith))
+    (block_plain first (omega arith))
     (blocks_plain count (first + 1) (omega arith))
 
 cut_plain : list_all is_written cut_words ≡ true
@@ -152,8 +152,12 @@ cut_plain =
     (and_more back [] (line_plain (codes "back") cut_back refl cut_back_plane) refl))
 
 first_plain : (n : ℕ) → n ≤ 200 → list_all is_written (sample_first n) ≡ true
-first_plain n le = rw (decimal_plain 64 (omega arith), decimal_plain (4 * block_rows n) (omega arith), decimal_plain 16
-    (omega arith)) refl
+first_plain n le = rw (
+  decimal_plain 64 (omega arith),
+  decimal_plain (4 * block_rows n) (omega arith),
+  decimal_plain 16
+      (omega arith),
+) refl
 
 named : (n : ℕ) → 1 ≤ n → n ≤ 200 → has_names (named_by (names_of (sample_solids n)) (sample_tree n)) ≡ true
 named n some le =
@@ -167,7 +171,7 @@ words_are n some le =
     let plain = and_all (sample_first n) (sample_middle n) (first_plain n le)
     (and_all (flat_map block_words (range_with_len 0 n)) cut_words (blocks_plain n 0 (omega arith)) cut_plain) in
     ap worded (text_is n some le ∙ ap text_of_lines (sym
-        (append_assoc (sample_first n) (sample_middle n) (end_lines n))))
+    (append_assoc (sample_first n) (sample_middle n) (end_lines n))))
     ∙ read_both (sample_first n ++ sample_middle n) (end_lines n) (sample_last n) plain
     (shown_fed tree (named n some le))
     (shown_read tree (named n some le))
@@ -209,8 +213,13 @@ blocks_short zero first few = omega arith
 blocks_short (suc count) first few =
     let here = block_short first (omega arith) in
     let later = blocks_short count (first + 1) (omega arith) in
-    omega (arith, here, later, length-append (block_lines first)
-        (flat_map block_lines (range_with_len (first + 1) count)))
+    omega (
+      arith,
+      here,
+      later,
+      length-append (block_lines first)
+          (flat_map block_lines (range_with_len (first + 1) count)),
+    )
 
 cut_short : length cut_lines ≤ 134
 cut_short =

@@ -92,13 +92,13 @@ tree_is names count (suc k) (suc d) first end some within deep few =
           let m = middle first end in
           let twice = double_pow k in
           let low = tree_is names count k d first m (omega arith) (omega arith) (omega arith)
-              (omega (arith, few, twice)) in
+          (omega (arith, few, twice)) in
           let high = tree_is names count k d m end (omega arith) (omega arith) (omega arith) (omega (arith, few, twice))
-              in
+          in
           let both : (m - first) + (end - m) ≡ end - first = omega arith in
           let deeper : k + 1 ≡ suc k = omega arith in
           rw (tree_halved d first end more, ← both, ← deeper)
-              (two_sides count k (m - first) (end - m) names _ _ low high)
+          (two_sides count k (m - first) (end - m) names _ _ low high)
       | inr past ↦
           let one : end ≡ first + 1 = omega arith in
           let count_is : end - first ≡ 1 = omega arith in

@@ -61,7 +61,7 @@ block_walk start i low =
     (fresh_block i i (omega arith) (omega arith)) (omega arith) (omega arith) in
     let sides = sides_walk start done fresh (n + 1) (block_sides_of i) [] (block_planes i low) (omega arith) in
     let front = plain_front_walk start done sided (n + 1) (front_of i) (front_plane i low) (omega arith)
-        (omega arith) in
+    (omega arith) in
     let back = plain_back_walk start done fronted (n + 1 + 1) back_of back_plane (omega arith) (omega arith) in
     let last : n + 1 + 1 + 1 ≡ 3 * (i + 1) = omega arith in
     let end : open_at (block i) (n + 1 + 1 + 1) ≡ standing start (blocks (i + 1)) (3 * (i + 1)) =
@@ -84,7 +84,7 @@ blocks_walk start zero first few =
 blocks_walk start (suc count) first few =
     let same : first + 1 + count ≡ first + suc count = omega arith in
     subst (λ (m : ℕ). Walk (standing start (blocks first) (3 * first))
-        (flat_map block_words (range_with_len first (suc count)))
+    (flat_map block_words (range_with_len first (suc count)))
     (standing start (blocks m) (3 * m))) same
     (walk_both (standing start (blocks first) (3 * first)) (standing start (blocks (first + 1)) (3 * (first + 1)))
     (standing start (blocks (first + 1 + count)) (3 * (first + 1 + count))) (block_words first)
@@ -104,7 +104,7 @@ cut_walk start n le =
     let back = plain_back_walk start done sided (m + 1) cut_back cut_back_plane (omega arith) (omega arith) in
     let back_words : List Words = (codes "back" ∷ plane_words cut_back) ∷ [] in
     subst (λ (after : DraftView). Walk (standing start done m) cut_words after)
-        (stands start done (cut_solid m) (m + 1 + 1))
+    (stands start done (cut_solid m) (m + 1 + 1))
     (walk_both (standing start done m) (open_solid start done fresh (m + 1))
     (open_solid start done (cut_solid m) (m + 1 + 1))
     ((codes "solid" ∷ codes "cut" ∷ colour_words yellow) ∷ []) (side_words (cut_side ∷ []) ++ back_words) head
@@ -150,7 +150,7 @@ sample_walk n some le =
     (standing start (blocks m) (3 * m))) same (blocks_walk start n 0 (omega arith)) in
     let long : 0 < length (sample_solids n) = omega (arith, length-append (blocks n) (cut_solid (3 * n) ∷ [])) in
     let last = last_walk start (sample_solids n) (3 * n + 1 + 1) (sample_tree n) are.distinct below tree.signs
-        tree.lawful long in
+    tree.lawful long in
     walk_both blank start (sample_draft n) (sample_first n) (sample_middle n ++ sample_last n) first
     (walk_both start (standing start (sample_solids n) (3 * n + 1 + 1)) (sample_draft n) (sample_middle n)
     (sample_last n)

@@ -11,8 +11,8 @@ mod sample;
 mod write;
 
 pub use px_model::{
-    Colour, Face, MAX_BLOCKS, MAX_CONSTANT, MAX_DEPTH_BITS, MAX_FACES, MAX_FRACTION_BITS, MAX_PICTURE_SIZE,
-    MAX_PLANES_OF_A_KIND, MAX_SLOPE, MAX_SOLIDS, Scene, Solid, laws_of_scenes,
+    Colour, Face, MAX_BLOCKS, MAX_CONSTANT, MAX_DEPTH_BITS, MAX_FACES, MAX_FRACTION_BITS,
+    MAX_PICTURE_SIZE, MAX_PLANES_OF_A_KIND, MAX_SLOPE, MAX_SOLIDS, Scene, Solid, laws_of_scenes,
 };
 pub use px_show::{Cause, LimitKind, SceneFault, expression_law, printed_law};
 pub use px_text::{MAX_TEXT_BYTES, written_law};

@@ -52,7 +52,10 @@ const JOBS: [(JobFault, &str); 3] = [
 #[test]
 fn job_faults_as_text(rt: HostRuntime) -> Result<(), Fail> {
     let need = NeedBits { need: 74 };
-    assert_eq!(rt; need.to_string(rt.alloc())?.as_str(), "74 memory bits a pixel");
+    assert_eq!(rt;
+        need.to_string(rt.alloc())?.as_str(),
+        "74 memory bits a pixel"
+    );
     for (fault, text) in JOBS {
         assert_eq!(rt; fault.to_string(rt.alloc())?.as_str(), text);
     }

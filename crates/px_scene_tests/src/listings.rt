@@ -3,7 +3,9 @@ ghost use Rattle.std.specs.Prelude.{◌≤◌, length};
 
 use px_array::{Array, PixelArray};
 use px_io::MemSink;
-use px_listing::{ListFault, ListKind, play, read_listing, write_listing, write_memory, write_passes};
+use px_listing::{
+    ListFault, ListKind, play, read_listing, write_listing, write_memory, write_passes,
+};
 use px_prune::plan_of;
 use px_scene::{Cause, read_scene};
 use px_sched::Layout;

@@ -222,36 +222,36 @@ module _ (covering : CoveringLaw) (parity : ValueParityLaw) (scene : SceneView) 
       → IsConfirmed covering scene l room solid plain start new → IsKept s plain k new
   kept solid plain k start new dead is c = let s = solid_of scene solid in
       elim (cases_Bool (is_covered s plain far l.x l.y)) [
-    | inl yea ↦
-        let z = cell_found s plain d l.x l.y in
-        let some = loaded l d s k (face_found s plain far l.x l.y) in
-        let here : start ≡ some = is ∙ rw yea refl in
-        let deep : some.deep ≡ value_of d z = loaded_deep s plain yea in
-        record {
-          best = c.best ∙ ap (λ (k : Keys). k.best) here;
-          alive = c.alive
-              ∙ ap (λ (k : Keys). k.alive && ((d.fraction_bits == 0) || test covering scene l room solid plain k.deep))
-              here
-              ∙ ap (λ v. (d.fraction_bits == 0) || test covering scene l room solid plain v) deep
-              ∙ cell_test solid plain yea ∙ rw yea refl;
-          has = λ _. record {
-            is_deep = c.deep ∙ ap (λ (k : Keys). k.deep) here ∙ deep;
-            is_number = c.number
-                ∙ ap (λ (k : Keys). k.number) here;
-          };
-        }
-    | inr nay ↦
-        let here : start ≡ k = is ∙ rw nay refl in
-        record {
-          best = c.best ∙ ap (λ (k : Keys). k.best) here;
-          alive = c.alive
-              ∙ ap (λ (k : Keys). k.alive && ((d.fraction_bits == 0) || test covering scene l room solid plain k.deep))
-              here
-              ∙ rw (dead, nay) refl;
-          has = λ e. absurd (never (is_covered s plain far l.x l.y)
-              (has_cell s plain d l.x l.y (cell_found s plain d l.x l.y)) nay e);
-        }
-  ]
+        | inl yea ↦
+            let z = cell_found s plain d l.x l.y in
+            let some = loaded l d s k (face_found s plain far l.x l.y) in
+            let here : start ≡ some = is ∙ rw yea refl in
+            let deep : some.deep ≡ value_of d z = loaded_deep s plain yea in
+            record {
+              best = c.best ∙ ap (λ (k : Keys). k.best) here;
+              alive = c.alive
+                  ∙ ap (λ (k : Keys). k.alive && ((d.fraction_bits == 0) || test covering scene l room solid plain k.deep))
+                  here
+                  ∙ ap (λ v. (d.fraction_bits == 0) || test covering scene l room solid plain v) deep
+                  ∙ cell_test solid plain yea ∙ rw yea refl;
+              has = λ _. record {
+                is_deep = c.deep ∙ ap (λ (k : Keys). k.deep) here ∙ deep;
+                is_number = c.number
+                    ∙ ap (λ (k : Keys). k.number) here;
+              };
+            }
+        | inr nay ↦
+            let here : start ≡ k = is ∙ rw nay refl in
+            record {
+              best = c.best ∙ ap (λ (k : Keys). k.best) here;
+              alive = c.alive
+                  ∙ ap (λ (k : Keys). k.alive && ((d.fraction_bits == 0) || test covering scene l room solid plain k.deep))
+                  here
+                  ∙ rw (dead, nay) refl;
+              has = λ e. absurd (never (is_covered s plain far l.x l.y)
+                  (has_cell s plain d l.x l.y (cell_found s plain d l.x l.y)) nay e);
+            }
+      ]
 
   -- what the other literals leave
   judged_keys : (rs : List Literal) (k : Keys)

@@ -14,9 +14,9 @@ ghost use Rattle.px_show.specs.Stacks.{tree_steps};
 ghost use Rattle.px_show.specs.declared.scene_version.Version.{Version as AnyVersion};
 
 use crate::fault::{LineError, LineFault};
+use crate::scene_version::Version;
 use crate::stack::{Stack, Step};
 use crate::token::tokens_of;
-use crate::scene_version::Version;
 use px_expr::{Expr, ExprBuilder, ExprFault};
 use px_model::Solid;
 use std::alloc::Global;

@@ -6,8 +6,8 @@ ghost use Rattle.px_text.specs.LentWords.{now_of};
 ghost use Rattle.px_show.specs.Expressions.{mark, sign_in, tokens_in, tokens_of};
 ghost use Rattle.px_show.specs.Stacks.{token_of};
 
-use crate::sign::{is_sign, op_of};
 use crate::scene_version::Version;
+use crate::sign::{is_sign, op_of};
 use px_expr::Op;
 use px_text::is_name_byte;
 use std::alloc::{AllocError, Global};

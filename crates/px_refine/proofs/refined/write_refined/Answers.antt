@@ -59,7 +59,7 @@ returns-in_err-write_whole-2-clause-err g c =
     in let same = row_held s c.loop-y.y c.args.fine.now c.args.layout.now state _
     c.requires.few fits c.requires.rows held _ (mul-div-le c.args.fine.now.width (2 ^ s))
     in let row = rw (c.as_slice.ensures.value, c.mean_row-row.ensures, width, same)
-        at c.in_err-write_whole-2.ensures.err
+    at c.in_err-write_whole-2.ensures.err
     in let front = rw (width, height) at c.loop-y.invariant.front
     in let broken = rows_broken _ _ _ _ _ _ _ _ _ _ above front row
     in on_err _ broken
