@@ -23,7 +23,7 @@ use Rattle.px_text.proofs.DecimalLaws.{size_read}
 use Rattle.px_text.proofs.PlainLaws.{both}
 use Rattle.px_show.specs.Expressions.{is_among}
 use Rattle.px_show.specs.Printed.{AreDistinctNames, named_by, printed}
-use Rattle.px_show.specs.declared.version.Version.TheVariants as v
+use Rattle.px_show.specs.declared.scene_version.Version.TheVariants as v
 use Rattle.px_model.specs.declared.solid.Colour.{Colour}
 use Rattle.px_model.specs.declared.solid.Face.{Face}
 use Rattle.px_model.specs.Scenes.{IsColour, IsPlane, SolidView, names_of}

@@ -9,7 +9,7 @@ use Rattle.px_expr.specs.Tree.{HasLeavesBelow, IsLawfulTree, Tree, join, leaf, l
 use Rattle.px_text.specs.Text.{Words}
 use Rattle.px_show.specs.Expressions.{has_signs}
 use Rattle.px_show.specs.Printed.{named_by, printed}
-use Rattle.px_show.specs.declared.version.Version.TheVariants as v
+use Rattle.px_show.specs.declared.scene_version.Version.TheVariants as v
 use Rattle.px_scene.specs.Sample.{block_name, union_in, union_of}
 use Rattle.px_scene.proofs.SampleLemmas.{alone, halved, joined, middle, where_false, where_true}
 

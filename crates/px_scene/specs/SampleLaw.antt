@@ -1,6 +1,6 @@
 -- The sample is a scene's text. Clauses of public calls stand on it.
 use Rattle.std.specs.Prelude.{◌≡◌, ℕ, ◌≤◌, None}
-use Rattle.px_scene.specs.declared.sample.TheConstants.{MAX_BLOCKS}
+use Rattle.px_model.specs.declared.limits.TheConstants.{MAX_BLOCKS}
 use Rattle.px_scene.specs.Reading.{refusal_of}
 use Rattle.px_scene.specs.Sample.{sample_text}
 
