@@ -120,7 +120,7 @@ fn try_crowd(rt: &impl Abort, alloc: Global, nx: u32, ny: u32) -> Result<(), Mem
 #[test]
 fn after_random_micros(rt: HostRuntime) -> Result<(), Fail> {
     for (nx, ny) in GRIDS {
-        let mut draw = Draw::from(u64::from(8 * nx + ny));
+        let mut draw = Draw::from(8 * u64::from(nx) + u64::from(ny));
         for _ in 0..20 {
             try_stirred(&rt, rt.alloc(), nx, ny, &mut draw)?;
         }
