@@ -21,7 +21,7 @@ pub trait Asks<O: Sink>: Source {
         ensures bound { ReadsAtMost result buf.new }
         ensures bytes { ReadConsumes (Self.rest self.old) (Self.rest self.new) result buf.new }
         ensures cause { HasCause (Self.faults self.old) (Self.faults self.new) result }
-        ensures noted { Notes (asks self.old) (asks self.new) (O.written out.now)
+        ensures noted { Notes (asks self.old) (asks self.new) (O.state out.now).written
             (given result buf.new) };
 }
 

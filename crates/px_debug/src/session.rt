@@ -99,14 +99,12 @@ impl<'s> Session<'s> {
           lines = self.old.lines + 1;
         } }
         ensures fits { Fits A.BITS self.new (A.device array.new) (A.slots array.new) }
-        ensures ok { OnOk result (TakesAll (O.written out.old) (O.written out.new)
-            (O.finished out.old) (O.finished out.new)
+        ensures ok { OnOk result (TakesAll (O.state out.old) (O.state out.new)
             (answer A.BITS self.new.scene self.new.now self.new.lines (line_command line.now))) }
         ensures going { IfOk result (λ on. on ≡ going (line_command line.now)) }
-        ensures err { OnErr result (TakesFront (O.written out.old) (O.written out.new)
-            (O.finished out.old) (O.finished out.new)
+        ensures err { OnErr result (TakesFront (O.state out.old) (O.state out.new)
             (answer A.BITS self.new.scene self.new.now self.new.lines (line_command line.now))) }
-        ensures cause { HasCause (O.faults out.old) (O.faults out.new) result }
+        ensures cause { HasCause (O.state out.old).faults (O.state out.new).faults result }
         ensures work { A.work array.new ≤ A.work array.old
             + most_clocks self.old.scene self.old.now (line_command line.now) }
     {
@@ -141,13 +139,11 @@ impl<'s> Session<'s> {
         out: &mut O,
     ) -> Result<(), Failed>
         requires fits { Fits A.BITS self.now (A.device array.now) (A.slots array.now) }
-        ensures ok { OnOk result (TakesAll (O.written out.old) (O.written out.new)
-            (O.finished out.old) (O.finished out.new)
+        ensures ok { OnOk result (TakesAll (O.state out.old) (O.state out.new)
             (answer A.BITS self.now.scene self.now.now self.now.lines command)) }
-        ensures err { OnErr result (TakesFront (O.written out.old) (O.written out.new)
-            (O.finished out.old) (O.finished out.new)
+        ensures err { OnErr result (TakesFront (O.state out.old) (O.state out.new)
             (answer A.BITS self.now.scene self.now.now self.now.lines command)) }
-        ensures cause { HasCause (O.faults out.old) (O.faults out.new) result }
+        ensures cause { HasCause (O.state out.old).faults (O.state out.new).faults result }
     {
         let text = self.answer(array, command);
         write_whole(out, text.as_bytes())

@@ -32,13 +32,12 @@ pub fn deliver<A: Operating, O: Sink>(
 ) -> Result<(), Failed>
     requires scene { scene.now ≡ job.old.scene }
     requires at { IsAt A.BITS scene.now job.old.place.clock (A.device array.old) }
-    ensures ok { OnOk result (Appends (O.written out.old) (O.written out.new)
+    ensures ok { OnOk result (Appends (O.state out.old).written (O.state out.new).written
         (depth_image scene.now ++ face_image scene.now)) }
-    ensures end { OnOk result (Tells (O.finished out.new) true) }
-    ensures err { OnErr result (TakesFront (O.written out.old) (O.written out.new)
-        (O.finished out.old) (O.finished out.new)
+    ensures end { OnOk result (Tells (O.state out.new).finished true) }
+    ensures err { OnErr result (TakesFront (O.state out.old) (O.state out.new)
         (depth_image scene.now ++ face_image scene.now)) }
-    ensures cause { HasCause (O.faults out.old) (O.faults out.new) result }
+    ensures cause { HasCause (O.state out.old).faults (O.state out.new).faults result }
     ensures drawn { IsDrawn A.BITS scene.now (A.device array.new) }
     ensures slots { A.slots array.new ≡ A.slots array.old }
     ensures work { A.work array.new
@@ -61,12 +60,11 @@ pub fn deliver_images<A: Operating, O: Sink>(
 ) -> Result<(), Failed>
     requires scene { scene.now ≡ job.old.scene }
     requires at { IsAt A.BITS scene.now job.old.place.clock (A.device array.old) }
-    ensures ok { OnOk result (Appends (O.written out.old) (O.written out.new)
+    ensures ok { OnOk result (Appends (O.state out.old).written (O.state out.new).written
         (images scene.now planes.now)) }
-    ensures end { OnOk result (Tells (O.finished out.new) true) }
-    ensures err { OnErr result (TakesFront (O.written out.old) (O.written out.new)
-        (O.finished out.old) (O.finished out.new) (images scene.now planes.now)) }
-    ensures cause { HasCause (O.faults out.old) (O.faults out.new) result }
+    ensures end { OnOk result (Tells (O.state out.new).finished true) }
+    ensures err { OnErr result (TakesFront (O.state out.old) (O.state out.new) (images scene.now planes.now)) }
+    ensures cause { HasCause (O.state out.old).faults (O.state out.new).faults result }
     ensures drawn { IsDrawn A.BITS scene.now (A.device array.new) }
     ensures slots { A.slots array.new ≡ A.slots array.old }
     ensures work { A.work array.new
@@ -111,11 +109,9 @@ fn write_images<A: Array, O: Sink>(
 ) -> Result<(), Failed>
     requires layout { layout.now ≡ layout_of scene.now }
     requires drawn { IsDrawn A.BITS scene.now (A.device array.now) }
-    ensures ok { OnOk result (TakesAll (O.written out.old) (O.written out.new)
-        (O.finished out.old) (O.finished out.new) (images scene.now planes.now)) }
-    ensures err { OnErr result (TakesFront (O.written out.old) (O.written out.new)
-        (O.finished out.old) (O.finished out.new) (images scene.now planes.now)) }
-    ensures cause { HasCause (O.faults out.old) (O.faults out.new) result }
+    ensures ok { OnOk result (TakesAll (O.state out.old) (O.state out.new) (images scene.now planes.now)) }
+    ensures err { OnErr result (TakesFront (O.state out.old) (O.state out.new) (images scene.now planes.now)) }
+    ensures cause { HasCause (O.state out.old).faults (O.state out.new).faults result }
 {
     for plane in planes {
         write_image(array, layout, scene, *plane, out)?;
@@ -133,13 +129,11 @@ fn write_image<A: Array, O: Sink>(
 ) -> Result<(), Failed>
     requires layout { layout.now ≡ layout_of scene.now }
     requires drawn { IsDrawn A.BITS scene.now (A.device array.now) }
-    ensures ok { OnOk result (TakesAll (O.written out.old) (O.written out.new)
-        (O.finished out.old) (O.finished out.new)
+    ensures ok { OnOk result (TakesAll (O.state out.old) (O.state out.new)
         (picture_image scene.now plane)) }
-    ensures err { OnErr result (TakesFront (O.written out.old) (O.written out.new)
-        (O.finished out.old) (O.finished out.new)
+    ensures err { OnErr result (TakesFront (O.state out.old) (O.state out.new)
         (picture_image scene.now plane)) }
-    ensures cause { HasCause (O.faults out.old) (O.faults out.new) result }
+    ensures cause { HasCause (O.state out.old).faults (O.state out.new).faults result }
 {
     laws_of_scenes(scene);
     law_of_grids();

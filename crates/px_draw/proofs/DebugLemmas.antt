@@ -6,7 +6,7 @@ use Rattle.std.proofs.lemmas.Bool.{cases_lt}
 use Rattle.std.proofs.lemmas.List.{take_all, take-append-le, drop-append-le}
 use Rattle.std.proofs.Math.Seq.{take-append-add}
 use Rattle.std.specs.Io.KnownBytes.{Consumes, IsAtEnd}
-use Rattle.px_io.specs.Told.{ConsumesAtMost}
+use Rattle.px_io.specs.Told.{SinkState, ConsumesAtMost}
 use Rattle.px_io.proofs.ToldLaws.{consumes_both}
 use Rattle.px_array.specs.Slots.{ArrayView}
 use Rattle.px_scene.specs.Scenes.{SceneView}
@@ -176,34 +176,34 @@ stands stays bits bytes from now lines array start state lent =
     }
 
 over : SceneStays → (bits : ℕ) (bytes : List ℕ) (from now : Stand) (lines : List (List ℕ))
-    (a b : Option (List ℕ)) (q : Option Bool) (array : ArrayView)
-    → from.session ≡ session_of bytes → IsLent bits from now array → Finished bits from now a b q lines
-    → IsOver bits bytes lines a b q array
-over stays bits bytes from now lines a b q array start fits finished = record {
+    (a b : SinkState) (array : ArrayView)
+    → from.session ≡ session_of bytes → IsLent bits from now array → Finished bits from now a b lines
+    → IsOver bits bytes lines a b array
+over stays bits bytes from now lines a b array start fits finished = record {
   wrote = rw (← start) finished.wrote;
   end = finished.end;
   array = stands stays bits bytes from now lines array start finished.state fits;
 }
 
 all_answered : SceneStays → (bits : ℕ) (bytes : List ℕ) (from now : Stand) (lines : List (List ℕ))
-    (a b : Option (List ℕ)) (p q : Option Bool) (array : ArrayView)
-    → from.session ≡ session_of bytes → IsLent bits from now array → Answered bits from now a b p q lines
-    → IsAnswered bits bytes lines a b p q array
-all_answered stays bits bytes from now lines a b p q array start fits said = record {
+    (a b : SinkState) (array : ArrayView)
+    → from.session ≡ session_of bytes → IsLent bits from now array → Answered bits from now a b lines
+    → IsAnswered bits bytes lines a b array
+all_answered stays bits bytes from now lines a b array start fits said = record {
   wrote = rw (← start) said.wrote;
   array = stands stays bits bytes from now lines array start said.state fits;
 }
 
 broken : SceneStays → (bits : ℕ) (bytes : List ℕ) (from now : Stand) (lines : List (List ℕ))
-    (a b : Option (List ℕ)) (p q : Option Bool) (array : ArrayView)
-    → from.session ≡ session_of bytes → IsLent bits from now array → Broken bits from now a b p q lines
-    → IsBroken bits bytes lines a b p q array
-broken stays bits bytes from now lines a b p q array start fits broke = record {
+    (a b : SinkState) (array : ArrayView)
+    → from.session ≡ session_of bytes → IsLent bits from now array → Broken bits from now a b lines
+    → IsBroken bits bytes lines a b array
+broken stays bits bytes from now lines a b array start fits broke = record {
   count = broke.count;
   within = broke.within;
   some = broke.some;
   gained = broke.gained;
-  before = rw (← start) broke.before;
+  before = rw (← start) broke.enough;
   wrote = rw (← start) broke.wrote;
   array = stands stays bits bytes from now (take broke.count lines) array start broke.state fits;
 }
@@ -274,14 +274,14 @@ answered_long bytes bits long quiet = rw (long, quiet) refl
 -- what a session does, by how it ended
 abbrev ServedAs : Ending → Type 0
 ServedAs ending =
-    (bits n : ℕ) (text z : List ℕ) (scene : SceneView) (known rest a b : Option (List ℕ)) (p q : Option Bool)
+    (bits n : ℕ) (text z : List ℕ) (scene : SceneView) (known rest : Option (List ℕ)) (a b : SinkState)
     (from now : Stand) (before array : ArrayView)
     → Sat bits n text z scene known rest from now array
-    → HasServed ending bits from now a b p q (command_text (text ++ z)) z (more_than text) rest
-    → Performs (result_of ending) (Some c.Debug) bits known rest a b p q before array
+    → HasServed ending bits from now a b (command_text (text ++ z)) z (more_than text) rest
+    → Performs (result_of ending) (Some c.Debug) bits known rest a b before array
 
 served_as : (ending : Ending) → ServedAs ending
-served_as e.Quit bits n text z scene known rest a b p q from now before array sat served =
+served_as e.Quit bits n text z scene known rest a b from now before array sat served =
     let ext = extends known rest (text ++ z) sat.consumed in
     let bytes = ext.bytes in
     let see = sees sat.laws bits n text z ext.more bytes scene from sat.seated sat.start (ext.whole
@@ -299,10 +299,10 @@ served_as e.Quit bits n text z scene known rest a b p q from now before array sa
       front = (ext.more, ext.whole);
       status = rw is refl;
       line = tt;
-      leaves = over sat.laws.scene bits bytes from now (until_quit (all_commands bytes)) a b q array
+      leaves = over sat.laws.scene bits bytes from now (until_quit (all_commands bytes)) a b array
           see.start_all sat.fits (rw lines served.0);
     }
-served_as e.End bits n text z scene known rest a b p q from now before array sat served =
+served_as e.End bits n text z scene known rest a b from now before array sat served =
     let ext = extends known rest (text ++ z) sat.consumed in
     let bytes = ext.bytes in
     let see = sees sat.laws bits n text z ext.more bytes scene from sat.seated sat.start (ext.whole
@@ -319,10 +319,10 @@ served_as e.End bits n text z scene known rest a b p q from now before array sat
       front = (ext.more, ext.whole);
       status = rw is refl;
       line = tt;
-      leaves = over sat.laws.scene bits bytes from now (until_quit (all_commands bytes)) a b q array
+      leaves = over sat.laws.scene bits bytes from now (until_quit (all_commands bytes)) a b array
           see.start_all sat.fits (rw same served.0);
     }
-served_as e.Long bits n text z scene known rest a b p q from now before array sat served =
+served_as e.Long bits n text z scene known rest a b from now before array sat served =
     let ext = extends known rest (text ++ z) sat.consumed in
     let bytes = ext.bytes in
     let see = sees sat.laws bits n text z ext.more bytes scene from sat.seated sat.start (ext.whole
@@ -347,10 +347,10 @@ served_as e.Long bits n text z scene known rest a b p q from now before array sa
       front = (ext.more, ext.whole);
       status = (0, k.Scene kind.Text, pos 1048577, rw is refl);
       line = rw is refl;
-      leaves = rw is (all_answered sat.laws.scene bits bytes from now (whole_commands bytes) a b p q array
+      leaves = rw is (all_answered sat.laws.scene bits bytes from now (whole_commands bytes) a b array
           see.start_all sat.fits (rw behind served.0));
     }
-served_as e.ReadFault bits n text z scene known rest a b p q from now before array sat served =
+served_as e.ReadFault bits n text z scene known rest a b from now before array sat served =
     let ext = extends known rest (text ++ z) sat.consumed in
     let bytes = ext.bytes in
     let see = sees sat.laws bits n text z ext.more bytes scene from sat.seated sat.start (ext.whole
@@ -367,12 +367,12 @@ served_as e.ReadFault bits n text z scene known rest a b p q from now before arr
         whole = λ part. record {
           admits = see.taken.admits;
           quiet = served.1;
-          answered = all_answered sat.laws.scene bits (text ++ z) from now (whole_commands (text ++ z)) a b p q array see.start_taken sat.fits served.0;
+          answered = all_answered sat.laws.scene bits (text ++ z) from now (whole_commands (text ++ z)) a b array see.start_taken sat.fits served.0;
         };
         other = λ none. absurd (let two : true ≡ false = sym see.taken.part ∙ none in cc);
       };
     }
-served_as e.WriteFault bits n text z scene known rest a b p q from now before array sat served =
+served_as e.WriteFault bits n text z scene known rest a b from now before array sat served =
     let ext = extends known rest (text ++ z) sat.consumed in
     let bytes = ext.bytes in
     let see = sees sat.laws bits n text z ext.more bytes scene from sat.seated sat.start (ext.whole
@@ -387,7 +387,7 @@ served_as e.WriteFault bits n text z scene known rest a b p q from now before ar
       line = refl;
       leaves = record {
         admits = see.taken.admits;
-        broken = broken sat.laws.scene bits (text ++ z) from now (until_quit (all_commands (text ++ z))) a b p q array
+        broken = broken sat.laws.scene bits (text ++ z) from now (until_quit (all_commands (text ++ z))) a b array
             see.start_taken sat.fits served;
       };
     }
@@ -395,21 +395,21 @@ served_as e.WriteFault bits n text z scene known rest a b p q from now before ar
 -- command lines were answered behind a scene part
 pub performs_sat : (laws : Laws) (result : Result (Unit {0}) Stop) (bits n : ℕ) (text read : List ℕ) (more : ℕ)
     (scene : SceneView)
-    (known rest rest' a b : Option (List ℕ)) (p q : Option Bool) (from now : Stand) (before array : ArrayView)
+    (known rest rest' : Option (List ℕ)) (a b : SinkState) (from now : Stand) (before array : ArrayView)
     → Seated bits n text scene → length text ≤ 1048577 → Consumes known rest text → from.session ≡ session_opened scene
     → IsLent bits from now array
-    → read ≡ command_text text → more ≡ more_than text → Sits result bits read more from now rest rest' a b p q
-    → Performs result (Some c.Debug) bits known rest' a b p q before array
-performs_sat laws result bits n text read more scene known rest rest' a b p q from now before array seated few
+    → read ≡ command_text text → more ≡ more_than text → Sits result bits read more from now rest rest' a b
+    → Performs result (Some c.Debug) bits known rest' a b before array
+performs_sat laws result bits n text read more scene known rest rest' a b from now before array seated few
     opens start fits behind left sits =
     let serves = sits.serves in
     let z = serves.bytes in
-    let here = subst (λ m. HasServed sits.ending bits from now a b p q (read ++ seen m z) z m rest') left
+    let here = subst (λ m. HasServed sits.ending bits from now a b (read ++ seen m z) z m rest') left
     serves.served in
     let whole : read ++ seen (more_than text) z ≡ command_text (text ++ z) =
     ap (λ t. t ++ seen (more_than text) z) behind ∙ sym (grown laws.kept laws.within text z n seated.part).behind in
-    let served = subst (λ t. HasServed sits.ending bits from now a b p q t z (more_than text) rest') whole here in
-    rw sits.result (served_as sits.ending bits n text z scene known rest' a b p q from now before array (record {
+    let served = subst (λ t. HasServed sits.ending bits from now a b t z (more_than text) rest') whole here in
+    rw sits.result (served_as sits.ending bits n text z scene known rest' a b from now before array (record {
       laws = laws;
       seated = seated;
       few = few;
@@ -419,11 +419,11 @@ performs_sat laws result bits n text read more scene known rest rest' a b p q fr
     }) served)
 
 pub took_sat : (result : Result (Unit {0}) Stop) (bits : ℕ) (text read : List ℕ) (more : ℕ)
-    (known rest rest' a b : Option (List ℕ)) (p q : Option Bool)
+    (known rest rest' : Option (List ℕ)) (a b : SinkState)
     (from now : Stand) → length text ≤ 1048577 → Consumes known rest text → more ≡ more_than text
-    → Sits result bits read more from now rest rest' a b p q
+    → Sits result bits read more from now rest rest' a b
     → ConsumesAtMost known rest' 1048577
-took_sat result bits text read more known rest rest' a b p q from now few opens left sits = (
+took_sat result bits text read more known rest rest' a b from now few opens left sits = (
   text ++ sits.serves.bytes,
   consumes_both known rest rest' text sits.serves.bytes opens sits.serves.taken,
   omega (arith, length-append text sits.serves.bytes, sits.serves.few, few, left),

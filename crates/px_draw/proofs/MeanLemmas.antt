@@ -1,5 +1,6 @@
 -- The image of means over an array that stores the picture of the finer scene.
-use Rattle.std.proofs.Common.{ℕ, ◌≡◌, Bool, List, Option, None, Result, ap, subst, sym, ◌∙◌}
+use Rattle.std.proofs.Common.{ℕ, ◌≡◌, Option, None, Result, ap, subst, sym, ◌∙◌}
+use Rattle.px_io.specs.Told.{SinkState}
 use Rattle.px_array.specs.Arrays.{State, pixel_of}
 use Rattle.px_scene.specs.Scenes.{SceneView}
 use Rattle.px_sched.specs.Layouts.{LayoutView}
@@ -25,12 +26,12 @@ means_drawn law s scene fine layout drawn state is same shows =
 
 -- what serves the finer scene serves its refinement
 pub serves_refined : (result : Result (Unit {0}) Stop) (s t : ℕ) (scene fine : SceneView) (bits : ℕ)
-    (a b : Option (List ℕ)) (p q : Option Bool) (m n : ℕ) → s ≡ t → fine_refusal s scene ≡ None
+    (a b : SinkState) → s ≡ t → fine_refusal s scene ≡ None
     → fine ≡ fine_scene s scene
-    → DoesWork result (drawable bits fine (done (refined_image s scene))) a b p q m n
-    → DoesWork result (refined t scene bits) a b p q m n
-serves_refined result s t scene fine bits a b p q m n same none is serves =
-    subst (λ (k : ℕ). DoesWork result (refined k scene bits) a b p q m n) same
+    → DoesWork result (drawable bits fine (done (refined_image s scene))) a b
+    → DoesWork result (refined t scene bits) a b
+serves_refined result s t scene fine bits a b same none is serves =
+    subst (λ (k : ℕ). DoesWork result (refined k scene bits) a b) same
     (subst (λ (r : Option Refusal). DoesWork result
-    (unless_refused r (drawable bits (fine_scene s scene) (done (refined_image s scene)))) a b p q m n) (sym none)
-    (subst (λ (f : SceneView). DoesWork result (drawable bits f (done (refined_image s scene))) a b p q m n) is serves))
+    (unless_refused r (drawable bits (fine_scene s scene) (done (refined_image s scene)))) a b) (sym none)
+    (subst (λ (f : SceneView). DoesWork result (drawable bits f (done (refined_image s scene))) a b) is serves))

@@ -1,10 +1,10 @@
 -- What a run of `debug` is whose session did not begin, or has no command lines.
 use Rattle.std.proofs.Common.{ℕ, ◌≡◌, ◌-◌, ◌<◌, ◌++◌, ◌&&◌, not, inl, inr, List, [], length, take, is_some, subst}
-use Rattle.std.proofs.Common.{true, false, Bool, Option, Some, None, Result, Ok, Err, refl, ap, sym, ◌∙◌, arith}
+use Rattle.std.proofs.Common.{true, false, Option, Some, None, Result, Ok, Err, refl, ap, sym, ◌∙◌, arith}
 use Rattle.std.proofs.Common.{append-nil, length-append}
 use Rattle.std.proofs.Math.Seq.{drop-length}
 use Rattle.std.specs.Io.KnownBytes.{Appends, Consumes, IsAtEnd, Keeps}
-use Rattle.px_io.specs.Told.{ConsumesAtMost}
+use Rattle.px_io.specs.Told.{SinkState, ConsumesAtMost}
 use Rattle.px_array.specs.Slots.{ArrayView}
 use Rattle.px_scene.specs.Scenes.{SceneView}
 use Rattle.px_control.specs.Program.{IsAt}
@@ -30,17 +30,17 @@ use Rattle.px_draw.proofs.DebugLemmas.{Extends, Laws, admits_is, and_not, answer
 use Rattle.px_draw.proofs.DebugLemmas.{long_is, short_is, within_both}
 use Rattle.px_draw.proofs.WorkLemmas.{keeps_same}
 
-untouched : (a : Option (List ℕ)) (p : Option Bool) (before now : ArrayView) → now ≡ before
-    → IsUntouched a a p p before now
-untouched a p before now same = record { wrote = keeps_same a; finished = refl; array = same }
+untouched : (a : SinkState) (before now : ArrayView) → now ≡ before
+    → IsUntouched a a before now
+untouched a before now same = record { wrote = keeps_same a.written; finished = refl; array = same }
 
 -- a refusal before any output
-refused_by : (reason : Refusal) (bits : ℕ) (taken : List ℕ) (known rest a : Option (List ℕ)) (p : Option Bool)
+refused_by : (reason : Refusal) (bits : ℕ) (taken : List ℕ) (known rest : Option (List ℕ)) (a : SinkState)
     (before now : ArrayView)
     → (ext : Extends known rest taken) → Consumes known rest taken → now ≡ before → debugged ext.bytes bits
     ≡ refused reason
-    → Performs (Err (s.Refused reason)) (Some c.Debug) bits known rest a a p p before now
-refused_by (r.Malformed line cause) bits taken known rest a p before now ext consumed same is = record {
+    → Performs (Err (s.Refused reason)) (Some c.Debug) bits known rest a a before now
+refused_by (r.Malformed line cause) bits taken known rest a before now ext consumed same is = record {
   bytes = ext.bytes;
   taken = taken;
   input = ext.input;
@@ -48,9 +48,9 @@ refused_by (r.Malformed line cause) bits taken known rest a p before now ext con
   front = (ext.more, ext.whole);
   status = (line, cause, rw is refl);
   line = rw is refl;
-  leaves = untouched a p before now same;
+  leaves = untouched a before now same;
 }
-refused_by (r.Limit line kind found) bits taken known rest a p before now ext consumed same is = record {
+refused_by (r.Limit line kind found) bits taken known rest a before now ext consumed same is = record {
   bytes = ext.bytes;
   taken = taken;
   input = ext.input;
@@ -58,15 +58,14 @@ refused_by (r.Limit line kind found) bits taken known rest a p before now ext co
   front = (ext.more, ext.whole);
   status = (line, kind, found, rw is refl);
   line = rw is refl;
-  leaves = rw is (untouched a p before now same);
+  leaves = rw is (untouched a before now same);
 }
 
 -- want of memory
-no_memory : (bits : ℕ) (taken : List ℕ) (known rest a : Option (List ℕ)) (p : Option Bool) (before now : ArrayView)
+no_memory : (bits : ℕ) (taken : List ℕ) (known rest : Option (List ℕ)) (a : SinkState) (before now : ArrayView)
     → Consumes known rest taken
-    → LeavesAtMemory bits taken before now → Performs (Err s.Memory) (Some c.Debug) bits known rest a a
-    p p before now
-no_memory bits taken known rest a p before now consumed kept =
+    → LeavesAtMemory bits taken before now → Performs (Err s.Memory) (Some c.Debug) bits known rest a a before now
+no_memory bits taken known rest a before now consumed kept =
     let ext = extends known rest taken consumed in
     record {
       bytes = ext.bytes;
@@ -76,7 +75,7 @@ no_memory bits taken known rest a p before now consumed kept =
       front = (ext.more, ext.whole);
       status = tt;
       line = refl;
-      leaves = (keeps_same a, refl, kept);
+      leaves = (keeps_same a.written, refl, kept);
     }
 
 pub no_part : (bytes : List ℕ) → part_end (within_limit bytes) ≡ None → has_part bytes ≡ true → ⊥
@@ -84,13 +83,12 @@ unfolding has_part
 no_part bytes none part = (let two : false ≡ true = sym (ap is_some none) ∙ part in cc)
 
 -- the input was not read as far as the scene part
-pub performs_open : (result : Result (Unit {0}) Stop) (bits : ℕ) (stop : Stop) (known rest a : Option (List ℕ))
-    (p : Option Bool) (device : ArrayView)
+pub performs_open : (result : Result (Unit {0}) Stop) (bits : ℕ) (stop : Stop) (known rest : Option (List ℕ)) (a : SinkState) (device : ArrayView)
     → result ≡ Err stop → IsOpenStop stop known rest → ConsumesAtMost known rest 1048577
-    → Performs result (Some c.Debug) bits known rest a a p p device device
-performs_open result bits stop known rest a p device is why most = rw is (by_stop stop why)
+    → Performs result (Some c.Debug) bits known rest a a device device
+performs_open result bits stop known rest a device is why most = rw is (by_stop stop why)
   where
-    by_stop : (stop : Stop) → IsOpenStop stop known rest → Performs (Err stop) (Some c.Debug) bits known rest a a p p
+    by_stop : (stop : Stop) → IsOpenStop stop known rest → Performs (Err stop) (Some c.Debug) bits known rest a a
         device device
     by_stop s.ReadFault (taken, consumed, few, none) =
         let ext = extends known rest taken consumed in
@@ -104,10 +102,10 @@ performs_open result bits stop known rest a p device is why most = rw is (by_sto
           line = refl;
           leaves = record {
             whole = λ part. absurd (no_part taken none part);
-            other = λ part. untouched a p device device refl;
+            other = λ part. untouched a device device refl;
           };
         }
-    by_stop s.Memory why = no_memory bits most.0 known rest a p device device most.1 (inl refl)
+    by_stop s.Memory why = no_memory bits most.0 known rest a device device most.1 (inl refl)
     by_stop s.Usage why = absurd why
     by_stop (s.Refused reason) why = absurd why
     by_stop s.WriteFault why = absurd why
@@ -163,24 +161,23 @@ refused_long text more bits none full =
     rw (long_is (text ++ more) (omega (arith, length-append text more)), part) refl
 
 pub performs_part : (laws : Laws) (result : Result (Unit {0}) Stop) (bits : ℕ) (stop : Stop) (o : Opening)
-    (known rest a : Option (List ℕ)) (p : Option Bool) (device : ArrayView)
-    → result ≡ Err stop → Opens o known rest → IsPartStop stop o → Performs result (Some c.Debug) bits known rest a a
-    p p device device
-performs_part laws result bits stop o known rest a p device is opens part = rw is (by_stop stop part)
+    (known rest : Option (List ℕ)) (a : SinkState) (device : ArrayView)
+    → result ≡ Err stop → Opens o known rest → IsPartStop stop o → Performs result (Some c.Debug) bits known rest a a device device
+performs_part laws result bits stop o known rest a device is opens part = rw is (by_stop stop part)
   where
     ext : Extends known rest o.text.items
     ext = extends known rest o.text.items opens.taken
 
-    by_stop : (stop : Stop) → IsPartStop stop o → Performs (Err stop) (Some c.Debug) bits known rest a a p p
+    by_stop : (stop : Stop) → IsPartStop stop o → Performs (Err stop) (Some c.Debug) bits known rest a a
         device device
     by_stop (s.Refused reason) (inl (bad, short)) =
-        refused_by reason bits o.text.items known rest a p device device ext opens.taken refl
+        refused_by reason bits o.text.items known rest a device device ext opens.taken refl
         (refused_part o.text.items ext.bytes bits reason (judged laws o.text.items known rest o.part ext opens.part
         short opens.end) bad)
     by_stop (s.Refused reason) (inr (none, full, long)) =
-        refused_by reason bits o.text.items known rest a p device device ext opens.taken refl
+        refused_by reason bits o.text.items known rest a device device ext opens.taken refl
         (rw (ext.whole, long) (refused_long o.text.items ext.more bits (sym opens.part ∙ none) full))
-    by_stop s.Memory part = no_memory bits o.text.items known rest a p device device opens.taken (inl refl)
+    by_stop s.Memory part = no_memory bits o.text.items known rest a device device opens.taken (inl refl)
     by_stop s.Usage part = absurd part
     by_stop s.ReadFault part = absurd part
     by_stop s.WriteFault part = absurd part
@@ -196,11 +193,11 @@ closed_by part bits scene o reason good same meets =
 -- no session began
 pub performs_closed : (laws : Laws) (result : Result (Unit {0}) Stop) (bits : ℕ) (stop : Stop) (o : Opening)
     (scene : SceneView)
-    (known rest a : Option (List ℕ)) (p : Option Bool) (before now : ArrayView) → result ≡ Err stop → Opens o known rest
+    (known rest : Option (List ℕ)) (a : SinkState) (before now : ArrayView) → result ≡ Err stop → Opens o known rest
     → OpensOn o scene
     → StopsAt (drawable bits scene) stop → LeavesClosed (status_of stop) bits scene before now
-    → Performs result (Some c.Debug) bits known rest a a p p before now
-performs_closed laws result bits stop o scene known rest a p before now is opens on stops leaves =
+    → Performs result (Some c.Debug) bits known rest a a before now
+performs_closed laws result bits stop o scene known rest a before now is opens on stops leaves =
     rw is (by_stop stop stops leaves)
   where
     ext : Extends known rest o.text.items
@@ -218,14 +215,14 @@ performs_closed laws result bits stop o scene known rest a p before now is opens
         (stops.meets (answered bytes bits))
 
     by_stop : (stop : Stop) → StopsAt (drawable bits scene) stop → LeavesClosed (status_of stop) bits scene before now
-        → Performs (Err stop) (Some c.Debug) bits known rest a a p p before now
+        → Performs (Err stop) (Some c.Debug) bits known rest a a before now
     by_stop (s.Refused (r.Malformed line cause)) stops same =
-        refused_by (r.Malformed line cause) bits o.text.items known rest a p before now ext opens.taken same
+        refused_by (r.Malformed line cause) bits o.text.items known rest a before now ext opens.taken same
         (refusal (r.Malformed line cause) stops)
     by_stop (s.Refused (r.Limit line kind found)) stops same =
-        refused_by (r.Limit line kind found) bits o.text.items known rest a p before now ext opens.taken same
+        refused_by (r.Limit line kind found) bits o.text.items known rest a before now ext opens.taken same
         (refusal (r.Limit line kind found) stops)
-    by_stop s.Memory stops kept = no_memory bits o.text.items known rest a p before now opens.taken
+    by_stop s.Memory stops kept = no_memory bits o.text.items known rest a before now opens.taken
         (inr (on.good, subst (λ s. IsKeptOrOpened bits s before now) on.scene kept))
     by_stop s.Usage stops leaves = absurd stops.scene
     by_stop s.ReadFault stops leaves = absurd stops.scene
@@ -242,12 +239,12 @@ appended (Some xs) (Some ys) kept = rw kept (sym (append-nil xs))
 
 -- the scene part is the whole input
 pub performs_empty : (laws : Laws) (result : Result (Unit {0}) Stop) (bits : ℕ) (o : Opening) (scene : SceneView)
-    (known rest a b : Option (List ℕ)) (p q : Option Bool)
+    (known rest : Option (List ℕ)) (a b : SinkState)
     (before array : ArrayView) → Opens o known rest → OpensOn o scene → o.part ≡ None
     → ((outcome : Outcome) → drawable bits scene outcome ≡ outcome) → Fits bits (session_opened scene) array.device array.slots
-    → array.work ≡ 0 → Keeps a b → Finishes result p q
-    → Performs result (Some c.Debug) bits known rest a b p q before array
-performs_empty laws result bits o scene known rest a b p q before array opens on none draws fits none_made kept
+    → array.work ≡ 0 → Keeps a.written b.written → Finishes result a b
+    → Performs result (Some c.Debug) bits known rest a b before array
+performs_empty laws result bits o scene known rest a b before array opens on none draws fits none_made kept
     finishes = by_result result finishes
   where
     text : List ℕ
@@ -278,8 +275,8 @@ performs_empty laws result bits o scene known rest a b p q before array opens on
       work = omega (arith, none_made);
     }
 
-    by_result : (result : Result (Unit {0}) Stop) → Finishes result p q → Performs result (Some c.Debug) bits known
-        rest a b p q before array
+    by_result : (result : Result (Unit {0}) Stop) → Finishes result a b → Performs result (Some c.Debug) bits known
+        rest a b before array
     by_result (Ok u) end = record {
       bytes = ext.bytes;
       taken = text;
@@ -288,9 +285,9 @@ performs_empty laws result bits o scene known rest a b p q before array opens on
       front = (ext.more, ext.whole);
       status = subst (λ t. debugged t bits ≡ done (output (debugged t bits))) (sym same) (rw is refl);
       line = tt;
-      leaves = subst (λ t. IsOver bits t (until_quit (all_commands t)) a b q array) (sym same)
+      leaves = subst (λ t. IsOver bits t (until_quit (all_commands t)) a b array) (sym same)
           (rw lines (record {
-            wrote = appended a b kept;
+            wrote = appended a.written b.written kept;
             end = end;
             array = began;
           }));
@@ -313,7 +310,7 @@ performs_empty laws result bits o scene known rest a b p q before array opens on
           before = omega arith;
           wrote = record {
             within = omega arith;
-            front = appended a b kept;
+            front = appended a.written b.written kept;
             end = record { taken = λ some. absurd (omega arith); idle = λ e. idle };
           };
           array = began;

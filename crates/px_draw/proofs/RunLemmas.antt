@@ -1,6 +1,7 @@
 -- What a command does is what a run of its words does.
-use Rattle.std.proofs.Common.{ℕ, ◌≡◌, List, [], Bool, Option, Some, None, Ok, Err, refl, ◌∙◌}
+use Rattle.std.proofs.Common.{ℕ, ◌≡◌, List, [], Option, Some, None, Ok, Err, refl, ◌∙◌}
 use Rattle.std.specs.Io.KnownBytes.{Consumes}
+use Rattle.px_io.specs.Told.{SinkState}
 use Rattle.px_array.specs.Slots.{ArrayView}
 use Rattle.px_command.specs.declared.command.Command.{Command}
 use Rattle.px_draw.specs.declared.refusal.Refusal.TheVariants as r
@@ -17,18 +18,18 @@ use Rattle.px_draw.proofs.WorkLemmas.{keeps_same}
 
 -- a run of these words, by an input that was so before and is so now
 abbrev pub IsRunBy : (words : List (List ℕ)) (known rest : Option (List ℕ)) (bits : ℕ) (found : Status)
-    (a b : Option (List ℕ)) (p q : Option Bool) (k l : Option (List ℕ)) (v t : Option Bool) (m n : ℕ)
+    (a b : SinkState) (k l : SinkState)
     (before now : ArrayView) → Type 0
-IsRunBy words known rest bits found a b p q k l v t m n before now =
+IsRunBy words known rest bits found a b k l before now =
     (bytes taken : List ℕ) × IsInput known bytes × Consumes known rest taken × IsRunOf words bytes taken bits found a
-    b p q k l v t m n before now
+    b k l before now
 
 -- a run that did its work tells nothing
 pub run_done : (words : List (List ℕ)) (known rest : Option (List ℕ)) (bits : ℕ) (u : Unit {0})
-    (a b : Option (List ℕ)) (p q : Option Bool) (k : Option (List ℕ)) (v : Option Bool) (m : ℕ) (before now : ArrayView)
-    → Performs (Ok u) (command_of words) bits known rest a b p q before now
-    → IsRunBy words known rest bits status.Done a b p q k k v v m m before now
-run_done words known rest bits u a b p q k v m before now performs = (
+    (a b : SinkState) (k : SinkState) (before now : ArrayView)
+    → Performs (Ok u) (command_of words) bits known rest a b before now
+    → IsRunBy words known rest bits status.Done a b k k before now
+run_done words known rest bits u a b k before now performs = (
   performs.bytes,
   performs.taken,
   performs.input,
@@ -37,30 +38,30 @@ run_done words known rest bits u a b p q k v m before now performs = (
     front = performs.front;
     status = performs.status;
     leaves = performs.leaves;
-    noted = (keeps_same k, refl);
+    noted = (keeps_same k.written, refl);
   },
 )
 
 -- a stop tells its line
-noted_by : (stop : Stop) (o : Outcome) (line : List ℕ) (a b : Option (List ℕ)) (p q : Option Bool) (m n : ℕ)
+noted_by : (stop : Stop) (o : Outcome) (line : List ℕ) (a b : SinkState)
     → line ≡ note (status_of stop) o
-    → IsTold line a b p q m n → IsNoted (status_of stop) (note (status_of stop) o) a b p q m n
-noted_by s.Usage o line a b p q m n same told = rw (← same) told
-noted_by (s.Refused (r.Malformed at cause)) o line a b p q m n same told = rw (← same) told
-noted_by (s.Refused (r.Limit at kind found)) o line a b p q m n same told = rw (← same) told
-noted_by s.ReadFault o line a b p q m n same told = rw (← same) told
-noted_by s.WriteFault o line a b p q m n same told = rw (← same) told
-noted_by s.Memory o line a b p q m n same told = rw (← same) told
+    → IsTold line a b → IsNoted (status_of stop) (note (status_of stop) o) a b
+noted_by s.Usage o line a b same told = rw (← same) told
+noted_by (s.Refused (r.Malformed at cause)) o line a b same told = rw (← same) told
+noted_by (s.Refused (r.Limit at kind found)) o line a b same told = rw (← same) told
+noted_by s.ReadFault o line a b same told = rw (← same) told
+noted_by s.WriteFault o line a b same told = rw (← same) told
+noted_by s.Memory o line a b same told = rw (← same) told
 
 -- a run that was stopped tells its line
 pub run_stopped : (words : List (List ℕ)) (known rest : Option (List ℕ)) (bits : ℕ) (stop : Stop) (found : Status)
     (line : List ℕ)
-    (a b : Option (List ℕ)) (p q : Option Bool) (k l : Option (List ℕ)) (v t : Option Bool) (m n : ℕ)
+    (a b : SinkState) (k l : SinkState)
     (before now : ArrayView)
-    → Performs (Err stop) (command_of words) bits known rest a b p q before now → found ≡ status_of stop
+    → Performs (Err stop) (command_of words) bits known rest a b before now → found ≡ status_of stop
     → line ≡ note_of stop
-    → IsTold line k l v t m n → IsRunBy words known rest bits found a b p q k l v t m n before now
-run_stopped words known rest bits stop found line a b p q k l v t m n before now performs is same told = rw is (
+    → IsTold line k l → IsRunBy words known rest bits found a b k l before now
+run_stopped words known rest bits stop found line a b k l before now performs is same told = rw is (
   performs.bytes,
   performs.taken,
   performs.input,
@@ -69,16 +70,15 @@ run_stopped words known rest bits stop found line a b p q k l v t m n before now
     front = performs.front;
     status = performs.status;
     leaves = performs.leaves;
-    noted = noted_by stop (outcome words performs.bytes bits) line k l v t m n (same ∙ performs.line) told;
+    noted = noted_by stop (outcome words performs.bytes bits) line k l (same ∙ performs.line) told;
   },
 )
 
 -- words that name no command
-pub performs_usage : (command : Option Command) (bits : ℕ) (known : Option (List ℕ)) (a : Option (List ℕ))
-    (p : Option Bool) (device : ArrayView)
-    → command ≡ None → Performs (Err s.Usage) command bits known known a a p p device device
-performs_usage (Some command) bits known a p device none = cc
-performs_usage None bits None a p device none = record {
+pub performs_usage : (command : Option Command) (bits : ℕ) (known : Option (List ℕ)) (a : SinkState) (device : ArrayView)
+    → command ≡ None → Performs (Err s.Usage) command bits known known a a device device
+performs_usage (Some command) bits known a device none = cc
+performs_usage None bits None a device none = record {
   bytes = [];
   taken = [];
   input = tt;
@@ -86,9 +86,9 @@ performs_usage None bits None a p device none = record {
   front = ([], refl);
   status = refl;
   line = refl;
-  leaves = record { wrote = keeps_same a; finished = refl; array = refl };
+  leaves = record { wrote = keeps_same a.written; finished = refl; array = refl };
 }
-performs_usage None bits (Some bytes) a p device none = record {
+performs_usage None bits (Some bytes) a device none = record {
   bytes = bytes;
   taken = [];
   input = refl;
@@ -96,5 +96,5 @@ performs_usage None bits (Some bytes) a p device none = record {
   front = (bytes, refl);
   status = refl;
   line = refl;
-  leaves = record { wrote = keeps_same a; finished = refl; array = refl };
+  leaves = record { wrote = keeps_same a.written; finished = refl; array = refl };
 }

@@ -1,8 +1,8 @@
 -- What is made of the sample's text is what the command does, and the shown pixels grow pixel by pixel and row by row.
-use Rattle.std.proofs.Common.{ℕ, ◌≡◌, ◌≢◌, ◌+◌, ◌*◌, ◌≤◌, List, [], true, Bool, Option, Some, None, Result, Ok}
+use Rattle.std.proofs.Common.{ℕ, ◌≡◌, ◌≢◌, ◌+◌, ◌*◌, ◌≤◌, List, [], true, Option, Some, None, Result, Ok}
 use Rattle.std.proofs.Common.{Err, inl, refl, sym, subst, arith}
 use Rattle.std.specs.Io.KnownBytes.{Appends}
-use Rattle.px_io.specs.Told.{Tells}
+use Rattle.px_io.specs.Told.{SinkState, Tells}
 use Rattle.px_array.specs.Slots.{ArrayView}
 use Rattle.px_scene.specs.Scenes.{SceneView}
 use Rattle.px_scene.specs.Sample.{sample_text}
@@ -39,11 +39,11 @@ no_read_fault (Err s.WriteFault) reads = λ e. cc
 no_read_fault (Err s.Memory) reads = λ e. cc
 
 sample_performs : (result : Result (Unit {0}) Stop) (n bits : ℕ) (known : Option (List ℕ))
-    (a b : Option (List ℕ)) (p q : Option Bool) (k l : ℕ) (before now : ArrayView) → DoesWork result (sampled n bits) a
-    b p q k l
+    (a b : SinkState) (before now : ArrayView) → DoesWork result (sampled n bits) a
+    b
     → Draws (status_in result) bits (sample_scene n) before now → Performs result (Some (c.Sample n)) bits known known
-    a b p q before now
-sample_performs result n bits known a b p q k l before now serves array = record {
+    a b before now
+sample_performs result n bits known a b before now serves array = record {
   bytes = bytes_of known [];
   taken = [];
   input = is_input known [];
@@ -53,7 +53,7 @@ sample_performs result n bits known a b p q k l before now serves array = record
   line = line_meets result (sampled n bits) serves.meets;
   leaves = record {
     reads = no_read_fault result serves.reads;
-    wrote = wrote result (sampled n bits) a b p q serves.writes;
+    wrote = wrote result (sampled n bits) a b serves.writes;
     array = array;
   };
 }
@@ -61,21 +61,20 @@ sample_performs result n bits known a b p q k l before now serves array = record
 -- what is done for the outcome of the sample is what the command does
 pub performs_sample : (result : Result (Unit {0}) Stop) (command : Option Command) (n bits : ℕ)
     (known : Option (List ℕ))
-    (a b : Option (List ℕ)) (p q : Option Bool) (k l : ℕ) (before now : ArrayView) → command ≡ Some (c.Sample n)
-    → DoesWork result (sampled n bits) a b p q k l → Draws (status_in result) bits (sample_scene n) before now
-    → Performs result command bits known known a b p q before now
-performs_sample result command n bits known a b p q k l before now is serves array =
-    subst (λ x. Performs result x bits known known a b p q before now) (sym is)
-    (sample_performs result n bits known a b p q k l before now serves array)
+    (a b : SinkState) (before now : ArrayView) → command ≡ Some (c.Sample n)
+    → DoesWork result (sampled n bits) a b → Draws (status_in result) bits (sample_scene n) before now
+    → Performs result command bits known known a b before now
+performs_sample result command n bits known a b before now is serves array =
+    subst (λ x. Performs result x bits known known a b before now) (sym is)
+    (sample_performs result n bits known a b before now serves array)
 
 -- what is done for the sample's text is done for the sample
-pub sample_serves : (result : Result (Unit {0}) Stop) (n bits : ℕ) (text : List ℕ) (a b : Option (List ℕ))
-    (p q : Option Bool) (k l : ℕ)
-    → text ≡ sample_text n → DoesWork result (text_measured text bits) a b p q k l → DoesWork result (sampled n bits) a
-    b p q k l
+pub sample_serves : (result : Result (Unit {0}) Stop) (n bits : ℕ) (text : List ℕ) (a b : SinkState)
+    → text ≡ sample_text n → DoesWork result (text_measured text bits) a b → DoesWork result (sampled n bits) a
+    b
 unfolding sampled
-sample_serves result n bits text a b p q k l is serves =
-    subst (λ t. DoesWork result (text_measured t bits) a b p q k l) is serves
+sample_serves result n bits text a b is serves =
+    subst (λ t. DoesWork result (text_measured t bits) a b) is serves
 
 pub sample_draws : (found : Status) (n bits : ℕ) (text : List ℕ) (before now : ArrayView) → text ≡ sample_text n
     → Draws found bits (scene_of (worded text)) before now → Draws found bits (sample_scene n) before now
@@ -91,13 +90,13 @@ stop_causes s.Usage k m is = absurd is
 stop_causes s.ReadFault k m is = absurd is
 stop_causes s.WriteFault k m is = absurd is
 
-pub stop_writes : (stop : Stop) (o : Outcome) (a : Option (List ℕ)) (p : Option Bool) → IsSceneStop stop
-    → WritesOutcome (Err stop) o a a p p
-stop_writes (s.Refused reason) o a p is = (keeps_same a, refl)
-stop_writes s.Memory o a p is = (keeps_same a, refl)
-stop_writes s.Usage o a p is = absurd is
-stop_writes s.ReadFault o a p is = absurd is
-stop_writes s.WriteFault o a p is = absurd is
+pub stop_writes : (stop : Stop) (o : Outcome) (a : SinkState) → IsSceneStop stop
+    → WritesOutcome (Err stop) o a a
+stop_writes (s.Refused reason) o a is = (keeps_same a.written, refl)
+stop_writes s.Memory o a is = (keeps_same a.written, refl)
+stop_writes s.Usage o a is = absurd is
+stop_writes s.ReadFault o a is = absurd is
+stop_writes s.WriteFault o a is = absurd is
 
 pub not_usage : (result : Result (Unit {0}) Stop) (stop : Stop) → result ≡ Err stop → IsSceneStop stop
     → result ≢ Err s.Usage
@@ -152,9 +151,9 @@ text_meets s.ReadFault text o is = absurd is
 text_meets s.WriteFault text o is = absurd is
 
 -- the numbers were written
-pub serves_done : (o : Outcome) (bytes : List ℕ) (a b : Option (List ℕ)) (p q : Option Bool) (m n : ℕ) → o ≡ done bytes
-    → Appends a b bytes → Tells q true → n ≡ m → DoesWork (Ok tt) o a b p q m n
-serves_done o bytes a b p q m n is wrote end calm = rw is (record {
+pub serves_done : (o : Outcome) (bytes : List ℕ) (a b : SinkState) → o ≡ done bytes
+    → Appends a.written b.written bytes → Tells b.finished true → b.faults ≡ a.faults → DoesWork (Ok tt) o a b
+serves_done o bytes a b is wrote end calm = rw is (record {
   meets = refl;
   writes = (wrote, end);
   causes = λ k. record { read = λ e. cc; write = λ e. cc; input = λ e. refl; out = λ e. calm };
@@ -163,25 +162,24 @@ serves_done o bytes a b p q m n is wrote end calm = rw is (record {
 })
 
 -- the text is no scene's
-pub text_serves : (result : Result (Unit {0}) Stop) (stop : Stop) (text : List ℕ) (bits : ℕ) (a : Option (List ℕ))
-    (p : Option Bool) (m : ℕ)
-    → result ≡ Err stop → IsTextStop stop text → DoesWork result (text_measured text bits) a a p p m m
-text_serves result stop text bits a p m at is =
+pub text_serves : (result : Result (Unit {0}) Stop) (stop : Stop) (text : List ℕ) (bits : ℕ) (a : SinkState)
+    → result ≡ Err stop → IsTextStop stop text → DoesWork result (text_measured text bits) a a
+text_serves result stop text bits a at is =
     let here = text_scene stop text is in
     rw at (record {
       meets = text_meets stop text _ is;
-      writes = stop_writes stop _ a p here;
-      causes = λ k. stop_causes stop k m here;
+      writes = stop_writes stop _ a here;
+      causes = λ k. stop_causes stop k a.faults here;
       worded = not_usage _ stop refl here;
       reads = not_read _ stop refl here;
     })
 
 -- the scene of a text is served
 pub scene_serves : (result : Result (Unit {0}) Stop) (text : List ℕ) (bits : ℕ) (scene : SceneView)
-    (a b : Option (List ℕ)) (p q : Option Bool) (m n : ℕ)
-    → text_refusal text ≡ None → scene ≡ scene_of (worded text) → DoesWork result (measured scene bits) a b p q m n
-    → DoesWork result (text_measured text bits) a b p q m n
-scene_serves result text bits scene a b p q m n good is serves =
+    (a b : SinkState)
+    → text_refusal text ≡ None → scene ≡ scene_of (worded text) → DoesWork result (measured scene bits) a b
+    → DoesWork result (text_measured text bits) a b
+scene_serves result text bits scene a b good is serves =
     let here : text_measured text bits ≡ measured scene bits = rw (good, is) refl in
     rw here serves
 

@@ -1,10 +1,10 @@
 -- What is found of the shadows of a text that was read is found of the input, and what stops it.
-use Rattle.std.proofs.Common.{ℕ, ◌≡◌, ◌<◌, ◌≤◌, inl, inr, List, length, take, drop, unwrap_or, Bool, Option, Some}
+use Rattle.std.proofs.Common.{ℕ, ◌≡◌, ◌<◌, ◌≤◌, inl, inr, List, length, take, drop, unwrap_or, Option, Some}
 use Rattle.std.proofs.Common.{None, Result, Ok, Err, refl, ap, sym, subst, ◌∙◌, arith, length-take}
 use Rattle.std.proofs.lemmas.Bool.{cases_lt}
 use Rattle.std.proofs.lemmas.List.{take_all}
 use Rattle.std.specs.Io.KnownBytes.{Consumes}
-use Rattle.px_io.specs.Told.{ConsumesAtMost, IsFrontOf}
+use Rattle.px_io.specs.Told.{SinkState, ConsumesAtMost, IsFrontOf}
 use Rattle.px_array.specs.Arrays.{State}
 use Rattle.px_array.specs.Slots.{ArrayView}
 use Rattle.px_scene.specs.Scenes.{SceneView}
@@ -55,38 +55,35 @@ shades_refused (Err s.ReadFault) bits one other before now reason meets is = is
 shades_refused (Err s.Memory) bits one other before now reason meets is = is
 
 -- the shadows of a text are found
-pub record ShadesText (result : Result (Unit {0}) Stop) (bits : ℕ) (text : List ℕ) (a b : Option (List ℕ))
-    (p q : Option Bool)
-    (m n : ℕ) (before now : ArrayView) : Type 0 where
-  pub serves : DoesWork result (shadowed text bits) a b p q m n
+pub record ShadesText (result : Result (Unit {0}) Stop) (bits : ℕ) (text : List ℕ) (a b : SinkState) (before now : ArrayView) : Type 0 where
+  pub serves : DoesWork result (shadowed text bits) a b
   pub array : Shades (status_in result) bits text before now
 
 -- a text's front answers for it
-shades_front : (result : Result (Unit {0}) Stop) (bits : ℕ) (bytes : List ℕ) (a b : Option (List ℕ))
-    (p q : Option Bool) (m n : ℕ)
-    (before now : ArrayView) → ShadesText result bits (take 1048577 bytes) a b p q m n before now
-    → ShadesText result bits bytes a b p q m n before now
-shades_front result bits bytes a b p q m n before now shades = elim (cases_lt (length bytes) 1048577) [
-  | inl short ↦ subst (λ text. ShadesText result bits text a b p q m n before now)
+shades_front : (result : Result (Unit {0}) Stop) (bits : ℕ) (bytes : List ℕ) (a b : SinkState)
+    (before now : ArrayView) → ShadesText result bits (take 1048577 bytes) a b before now
+    → ShadesText result bits bytes a b before now
+shades_front result bits bytes a b before now shades = elim (cases_lt (length bytes) 1048577) [
+  | inl short ↦ subst (λ text. ShadesText result bits text a b before now)
       (take_all 1048577 bytes (omega arith)) shades
   | inr past ↦
       let here : shadowed (take 1048577 bytes) bits ≡ refused too_long =
       long_shadowed (take 1048577 bytes) bits (omega (arith, length-take 1048577 bytes)) in
       let there : shadowed bytes bits ≡ refused too_long = long_shadowed bytes bits past in
       record {
-        serves = subst (λ o. DoesWork result o a b p q m n) (here ∙ sym there) shades.serves;
+        serves = subst (λ o. DoesWork result o a b) (here ∙ sym there) shades.serves;
         array = shades_refused result bits (take 1048577 bytes) bytes before now too_long
             (subst (λ o. Meets result o) here shades.serves.meets) shades.array;
       }
 ]
 
 performs : (result : Result (Unit {0}) Stop) (bytes taken : List ℕ) (bits : ℕ) (known rest : Option (List ℕ))
-    (a b : Option (List ℕ)) (p q : Option Bool) (m n : ℕ) (before now : ArrayView) → IsInput known bytes
+    (a b : SinkState) (before now : ArrayView) → IsInput known bytes
     → Consumes known rest taken
     → BeginsWith bytes taken
-    → ShadesText result bits bytes a b p q m n before now → Performs result (Some c.Shadow) bits known rest a b p q
+    → ShadesText result bits bytes a b before now → Performs result (Some c.Shadow) bits known rest a b
     before now
-performs result bytes taken bits known rest a b p q m n before now input consumed begins shades = record {
+performs result bytes taken bits known rest a b before now input consumed begins shades = record {
   bytes = bytes;
   taken = taken;
   input = input;
@@ -95,39 +92,39 @@ performs result bytes taken bits known rest a b p q m n before now input consume
   status = status_meets result (shadowed bytes bits) shades.serves.meets;
   line = line_meets result (shadowed bytes bits) shades.serves.meets;
   leaves = record {
-    wrote = wrote result (shadowed bytes bits) a b p q shades.serves.writes;
+    wrote = wrote result (shadowed bytes bits) a b shades.serves.writes;
     array = shades.array;
   };
 }
 
 -- a text that was read answers for the input
 performs_text : (result : Result (Unit {0}) Stop) (text : List ℕ) (bits : ℕ) (known rest : Option (List ℕ))
-    (a b : Option (List ℕ)) (p q : Option Bool) (m n : ℕ) (before now : ArrayView) → IsFrontOf known 1048577 text
+    (a b : SinkState) (before now : ArrayView) → IsFrontOf known 1048577 text
     → Consumes known rest text
-    → ShadesText result bits text a b p q m n before now → Performs result (Some c.Shadow) bits known rest a b p q
+    → ShadesText result bits text a b before now → Performs result (Some c.Shadow) bits known rest a b
     before now
-performs_text result text bits None rest a b p q m n before now front consumed shades =
-    performs result text text bits None rest a b p q m n before now tt consumed (begins None rest text consumed) shades
-performs_text result text bits (Some bytes) rest a b p q m n before now front consumed shades =
-    performs result bytes text bits (Some bytes) rest a b p q m n before now refl consumed
+performs_text result text bits None rest a b before now front consumed shades =
+    performs result text text bits None rest a b before now tt consumed (begins None rest text consumed) shades
+performs_text result text bits (Some bytes) rest a b before now front consumed shades =
+    performs result bytes text bits (Some bytes) rest a b before now refl consumed
     (begins (Some bytes) rest text consumed)
-    (shades_front result bits bytes a b p q m n before now
-    (subst (λ t. ShadesText result bits t a b p q m n before now) front shades))
+    (shades_front result bits bytes a b before now
+    (subst (λ t. ShadesText result bits t a b before now) front shades))
 
 pub performs_shades : (result : Result (Unit {0}) Stop) (text lent : List ℕ) (bits : ℕ) (known rest : Option (List ℕ))
-    (a b : Option (List ℕ)) (p q : Option Bool) (m n : ℕ) (before now : ArrayView) → IsFrontOf known 1048577 text
+    (a b : SinkState) (before now : ArrayView) → IsFrontOf known 1048577 text
     → Consumes known rest text
-    → lent ≡ text → DoesWork result (shadowed lent bits) a b p q m n → Shades (status_in result) bits lent before now
-    → Performs result (Some c.Shadow) bits known rest a b p q before now
-performs_shades result text lent bits known rest a b p q m n before now front consumed same serves array =
-    performs_text result text bits known rest a b p q m n before now front consumed
-    (subst (λ t. ShadesText result bits t a b p q m n before now) same (record { serves = serves; array = array }))
+    → lent ≡ text → DoesWork result (shadowed lent bits) a b → Shades (status_in result) bits lent before now
+    → Performs result (Some c.Shadow) bits known rest a b before now
+performs_shades result text lent bits known rest a b before now front consumed same serves array =
+    performs_text result text bits known rest a b before now front consumed
+    (subst (λ t. ShadesText result bits t a b before now) same (record { serves = serves; array = array }))
 
-read_performs : (stop : Stop) (bits : ℕ) (known rest : Option (List ℕ)) (a : Option (List ℕ)) (p : Option Bool)
+read_performs : (stop : Stop) (bits : ℕ) (known rest : Option (List ℕ)) (a : SinkState)
     (device : ArrayView) (m n : ℕ)
     → IsReadStop stop m n → ConsumesAtMost known rest 1048577 → Performs (Err stop) (Some c.Shadow) bits known rest a
-    a p p device device
-read_performs s.ReadFault bits known rest a p device m n is (taken, consumed, few) = record {
+    a device device
+read_performs s.ReadFault bits known rest a device m n is (taken, consumed, few) = record {
   bytes = bytes_of known taken;
   taken = taken;
   input = is_input known taken;
@@ -135,9 +132,9 @@ read_performs s.ReadFault bits known rest a p device m n is (taken, consumed, fe
   front = begins known rest taken consumed;
   status = tt;
   line = refl;
-  leaves = record { wrote = (keeps_same a, refl); array = refl };
+  leaves = record { wrote = (keeps_same a.written, refl); array = refl };
 }
-read_performs s.Memory bits known rest a p device m n is (taken, consumed, few) = record {
+read_performs s.Memory bits known rest a device m n is (taken, consumed, few) = record {
   bytes = bytes_of known taken;
   taken = taken;
   input = is_input known taken;
@@ -145,51 +142,47 @@ read_performs s.Memory bits known rest a p device m n is (taken, consumed, few) 
   front = begins known rest taken consumed;
   status = tt;
   line = refl;
-  leaves = record { wrote = (keeps_same a, refl); array = inl refl };
+  leaves = record { wrote = (keeps_same a.written, refl); array = inl refl };
 }
-read_performs s.Usage bits known rest a p device m n is consumed = absurd is
-read_performs (s.Refused reason) bits known rest a p device m n is consumed = absurd is
-read_performs s.WriteFault bits known rest a p device m n is consumed = absurd is
+read_performs s.Usage bits known rest a device m n is consumed = absurd is
+read_performs (s.Refused reason) bits known rest a device m n is consumed = absurd is
+read_performs s.WriteFault bits known rest a device m n is consumed = absurd is
 
 -- the work stops at a read
 pub performs_unread : (result : Result (Unit {0}) Stop) (stop : Stop) (bits : ℕ) (known rest : Option (List ℕ))
-    (a : Option (List ℕ))
-    (p : Option Bool) (device : ArrayView) (m n : ℕ) → result ≡ Err stop → IsReadStop stop m n
+    (a : SinkState) (device : ArrayView) (m n : ℕ) → result ≡ Err stop → IsReadStop stop m n
     → ConsumesAtMost known rest 1048577
-    → Performs result (Some c.Shadow) bits known rest a a p p device device
-performs_unread result stop bits known rest a p device m n at is most =
-    subst (λ (r : Result (Unit {0}) Stop). Performs r (Some c.Shadow) bits known rest a a p p device device) (sym at)
-    (read_performs stop bits known rest a p device m n is most)
+    → Performs result (Some c.Shadow) bits known rest a a device device
+performs_unread result stop bits known rest a device m n at is most =
+    subst (λ (r : Result (Unit {0}) Stop). Performs r (Some c.Shadow) bits known rest a a device device) (sym at)
+    (read_performs stop bits known rest a device m n is most)
 
 -- a stop that comes for want of memory or by what the input is
-pub serves_stop : (result : Result (Unit {0}) Stop) (stop : Stop) (o : Outcome) (a : Option (List ℕ))
-    (p : Option Bool) (m : ℕ)
-    → result ≡ Err stop → IsSceneStop stop → Meets (Err stop) o → DoesWork result o a a p p m m
-serves_stop result stop o a p m at here meets = rw at (record {
+pub serves_stop : (result : Result (Unit {0}) Stop) (stop : Stop) (o : Outcome) (a : SinkState)
+    → result ≡ Err stop → IsSceneStop stop → Meets (Err stop) o → DoesWork result o a a
+serves_stop result stop o a at here meets = rw at (record {
   meets = meets;
-  writes = stop_writes stop o a p here;
-  causes = λ k. stop_causes stop k m here;
+  writes = stop_writes stop o a here;
+  causes = λ k. stop_causes stop k a.faults here;
   worded = not_usage _ stop refl here;
   reads = not_read _ stop refl here;
 })
 
-pub serves_refused : (reason : Refusal) (o : Outcome) (a : Option (List ℕ)) (p : Option Bool) (m : ℕ)
+pub serves_refused : (reason : Refusal) (o : Outcome) (a : SinkState)
     → o ≡ refused reason
-    → DoesWork (Err (s.Refused reason)) o a a p p m m
-serves_refused reason o a p m is = serves_stop (Err (s.Refused reason)) (s.Refused reason) o a p m refl tt is
+    → DoesWork (Err (s.Refused reason)) o a a
+serves_refused reason o a is = serves_stop (Err (s.Refused reason)) (s.Refused reason) o a refl tt is
 
 -- what comes of the parts of a text within its limit comes of it
-pub parts_serve : (result : Result (Unit {0}) Stop) (text part behind : List ℕ) (n bits : ℕ) (a b : Option (List ℕ))
-    (p q : Option Bool)
-    (k l : ℕ) → length text < 1048577 → n ≡ unwrap_or (part_end text) (length text) → part ≡ take n text
+pub parts_serve : (result : Result (Unit {0}) Stop) (text part behind : List ℕ) (n bits : ℕ) (a b : SinkState) → length text < 1048577 → n ≡ unwrap_or (part_end text) (length text) → part ≡ take n text
     → behind ≡ drop n text
-    → DoesWork result (parts_lit bits part behind) a b p q k l → DoesWork result (shadowed text bits) a b p q k l
-parts_serve result text part behind n bits a b p q k l short count front rest serves =
+    → DoesWork result (parts_lit bits part behind) a b → DoesWork result (shadowed text bits) a b
+parts_serve result text part behind n bits a b short count front rest serves =
     let one : part ≡ scene_part text = front ∙ ap (λ i. take i text) count in
     let two : behind ≡ behind_part text = rest ∙ ap (λ i. drop i text) count in
-    subst (λ o. DoesWork result o a b p q k l) (sym (short_shadowed text bits short))
-    (subst (λ t. DoesWork result (parts_lit bits t (behind_part text)) a b p q k l) one
-    (subst (λ t. DoesWork result (parts_lit bits part t) a b p q k l) two serves))
+    subst (λ o. DoesWork result o a b) (sym (short_shadowed text bits short))
+    (subst (λ t. DoesWork result (parts_lit bits t (behind_part text)) a b) one
+    (subst (λ t. DoesWork result (parts_lit bits part t) a b) two serves))
 
 -- an array that can find the shadows does
 pub lit_is : (bits : ℕ) (scene : SceneView) (lights : List SolidSet) (n : ℕ) → n ≡ length lights
@@ -207,14 +200,14 @@ masks_are law scene l lights n state same stores =
 
 -- what the scene of a good part and the lights of good lines serve is what the part and the lines do
 pub lights_serve : (result : Result (Unit {0}) Stop) (bits : ℕ) (part behind : List ℕ) (scene : SceneView) (first : ℕ)
-    (lights : List SolidSet) (a b : Option (List ℕ)) (p q : Option Bool) (m n : ℕ)
+    (lights : List SolidSet) (a b : SinkState)
     → text_refusal part ≡ None → scene ≡ scene_of (worded part) → first ≡ line_behind part
     → lights_refusal scene first behind ≡ None → lights ≡ lights_in scene behind
-    → DoesWork result (lit bits scene lights) a b p q m n → DoesWork result (parts_lit bits part behind) a b p q m n
-lights_serve result bits part behind scene first lights a b p q m n good is begins known named served =
+    → DoesWork result (lit bits scene lights) a b → DoesWork result (parts_lit bits part behind) a b
+lights_serve result bits part behind scene first lights a b good is begins known named served =
     let same : parts_lit bits part behind ≡ lit bits scene lights =
     ap (λ r. unless_refused r (lit_by_lines bits (scene_of (worded part)) (line_behind part) behind)) good
     ∙ ap (λ s. lit_by_lines bits s (line_behind part) behind) (sym is)
     ∙ ap (λ f. lit_by_lines bits scene f behind) (sym begins)
     ∙ ap (λ r. unless_refused r (lit bits scene (lights_in scene behind))) known ∙ ap (lit bits scene) (sym named) in
-    subst (λ o. DoesWork result o a b p q m n) (sym same) served
+    subst (λ o. DoesWork result o a b) (sym same) served

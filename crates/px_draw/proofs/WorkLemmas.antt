@@ -1,12 +1,12 @@
 -- What was made of a text that was read, it was made of the input.
-use Rattle.std.proofs.Common.{ℕ, ◌≡◌, ◌≤◌, ◌^◌, ◌++◌, inl, inr, List, [], length, take, drop, true, nat_lt, Bool}
+use Rattle.std.proofs.Common.{ℕ, ◌≡◌, ◌≤◌, ◌^◌, ◌++◌, inl, inr, List, [], length, take, drop, true, nat_lt}
 use Rattle.std.proofs.Common.{Option, Some, None, Result, Ok, Err, refl, ap, sym, ◌∙◌, arith, length-take}
 use Rattle.std.proofs.lemmas.Bool.{cases_lt}
 use Rattle.std.proofs.lemmas.Bool.Decides.{nat_tests}
 use Rattle.std.proofs.lemmas.List.{append-nil, take_all, take-append-drop, append_cancel_left}
 use Rattle.std.specs.Io.KnownBytes.{Appends, Consumes, Keeps}
 use Rattle.px_io.specs.Counts.{Rose}
-use Rattle.px_io.specs.Told.{ConsumesAtMost, IsFrontOf, TakesFront, Tells}
+use Rattle.px_io.specs.Told.{SinkState, ConsumesAtMost, IsFrontOf, TakesFront, Tells}
 use Rattle.px_array.specs.Slots.{ArrayView}
 use Rattle.px_scene.specs.Scenes.{SceneView}
 use Rattle.px_scene.specs.Text.{worded}
@@ -59,10 +59,10 @@ work_front work bytes bits = by_refusal (text_refusal (take 1048577 bytes)) refl
     by_refusal (Some reason) bad = rw (bad, sym (refusal_front bytes) ∙ bad) refl
 
 array_front : (work : Work) (result : Result (Unit {0}) Stop) (bytes : List ℕ) (bits : ℕ)
-    (a b : Option (List ℕ)) (p q : Option Bool) (before now : ArrayView)
-    → WorksOn result work (take 1048577 bytes) bits a b p q before now
+    (a b : SinkState) (before now : ArrayView)
+    → WorksOn result work (take 1048577 bytes) bits a b before now
     → LeavesArray work (status_in result) bits (scene_of (worded bytes)) before now
-array_front work result bytes bits a b p q before now works = by_refusal (text_refusal (take 1048577 bytes)) refl
+array_front work result bytes bits a b before now works = by_refusal (text_refusal (take 1048577 bytes)) refl
   where
     by_refusal : (reason : Option Refusal) → text_refusal (take 1048577 bytes) ≡ reason
         → LeavesArray work (status_in result) bits (scene_of (worded bytes)) before now
@@ -71,13 +71,13 @@ array_front work result bytes bits a b p q before now works = by_refusal (text_r
 
 -- what is made of the front of a text is made of the text
 works_front : (result : Result (Unit {0}) Stop) (work : Work) (bytes : List ℕ) (bits : ℕ)
-    (a b : Option (List ℕ)) (p q : Option Bool) (before now : ArrayView)
-    → WorksOn result work (take 1048577 bytes) bits a b p q before now → WorksOn result work bytes bits a b p q
+    (a b : SinkState) (before now : ArrayView)
+    → WorksOn result work (take 1048577 bytes) bits a b before now → WorksOn result work bytes bits a b
     before now
-works_front result work bytes bits a b p q before now works = record {
+works_front result work bytes bits a b before now works = record {
   meets = rw (← work_front work bytes bits) works.meets;
   writes = rw (← work_front work bytes bits) works.writes;
-  array = array_front work result bytes bits a b p q before now works;
+  array = array_front work result bytes bits a b before now works;
   refused = λ reason bad scene. works.refused reason (refusal_front bytes ∙ bad) scene;
 }
 
@@ -99,15 +99,15 @@ line_meets (Err s.ReadFault) o meets = refl
 line_meets (Err s.WriteFault) o meets = refl
 line_meets (Err s.Memory) o meets = refl
 
-pub wrote : (result : Result (Unit {0}) Stop) (o : Outcome) (a b : Option (List ℕ)) (p q : Option Bool)
-    → WritesOutcome result o a b p q → Wrote (status_in result) (output o) a b p q
-wrote (Ok u) o a b p q writes = writes
-wrote (Err s.Usage) o a b p q writes = writes
-wrote (Err (s.Refused (r.Malformed line cause))) o a b p q writes = writes
-wrote (Err (s.Refused (r.Limit line kind found))) o a b p q writes = writes
-wrote (Err s.ReadFault) o a b p q writes = writes
-wrote (Err s.WriteFault) o a b p q writes = writes
-wrote (Err s.Memory) o a b p q writes = writes
+pub wrote : (result : Result (Unit {0}) Stop) (o : Outcome) (a b : SinkState)
+    → WritesOutcome result o a b → Wrote (status_in result) (output o) a b
+wrote (Ok u) o a b writes = writes
+wrote (Err s.Usage) o a b writes = writes
+wrote (Err (s.Refused (r.Malformed line cause))) o a b writes = writes
+wrote (Err (s.Refused (r.Limit line kind found))) o a b writes = writes
+wrote (Err s.ReadFault) o a b writes = writes
+wrote (Err s.WriteFault) o a b writes = writes
+wrote (Err s.Memory) o a b writes = writes
 
 -- the bytes of an input that tells them, and those taken of another
 abbrev pub bytes_of : Option (List ℕ) → (taken : List ℕ) → List ℕ
@@ -127,11 +127,10 @@ begins (Some bytes) (Some rest) taken consumed = (rest, consumed)
 -- what is made of the whole input is what the command does
 performs : (result : Result (Unit {0}) Stop) (work : Work) (bytes taken : List ℕ) (bits : ℕ)
     (known rest : Option (List ℕ))
-    (a b : Option (List ℕ)) (p q : Option Bool) (before now : ArrayView) → IsInput known bytes → Consumes known rest taken
+    (a b : SinkState) (before now : ArrayView) → IsInput known bytes → Consumes known rest taken
     → BeginsWith bytes taken
-    → WorksOn result work bytes bits a b p q before now → Performs result (Some (c.Make work)) bits known rest a b p
-    q before now
-performs result work bytes taken bits known rest a b p q before now input consumed begins works = record {
+    → WorksOn result work bytes bits a b before now → Performs result (Some (c.Make work)) bits known rest a b before now
+performs result work bytes taken bits known rest a b before now input consumed begins works = record {
   bytes = bytes;
   taken = taken;
   input = input;
@@ -140,7 +139,7 @@ performs result work bytes taken bits known rest a b p q before now input consum
   status = status_meets result (worked_out work bytes bits) works.meets;
   line = line_meets result (worked_out work bytes bits) works.meets;
   leaves = record {
-    wrote = wrote result (worked_out work bytes bits) a b p q works.writes;
+    wrote = wrote result (worked_out work bytes bits) a b works.writes;
     array = works.array;
   };
 }
@@ -148,16 +147,16 @@ performs result work bytes taken bits known rest a b p q before now input consum
 -- a text that was read answers for the input
 pub performs_text : (result : Result (Unit {0}) Stop) (work : Work) (text : List ℕ) (bits : ℕ)
     (known rest : Option (List ℕ))
-    (a b : Option (List ℕ)) (p q : Option Bool) (before now : ArrayView) → IsFrontOf known 1048577 text
+    (a b : SinkState) (before now : ArrayView) → IsFrontOf known 1048577 text
     → Consumes known rest text
-    → WorksOn result work text bits a b p q before now → Performs result (Some (c.Make work)) bits known rest a b p q
+    → WorksOn result work text bits a b before now → Performs result (Some (c.Make work)) bits known rest a b
     before now
-performs_text result work text bits None rest a b p q before now front consumed works =
-    performs result work text text bits None rest a b p q before now tt consumed (begins None rest text consumed) works
-performs_text result work text bits (Some bytes) rest a b p q before now front consumed works =
-    performs result work bytes text bits (Some bytes) rest a b p q before now refl consumed
+performs_text result work text bits None rest a b before now front consumed works =
+    performs result work text text bits None rest a b before now tt consumed (begins None rest text consumed) works
+performs_text result work text bits (Some bytes) rest a b before now front consumed works =
+    performs result work bytes text bits (Some bytes) rest a b before now refl consumed
     (begins (Some bytes) rest text consumed)
-    (works_front result work bytes bits a b p q before now (rw (← front) works))
+    (works_front result work bytes bits a b before now (rw (← front) works))
 
 pub keeps_same : (a : Option (List ℕ)) → Keeps a a
 keeps_same None = tt
@@ -193,35 +192,35 @@ read_array (w.Tile size) bits scene device (s.Refused reason) m n is = absurd is
 read_array (w.Tile size) bits scene device s.WriteFault m n is = absurd is
 
 -- a stop at a read is one for all texts
-read_works : (work : Work) (bytes : List ℕ) (bits : ℕ) (stop : Stop) (a : Option (List ℕ)) (p : Option Bool)
+read_works : (work : Work) (bytes : List ℕ) (bits : ℕ) (stop : Stop) (a : SinkState)
     (device : ArrayView) (m n : ℕ)
-    → IsReadStop stop m n → WorksOn (Err stop) work bytes bits a a p p device device
-read_works work bytes bits s.ReadFault a p device m n read =
+    → IsReadStop stop m n → WorksOn (Err stop) work bytes bits a a device device
+read_works work bytes bits s.ReadFault a device m n read =
     record {
       meets = tt;
-      writes = (keeps_same a, refl);
+      writes = (keeps_same a.written, refl);
       array = read_array work bits _ device s.ReadFault m n read;
       refused = λ reason bad scene. read_array work bits scene device s.ReadFault m n read;
     }
-read_works work bytes bits s.Memory a p device m n read =
+read_works work bytes bits s.Memory a device m n read =
     record {
       meets = tt;
-      writes = (keeps_same a, refl);
+      writes = (keeps_same a.written, refl);
       array = read_array work bits _ device s.Memory m n read;
       refused = λ reason bad scene. read_array work bits scene device s.Memory m n read;
     }
-read_works work bytes bits s.Usage a p device m n read = absurd read
-read_works work bytes bits (s.Refused reason) a p device m n read = absurd read
-read_works work bytes bits s.WriteFault a p device m n read = absurd read
+read_works work bytes bits s.Usage a device m n read = absurd read
+read_works work bytes bits (s.Refused reason) a device m n read = absurd read
+read_works work bytes bits s.WriteFault a device m n read = absurd read
 
 -- the work stops at a read
 pub performs_read : (result : Result (Unit {0}) Stop) (work : Work) (bits : ℕ) (stop : Stop)
     (known rest : Option (List ℕ))
-    (a : Option (List ℕ)) (p : Option Bool) (device : ArrayView) (m n : ℕ) → result ≡ Err stop → IsReadStop stop m n
-    → ConsumesAtMost known rest 1048577 → Performs result (Some (c.Make work)) bits known rest a a p p device device
-performs_read result work bits stop known rest a p device m n is read (taken, consumed, few) =
-    performs result work (bytes_of known taken) taken bits known rest a a p p device device (is_input known taken)
-    consumed (begins known rest taken consumed) (rw is (read_works work (bytes_of known taken) bits stop a p device m n
+    (a : SinkState) (device : ArrayView) (m n : ℕ) → result ≡ Err stop → IsReadStop stop m n
+    → ConsumesAtMost known rest 1048577 → Performs result (Some (c.Make work)) bits known rest a a device device
+performs_read result work bits stop known rest a device m n is read (taken, consumed, few) =
+    performs result work (bytes_of known taken) taken bits known rest a a device device (is_input known taken)
+    consumed (begins known rest taken consumed) (rw is (read_works work (bytes_of known taken) bits stop a device m n
     read))
 
 text_meets : (work : Work) (bytes : List ℕ) (bits : ℕ) (stop : Stop) → IsTextStop stop bytes
@@ -232,14 +231,14 @@ text_meets work bytes bits s.Usage is = absurd is
 text_meets work bytes bits s.ReadFault is = absurd is
 text_meets work bytes bits s.WriteFault is = absurd is
 
-text_writes : (stop : Stop) (bytes : List ℕ) (o : Outcome) (a : Option (List ℕ)) (p : Option Bool)
+text_writes : (stop : Stop) (bytes : List ℕ) (o : Outcome) (a : SinkState)
     → IsTextStop stop bytes
-    → WritesOutcome (Err stop) o a a p p
-text_writes (s.Refused reason) bytes o a p is = (keeps_same a, refl)
-text_writes s.Memory bytes o a p is = (keeps_same a, refl)
-text_writes s.Usage bytes o a p is = absurd is
-text_writes s.ReadFault bytes o a p is = absurd is
-text_writes s.WriteFault bytes o a p is = absurd is
+    → WritesOutcome (Err stop) o a a
+text_writes (s.Refused reason) bytes o a is = (keeps_same a.written, refl)
+text_writes s.Memory bytes o a is = (keeps_same a.written, refl)
+text_writes s.Usage bytes o a is = absurd is
+text_writes s.ReadFault bytes o a is = absurd is
+text_writes s.WriteFault bytes o a is = absurd is
 
 -- an array that is as before is what a stop at the text leaves
 text_draws : (bytes : List ℕ) (bits : ℕ) (scene : SceneView) (device : ArrayView) (stop : Stop) → IsTextStop stop bytes
@@ -276,24 +275,24 @@ text_array w.List bytes bits scene device stop is = refl
 
 -- the work stops at its text
 pub works_text : (result : Result (Unit {0}) Stop) (work : Work) (bytes lent : List ℕ) (bits : ℕ) (stop : Stop)
-    (a : Option (List ℕ)) (p : Option Bool) (device : ArrayView)
-    → result ≡ Err stop → lent ≡ bytes → IsTextStop stop lent → WorksOn result work bytes bits a a p p device device
-works_text result work bytes lent bits stop a p device at same is =
+    (a : SinkState) (device : ArrayView)
+    → result ≡ Err stop → lent ≡ bytes → IsTextStop stop lent → WorksOn result work bytes bits a a device device
+works_text result work bytes lent bits stop a device at same is =
     let here : IsTextStop stop bytes = rw (← same) is in
     rw at (record {
       meets = text_meets work bytes bits stop here;
-      writes = text_writes stop bytes _ a p here;
+      writes = text_writes stop bytes _ a here;
       array = text_array work bytes bits _ device stop here;
       refused = λ reason bad scene. text_array work bytes bits scene device stop here;
     })
 
 -- something is made of the scene of a text
 pub works_scene : (result : Result (Unit {0}) Stop) (work : Work) (bytes lent : List ℕ) (bits : ℕ) (scene : SceneView)
-    (a b : Option (List ℕ)) (p q : Option Bool) (before now : ArrayView) → lent ≡ bytes → text_refusal lent ≡ None
+    (a b : SinkState) (before now : ArrayView) → lent ≡ bytes → text_refusal lent ≡ None
     → scene ≡ scene_of (worded lent) → Meets result (made work scene bits)
-    → WritesOutcome result (made work scene bits) a b p q
-    → LeavesArray work (status_in result) bits scene before now → WorksOn result work bytes bits a b p q before now
-works_scene result work bytes lent bits scene a b p q before now same good is meets writes array =
+    → WritesOutcome result (made work scene bits) a b
+    → LeavesArray work (status_in result) bits scene before now → WorksOn result work bytes bits a b before now
+works_scene result work bytes lent bits scene a b before now same good is meets writes array =
     let here : worked_out work bytes bits ≡ made work scene bits = rw (← same, good, is) refl in
     record {
       meets = rw here meets;
@@ -303,10 +302,10 @@ works_scene result work bytes lent bits scene a b p q before now same good is me
     }
 
 -- a whole output
-pub serves_whole : (o : Outcome) (bytes : List ℕ) (a b : Option (List ℕ)) (p q : Option Bool) (m n : ℕ) (u : Unit {0})
+pub serves_whole : (o : Outcome) (bytes : List ℕ) (a b : SinkState) (u : Unit {0})
     → o ≡ done bytes
-    → Appends a b bytes → Tells q true → n ≡ m → DoesWork (Ok u) o a b p q m n
-serves_whole o bytes a b p q m n u is whole finished calm = rw is (record {
+    → Appends a.written b.written bytes → Tells b.finished true → b.faults ≡ a.faults → DoesWork (Ok u) o a b
+serves_whole o bytes a b u is whole finished calm = rw is (record {
   meets = refl;
   writes = (whole, finished);
   causes = λ k. record { read = λ e. cc; write = λ e. cc; input = λ other. refl; out = λ other. calm };
@@ -315,9 +314,9 @@ serves_whole o bytes a b p q m n u is whole finished calm = rw is (record {
 })
 
 -- images that a write cut short
-pub serves_front : (o : Outcome) (bytes : List ℕ) (a b : Option (List ℕ)) (p q : Option Bool) (m n : ℕ) → o ≡ done bytes
-    → TakesFront a b p q bytes → Rose m n → DoesWork (Err s.WriteFault) o a b p q m n
-serves_front o bytes a b p q m n is front rose = rw is (record {
+pub serves_front : (o : Outcome) (bytes : List ℕ) (a b : SinkState) → o ≡ done bytes
+    → TakesFront a b bytes → Rose a.faults b.faults → DoesWork (Err s.WriteFault) o a b
+serves_front o bytes a b is front rose = rw is (record {
   meets = refl;
   writes = front;
   causes = λ k. record { read = λ e. cc; write = λ e. rose; input = λ e. refl; out = λ other. absurd (other refl) };

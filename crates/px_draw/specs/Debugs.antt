@@ -1,7 +1,7 @@
 -- What `debug` answers and leaves: a session over the bytes of an input. Clauses of public calls stand on it.
-use Rattle.std.specs.Prelude.{◌≡◌, ◌⊎◌, ℕ, ◌-◌, ◌≤◌, List, [], Bool, true, false, ◌&&◌, not, if◌then◌else◌, length, nat_lt, take, Option, None}
+use Rattle.std.specs.Prelude.{◌≡◌, ◌⊎◌, ℕ, ◌-◌, ◌≤◌, List, [], Bool, true, false, ◌&&◌, not, if◌then◌else◌, length, nat_lt, take, None}
 use Rattle.std.specs.Io.KnownBytes.{Appends, Keeps}
-use Rattle.px_io.specs.Told.{TakesAll, TakesFirst, Tells}
+use Rattle.px_io.specs.Told.{SinkState, TakesAll, TakesFirst, Tells}
 use Rattle.px_text.specs.declared.text.TheConstants.{MAX_TEXT_BYTES}
 use Rattle.px_array.specs.Slots.{ArrayView, IsRunOnce, none_open}
 use Rattle.px_scene.specs.Scenes.{SceneView}
@@ -80,28 +80,25 @@ pub record IsAfter (bits : ℕ) (bytes : List ℕ) (lines : List (List ℕ)) (no
   pub work : now.work ≤ clocks_over (session_of bytes) lines
 
 -- all of the lines were answered, and the output was finished
-pub record IsOver (bits : ℕ) (bytes : List ℕ) (lines : List (List ℕ)) (written_old written_new : Option (List ℕ))
-    (finished_new : Option Bool) (now : ArrayView) : Type 0 where
-  pub wrote : Appends written_old written_new (answers bits (session_of bytes) lines)
-  pub end : Tells finished_new true
+pub record IsOver (bits : ℕ) (bytes : List ℕ) (lines : List (List ℕ)) (out_old out_new : SinkState) (now : ArrayView) : Type 0 where
+  pub wrote : Appends out_old.written out_new.written (answers bits (session_of bytes) lines)
+  pub end : Tells out_new.finished true
   pub array : IsAfter bits bytes lines now
 
 -- all of the lines were answered
-pub record IsAnswered (bits : ℕ) (bytes : List ℕ) (lines : List (List ℕ)) (written_old written_new : Option (List ℕ))
-    (finished_old finished_new : Option Bool) (now : ArrayView) : Type 0 where
-  pub wrote : TakesAll written_old written_new finished_old finished_new (answers bits (session_of bytes) lines)
+pub record IsAnswered (bits : ℕ) (bytes : List ℕ) (lines : List (List ℕ)) (out_old out_new : SinkState) (now : ArrayView) : Type 0 where
+  pub wrote : TakesAll out_old out_new (answers bits (session_of bytes) lines)
   pub array : IsAfter bits bytes lines now
 
 -- a write failed in the answer to one of the lines, or in finishing behind the last: so many lines were obeyed, of whose
 -- answers a front was written, with all answers but the last in it
-pub record IsBroken (bits : ℕ) (bytes : List ℕ) (lines : List (List ℕ)) (written_old written_new : Option (List ℕ))
-    (finished_old finished_new : Option Bool) (now : ArrayView) : Type 0 where
+pub record IsBroken (bits : ℕ) (bytes : List ℕ) (lines : List (List ℕ)) (out_old out_new : SinkState) (now : ArrayView) : Type 0 where
   pub count : ℕ
   pub within : count ≤ length lines
   pub some : count ≡ 0 → lines ≡ []
   pub gained : ℕ
   pub before : length (answers bits (session_of bytes) (take (count - 1) lines)) ≤ gained
-  pub wrote : TakesFirst gained written_old written_new finished_old finished_new
+  pub wrote : TakesFirst gained out_old out_new
       (answers bits (session_of bytes) (take count lines))
   pub array : IsAfter bits bytes (take count lines) now
 
@@ -110,31 +107,27 @@ abbrev pub Admits : (bits : ℕ) → (bytes : List ℕ) → Type 0
 Admits bits bytes = (outcome : Outcome) → admitted (scene_part_of bytes) bits outcome ≡ outcome
 
 -- a write failed behind a scene part that is a scene's that the array can draw
-pub record IsBrokenOff (bits : ℕ) (taken : List ℕ) (written_old written_new : Option (List ℕ))
-    (finished_old finished_new : Option Bool) (now : ArrayView) : Type 0 where
+pub record IsBrokenOff (bits : ℕ) (taken : List ℕ) (out_old out_new : SinkState) (now : ArrayView) : Type 0 where
   pub admits : Admits bits taken
-  pub broken : IsBroken bits taken (until_quit (all_commands taken)) written_old written_new finished_old finished_new now
+  pub broken : IsBroken bits taken (until_quit (all_commands taken)) out_old out_new now
 
 -- a read failed behind a whole scene part: it is a scene's that the array can draw, no whole command is a quit, and all are answered
-pub record IsCutOff (bits : ℕ) (taken : List ℕ) (written_old written_new : Option (List ℕ))
-    (finished_old finished_new : Option Bool) (now : ArrayView) : Type 0 where
+pub record IsCutOff (bits : ℕ) (taken : List ℕ) (out_old out_new : SinkState) (now : ArrayView) : Type 0 where
   pub admits : Admits bits taken
   pub quiet : has_quit (whole_commands taken) ≡ false
-  pub answered : IsAnswered bits taken (whole_commands taken) written_old written_new finished_old finished_new now
+  pub answered : IsAnswered bits taken (whole_commands taken) out_old out_new now
 
 -- and where the scene part was not whole, nothing is done
-pub record LeavesAtReadFault (bits : ℕ) (taken : List ℕ) (written_old written_new : Option (List ℕ))
-    (finished_old finished_new : Option Bool) (before now : ArrayView) : Type 0 where
-  pub whole : has_part taken ≡ true → IsCutOff bits taken written_old written_new finished_old finished_new now
-  pub other : has_part taken ≡ false → IsUntouched written_old written_new finished_old finished_new before now
+pub record LeavesAtReadFault (bits : ℕ) (taken : List ℕ) (out_old out_new : SinkState) (before now : ArrayView) : Type 0 where
+  pub whole : has_part taken ≡ true → IsCutOff bits taken out_old out_new now
+  pub other : has_part taken ≡ false → IsUntouched out_old out_new before now
 
 -- at a limit: that of the text behind a scene part, or another
-abbrev pub LeavesAtLimit : Outcome → (bits : ℕ) → (bytes : List ℕ) → (written_old written_new : Option (List ℕ))
-    → (finished_old finished_new : Option Bool) → (before now : ArrayView) → Type 0
-LeavesAtLimit (cut text reason) bits bytes written_old written_new finished_old finished_new before now =
-    IsAnswered bits bytes (whole_commands bytes) written_old written_new finished_old finished_new now
-LeavesAtLimit outcome bits bytes written_old written_new finished_old finished_new before now =
-    IsUntouched written_old written_new finished_old finished_new before now
+abbrev pub LeavesAtLimit : Outcome → (bits : ℕ) → (bytes : List ℕ) → (out_old out_new : SinkState) → (before now : ArrayView) → Type 0
+LeavesAtLimit (cut text reason) bits bytes out_old out_new before now =
+    IsAnswered bits bytes (whole_commands bytes) out_old out_new now
+LeavesAtLimit outcome bits bytes out_old out_new before now =
+    IsUntouched out_old out_new before now
 
 -- for want of memory the array is as before, or none is open, or it is opened for the scene
 abbrev pub IsKeptOrOpened : (bits : ℕ) → SceneView → (before now : ArrayView) → Type 0
@@ -146,17 +139,16 @@ LeavesAtMemory bits taken before now =
     (now ≡ before) ⊎ ((text_refusal (scene_part_of taken) ≡ None) × IsKeptOrOpened bits (part_scene taken) before now)
 
 -- what is written, and what is left of the array, where these are the bytes of the input, and of them those taken
-abbrev pub LeavesSession : (found : Status) → (bits : ℕ) → (bytes taken : List ℕ) → (written_old written_new : Option (List ℕ))
-    → (finished_old finished_new : Option Bool) → (before now : ArrayView) → Type 0
-LeavesSession status.Done bits bytes taken written_old written_new finished_old finished_new before now =
-    IsOver bits bytes (until_quit (all_commands bytes)) written_old written_new finished_new now
-LeavesSession status.Limit bits bytes taken written_old written_new finished_old finished_new before now =
-    LeavesAtLimit (debugged bytes bits) bits bytes written_old written_new finished_old finished_new before now
-LeavesSession status.ReadFault bits bytes taken written_old written_new finished_old finished_new before now =
-    LeavesAtReadFault bits taken written_old written_new finished_old finished_new before now
-LeavesSession status.WriteFault bits bytes taken written_old written_new finished_old finished_new before now =
-    IsBrokenOff bits taken written_old written_new finished_old finished_new now
-LeavesSession status.Memory bits bytes taken written_old written_new finished_old finished_new before now =
-    Keeps written_old written_new × (finished_new ≡ finished_old) × LeavesAtMemory bits taken before now
-LeavesSession found bits bytes taken written_old written_new finished_old finished_new before now =
-    IsUntouched written_old written_new finished_old finished_new before now
+abbrev pub LeavesSession : (found : Status) → (bits : ℕ) → (bytes taken : List ℕ) → (out_old out_new : SinkState) → (before now : ArrayView) → Type 0
+LeavesSession status.Done bits bytes taken out_old out_new before now =
+    IsOver bits bytes (until_quit (all_commands bytes)) out_old out_new now
+LeavesSession status.Limit bits bytes taken out_old out_new before now =
+    LeavesAtLimit (debugged bytes bits) bits bytes out_old out_new before now
+LeavesSession status.ReadFault bits bytes taken out_old out_new before now =
+    LeavesAtReadFault bits taken out_old out_new before now
+LeavesSession status.WriteFault bits bytes taken out_old out_new before now =
+    IsBrokenOff bits taken out_old out_new now
+LeavesSession status.Memory bits bytes taken out_old out_new before now =
+    Keeps out_old.written out_new.written × (out_new.finished ≡ out_old.finished) × LeavesAtMemory bits taken before now
+LeavesSession found bits bytes taken out_old out_new before now =
+    IsUntouched out_old out_new before now

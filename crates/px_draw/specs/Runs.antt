@@ -1,8 +1,8 @@
 -- What a run answers, writes and leaves. Clauses of public calls stand on it.
-use Rattle.std.specs.Prelude.{ℕ, ℤ, ◌≡◌, ◌≢◌, ◌⊎◌, ◌++◌, List, Bool, true, ⊤, Option, Some, None, drop}
+use Rattle.std.specs.Prelude.{ℕ, ℤ, ◌≡◌, ◌≢◌, ◌⊎◌, ◌++◌, List, true, ⊤, Option, Some, None, drop}
 use Rattle.std.specs.Io.KnownBytes.{Appends, Keeps}
 use Rattle.px_io.specs.Counts.{Rose, Still}
-use Rattle.px_io.specs.Told.{ConsumesAtMost, TakesFront, Tells}
+use Rattle.px_io.specs.Told.{SinkState, ConsumesAtMost, TakesFront, Tells}
 use Rattle.px_array.specs.Slots.{ArrayView}
 use Rattle.px_scene.specs.Text.{worded}
 use Rattle.px_scene.specs.Reading.{scene_of}
@@ -65,73 +65,71 @@ IsStatusOf status.WriteFault o = HasOutput o
 IsStatusOf status.Memory o = ⊤
 
 -- the output was written and finished, or a front of it that is not finished where a write failed, or nothing
-abbrev pub Wrote : Status → List ℕ → (written_old written_new : Option (List ℕ)) (finished_old finished_new : Option Bool) → Type 0
-Wrote status.Done bytes written_old written_new finished_old finished_new =
-    Appends written_old written_new bytes × Tells finished_new true
-Wrote status.WriteFault bytes written_old written_new finished_old finished_new =
-    TakesFront written_old written_new finished_old finished_new bytes
-Wrote status bytes written_old written_new finished_old finished_new =
-    Keeps written_old written_new × (finished_new ≡ finished_old)
+abbrev pub Wrote : Status → List ℕ → (out_old out_new : SinkState) → Type 0
+Wrote status.Done bytes out_old out_new =
+    Appends out_old.written out_new.written bytes × Tells out_new.finished true
+Wrote status.WriteFault bytes out_old out_new =
+    TakesFront out_old out_new bytes
+Wrote status bytes out_old out_new =
+    Keeps out_old.written out_new.written × (out_new.finished ≡ out_old.finished)
 
 -- what is written, and what is left of the array, where something is made of a scene
 pub record LeavesWork (work : Work) (found : Status) (bits : ℕ) (bytes : List ℕ)
-    (written_old written_new : Option (List ℕ)) (finished_old finished_new : Option Bool) (before now : ArrayView) : Type 0 where
-  pub wrote : Wrote found (output (worked_out work bytes bits)) written_old written_new finished_old finished_new
+    (out_old out_new : SinkState) (before now : ArrayView) : Type 0 where
+  pub wrote : Wrote found (output (worked_out work bytes bits)) out_old out_new
   pub array : LeavesArray work found bits (scene_of (worded bytes)) before now
 
 -- what is written, and what is left of the array, where the sample of so many blocks is drawn; no read fault can end it
 pub record LeavesSample (n : ℕ) (found : Status) (bits : ℕ)
-    (written_old written_new : Option (List ℕ)) (finished_old finished_new : Option Bool) (before now : ArrayView) : Type 0 where
+    (out_old out_new : SinkState) (before now : ArrayView) : Type 0 where
   pub reads : found ≢ status.ReadFault
-  pub wrote : Wrote found (output (sampled n bits)) written_old written_new finished_old finished_new
+  pub wrote : Wrote found (output (sampled n bits)) out_old out_new
   pub array : Draws found bits (sample_scene n) before now
 
 -- what is written, and what is left of the array, where shadows are found
 pub record LeavesShadows (found : Status) (bits : ℕ) (bytes : List ℕ)
-    (written_old written_new : Option (List ℕ)) (finished_old finished_new : Option Bool) (before now : ArrayView) : Type 0 where
-  pub wrote : Wrote found (output (shadowed bytes bits)) written_old written_new finished_old finished_new
+    (out_old out_new : SinkState) (before now : ArrayView) : Type 0 where
+  pub wrote : Wrote found (output (shadowed bytes bits)) out_old out_new
   pub array : Shades found bits bytes before now
 
 -- what is written, and what is left of the array, where the listing that these bytes write is played
 pub record LeavesPlay (found : Status) (bits : ℕ) (bytes : List ℕ)
-    (written_old written_new : Option (List ℕ)) (finished_old finished_new : Option Bool) (before now : ArrayView) : Type 0 where
-  pub wrote : Wrote found (output (played_out bytes bits)) written_old written_new finished_old finished_new
+    (out_old out_new : SinkState) (before now : ArrayView) : Type 0 where
+  pub wrote : Wrote found (output (played_out bytes bits)) out_old out_new
   pub array : Plays found bits (listing_written bytes) before now
 
 -- what is written, and what is left of the array, by the command, where these are the bytes of the input, and of them those taken
 abbrev pub Leaves : Option Command → (found : Status) → (bits : ℕ) → (bytes taken : List ℕ)
-    → (written_old written_new : Option (List ℕ)) → (finished_old finished_new : Option Bool) → (before now : ArrayView) → Type 0
-Leaves None found bits bytes taken written_old written_new finished_old finished_new before now =
-    IsUntouched written_old written_new finished_old finished_new before now
-Leaves (Some (c.Make work)) found bits bytes taken written_old written_new finished_old finished_new before now =
-    LeavesWork work found bits bytes written_old written_new finished_old finished_new before now
-Leaves (Some c.Debug) found bits bytes taken written_old written_new finished_old finished_new before now =
-    LeavesSession found bits bytes taken written_old written_new finished_old finished_new before now
-Leaves (Some c.Shadow) found bits bytes taken written_old written_new finished_old finished_new before now =
-    LeavesShadows found bits bytes written_old written_new finished_old finished_new before now
-Leaves (Some (c.Sample n)) found bits bytes taken written_old written_new finished_old finished_new before now =
-    LeavesSample n found bits written_old written_new finished_old finished_new before now
-Leaves (Some c.Play) found bits bytes taken written_old written_new finished_old finished_new before now =
-    LeavesPlay found bits bytes written_old written_new finished_old finished_new before now
+    → (out_old out_new : SinkState) → (before now : ArrayView) → Type 0
+Leaves None found bits bytes taken out_old out_new before now =
+    IsUntouched out_old out_new before now
+Leaves (Some (c.Make work)) found bits bytes taken out_old out_new before now =
+    LeavesWork work found bits bytes out_old out_new before now
+Leaves (Some c.Debug) found bits bytes taken out_old out_new before now =
+    LeavesSession found bits bytes taken out_old out_new before now
+Leaves (Some c.Shadow) found bits bytes taken out_old out_new before now =
+    LeavesShadows found bits bytes out_old out_new before now
+Leaves (Some (c.Sample n)) found bits bytes taken out_old out_new before now =
+    LeavesSample n found bits out_old out_new before now
+Leaves (Some c.Play) found bits bytes taken out_old out_new before now =
+    LeavesPlay found bits bytes out_old out_new before now
 
 -- a line was written whole, and then the notes were finished
-abbrev pub IsWhole : List ℕ → (written_old written_new : Option (List ℕ)) (finished_new : Option Bool) → Type 0
-IsWhole line written_old written_new finished_new = Appends written_old written_new line × Tells finished_new true
+abbrev pub IsWhole : List ℕ → (out_old out_new : SinkState) → Type 0
+IsWhole line out_old out_new = Appends out_old.written out_new.written line × Tells out_new.finished true
 
 -- the line was written whole where the notes had no fault, and else it or a front of it that is not finished
-pub record IsTold (line : List ℕ) (written_old written_new : Option (List ℕ)) (finished_old finished_new : Option Bool)
-    (faults_old faults_new : ℕ) : Type 0 where
-  pub whole : Still faults_old faults_new → IsWhole line written_old written_new finished_new
-  pub front : IsWhole line written_old written_new finished_new
-      ⊎ TakesFront written_old written_new finished_old finished_new line
+pub record IsTold (line : List ℕ) (out_old out_new : SinkState) : Type 0 where
+  pub whole : Still out_old.faults out_new.faults → IsWhole line out_old out_new
+  pub front : IsWhole line out_old out_new
+      ⊎ TakesFront out_old out_new line
 
 -- every status but `Done` tells its line; for `Done` the notes are as before
-abbrev pub IsNoted : Status → List ℕ → (written_old written_new : Option (List ℕ)) (finished_old finished_new : Option Bool)
-    (faults_old faults_new : ℕ) → Type 0
-IsNoted status.Done line written_old written_new finished_old finished_new faults_old faults_new =
-    Keeps written_old written_new × (finished_new ≡ finished_old)
-IsNoted status line written_old written_new finished_old finished_new faults_old faults_new =
-    IsTold line written_old written_new finished_old finished_new faults_old faults_new
+abbrev pub IsNoted : Status → List ℕ → (out_old out_new : SinkState) → Type 0
+IsNoted status.Done line out_old out_new =
+    Keeps out_old.written out_new.written × (out_new.finished ≡ out_old.finished)
+IsNoted status line out_old out_new =
+    IsTold line out_old out_new
 
 -- where an input tells its bytes, it is these
 abbrev pub IsInput : Option (List ℕ) → List ℕ → Type 0
@@ -145,14 +143,13 @@ BeginsWith bytes first = (more : List ℕ) × (bytes ≡ first ++ more)
 -- a run of these words over an input of these bytes, of which the first were taken, on an array with pixels of so many bits: its
 -- status, what it wrote to the output and to the notes, and what it left of the array
 pub record IsRunOf (words : List (List ℕ)) (bytes taken : List ℕ) (bits : ℕ) (found : Status)
-    (written_old written_new : Option (List ℕ)) (finished_old finished_new : Option Bool)
-    (noted_old noted_new : Option (List ℕ)) (closed_old closed_new : Option Bool) (faults_old faults_new : ℕ)
+    (out_old out_new : SinkState)
+    (notes_old notes_new : SinkState)
     (before now : ArrayView) : Type 0 where
   pub front : BeginsWith bytes taken
   pub status : IsStatusOf found (outcome words bytes bits)
-  pub leaves : Leaves (command_of words) found bits bytes taken written_old written_new finished_old finished_new before now
-  pub noted : IsNoted found (note found (outcome words bytes bits)) noted_old noted_new closed_old closed_new
-      faults_old faults_new
+  pub leaves : Leaves (command_of words) found bits bytes taken out_old out_new before now
+  pub noted : IsNoted found (note found (outcome words bytes bits)) notes_old notes_new
 
 -- a fault's status comes only where the count of its end rose, and every other leaves the counts
 pub record HasRisen (found : Status) (input_old input_new out_old out_new : ℕ) : Type 0 where

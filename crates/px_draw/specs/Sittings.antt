@@ -1,7 +1,7 @@
 -- What the pieces of `debug` say by their results. Only proofs and private functions stand on it.
-use Rattle.std.specs.Prelude.{◌≡◌, ◌⊎◌, ℕ, ◌<◌, ◌≤◌, List, Bool, true, ⊤, Option, Some, None, Result, Ok, Err, length}
+use Rattle.std.specs.Prelude.{◌≡◌, ◌⊎◌, ℕ, ◌<◌, ◌≤◌, List, true, ⊤, Option, Some, None, Result, Ok, Err, length}
 use Rattle.std.specs.Io.KnownBytes.{Consumes, IsAtEnd}
-use Rattle.px_io.specs.Told.{Tells}
+use Rattle.px_io.specs.Told.{SinkState, Tells}
 use Rattle.px_array.specs.Slots.{ArrayView}
 use Rattle.px_scene.specs.Scenes.{SceneView}
 use Rattle.px_lines.specs.Parts.{part_end}
@@ -65,14 +65,13 @@ result_of e.WriteFault = Err s.WriteFault
 
 -- command lines were answered
 pub record Sits (answer : Result (Unit {0}) Stop) (bits : ℕ) (read : List ℕ) (more : ℕ) (from now : Stand)
-    (rest_old rest_new : Option (List ℕ)) (written_old written_new : Option (List ℕ))
-    (finished_old finished_new : Option Bool) : Type 0 where
+    (rest_old rest_new : Option (List ℕ)) (out_old out_new : SinkState) : Type 0 where
   pub ending : Ending
   pub result : answer ≡ result_of ending
-  pub serves : Serves ending bits read more from now rest_old rest_new written_old written_new finished_old finished_new
+  pub serves : Serves ending bits read more from now rest_old rest_new out_old out_new
 
 -- the output was finished, or a write failed in it
-abbrev pub Finishes : Result (Unit {0}) Stop → (finished_old finished_new : Option Bool) → Type 0
-Finishes (Ok u) finished_old finished_new = Tells finished_new true
-Finishes (Err s.WriteFault) finished_old finished_new = finished_new ≡ finished_old
-Finishes (Err stop) finished_old finished_new = ⊥
+abbrev pub Finishes : Result (Unit {0}) Stop → (out_old out_new : SinkState) → Type 0
+Finishes (Ok u) out_old out_new = Tells out_new.finished true
+Finishes (Err s.WriteFault) out_old out_new = out_new.finished ≡ out_old.finished
+Finishes (Err stop) out_old out_new = ⊥

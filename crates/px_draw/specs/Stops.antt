@@ -1,8 +1,8 @@
 -- What a piece of the work says by its result. Only proofs and private functions stand on it.
-use Rattle.std.specs.Prelude.{ℕ, ◌≡◌, ◌≢◌, List, Bool, true, ⊤, Option, Some, None, Result, Ok, Err}
+use Rattle.std.specs.Prelude.{ℕ, ◌≡◌, ◌≢◌, List, true, ⊤, Option, Some, None, Result, Ok, Err}
 use Rattle.std.specs.Io.KnownBytes.{Appends, Consumes, Keeps}
 use Rattle.px_io.specs.Counts.{Rose}
-use Rattle.px_io.specs.Told.{TakesFront, Tells}
+use Rattle.px_io.specs.Told.{SinkState, TakesFront, Tells}
 use Rattle.px_io.specs.declared.reading.ReadError.{ReadError}
 use Rattle.px_io.specs.declared.reading.ReadError.TheVariants as read
 use Rattle.px_array.specs.Slots.{ArrayView}
@@ -89,7 +89,7 @@ IsLineOf (Err stop) o = note_of stop ≡ note (status_of stop) o
 
 -- what a command does, where these are the bytes of its input, and of them those taken
 pub record Performs (result : Result (Unit {0}) Stop) (command : Option Command) (bits : ℕ) (known_old known_new : Option (List ℕ))
-    (written_old written_new : Option (List ℕ)) (finished_old finished_new : Option Bool) (before now : ArrayView) : Type 0 where
+    (out_old out_new : SinkState) (before now : ArrayView) : Type 0 where
   pub bytes : List ℕ
   pub taken : List ℕ
   pub input : IsInput known_old bytes
@@ -97,7 +97,7 @@ pub record Performs (result : Result (Unit {0}) Stop) (command : Option Command)
   pub front : BeginsWith bytes taken
   pub status : IsStatusOf (status_in result) (commanded command bytes bits)
   pub line : IsLineOf result (commanded command bytes bits)
-  pub leaves : Leaves command (status_in result) bits bytes taken written_old written_new finished_old finished_new before now
+  pub leaves : Leaves command (status_in result) bits bytes taken out_old out_new before now
 
 -- the answer is the outcome's, where it is not a fault's or the want of memory
 abbrev pub Meets : Result (Unit {0}) Stop → Outcome → Type 0
@@ -109,13 +109,13 @@ Meets (Err s.WriteFault) o = o ≡ done (output o)
 Meets (Err s.Memory) o = ⊤
 
 -- what was written, and whether it is finished
-abbrev pub WritesOutcome : Result (Unit {0}) Stop → Outcome → (written_old written_new : Option (List ℕ)) (finished_old finished_new : Option Bool) → Type 0
-WritesOutcome (Ok u) o written_old written_new finished_old finished_new =
-    Appends written_old written_new (output o) × Tells finished_new true
-WritesOutcome (Err s.WriteFault) o written_old written_new finished_old finished_new =
-    TakesFront written_old written_new finished_old finished_new (output o)
-WritesOutcome (Err stop) o written_old written_new finished_old finished_new =
-    Keeps written_old written_new × (finished_new ≡ finished_old)
+abbrev pub WritesOutcome : Result (Unit {0}) Stop → Outcome → (out_old out_new : SinkState) → Type 0
+WritesOutcome (Ok u) o out_old out_new =
+    Appends out_old.written out_new.written (output o) × Tells out_new.finished true
+WritesOutcome (Err s.WriteFault) o out_old out_new =
+    TakesFront out_old out_new (output o)
+WritesOutcome (Err stop) o out_old out_new =
+    Keeps out_old.written out_new.written × (out_new.finished ≡ out_old.finished)
 
 -- which counts of faults rose, and which stayed
 pub record HasStopCauses (result : Result (Unit {0}) Stop) (input_old input_new out_old out_new : ℕ) : Type 0 where
@@ -126,18 +126,18 @@ pub record HasStopCauses (result : Result (Unit {0}) Stop) (input_old input_new 
 
 -- what a piece of the work that reads nothing does for an outcome
 pub record DoesWork (result : Result (Unit {0}) Stop) (o : Outcome)
-    (written_old written_new : Option (List ℕ)) (finished_old finished_new : Option Bool) (faults_old faults_new : ℕ) : Type 0 where
+    (out_old out_new : SinkState) : Type 0 where
   pub meets : Meets result o
-  pub writes : WritesOutcome result o written_old written_new finished_old finished_new
-  pub causes : (n : ℕ) → HasStopCauses result n n faults_old faults_new
+  pub writes : WritesOutcome result o out_old out_new
+  pub causes : (n : ℕ) → HasStopCauses result n n out_old.faults out_new.faults
   pub worded : result ≢ Err s.Usage
   pub reads : result ≢ Err s.ReadFault
 
 -- what is made of a scene, where these bytes were read; a refused text leaves what it would of any scene
 pub record WorksOn (result : Result (Unit {0}) Stop) (work : Work) (bytes : List ℕ) (bits : ℕ)
-    (written_old written_new : Option (List ℕ)) (finished_old finished_new : Option Bool) (before now : ArrayView) : Type 0 where
+    (out_old out_new : SinkState) (before now : ArrayView) : Type 0 where
   pub meets : Meets result (worked_out work bytes bits)
-  pub writes : WritesOutcome result (worked_out work bytes bits) written_old written_new finished_old finished_new
+  pub writes : WritesOutcome result (worked_out work bytes bits) out_old out_new
   pub array : LeavesArray work (status_in result) bits (scene_of (worded bytes)) before now
   pub refused : (reason : Refusal) → text_refusal bytes ≡ Some reason → (scene : SceneView)
       → LeavesArray work (status_in result) bits scene before now
@@ -173,7 +173,7 @@ IsListStop stop bits text = ⊥
 
 -- a listing is played, where these bytes were read
 pub record PlaysOn (result : Result (Unit {0}) Stop) (bytes : List ℕ) (bits : ℕ)
-    (written_old written_new : Option (List ℕ)) (finished_old finished_new : Option Bool) (before now : ArrayView) : Type 0 where
+    (out_old out_new : SinkState) (before now : ArrayView) : Type 0 where
   pub meets : Meets result (played_out bytes bits)
-  pub writes : WritesOutcome result (played_out bytes bits) written_old written_new finished_old finished_new
+  pub writes : WritesOutcome result (played_out bytes bits) out_old out_new
   pub array : Plays (status_in result) bits (listing_written bytes) before now

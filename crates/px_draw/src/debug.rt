@@ -40,17 +40,16 @@ pub(crate) fn debug<S: Asks<O>, O: Sink, A: Operating>(
 ) -> Result<(), Stop>
     requires bits { A.BITS ≤ 256 }
     ensures performs { Performs result (Some Command.Debug) A.BITS
-        (S.rest input.old) (S.rest input.new) (O.written out.old) (O.written out.new)
-        (O.finished out.old) (O.finished out.new)
+        (S.rest input.old) (S.rest input.new) (O.state out.old) (O.state out.new)
         (array_view (A.device array.old) (A.slots array.old) (A.work array.old))
         (array_view (A.device array.new) (A.slots array.new) (A.work array.new)) }
-    ensures causes { HasStopCauses result (S.faults input.old) (S.faults input.new) (O.faults out.old)
-        (O.faults out.new) }
+    ensures causes { HasStopCauses result (S.faults input.old) (S.faults input.new) (O.state out.old).faults
+        (O.state out.new).faults }
     ensures took { Took (Some Command.Debug) (status_in result) (S.rest input.old)
         (S.rest input.new) }
     ensures worded { result ≢ Err Stop.Usage }
     ensures in_time { AnswersInTime A.BITS (S.asks input.old) (S.asks input.new)
-        (S.rest input.old) (S.rest input.new) (O.written out.old) }
+        (S.rest input.old) (S.rest input.new) (O.state out.old).written }
 {
     laws_of_parts();
     laws_of_sessions();
@@ -73,9 +72,9 @@ fn open_input<S: Asks<O>, O: Sink>(alloc: Global, input: &mut S, out: &O) -> Res
     ensures err { IfErr result (λ stop. IsOpenStop stop (S.rest input.old) (S.rest input.new)) }
     ensures most { ConsumesAtMost (S.rest input.old) (S.rest input.new) READ_LIMIT }
     ensures listens { IfOk result (λ o. Listens READ_LIMIT (S.asks input.old) (S.asks input.new)
-        (O.written out.now) o.text.items) }
+        (O.state out.now).written o.text.items) }
     ensures listened { OnErr result (ListenedTo READ_LIMIT (S.asks input.old) (S.asks input.new)
-        (O.written out.now) (S.rest input.old) (S.rest input.new)) }
+        (O.state out.now).written (S.rest input.old) (S.rest input.new)) }
     ensures calm { OnOk result (S.faults input.new ≡ S.faults input.old) }
     ensures cause { IfErr result (λ stop.
         IsReadStop stop (S.faults input.old) (S.faults input.new)) }
@@ -156,12 +155,11 @@ fn sit<S: Asks<O>, O: Sink, A: Operating>(
     ensures worded { result ≢ Err Stop.Usage }
     ensures sits { Sits result A.BITS read.now more
         (stand session.old (A.work array.old)) (stand session.new (A.work array.new))
-        (S.rest input.old) (S.rest input.new) (O.written out.old) (O.written out.new)
-        (O.finished out.old) (O.finished out.new) }
-    ensures causes { HasStopCauses result (S.faults input.old) (S.faults input.new) (O.faults out.old)
-        (O.faults out.new) }
+        (S.rest input.old) (S.rest input.new) (O.state out.old) (O.state out.new) }
+    ensures causes { HasStopCauses result (S.faults input.old) (S.faults input.new) (O.state out.old).faults
+        (O.state out.new).faults }
     ensures prompt { Prompts A.BITS session.old read.now more (S.asks input.old) (S.asks input.new)
-        (S.rest input.old) (S.rest input.new) (O.written out.old) }
+        (S.rest input.old) (S.rest input.new) (O.state out.old).written }
 {
     match serve(session, array, read, input, more, out) {
         Ending::Quit | Ending::End => Ok(()),
@@ -173,9 +171,9 @@ fn sit<S: Asks<O>, O: Sink, A: Operating>(
 
 /// Finishes the output of a session without command lines.
 fn finish<O: Sink>(out: &mut O) -> Result<(), Stop>
-    ensures bytes { Keeps (O.written out.old) (O.written out.new) }
-    ensures end { Finishes result (O.finished out.old) (O.finished out.new) }
-    ensures causes { (n : ℕ) → HasStopCauses result n n (O.faults out.old) (O.faults out.new) }
+    ensures bytes { Keeps (O.state out.old).written (O.state out.new).written }
+    ensures end { Finishes result (O.state out.old) (O.state out.new) }
+    ensures causes { (n : ℕ) → HasStopCauses result n n (O.state out.old).faults (O.state out.new).faults }
 {
     match out.finish() {
         Ok(()) => Ok(()),

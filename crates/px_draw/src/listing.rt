@@ -38,8 +38,7 @@ pub(crate) fn make_list<O: Sink>(
     out: &mut O,
 ) -> Result<(), Stop>
     ensures serves { DoesWork result (listed scene.now bits)
-        (O.written out.old) (O.written out.new) (O.finished out.old) (O.finished out.new)
-        (O.faults out.old) (O.faults out.new) }
+        (O.state out.old) (O.state out.new) }
 {
     let (layout, plan) = drawing_of(alloc, scene, bits)?;
     match deliver_passes(scene, &plan, &layout, out) {
@@ -58,12 +57,11 @@ fn deliver_passes<O: Sink>(
     requires products { plan.now.products.items ≡ plan_of scene.now }
     requires few { length (plan_of scene.now) ≤ MAX_PRODUCTS }
     requires layout { layout.now ≡ layout_of scene.now }
-    ensures ok { OnOk result (Appends (O.written out.old) (O.written out.new)
+    ensures ok { OnOk result (Appends (O.state out.old).written (O.state out.new).written
         (canonical_text (passes_listing scene.now))) }
-    ensures end { OnOk result (Tells (O.finished out.new) true) }
-    ensures err { OnErr result (TakesFront (O.written out.old) (O.written out.new)
-        (O.finished out.old) (O.finished out.new) (canonical_text (passes_listing scene.now))) }
-    ensures cause { HasCause (O.faults out.old) (O.faults out.new) result }
+    ensures end { OnOk result (Tells (O.state out.new).finished true) }
+    ensures err { OnErr result (TakesFront (O.state out.old) (O.state out.new) (canonical_text (passes_listing scene.now))) }
+    ensures cause { HasCause (O.state out.old).faults (O.state out.new).faults result }
 {
     write_passes(scene, plan, layout, out)?;
     out.finish()
@@ -79,12 +77,11 @@ pub(crate) fn play_input<S: Source, O: Sink, A: Operating>(
 ) -> Result<(), Stop>
     requires bits { A.BITS ≤ 256 }
     ensures performs { Performs result (Some Command.Play) A.BITS
-        (S.rest input.old) (S.rest input.new) (O.written out.old) (O.written out.new)
-        (O.finished out.old) (O.finished out.new)
+        (S.rest input.old) (S.rest input.new) (O.state out.old) (O.state out.new)
         (array_view (A.device array.old) (A.slots array.old) (A.work array.old))
         (array_view (A.device array.new) (A.slots array.new) (A.work array.new)) }
-    ensures causes { HasStopCauses result (S.faults input.old) (S.faults input.new) (O.faults out.old)
-        (O.faults out.new) }
+    ensures causes { HasStopCauses result (S.faults input.old) (S.faults input.new) (O.state out.old).faults
+        (O.state out.new).faults }
     ensures took { Took (Some Command.Play) (status_in result)
         (S.rest input.old) (S.rest input.new) }
     ensures worded { result ≢ Err Stop.Usage }
@@ -121,8 +118,7 @@ fn play_listing<O: Sink, A: Operating>(
     requires bits { A.BITS ≤ 256 }
     requires lawful { All (λ m. IsLawful m A.BITS) listing.now.macros }
     ensures serves { DoesWork result (done (played_text A.BITS listing.now))
-        (O.written out.old) (O.written out.new) (O.finished out.old) (O.finished out.new)
-        (O.faults out.old) (O.faults out.new) }
+        (O.state out.old) (O.state out.new) }
     ensures array { Plays (status_in result) A.BITS listing.now
         (array_view (A.device array.old) (A.slots array.old) (A.work array.old))
         (array_view (A.device array.new) (A.slots array.new) (A.work array.new)) }
@@ -141,13 +137,12 @@ fn play_listing<O: Sink, A: Operating>(
 fn deliver_memory<A: Array, O: Sink>(array: &A, out: &mut O) -> Result<(), Failed>
     requires is_open { IsOpen (A.device array.now) }
     requires bits { A.BITS ≤ 256 }
-    ensures ok { OnOk result (Appends (O.written out.old) (O.written out.new)
+    ensures ok { OnOk result (Appends (O.state out.old).written (O.state out.new).written
         (memory_text A.BITS (A.device array.now).state)) }
-    ensures end { OnOk result (Tells (O.finished out.new) true) }
-    ensures err { OnErr result (TakesFront (O.written out.old) (O.written out.new)
-        (O.finished out.old) (O.finished out.new)
+    ensures end { OnOk result (Tells (O.state out.new).finished true) }
+    ensures err { OnErr result (TakesFront (O.state out.old) (O.state out.new)
         (memory_text A.BITS (A.device array.now).state)) }
-    ensures cause { HasCause (O.faults out.old) (O.faults out.new) result }
+    ensures cause { HasCause (O.state out.old).faults (O.state out.new).faults result }
 {
     write_memory(array, out)?;
     out.finish()

@@ -53,12 +53,11 @@ pub(crate) fn make_of_input<S: Source, O: Sink, A: Operating>(
     requires bits { A.BITS ≤ 256 }
     requires size { HasSize work }
     ensures performs { Performs result (Some (Command.Make work)) A.BITS
-        (S.rest input.old) (S.rest input.new) (O.written out.old) (O.written out.new)
-        (O.finished out.old) (O.finished out.new)
+        (S.rest input.old) (S.rest input.new) (O.state out.old) (O.state out.new)
         (array_view (A.device array.old) (A.slots array.old) (A.work array.old))
         (array_view (A.device array.new) (A.slots array.new) (A.work array.new)) }
-    ensures causes { HasStopCauses result (S.faults input.old) (S.faults input.new) (O.faults out.old)
-        (O.faults out.new) }
+    ensures causes { HasStopCauses result (S.faults input.old) (S.faults input.new) (O.state out.old).faults
+        (O.state out.new).faults }
     ensures took { Took (Some (Command.Make work)) (status_in result)
         (S.rest input.old) (S.rest input.new) }
     ensures worded { result ≢ Err Stop.Usage }
@@ -107,8 +106,7 @@ fn make<O: Sink, A: Operating>(
     requires bits { A.BITS ≤ 256 }
     requires size { HasSize work }
     ensures serves { DoesWork result (made work scene.now A.BITS)
-        (O.written out.old) (O.written out.new) (O.finished out.old) (O.finished out.new)
-        (O.faults out.old) (O.faults out.new) }
+        (O.state out.old) (O.state out.new) }
     ensures array { LeavesArray work (status_in result) A.BITS scene.now
         (array_view (A.device array.old) (A.slots array.old) (A.work array.old))
         (array_view (A.device array.new) (A.slots array.new) (A.work array.new)) }
@@ -134,8 +132,7 @@ fn draw<O: Sink, A: Operating>(
     array: &mut A,
 ) -> Result<(), Stop>
     ensures serves { DoesWork result (drawable A.BITS scene.now (done (images scene.now planes.now)))
-        (O.written out.old) (O.written out.new) (O.finished out.old) (O.finished out.new)
-        (O.faults out.old) (O.faults out.new) }
+        (O.state out.old) (O.state out.new) }
     ensures array { Draws (status_in result) A.BITS scene.now
         (array_view (A.device array.old) (A.slots array.old) (A.work array.old))
         (array_view (A.device array.new) (A.slots array.new) (A.work array.new)) }
@@ -149,8 +146,7 @@ fn draw<O: Sink, A: Operating>(
 
 fn make_tidy<O: Sink>(alloc: Global, scene: &Scene, out: &mut O) -> Result<(), Stop>
     ensures serves { DoesWork result (tidied scene.now)
-        (O.written out.old) (O.written out.new) (O.finished out.old) (O.finished out.new)
-        (O.faults out.old) (O.faults out.new) }
+        (O.state out.old) (O.state out.new) }
 {
     let Ok(text) = write_scene(alloc, scene) else {
         return Err(Stop::Memory);
@@ -160,8 +156,7 @@ fn make_tidy<O: Sink>(alloc: Global, scene: &Scene, out: &mut O) -> Result<(), S
 
 fn make_plan<O: Sink>(alloc: Global, scene: &Scene, out: &mut O) -> Result<(), Stop>
     ensures serves { DoesWork result (planned scene.now)
-        (O.written out.old) (O.written out.new) (O.finished out.old) (O.finished out.new)
-        (O.faults out.old) (O.faults out.new) }
+        (O.state out.old) (O.state out.new) }
 {
     let plan = kept_of(alloc, scene)?;
     let all = count_products(scene.show());
@@ -173,8 +168,7 @@ fn make_plan<O: Sink>(alloc: Global, scene: &Scene, out: &mut O) -> Result<(), S
 
 fn make_cost<O: Sink>(alloc: Global, scene: &Scene, bits: u32, out: &mut O) -> Result<(), Stop>
     ensures serves { DoesWork result (made Work.Cost scene.now bits)
-        (O.written out.old) (O.written out.new) (O.finished out.old) (O.finished out.new)
-        (O.faults out.old) (O.faults out.new) }
+        (O.state out.old) (O.state out.new) }
 {
     let text = cost_of(alloc, scene, bits)?;
     write_out(text.as_bytes(), out)
@@ -246,8 +240,7 @@ fn kept_of(alloc: Global, scene: &Scene) -> Result<Plan, Stop>
 /// Writes all of these bytes, and finishes.
 fn write_out<O: Sink>(bytes: &[u8], out: &mut O) -> Result<(), Stop>
     ensures serves { DoesWork result (done bytes.now)
-        (O.written out.old) (O.written out.new) (O.finished out.old) (O.finished out.new)
-        (O.faults out.old) (O.faults out.new) }
+        (O.state out.old) (O.state out.new) }
 {
     match write_finished(bytes, out) {
         Ok(()) => Ok(()),
@@ -256,11 +249,10 @@ fn write_out<O: Sink>(bytes: &[u8], out: &mut O) -> Result<(), Stop>
 }
 
 pub(crate) fn write_finished<O: Sink>(bytes: &[u8], out: &mut O) -> Result<(), Failed>
-    ensures ok { OnOk result (Appends (O.written out.old) (O.written out.new) bytes.now) }
-    ensures end { OnOk result (Tells (O.finished out.new) true) }
-    ensures err { OnErr result (TakesFront (O.written out.old) (O.written out.new)
-        (O.finished out.old) (O.finished out.new) bytes.now) }
-    ensures cause { HasCause (O.faults out.old) (O.faults out.new) result }
+    ensures ok { OnOk result (Appends (O.state out.old).written (O.state out.new).written bytes.now) }
+    ensures end { OnOk result (Tells (O.state out.new).finished true) }
+    ensures err { OnErr result (TakesFront (O.state out.old) (O.state out.new) bytes.now) }
+    ensures cause { HasCause (O.state out.old).faults (O.state out.new).faults result }
 {
     write_whole(out, bytes)?;
     out.finish()

@@ -14,8 +14,7 @@ use px_words::{cause_word, list_word, scene_word};
 
 /// Writes a line and finishes, whatever comes of it.
 pub(crate) fn tell<E: Sink>(line: &[u8], notes: &mut E)
-    ensures { IsTold line.now (E.written notes.old) (E.written notes.new) (E.finished notes.old)
-        (E.finished notes.new) (E.faults notes.old) (E.faults notes.new) }
+    ensures { IsTold line.now (E.state notes.old) (E.state notes.new) }
 {
     if let Ok(()) = write_whole(notes, line) {
         let _ = notes.finish();

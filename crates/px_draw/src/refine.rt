@@ -38,8 +38,7 @@ pub(crate) fn make_refined<O: Sink, A: Operating>(
     array: &mut A,
 ) -> Result<(), Stop>
     ensures serves { DoesWork result (refined (doublings fineness) scene.now A.BITS)
-        (O.written out.old) (O.written out.new) (O.finished out.old) (O.finished out.new)
-        (O.faults out.old) (O.faults out.new) }
+        (O.state out.old) (O.state out.new) }
     ensures array { Draws (status_in result) A.BITS (fine_scene (doublings fineness) scene.now)
         (array_view (A.device array.old) (A.slots array.old) (A.work array.old))
         (array_view (A.device array.new) (A.slots array.new) (A.work array.new)) }
@@ -75,8 +74,7 @@ fn draw_refined<O: Sink, A: Operating>(
     requires fine { fine.now ≡ fine_scene s scene.now }
     ensures serves { DoesWork result
         (drawable A.BITS fine.now (done (refined_image s scene.now)))
-        (O.written out.old) (O.written out.new) (O.finished out.old) (O.finished out.new)
-        (O.faults out.old) (O.faults out.new) }
+        (O.state out.old) (O.state out.new) }
     ensures array { Draws (status_in result) A.BITS fine.now
         (array_view (A.device array.old) (A.slots array.old) (A.work array.old))
         (array_view (A.device array.new) (A.slots array.new) (A.work array.new)) }
@@ -101,12 +99,11 @@ fn deliver_refined<A: Operating, O: Sink>(
     requires fine { fine.now ≡ fine_scene s scene.now }
     requires scene { fine.now ≡ job.old.scene }
     requires at { IsAt A.BITS fine.now job.old.place.clock (A.device array.old) }
-    ensures ok { OnOk result (Appends (O.written out.old) (O.written out.new)
+    ensures ok { OnOk result (Appends (O.state out.old).written (O.state out.new).written
         (refined_image s scene.now)) }
-    ensures end { OnOk result (Tells (O.finished out.new) true) }
-    ensures err { OnErr result (TakesFront (O.written out.old) (O.written out.new)
-        (O.finished out.old) (O.finished out.new) (refined_image s scene.now)) }
-    ensures cause { HasCause (O.faults out.old) (O.faults out.new) result }
+    ensures end { OnOk result (Tells (O.state out.new).finished true) }
+    ensures err { OnErr result (TakesFront (O.state out.old) (O.state out.new) (refined_image s scene.now)) }
+    ensures cause { HasCause (O.state out.old).faults (O.state out.new).faults result }
     ensures drawn { IsDrawn A.BITS fine.now (A.device array.new) }
     ensures once { IsRunOnce
         (array_view (A.device array.old) (A.slots array.old) (A.work array.old))
@@ -130,11 +127,9 @@ fn write_means<A: Array, O: Sink>(
     requires fine { fine.now ≡ fine_scene s scene.now }
     requires layout { layout.now ≡ layout_of fine.now }
     requires drawn { IsDrawn A.BITS fine.now (A.device array.now) }
-    ensures ok { OnOk result (TakesAll (O.written out.old) (O.written out.new)
-        (O.finished out.old) (O.finished out.new) (refined_image s scene.now)) }
-    ensures err { OnErr result (TakesFront (O.written out.old) (O.written out.new)
-        (O.finished out.old) (O.finished out.new) (refined_image s scene.now)) }
-    ensures cause { HasCause (O.faults out.old) (O.faults out.new) result }
+    ensures ok { OnOk result (TakesAll (O.state out.old) (O.state out.new) (refined_image s scene.now)) }
+    ensures err { OnErr result (TakesFront (O.state out.old) (O.state out.new) (refined_image s scene.now)) }
+    ensures cause { HasCause (O.state out.old).faults (O.state out.new).faults result }
 {
     laws_of_scenes(fine);
     law_of_grids();

@@ -51,19 +51,18 @@ pub fn run<S: Asks<O>, O: Sink, E: Sink, A: Operating>(
     ensures answer { (bytes taken : List ℕ) × IsInput (S.rest input.old) bytes
         × Consumes (S.rest input.old) (S.rest input.new) taken
         × IsRunOf (map string_bytes words.now) bytes taken A.BITS result
-        (O.written out.old) (O.written out.new) (O.finished out.old) (O.finished out.new)
-        (E.written notes.old) (E.written notes.new) (E.finished notes.old) (E.finished notes.new)
-        (E.faults notes.old) (E.faults notes.new)
+        (O.state out.old) (O.state out.new)
+        (E.state notes.old) (E.state notes.new)
         (array_view (A.device array.old) (A.slots array.old) (A.work array.old))
         (array_view (A.device array.new) (A.slots array.new) (A.work array.new)) }
     ensures usage { (result ≡ Status.Usage) ↔ (command_of (map string_bytes words.now) ≡ None) }
-    ensures faults { HasRisen result (S.faults input.old) (S.faults input.new) (O.faults out.old)
-        (O.faults out.new) }
+    ensures faults { HasRisen result (S.faults input.old) (S.faults input.new) (O.state out.old).faults
+        (O.state out.new).faults }
     ensures took { Took (command_of (map string_bytes words.now)) result
         (S.rest input.old) (S.rest input.new) }
     ensures in_time { command_of (map string_bytes words.now) ≡ Some Command.Debug →
         AnswersInTime A.BITS (S.asks input.old) (S.asks input.new)
-        (S.rest input.old) (S.rest input.new) (O.written out.old) }
+        (S.rest input.old) (S.rest input.new) (O.state out.old).written }
 {
     match perform(alloc, words, input, out, array) {
         Ok(()) => Status::Done,
@@ -84,18 +83,17 @@ fn perform<S: Asks<O>, O: Sink, A: Operating>(
 ) -> Result<(), Stop>
     requires bits { A.BITS ≤ 256 }
     ensures performs { Performs result (command_of (map string_bytes words.now)) A.BITS
-        (S.rest input.old) (S.rest input.new) (O.written out.old) (O.written out.new)
-        (O.finished out.old) (O.finished out.new)
+        (S.rest input.old) (S.rest input.new) (O.state out.old) (O.state out.new)
         (array_view (A.device array.old) (A.slots array.old) (A.work array.old))
         (array_view (A.device array.new) (A.slots array.new) (A.work array.new)) }
-    ensures causes { HasStopCauses result (S.faults input.old) (S.faults input.new) (O.faults out.old)
-        (O.faults out.new) }
+    ensures causes { HasStopCauses result (S.faults input.old) (S.faults input.new) (O.state out.old).faults
+        (O.state out.new).faults }
     ensures took { Took (command_of (map string_bytes words.now)) (status_in result)
         (S.rest input.old) (S.rest input.new) }
     ensures usage { (result ≡ Err Stop.Usage) ↔ (command_of (map string_bytes words.now) ≡ None) }
     ensures in_time { command_of (map string_bytes words.now) ≡ Some Command.Debug →
         AnswersInTime A.BITS (S.asks input.old) (S.asks input.new)
-        (S.rest input.old) (S.rest input.new) (O.written out.old) }
+        (S.rest input.old) (S.rest input.new) (O.state out.old).written }
 {
     match command_of(words) {
         Some(Command::Make(work)) => make_of_input(work, alloc, input, out, array),

@@ -52,8 +52,7 @@ pub(crate) fn sample<O: Sink, A: Operating>(
     requires few { n ≤ MAX_BLOCKS }
     requires bits { A.BITS ≤ 256 }
     ensures serves { DoesWork result (sampled n A.BITS)
-        (O.written out.old) (O.written out.new) (O.finished out.old) (O.finished out.new)
-        (O.faults out.old) (O.faults out.new) }
+        (O.state out.old) (O.state out.new) }
     ensures array { Draws (status_in result) A.BITS (sample_scene n)
         (array_view (A.device array.old) (A.slots array.old) (A.work array.old))
         (array_view (A.device array.new) (A.slots array.new) (A.work array.new)) }
@@ -73,8 +72,7 @@ fn measure_text<O: Sink, A: Operating>(
 ) -> Result<(), Stop>
     requires bits { A.BITS ≤ 256 }
     ensures serves { DoesWork result (text_measured text.now A.BITS)
-        (O.written out.old) (O.written out.new) (O.finished out.old) (O.finished out.new)
-        (O.faults out.old) (O.faults out.new) }
+        (O.state out.old) (O.state out.new) }
     ensures array { Draws (status_in result) A.BITS (scene_of (worded text.now))
         (array_view (A.device array.old) (A.slots array.old) (A.work array.old))
         (array_view (A.device array.new) (A.slots array.new) (A.work array.new)) }
@@ -92,8 +90,7 @@ fn measure<O: Sink, A: Operating>(
 ) -> Result<(), Stop>
     requires bits { A.BITS ≤ 256 }
     ensures serves { DoesWork result (measured scene.now A.BITS)
-        (O.written out.old) (O.written out.new) (O.finished out.old) (O.finished out.new)
-        (O.faults out.old) (O.faults out.new) }
+        (O.state out.old) (O.state out.new) }
     ensures array { Draws (status_in result) A.BITS scene.now
         (array_view (A.device array.old) (A.slots array.old) (A.work array.old))
         (array_view (A.device array.new) (A.slots array.new) (A.work array.new)) }
@@ -117,12 +114,11 @@ fn deliver_measures<A: Operating, O: Sink>(
     requires scene { scene.now ≡ job.old.scene }
     requires at { IsAt A.BITS scene.now job.old.place.clock (A.device array.old) }
     requires products { products ≡ length (plan_of scene.now) }
-    ensures ok { OnOk result (Appends (O.written out.old) (O.written out.new)
+    ensures ok { OnOk result (Appends (O.state out.old).written (O.state out.new).written
         (measures scene.now)) }
-    ensures end { OnOk result (Tells (O.finished out.new) true) }
-    ensures err { OnErr result (TakesFront (O.written out.old) (O.written out.new)
-        (O.finished out.old) (O.finished out.new) (measures scene.now)) }
-    ensures cause { HasCause (O.faults out.old) (O.faults out.new) result }
+    ensures end { OnOk result (Tells (O.state out.new).finished true) }
+    ensures err { OnErr result (TakesFront (O.state out.old) (O.state out.new) (measures scene.now)) }
+    ensures cause { HasCause (O.state out.old).faults (O.state out.new).faults result }
     ensures drawn { IsDrawn A.BITS scene.now (A.device array.new) }
     ensures once { IsRunOnce
         (array_view (A.device array.old) (A.slots array.old) (A.work array.old))

@@ -61,12 +61,11 @@ pub(crate) fn shadow<S: Source, O: Sink, A: Operating>(
 ) -> Result<(), Stop>
     requires bits { A.BITS ≤ 256 }
     ensures performs { Performs result (Some Command.Shadow) A.BITS
-        (S.rest input.old) (S.rest input.new) (O.written out.old) (O.written out.new)
-        (O.finished out.old) (O.finished out.new)
+        (S.rest input.old) (S.rest input.new) (O.state out.old) (O.state out.new)
         (array_view (A.device array.old) (A.slots array.old) (A.work array.old))
         (array_view (A.device array.new) (A.slots array.new) (A.work array.new)) }
-    ensures causes { HasStopCauses result (S.faults input.old) (S.faults input.new) (O.faults out.old)
-        (O.faults out.new) }
+    ensures causes { HasStopCauses result (S.faults input.old) (S.faults input.new) (O.state out.old).faults
+        (O.state out.new).faults }
     ensures took { Took (Some Command.Shadow) (status_in result)
         (S.rest input.old) (S.rest input.new) }
     ensures worded { result ≢ Err Stop.Usage }
@@ -84,8 +83,7 @@ fn shade_text<O: Sink, A: Operating>(
 ) -> Result<(), Stop>
     requires bits { A.BITS ≤ 256 }
     ensures serves { DoesWork result (shadowed text.now A.BITS)
-        (O.written out.old) (O.written out.new) (O.finished out.old) (O.finished out.new)
-        (O.faults out.old) (O.faults out.new) }
+        (O.state out.old) (O.state out.new) }
     ensures array { Shades (status_in result) A.BITS text.now
         (array_view (A.device array.old) (A.slots array.old) (A.work array.old))
         (array_view (A.device array.new) (A.slots array.new) (A.work array.new)) }
@@ -121,8 +119,7 @@ fn shade_parts<O: Sink, A: Operating>(
     requires part { length part.now ≤ MAX_TEXT_BYTES }
     requires behind { length behind.now ≤ MAX_TEXT_BYTES }
     ensures serves { DoesWork result (parts_lit A.BITS part.now behind.now)
-        (O.written out.old) (O.written out.new) (O.finished out.old) (O.finished out.new)
-        (O.faults out.old) (O.faults out.new) }
+        (O.state out.old) (O.state out.new) }
     ensures array { ShadesParts (status_in result) A.BITS part.now behind.now
         (array_view (A.device array.old) (A.slots array.old) (A.work array.old))
         (array_view (A.device array.new) (A.slots array.new) (A.work array.new)) }
@@ -183,8 +180,7 @@ fn shade_scene<O: Sink, A: Operating>(
     requires bits { A.BITS ≤ 256 }
     requires known { All (IsBelow (length scene.now.solids)) lights.now.items }
     ensures serves { DoesWork result (lit A.BITS scene.now lights.now.items)
-        (O.written out.old) (O.written out.new) (O.finished out.old) (O.finished out.new)
-        (O.faults out.old) (O.faults out.new) }
+        (O.state out.old) (O.state out.new) }
     ensures array { ShadesBy (status_in result) A.BITS scene.now lights.now.items
         (array_view (A.device array.old) (A.slots array.old) (A.work array.old))
         (array_view (A.device array.new) (A.slots array.new) (A.work array.new)) }
@@ -249,12 +245,11 @@ fn deliver_masks<A: Operating, O: Sink>(
     requires at { IsAt A.BITS scene.now job.old.place.clock (A.device array.old) }
     requires need { need_with (layout_of scene.now) (length lights.now.items) ≤ A.BITS }
     requires known { All (IsBelow (length scene.now.solids)) lights.now.items }
-    ensures ok { OnOk result (Appends (O.written out.old) (O.written out.new)
+    ensures ok { OnOk result (Appends (O.state out.old).written (O.state out.new).written
         (mask_image scene.now lights.now.items)) }
-    ensures end { OnOk result (Tells (O.finished out.new) true) }
-    ensures err { OnErr result (TakesFront (O.written out.old) (O.written out.new)
-        (O.finished out.old) (O.finished out.new) (mask_image scene.now lights.now.items)) }
-    ensures cause { HasCause (O.faults out.old) (O.faults out.new) result }
+    ensures end { OnOk result (Tells (O.state out.new).finished true) }
+    ensures err { OnErr result (TakesFront (O.state out.old) (O.state out.new) (mask_image scene.now lights.now.items)) }
+    ensures cause { HasCause (O.state out.old).faults (O.state out.new).faults result }
     ensures shaded { IsShaded A.BITS scene.now lights.now.items (A.device array.new) }
     ensures once { IsRunOnce
         (array_view (A.device array.old) (A.slots array.old) (A.work array.old))
@@ -304,11 +299,9 @@ fn write_lights<A: Array, O: Sink>(
     requires lights { StoresTheLights scene.now layout.now lights.now.items
         (A.device array.now).state }
     requires grid { CoversThePicture scene.now (A.device array.now) }
-    ensures ok { OnOk result (TakesAll (O.written out.old) (O.written out.new)
-        (O.finished out.old) (O.finished out.new) (mask_image scene.now lights.now.items)) }
-    ensures err { OnErr result (TakesFront (O.written out.old) (O.written out.new)
-        (O.finished out.old) (O.finished out.new) (mask_image scene.now lights.now.items)) }
-    ensures cause { HasCause (O.faults out.old) (O.faults out.new) result }
+    ensures ok { OnOk result (TakesAll (O.state out.old) (O.state out.new) (mask_image scene.now lights.now.items)) }
+    ensures err { OnErr result (TakesFront (O.state out.old) (O.state out.new) (mask_image scene.now lights.now.items)) }
+    ensures cause { HasCause (O.state out.old).faults (O.state out.new).faults result }
 {
     laws_of_scenes(scene);
     laws_of_shadows();

@@ -38,8 +38,7 @@ pub(crate) fn make_tiled<O: Sink, A: Operating>(
 ) -> Result<(), Stop>
     requires size { IsWideSize size.width size.height }
     ensures serves { DoesWork result (tiled size scene.now A.BITS)
-        (O.written out.old) (O.written out.new) (O.finished out.old) (O.finished out.new)
-        (O.faults out.old) (O.faults out.new) }
+        (O.state out.old) (O.state out.new) }
     ensures array { DrawsTiles (status_in result) A.BITS size scene.now
         (array_view (A.device array.old) (A.slots array.old) (A.work array.old))
         (array_view (A.device array.new) (A.slots array.new) (A.work array.new)) }
@@ -111,12 +110,11 @@ fn deliver_wide<O: Sink>(
 ) -> Result<(), Failed>
     requires size { IsWideSize size.width size.height }
     requires found { IsFound scene.now size.width size.height found.now }
-    ensures ok { OnOk result (Appends (O.written out.old) (O.written out.new)
+    ensures ok { OnOk result (Appends (O.state out.old).written (O.state out.new).written
         (wide_images size scene.now)) }
-    ensures end { OnOk result (Tells (O.finished out.new) true) }
-    ensures err { OnErr result (TakesFront (O.written out.old) (O.written out.new)
-        (O.finished out.old) (O.finished out.new) (wide_images size scene.now)) }
-    ensures cause { HasCause (O.faults out.old) (O.faults out.new) result }
+    ensures end { OnOk result (Tells (O.state out.new).finished true) }
+    ensures err { OnErr result (TakesFront (O.state out.old) (O.state out.new) (wide_images size scene.now)) }
+    ensures cause { HasCause (O.state out.old).faults (O.state out.new).faults result }
 {
     write_wide(found, scene, size.width, size.height, out)?;
     out.finish()

@@ -1,11 +1,11 @@
 -- Rows by their pixels, and images by their rows, as they are written one after another; images of the same numbers.
 use Rattle.std.proofs.Common.{◌≡◌, ℕ, ◌+◌, ◌-◌, ◌/◌, ◌^◌, ◌<◌, refl, ap, sym, ◌∙◌, arith}
-use Rattle.std.proofs.Common.{Bool, List, [], ◌∷◌, ◌++◌, Option, append_assoc}
+use Rattle.std.proofs.Common.{List, [], ◌∷◌, ◌++◌, append_assoc}
 use Rattle.std.proofs.lemmas.List.{append-nil}
 use Rattle.std.proofs.lemmas.Grind.{flat_map-append}
 use Rattle.std.specs.List.{flat_map, range_with_len}
 use Rattle.px_num.proofs.RangeLaws.{range_cut, same_parts}
-use Rattle.px_io.specs.Told.{TakesAll, TakesFront}
+use Rattle.px_io.specs.Told.{SinkState, TakesAll, TakesFront}
 use Rattle.px_io.proofs.ToldLaws.{front_after, front_before, takes_both}
 use Rattle.px_frame.specs.Picture.{header, image_of, image_of_pixels, number_pixel, row_of_pixels, three_bytes}
 use Rattle.px_array.specs.Arrays.{State, pixel_of}
@@ -49,26 +49,26 @@ row_grown number x y n old new filled is grown =
     pixels_grown (number_pixel number) x y (three_bytes n) old new filled (ap three_bytes is) grown
 
 -- one row more
-pub rows_grown : (a b c : Option (List ℕ)) (f g h : Option Bool) (front : List ℕ) (row : ℕ → List ℕ) (y : ℕ)
-    → TakesAll a b f g (front ++ flat_map row (range_with_len 0 y)) → TakesAll b c g h (row y)
-    → TakesAll a c f h (front ++ flat_map row (range_with_len 0 (y + 1)))
-rows_grown a b c f g h front row y written next =
+pub rows_grown : (a b c : SinkState) (front : List ℕ) (row : ℕ → List ℕ) (y : ℕ)
+    → TakesAll a b (front ++ flat_map row (range_with_len 0 y)) → TakesAll b c (row y)
+    → TakesAll a c (front ++ flat_map row (range_with_len 0 (y + 1)))
+rows_grown a b c front row y written next =
     let more = append_assoc front (made row y) (row y) ∙ ap (λ bytes. front ++ bytes) (made_more row y) in
-    rw more at (takes_both a b c f g h (front ++ made row y) (row y) written next)
+    rw more at (takes_both a b c (front ++ made row y) (row y) written next)
 
 -- a front of one row more is one of the whole
-pub rows_broken : (a b c : Option (List ℕ)) (f g h : Option Bool) (front : List ℕ) (row : ℕ → List ℕ) (y height : ℕ)
+pub rows_broken : (a b c : SinkState) (front : List ℕ) (row : ℕ → List ℕ) (y height : ℕ)
     → y < height
-    → TakesAll a b f g (front ++ flat_map row (range_with_len 0 y)) → TakesFront b c g h (row y)
-    → TakesFront a c f h (front ++ flat_map row (range_with_len 0 height))
-rows_broken a b c f g h front row y height above written next =
+    → TakesAll a b (front ++ flat_map row (range_with_len 0 y)) → TakesFront b c (row y)
+    → TakesFront a c (front ++ flat_map row (range_with_len 0 height))
+rows_broken a b c front row y height above written next =
     let rest = height - (y + 1) in
     let all : y + 1 + rest ≡ height = omega arith in
     let more = append_assoc front (made row y) (row y) ∙ ap (λ bytes. front ++ bytes) (made_more row y) in
     let whole = append_assoc front (made row (y + 1)) (flat_map row (range_with_len (y + 1) rest))
     ∙ ap (λ bytes. front ++ bytes) (made_all row (y + 1) rest ∙ ap (made row) all) in
-    rw whole at (front_before a c f h (front ++ made row (y + 1)) (flat_map row (range_with_len (y + 1) rest))
-    (rw more at (front_after a b c f g h (front ++ made row y) (row y) written next)))
+    rw whole at (front_before a c (front ++ made row (y + 1)) (flat_map row (range_with_len (y + 1) rest))
+    (rw more at (front_after a b c (front ++ made row y) (row y) written next)))
 
 -- a stored pixel is what the image shows of the number in its field
 pixel_shown : (scene : SceneView) (layout : LayoutView) (state : State) (plane : Plane) (x y : ℕ)

@@ -35,13 +35,11 @@ pub fn write_picture<A: Array, O: Sink>(
     requires rows { HasRows scene.now (A.device array.now).state }
     requires room { need_of layout.now ≤ A.BITS }
     requires faces { StoresFaces scene.now layout.now (A.device array.now).state }
-    ensures ok { OnOk result (TakesAll (O.written out.old) (O.written out.new)
-        (O.finished out.old) (O.finished out.new)
+    ensures ok { OnOk result (TakesAll (O.state out.old) (O.state out.new)
         (stored_image scene.now layout.now (A.device array.now).state plane)) }
-    ensures err { OnErr result (TakesFront (O.written out.old) (O.written out.new)
-        (O.finished out.old) (O.finished out.new)
+    ensures err { OnErr result (TakesFront (O.state out.old) (O.state out.new)
         (stored_image scene.now layout.now (A.device array.now).state plane)) }
-    ensures cause { HasCause (O.faults out.old) (O.faults out.new) result }
+    ensures cause { HasCause (O.state out.old).faults (O.state out.new).faults result }
 {
     let header = header(scene.width(), scene.height());
     write_whole(out, header.as_str().as_bytes())?;

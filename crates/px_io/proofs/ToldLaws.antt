@@ -1,11 +1,11 @@
 -- The laws of told bytes over several calls in a row.
 use Rattle.std.proofs.Common.{◌≡◌, ℕ, ◌+◌, ◌-◌, Bool, List, [], ◌++◌, take, drop, length, Option, Some, None}
-use Rattle.std.proofs.Common.{Result, Ok, Err, OnErr, append_assoc, refl, sym, arith, length-append, length-drop}
+use Rattle.std.proofs.Common.{Result, Ok, Err, OnErr, append_assoc, append-nil, refl, sym, arith, length-append, length-drop}
 use Prim.Native.Nat.{zero, suc}
 use Rattle.std.proofs.Math.Seq.{take-add, take-append-add}
 use Rattle.std.proofs.lemmas.List.{take_all, take-append-le as take_within}
 use Rattle.std.specs.Io.KnownBytes.{Appends, Consumes, Keeps}
-use Rattle.px_io.specs.Told.{Reopens, TakesAll, TakesFront}
+use Rattle.px_io.specs.Told.{Reopens, SinkState, TakesAll, TakesFront, TakesNone}
 
 -- first xs were appended, and then ys
 pub appends_both : (a b c : Option (List ℕ)) (xs ys : List ℕ) → Appends a b xs → Appends b c ys
@@ -14,6 +14,11 @@ appends_both None b c xs ys p q = tt
 appends_both (Some a) None c xs ys p q = absurd p
 appends_both (Some a) (Some b) None xs ys p q = absurd q
 appends_both (Some a) (Some b) (Some c) xs ys p q = rw (q, p) (append_assoc a xs ys)
+
+-- nothing was appended
+pub appends_none : (a : Option (List ℕ)) → Appends a a []
+appends_none None = tt
+appends_none (Some a) = sym (append-nil a)
 
 -- xs were appended, and then nothing
 pub appends_kept : (a b c : Option (List ℕ)) (xs : List ℕ) → Appends a b xs → Keeps b c → Appends a c xs
@@ -33,30 +38,41 @@ reopens_both f g h m (suc n) first second = record {
   idle = λ none. absurd (omega arith);
 }
 
+pub keeps_same : (a : Option (List ℕ)) → Keeps a a
+keeps_same None = tt
+keeps_same (Some a) = refl
+
+-- a sink that took nothing, by two words
+pub stays : (a : SinkState) → TakesNone a a
+stays a = record { all = keeps_same a.written; end = refl }
+
+pub takes_none : (a : SinkState) → TakesAll a a []
+takes_none a = record {
+  all = appends_none a.written;
+  end = record { taken = λ some. absurd (omega arith); idle = λ none. refl };
+}
+
 -- all of xs, and then all of ys
-pub takes_both : (a b c : Option (List ℕ)) (f g h : Option Bool) (xs ys : List ℕ)
-    → TakesAll a b f g xs → TakesAll b c g h ys → TakesAll a c f h (xs ++ ys)
-takes_both a b c f g h xs ys first second = record {
-  all = appends_both a b c xs ys first.all second.all;
-  end = rw (length-append xs ys) (reopens_both f g h (length xs) (length ys) first.end second.end);
+pub takes_both : (a b c : SinkState) (xs ys : List ℕ) → TakesAll a b xs → TakesAll b c ys → TakesAll a c (xs ++ ys)
+takes_both a b c xs ys first second = record {
+  all = appends_both a.written b.written c.written xs ys first.all second.all;
+  end = rw (length-append xs ys) (reopens_both a.finished b.finished c.finished (length xs) (length ys) first.end second.end);
 }
 
 -- all of xs, and then a front of ys
-pub front_after : (a b c : Option (List ℕ)) (f g h : Option Bool) (xs ys : List ℕ)
-    → TakesAll a b f g xs → TakesFront b c g h ys → TakesFront a c f h (xs ++ ys)
-front_after a b c f g h xs ys first (n, second) = (
+pub front_after : (a b c : SinkState) (xs ys : List ℕ) → TakesAll a b xs → TakesFront b c ys → TakesFront a c (xs ++ ys)
+front_after a b c xs ys first (n, second) = (
   length xs + n,
   record {
     within = omega (arith, second.within, length-append xs ys);
-    front = rw take-append-add (appends_both a b c xs (take n ys) first.all second.front);
-    end = reopens_both f g h (length xs) n first.end second.end;
+    front = rw take-append-add (appends_both a.written b.written c.written xs (take n ys) first.all second.front);
+    end = reopens_both a.finished b.finished c.finished (length xs) n first.end second.end;
   },
 )
 
 -- a front of xs is one of all that begins with xs
-pub front_before : (a b : Option (List ℕ)) (f g : Option Bool) (xs ys : List ℕ)
-    → TakesFront a b f g xs → TakesFront a b f g (xs ++ ys)
-front_before a b f g xs ys (n, first) = (
+pub front_before : (a b : SinkState) (xs ys : List ℕ) → TakesFront a b xs → TakesFront a b (xs ++ ys)
+front_before a b xs ys (n, first) = (
   n,
   record {
     within = omega (arith, first.within, length-append xs ys);
@@ -66,13 +82,13 @@ front_before a b f g xs ys (n, first) = (
 )
 
 -- all of xs, and then nothing, is a front of xs
-pub front_all : (a b c : Option (List ℕ)) (f g h : Option Bool) (xs : List ℕ)
-    → TakesAll a b f g xs → Keeps b c → h ≡ g → TakesFront a c f h xs
-front_all a b c f g h xs first kept same = (
+pub front_all : (a b c : SinkState) (xs : List ℕ) → TakesAll a b xs → Keeps b.written c.written
+    → c.finished ≡ b.finished → TakesFront a c xs
+front_all a b c xs first kept same = (
   length xs,
   record {
     within = omega arith;
-    front = rw (take_all (length xs) xs (omega arith)) (appends_kept a b c xs first.all kept);
+    front = rw (take_all (length xs) xs (omega arith)) (appends_kept a.written b.written c.written xs first.all kept);
     end = rw same first.end;
   },
 )

@@ -1,6 +1,6 @@
 -- What is told of bytes and of an end. Clauses of public calls stand on it.
-use Rattle.std.specs.Prelude.{◌≡◌, ℕ, ◌<◌, ◌≤◌, List, length, take, Bool, false, ⊤, Result, MatchResult}
-use Rattle.std.specs.Io.KnownBytes.{Appends, Consumes}
+use Rattle.std.specs.Prelude.{◌≡◌, ℕ, ◌<◌, ◌≤◌, List, length, take, Bool, true, false, ⊤, Result, MatchResult}
+use Rattle.std.specs.Io.KnownBytes.{Appends, Consumes, Keeps}
 use Rattle.std.specs.declared.option.Option.{Option}
 use Rattle.std.specs.declared.option.Option.TheVariants.{Some, None}
 
@@ -23,21 +23,36 @@ pub record Reopens (old new : Option Bool) (count : ℕ) : Type 0 where
   pub taken : 0 < count → Tells new false
   pub idle : count ≡ 0 → new ≡ old
 
+-- what a sink tells of itself: the bytes taken, whether it is finished, and its count of faults
+pub record SinkState : Type 0 where
+  pub written : Option (List ℕ)
+  pub finished : Option Bool
+  pub faults : ℕ
+
 -- all of these bytes went to a sink, which then is no more finished where there was one
-pub record TakesAll (written_old written_new : Option (List ℕ)) (finished_old finished_new : Option Bool) (bytes : List ℕ) : Type 0 where
-  pub all : Appends written_old written_new bytes
-  pub end : Reopens finished_old finished_new (length bytes)
+pub record TakesAll (before after : SinkState) (bytes : List ℕ) : Type 0 where
+  pub all : Appends before.written after.written bytes
+  pub end : Reopens before.finished after.finished (length bytes)
 
 -- the first so many of these bytes went to a sink, which then is no more finished where one of them did
-pub record TakesFirst (n : ℕ) (written_old written_new : Option (List ℕ)) (finished_old finished_new : Option Bool) (bytes : List ℕ) : Type 0 where
+pub record TakesFirst (n : ℕ) (before after : SinkState) (bytes : List ℕ) : Type 0 where
   pub within : n ≤ length bytes
-  pub front : Appends written_old written_new (take n bytes)
-  pub end : Reopens finished_old finished_new n
+  pub front : Appends before.written after.written (take n bytes)
+  pub end : Reopens before.finished after.finished n
 
 -- a front of these bytes went to a sink, which then is no more finished where one of them did
-abbrev pub TakesFront : (written_old written_new : Option (List ℕ)) (finished_old finished_new : Option Bool) → List ℕ → Type 0
-TakesFront written_old written_new finished_old finished_new bytes =
-    (n : ℕ) × TakesFirst n written_old written_new finished_old finished_new bytes
+abbrev pub TakesFront : (before after : SinkState) → List ℕ → Type 0
+TakesFront before after bytes = (n : ℕ) × TakesFirst n before after bytes
+
+-- all of these bytes went to a sink, which then was finished
+pub record FinishesWith (before after : SinkState) (bytes : List ℕ) : Type 0 where
+  pub all : Appends before.written after.written bytes
+  pub end : Tells after.finished true
+
+-- a sink took nothing, and is as finished as before
+pub record TakesNone (before after : SinkState) : Type 0 where
+  pub all : Keeps before.written after.written
+  pub end : after.finished ≡ before.finished
 
 -- a write reopens a sink by what it took, and leaves it where it failed
 abbrev pub WriteReopens : {E : Type 0} → Option Bool → Option Bool → Result ℕ E → Type 0

@@ -59,11 +59,7 @@ impl CalmSink {
 }
 
 impl Sink for CalmSink {
-    ghost written = { λ _. None };
-
-    ghost finished = { λ _. None };
-
-    ghost faults = { λ _. 0 };
+    ghost state = { λ _. record { written = None; finished = None; faults = 0 } };
 
     fn write(&mut self, buf: &[u8]) -> Result<usize, Failed>
         ensures { result ≡ Ok (length buf.now) }

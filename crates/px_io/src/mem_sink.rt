@@ -89,11 +89,7 @@ impl MemSink {
 }
 
 impl Sink for MemSink {
-    ghost written = { λ s. Some s.written };
-
-    ghost finished = { λ s. Some s.finished };
-
-    ghost faults = { λ s. s.faults };
+    ghost state = { λ s. record { written = Some s.written; finished = Some s.finished; faults = s.faults } };
 
     fn write(&mut self, buf: &[u8]) -> Result<usize, Failed>
         ensures cause { HasWriteCause self.old.faults self.new.faults result buf.now }

@@ -8,11 +8,9 @@ use crate::{Failed, Sink};
 /// Writes until all of the bytes are taken. After `Failed` a front of them was, and the sink is not
 /// finished behind it.
 pub fn write_whole<O: Sink>(out: &mut O, bytes: &[u8]) -> Result<(), Failed>
-    ensures ok { OnOk result (TakesAll (O.written out.old) (O.written out.new)
-        (O.finished out.old) (O.finished out.new) bytes.now) }
-    ensures err { OnErr result (TakesFront (O.written out.old) (O.written out.new)
-        (O.finished out.old) (O.finished out.new) bytes.now) }
-    ensures cause { HasCause (O.faults out.old) (O.faults out.new) result }
+    ensures ok { OnOk result (TakesAll (O.state out.old) (O.state out.new) bytes.now) }
+    ensures err { OnErr result (TakesFront (O.state out.old) (O.state out.new) bytes.now) }
+    ensures cause { HasCause (O.state out.old).faults (O.state out.new).faults result }
 {
     let mut at = 0;
     while at < bytes.len() {

@@ -48,9 +48,9 @@ pub fn read_part<S: Asks<O>, O: Sink>(
     ensures calm { OnOk result (S.faults input.new ≡ S.faults input.old) }
     ensures memory { IsErrOf result ReadError.Memory → S.faults input.new ≡ S.faults input.old }
     ensures listens { IfOk result (λ o. Listens limit (S.asks input.old) (S.asks input.new)
-        (O.written out.now) o.text.items) }
+        (O.state out.now).written o.text.items) }
     ensures listened { OnErr result (ListenedTo limit (S.asks input.old) (S.asks input.new)
-        (O.written out.now) (S.rest input.old) (S.rest input.new)) }
+        (O.state out.now).written (S.rest input.old) (S.rest input.new)) }
 {
     let mut text = Vec::new(alloc);
     let mut piece = [0; 4096];
@@ -75,15 +75,15 @@ fn read_piece<S: Asks<O>, O: Sink>(
 ) -> Result<usize, ReadError>
     requires { 0 < length piece.old }
     ensures heard { (begun : Begun) → Waits begun (S.asks input.old) (S.rest input.old)
-        (O.written out.now) bytes.old.items →
-        OnOk result (Heard begun (S.asks input.new) (S.rest input.new) (O.written out.now)
+        (O.state out.now).written bytes.old.items →
+        OnOk result (Heard begun (S.asks input.new) (S.rest input.new) (O.state out.now).written
         bytes.new.items) }
     ensures bytes { OnOk result (take (vec_len bytes.old) bytes.new.items ≡ bytes.old.items) }
     ensures failed { (begun : Begun) → Heard begun (S.asks input.old) (S.rest input.old)
-        (O.written out.now) bytes.old.items →
+        (O.state out.now).written bytes.old.items →
         IsErrOf result ReadError.Failed → Consumes begun.rest (S.rest input.new) bytes.old.items }
     ensures err { (begun : Begun) → Heard begun (S.asks input.old) (S.rest input.old)
-        (O.written out.now) bytes.old.items →
+        (O.state out.now).written bytes.old.items →
         OnErr result (ConsumesAtMost begun.rest (S.rest input.new)
         (vec_len bytes.old + length piece.old)) }
     ensures count { IfOk result (λ n.
@@ -94,8 +94,8 @@ fn read_piece<S: Asks<O>, O: Sink>(
     ensures calm { OnOk result (S.faults input.new ≡ S.faults input.old) }
     ensures memory { IsErrOf result ReadError.Memory → S.faults input.new ≡ S.faults input.old }
     ensures listened { (begun : Begun) → Waits begun (S.asks input.old) (S.rest input.old)
-        (O.written out.now) bytes.old.items →
-        OnErr result (ListenedTo begun.limit begun.asks (S.asks input.new) (O.written out.now)
+        (O.state out.now).written bytes.old.items →
+        OnErr result (ListenedTo begun.limit begun.asks (S.asks input.new) (O.state out.now).written
         begun.rest (S.rest input.new)) }
 {
     let count = input.ask(out, piece)?;

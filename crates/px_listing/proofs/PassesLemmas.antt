@@ -1,10 +1,10 @@
 -- The grid and the passes of a scene, as a listing.
-use Rattle.std.proofs.Common.{◌≡◌, ℕ, ◌+◌, ◌^◌, ◌<◌, ◌≤◌, All, List, [], ◌++◌, Bool}
-use Rattle.std.proofs.Common.{false, Option, Some, length, take, drop, slice_get}
+use Rattle.std.proofs.Common.{◌≡◌, ℕ, ◌+◌, ◌^◌, ◌<◌, ◌≤◌, All, List, [], ◌++◌}
+use Rattle.std.proofs.Common.{false, Some, length, take, drop, slice_get}
 use Rattle.std.proofs.Common.{refl, ap, sym, ◌∙◌, arith, subst, append_assoc, Result, OnOk, OnErr, replicate, length-append}
 use Rattle.std.proofs.lemmas.List.{append-nil, length-replicate}
 use Rattle.std.proofs.lemmas.Option.{get_or_from_slice_get, slice_get_within}
-use Rattle.px_io.specs.Told.{TakesAll, TakesFront}
+use Rattle.px_io.specs.Told.{SinkState, TakesAll, TakesFront}
 use Rattle.px_io.proofs.ToldLaws.{front_before}
 use Rattle.std.specs.List.{flat_map}
 use Rattle.px_macro.specs.Macros.{IsLawful, IsLawfulInMore, MemoryStaysLong, PixelBits, after_macros}
@@ -35,71 +35,71 @@ lawful_here bits ops i op is lawful =
     subst (λ o. IsLawful o bits) (get_or_from_slice_get ops i op op is) (lawful i op (slice_get_within ops i op is))
 
 -- no line was put
-pub puts_start : (a : Option (List ℕ)) (f : Option Bool) (u : List ℕ) (ops : List Macro) (n : ℕ) → n ≡ 0
-    → Puts a a f f u (flat_map macro_line (take n ops)) u
-puts_start a f u ops n none = rw none (puts_none a f u)
+pub puts_start : (a : SinkState) (u : List ℕ) (ops : List Macro) (n : ℕ) → n ≡ 0
+    → Puts a a u (flat_map macro_line (take n ops)) u
+puts_start a u ops n none = rw none (puts_none a u)
 
 -- the line of the next operation is put
-pub puts_next : (a b c : Option (List ℕ)) (f g h : Option Bool) (u v w line : List ℕ) (ops : List Macro) (i next : ℕ)
+pub puts_next : (a b c : SinkState) (u v w line : List ℕ) (ops : List Macro) (i next : ℕ)
     (op : Macro)
     → slice_get ops i ≡ Some op → next ≡ i + 1 → line ≡ macro_line op
-    → Puts a b f g u (flat_map macro_line (take i ops)) v → Puts b c g h v line w
-    → Puts a c f h u (flat_map macro_line (take next ops)) w
-puts_next a b c f g h u v w line ops i next op is e written first second =
+    → Puts a b u (flat_map macro_line (take i ops)) v → Puts b c v line w
+    → Puts a c u (flat_map macro_line (take next ops)) w
+puts_next a b c u v w line ops i next op is e written first second =
     let one = get_or_from_slice_get ops i op op is in
     let more : flat_map macro_line (take i ops) ++ macro_line op ≡ flat_map macro_line (take next ops) =
     ap (λ o. flat_map macro_line (take i ops) ++ macro_line o) (sym one)
     ∙ (listed_more macro_line ops i op (slice_get_within ops i op is)
     ∙ ap (λ n. flat_map macro_line (take n ops)) (sym e)) in
-    subst (λ bytes. Puts a c f h u bytes w) more (puts_both a b c f g h u v w (flat_map macro_line (take i ops))
+    subst (λ bytes. Puts a c u bytes w) more (puts_both a b c u v w (flat_map macro_line (take i ops))
     (macro_line op) first (rw written at second))
 
 -- a front of it is put
-pub puts_next_front : (a b c : Option (List ℕ)) (f g h : Option Bool) (u v line : List ℕ) (ops : List Macro) (i : ℕ)
+pub puts_next_front : (a b c : SinkState) (u v line : List ℕ) (ops : List Macro) (i : ℕ)
     (op : Macro)
     → slice_get ops i ≡ Some op → line ≡ macro_line op
-    → Puts a b f g u (flat_map macro_line (take i ops)) v → TakesFront b c g h (v ++ line)
-    → TakesFront a c f h (u ++ flat_map macro_line ops)
-puts_next_front a b c f g h u v line ops i op is written first second =
+    → Puts a b u (flat_map macro_line (take i ops)) v → TakesFront b c (v ++ line)
+    → TakesFront a c (u ++ flat_map macro_line ops)
+puts_next_front a b c u v line ops i op is written first second =
     let one = get_or_from_slice_get ops i op op is in
     let cut : flat_map macro_line (take i ops) ++ (macro_line op ++ flat_map macro_line (drop (i + 1) ops))
     ≡ flat_map macro_line ops =
     ap (λ o. flat_map macro_line (take i ops) ++ (macro_line o ++ flat_map macro_line (drop (i + 1) ops))) (sym one)
     ∙ listed_cut macro_line ops i op (slice_get_within ops i op is) in
-    puts_cut a b c f g h u v (flat_map macro_line (take i ops)) (macro_line op)
+    puts_cut a b c u v (flat_map macro_line (take i ops)) (macro_line op)
     (flat_map macro_line (drop (i + 1) ops)) (flat_map macro_line ops)
     cut first (rw written at second)
 
 -- a front of the first lines is one of all
-pub front_of_first : (a b : Option (List ℕ)) (f g : Option Bool) (piece first middle last : List ℕ) → piece ≡ []
-    → TakesFront a b f g (piece ++ first) → TakesFront a b f g (first ++ middle ++ last)
-front_of_first a b f g piece first middle last empty front =
-    subst (TakesFront a b f g) (sym (append_assoc first middle last)) (front_before a b f g first (middle ++ last)
+pub front_of_first : (a b : SinkState) (piece first middle last : List ℕ) → piece ≡ []
+    → TakesFront a b (piece ++ first) → TakesFront a b (first ++ middle ++ last)
+front_of_first a b piece first middle last empty front =
+    subst (TakesFront a b) (sym (append_assoc first middle last)) (front_before a b first (middle ++ last)
     (rw empty at front))
 
 -- the first lines, and a front of those in the middle
-pub front_of_middle : (a b c : Option (List ℕ)) (f g h : Option Bool) (piece v first middle last : List ℕ) → piece ≡ []
-    → Puts a b f g piece first v → TakesFront b c g h (v ++ middle) → TakesFront a c f h (first ++ middle ++ last)
-front_of_middle a b c f g h piece v first middle last empty put front =
-    puts_cut a b c f g h [] v first middle last (first ++ middle ++ last) (sym (append_assoc first middle last))
+pub front_of_middle : (a b c : SinkState) (piece v first middle last : List ℕ) → piece ≡ []
+    → Puts a b piece first v → TakesFront b c (v ++ middle) → TakesFront a c (first ++ middle ++ last)
+front_of_middle a b c piece v first middle last empty put front =
+    puts_cut a b c [] v first middle last (first ++ middle ++ last) (sym (append_assoc first middle last))
     (rw empty at put) front
 
-pub ok_to_last : {T E : Type 0} (r : Result T E) (a b c d : Option (List ℕ)) (f g h i : Option Bool)
+pub ok_to_last : {T E : Type 0} (r : Result T E) (a b c d : SinkState)
     (piece v w first middle last : List ℕ) → piece ≡ []
-    → Puts a b f g piece first v → Puts b c g h v middle w → OnOk r (TakesAll c d h i (w ++ last))
-    → OnOk r (TakesAll a d f i (first ++ middle ++ last))
-ok_to_last r a b c d f g h i piece v w first middle last empty one two all =
-    ok_all r a c d f h i [] w (first ++ middle) last (first ++ middle ++ last) refl
-    (puts_both a b c f g h [] v w first middle (rw empty at one) two) all
+    → Puts a b piece first v → Puts b c v middle w → OnOk r (TakesAll c d (w ++ last))
+    → OnOk r (TakesAll a d (first ++ middle ++ last))
+ok_to_last r a b c d piece v w first middle last empty one two all =
+    ok_all r a c d [] w (first ++ middle) last (first ++ middle ++ last) refl
+    (puts_both a b c [] v w first middle (rw empty at one) two) all
 
-pub err_to_last : {T E : Type 0} (r : Result T E) (a b c d : Option (List ℕ)) (f g h i : Option Bool)
+pub err_to_last : {T E : Type 0} (r : Result T E) (a b c d : SinkState)
     (piece v w first middle last : List ℕ) → piece ≡ []
-    → Puts a b f g piece first v → Puts b c g h v middle w → OnErr r (TakesFront c d h i (w ++ last))
-    → OnErr r (TakesFront a d f i (first ++ middle ++ last))
-err_to_last r a b c d f g h i piece v w first middle last empty one two front =
-    err_cut r a c d f h i [] w (first ++ middle) last [] (first ++ middle ++ last)
+    → Puts a b piece first v → Puts b c v middle w → OnErr r (TakesFront c d (w ++ last))
+    → OnErr r (TakesFront a d (first ++ middle ++ last))
+err_to_last r a b c d piece v w first middle last empty one two front =
+    err_cut r a c d [] w (first ++ middle) last [] (first ++ middle ++ last)
     (ap (λ bytes. (first ++ middle) ++ bytes) (append-nil last))
-    (puts_both a b c f g h [] v w first middle (rw empty at one) two) front
+    (puts_both a b c [] v w first middle (rw empty at one) two) front
 
 -- no scene needs more than 74 bits
 few_bits : LayoutsAreLawful → (scene : SceneView) → IsLawfulScene scene → need_of (layout_of scene) ≤ 256

@@ -1,9 +1,9 @@
 -- Bytes that wait to be written in larger pieces. Only proofs and private functions stand on it.
-use Rattle.std.specs.Prelude.{◌≡◌, ℕ, Bool, List, ◌++◌, Option}
-use Rattle.px_io.specs.Told.{TakesAll}
+use Rattle.std.specs.Prelude.{◌≡◌, ℕ, List, ◌++◌}
+use Rattle.px_io.specs.Told.{SinkState, TakesAll}
 
 -- a sink took the bytes that had waited and these, but for the ones that wait now
-pub record Puts (written_old written_new : Option (List ℕ)) (finished_old finished_new : Option Bool) (waited bytes waits : List ℕ) : Type 0 where
+pub record Puts (before after : SinkState) (waited bytes waits : List ℕ) : Type 0 where
   pub taken : List ℕ
-  pub all : TakesAll written_old written_new finished_old finished_new taken
+  pub all : TakesAll before after taken
   pub rest : taken ++ waits ≡ waited ++ bytes

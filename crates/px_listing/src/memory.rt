@@ -21,13 +21,11 @@ use px_num::power;
 pub fn write_memory<A: Array, O: Sink>(array: &A, out: &mut O) -> Result<(), Failed>
     requires is_open { IsOpen (A.device array.now) }
     requires few { A.BITS ≤ 256 }
-    ensures ok { OnOk result (TakesAll (O.written out.old) (O.written out.new)
-        (O.finished out.old) (O.finished out.new)
+    ensures ok { OnOk result (TakesAll (O.state out.old) (O.state out.new)
         (memory_text A.BITS (A.device array.now).state)) }
-    ensures err { OnErr result (TakesFront (O.written out.old) (O.written out.new)
-        (O.finished out.old) (O.finished out.new)
+    ensures err { OnErr result (TakesFront (O.state out.old) (O.state out.new)
         (memory_text A.BITS (A.device array.now).state)) }
-    ensures cause { HasCause (O.faults out.old) (O.faults out.new) result }
+    ensures cause { HasCause (O.state out.old).faults (O.state out.new).faults result }
 {
     let (nx, ny) = array.size();
     let mut piece = Piece::new();
@@ -49,14 +47,12 @@ fn put_row<A: Array, O: Sink>(
     requires few { A.BITS ≤ 256 }
     requires columns { columns ≡ 2 ^ (A.device array.now).state.tree.nx }
     requires row { y < 2 ^ (A.device array.now).state.tree.ny }
-    ensures ok { OnOk result (Puts (O.written out.old) (O.written out.new)
-        (O.finished out.old) (O.finished out.new) piece.old.bytes
+    ensures ok { OnOk result (Puts (O.state out.old) (O.state out.new) piece.old.bytes
         (row_lines A.BITS columns (λ x y. bits_of (pixel_of (A.device array.now).state x y)) y)
         piece.new.bytes) }
-    ensures err { OnErr result (TakesFront (O.written out.old) (O.written out.new)
-        (O.finished out.old) (O.finished out.new) (piece.old.bytes
+    ensures err { OnErr result (TakesFront (O.state out.old) (O.state out.new) (piece.old.bytes
         ++ row_lines A.BITS columns (λ x y. bits_of (pixel_of (A.device array.now).state x y)) y)) }
-    ensures cause { HasCause (O.faults out.old) (O.faults out.new) result }
+    ensures cause { HasCause (O.state out.old).faults (O.state out.new).faults result }
 {
     for x in 0..columns {
         put(out, piece, pixel_line(array, x, y).as_str())?;

@@ -32,11 +32,9 @@ pub fn write_passes<O: Sink>(
     requires products { plan.now.products.items ≡ plan_of scene.now }
     requires few { length (plan_of scene.now) ≤ MAX_PRODUCTS }
     requires layout { layout.now ≡ layout_of scene.now }
-    ensures ok { OnOk result (TakesAll (O.written out.old) (O.written out.new)
-        (O.finished out.old) (O.finished out.new) (canonical_text (passes_listing scene.now))) }
-    ensures err { OnErr result (TakesFront (O.written out.old) (O.written out.new)
-        (O.finished out.old) (O.finished out.new) (canonical_text (passes_listing scene.now))) }
-    ensures cause { HasCause (O.faults out.old) (O.faults out.new) result }
+    ensures ok { OnOk result (TakesAll (O.state out.old) (O.state out.new) (canonical_text (passes_listing scene.now))) }
+    ensures err { OnErr result (TakesFront (O.state out.old) (O.state out.new) (canonical_text (passes_listing scene.now))) }
+    ensures cause { HasCause (O.state out.old).faults (O.state out.new).faults result }
 {
     laws_of_scenes(scene);
     laws_of_passes();
@@ -60,13 +58,11 @@ fn put_passes<O: Sink>(
     requires layout { layout.now ≡ layout_of scene.now }
     requires few { length (passes scene.now) < 2 ^ 64 }
     requires lawful { All (λ m. IsLawful m 256) (passes scene.now) }
-    ensures ok { OnOk result (Puts (O.written out.old) (O.written out.new)
-        (O.finished out.old) (O.finished out.new) piece.old.bytes
+    ensures ok { OnOk result (Puts (O.state out.old) (O.state out.new) piece.old.bytes
         (flat_map macro_line (passes scene.now)) piece.new.bytes) }
-    ensures err { OnErr result (TakesFront (O.written out.old) (O.written out.new)
-        (O.finished out.old) (O.finished out.new)
+    ensures err { OnErr result (TakesFront (O.state out.old) (O.state out.new)
         (piece.old.bytes ++ flat_map macro_line (passes scene.now))) }
-    ensures cause { HasCause (O.faults out.old) (O.faults out.new) result }
+    ensures cause { HasCause (O.state out.old).faults (O.state out.new).faults result }
 {
     let mut cursor = Cursor::start();
     while let Some(m) = cursor.next_macro(scene, plan, layout) {

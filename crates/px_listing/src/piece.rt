@@ -17,11 +17,9 @@ pub(crate) type Piece = ArrayString<PIECE_BYTES>;
 /// Writes a line, once enough of them wait.
 pub(crate) fn put<O: Sink>(out: &mut O, piece: &mut Piece, line: &str) -> Result<(), Failed>
     requires short { length line.now ≤ 4096 }
-    ensures ok { OnOk result (Puts (O.written out.old) (O.written out.new)
-        (O.finished out.old) (O.finished out.new) piece.old.bytes line.now piece.new.bytes) }
-    ensures err { OnErr result (TakesFront (O.written out.old) (O.written out.new)
-        (O.finished out.old) (O.finished out.new) (piece.old.bytes ++ line.now)) }
-    ensures cause { HasCause (O.faults out.old) (O.faults out.new) result }
+    ensures ok { OnOk result (Puts (O.state out.old) (O.state out.new) piece.old.bytes line.now piece.new.bytes) }
+    ensures err { OnErr result (TakesFront (O.state out.old) (O.state out.new) (piece.old.bytes ++ line.now)) }
+    ensures cause { HasCause (O.state out.old).faults (O.state out.new).faults result }
 {
     make_room(out, piece, line.len())?;
     piece.push_str(line);
@@ -31,12 +29,10 @@ pub(crate) fn put<O: Sink>(out: &mut O, piece: &mut Piece, line: &str) -> Result
 /// Writes what waits, where so many bytes more have no room beside it.
 fn make_room<O: Sink>(out: &mut O, piece: &mut Piece, count: usize) -> Result<(), Failed>
     requires short { count ≤ 4096 }
-    ensures ok { OnOk result (Puts (O.written out.old) (O.written out.new)
-        (O.finished out.old) (O.finished out.new) piece.old.bytes [] piece.new.bytes) }
+    ensures ok { OnOk result (Puts (O.state out.old) (O.state out.new) piece.old.bytes [] piece.new.bytes) }
     ensures room { OnOk result (array_string_len piece.new + count ≤ 4096) }
-    ensures err { OnErr result (TakesFront (O.written out.old) (O.written out.new)
-        (O.finished out.old) (O.finished out.new) piece.old.bytes) }
-    ensures cause { HasCause (O.faults out.old) (O.faults out.new) result }
+    ensures err { OnErr result (TakesFront (O.state out.old) (O.state out.new) piece.old.bytes) }
+    ensures cause { HasCause (O.state out.old).faults (O.state out.new).faults result }
 {
     if piece.len() + count > PIECE_BYTES {
         flush(out, piece)
@@ -47,12 +43,10 @@ fn make_room<O: Sink>(out: &mut O, piece: &mut Piece, count: usize) -> Result<()
 
 /// Writes what waits.
 pub(crate) fn flush<O: Sink>(out: &mut O, piece: &mut Piece) -> Result<(), Failed>
-    ensures ok { OnOk result (Puts (O.written out.old) (O.written out.new)
-        (O.finished out.old) (O.finished out.new) piece.old.bytes [] piece.new.bytes) }
+    ensures ok { OnOk result (Puts (O.state out.old) (O.state out.new) piece.old.bytes [] piece.new.bytes) }
     ensures empty { OnOk result (piece.new.bytes ≡ []) }
-    ensures err { OnErr result (TakesFront (O.written out.old) (O.written out.new)
-        (O.finished out.old) (O.finished out.new) piece.old.bytes) }
-    ensures cause { HasCause (O.faults out.old) (O.faults out.new) result }
+    ensures err { OnErr result (TakesFront (O.state out.old) (O.state out.new) piece.old.bytes) }
+    ensures cause { HasCause (O.state out.old).faults (O.state out.new).faults result }
 {
     write_whole(out, piece.as_str().as_bytes())?;
     piece.clear();

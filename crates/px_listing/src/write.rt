@@ -19,11 +19,9 @@ use px_macro::Macro;
 ///
 /// After `Failed` a front of it was written. The sink is not finished.
 pub fn write_listing<O: Sink>(listing: &Listing, out: &mut O) -> Result<(), Failed>
-    ensures ok { OnOk result (TakesAll (O.written out.old) (O.written out.new)
-        (O.finished out.old) (O.finished out.new) (canonical_text listing.now)) }
-    ensures err { OnErr result (TakesFront (O.written out.old) (O.written out.new)
-        (O.finished out.old) (O.finished out.new) (canonical_text listing.now)) }
-    ensures cause { HasCause (O.faults out.old) (O.faults out.new) result }
+    ensures ok { OnOk result (TakesAll (O.state out.old) (O.state out.new) (canonical_text listing.now)) }
+    ensures err { OnErr result (TakesFront (O.state out.old) (O.state out.new) (canonical_text listing.now)) }
+    ensures cause { HasCause (O.state out.old).faults (O.state out.new).faults result }
 {
     let mut piece = Piece::new();
     put_first_lines(out, &mut piece, listing.nx, listing.ny)?;
@@ -40,11 +38,9 @@ pub(crate) fn put_first_lines<O: Sink>(
     nx: u32,
     ny: u32,
 ) -> Result<(), Failed>
-    ensures ok { OnOk result (Puts (O.written out.old) (O.written out.new)
-        (O.finished out.old) (O.finished out.new) piece.old.bytes (first_lines nx ny) piece.new.bytes) }
-    ensures err { OnErr result (TakesFront (O.written out.old) (O.written out.new)
-        (O.finished out.old) (O.finished out.new) (piece.old.bytes ++ first_lines nx ny)) }
-    ensures cause { HasCause (O.faults out.old) (O.faults out.new) result }
+    ensures ok { OnOk result (Puts (O.state out.old) (O.state out.new) piece.old.bytes (first_lines nx ny) piece.new.bytes) }
+    ensures err { OnErr result (TakesFront (O.state out.old) (O.state out.new) (piece.old.bytes ++ first_lines nx ny)) }
+    ensures cause { HasCause (O.state out.old).faults (O.state out.new).faults result }
 {
     put(out, piece, header_line())?;
     put(out, piece, grid_line(nx, ny).as_str())
@@ -66,11 +62,9 @@ fn grid_line(nx: u32, ny: u32) -> Line
 
 /// The end of a listing, with which all of it is written.
 pub(crate) fn put_end<O: Sink>(out: &mut O, piece: &mut Piece) -> Result<(), Failed>
-    ensures ok { OnOk result (TakesAll (O.written out.old) (O.written out.new)
-        (O.finished out.old) (O.finished out.new) (piece.old.bytes ++ end_line)) }
-    ensures err { OnErr result (TakesFront (O.written out.old) (O.written out.new)
-        (O.finished out.old) (O.finished out.new) (piece.old.bytes ++ end_line)) }
-    ensures cause { HasCause (O.faults out.old) (O.faults out.new) result }
+    ensures ok { OnOk result (TakesAll (O.state out.old) (O.state out.new) (piece.old.bytes ++ end_line)) }
+    ensures err { OnErr result (TakesFront (O.state out.old) (O.state out.new) (piece.old.bytes ++ end_line)) }
+    ensures cause { HasCause (O.state out.old).faults (O.state out.new).faults result }
 {
     put(out, piece, line_of("end", &[]).as_str())?;
     flush(out, piece)

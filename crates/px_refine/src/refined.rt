@@ -39,13 +39,11 @@ pub fn write_refined<A: Array, O: Sink>(
     requires rows { HasRows fine.now (A.device array.now).state }
     requires room { need_of layout.now ≤ A.BITS }
     requires faces { StoresFaces fine.now layout.now (A.device array.now).state }
-    ensures ok { OnOk result (TakesAll (O.written out.old) (O.written out.new)
-        (O.finished out.old) (O.finished out.new)
+    ensures ok { OnOk result (TakesAll (O.state out.old) (O.state out.new)
         (stored_means s fine.now layout.now (A.device array.now).state)) }
-    ensures err { OnErr result (TakesFront (O.written out.old) (O.written out.new)
-        (O.finished out.old) (O.finished out.new)
+    ensures err { OnErr result (TakesFront (O.state out.old) (O.state out.new)
         (stored_means s fine.now layout.now (A.device array.now).state)) }
-    ensures cause { HasCause (O.faults out.old) (O.faults out.new) result }
+    ensures cause { HasCause (O.state out.old).faults (O.state out.new).faults result }
 {
     let across = parts(s);
     let width = fine.width() / across;

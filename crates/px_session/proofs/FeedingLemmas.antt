@@ -1,14 +1,13 @@
 -- Bytes in pieces, and lines one after another.
 use Rattle.std.proofs.Common.{◌≡◌, ℕ, ◌+◌, ◌<◌, ◌≤◌, Bool, true, false, ◌||◌, ◌==◌, List, [], ◌∷◌, ◌++◌}
-use Rattle.std.proofs.Common.{length, take, drop, get_or, Option, Some, None, Result, Ok, Err, IfOk, OnErr, OnOk}
+use Rattle.std.proofs.Common.{length, take, drop, get_or, Result, Ok, Err, IfOk, OnErr, OnOk}
 use Rattle.std.proofs.Common.{refl, sym, ap, ◌∙◌, append_assoc, append-nil, add_assoc, length-append, arith}
 use Rattle.std.proofs.Common.{if◌then◌else◌}
 use Rattle.std.proofs.Math.Seq.{take-append-add}
 use Rattle.std.proofs.lemmas.List.{take_more, take-append-drop, take-append-le as take_within}
-use Rattle.std.specs.Io.KnownBytes.{Appends}
 use Rattle.px_num.proofs.TruthLaws.{neither_left, neither_right}
-use Rattle.px_io.specs.Told.{TakesAll, TakesFirst, TakesFront}
-use Rattle.px_io.proofs.ToldLaws.{appends_both, takes_both, reopens_both}
+use Rattle.px_io.specs.Told.{SinkState, TakesAll, TakesFirst, TakesFront}
+use Rattle.px_io.proofs.ToldLaws.{appends_both, takes_both, takes_none, reopens_both}
 use Rattle.px_debug.specs.Answers.{answer}
 use Rattle.px_debug.specs.Commands.{line_command}
 use Rattle.px_debug.specs.Moves.{SessionView, going, most_clocks, moved}
@@ -93,17 +92,13 @@ answers-append bits s (l ∷ ls) ms =
     ∙ sym (append_assoc (answer_line bits s l) _ _)
 
 -- all of xs, and then the first n of ys
-first_after : (a b c : Option (List ℕ)) (f g h : Option Bool) (xs ys : List ℕ) (n : ℕ)
-    → TakesAll a b f g xs → TakesFirst n b c g h ys → TakesFirst (length xs + n) a c f h (xs ++ ys)
-first_after a b c f g h xs ys n first second = record {
+first_after : (a b c : SinkState) (xs ys : List ℕ) (n : ℕ)
+    → TakesAll a b xs → TakesFirst n b c ys → TakesFirst (length xs + n) a c (xs ++ ys)
+first_after a b c xs ys n first second = record {
   within = omega (arith, second.within, length-append xs ys);
-  front = rw take-append-add (appends_both a b c xs (take n ys) first.all second.front);
-  end = reopens_both f g h (length xs) n first.end second.end;
+  front = rw take-append-add (appends_both a.written b.written c.written xs (take n ys) first.all second.front);
+  end = reopens_both a.finished b.finished c.finished (length xs) n first.end second.end;
 }
-
-keeps : (w : Option (List ℕ)) → Appends w w []
-keeps None = tt
-keeps (Some xs) = sym (append-nil xs)
 
 -- lines obeyed one after another
 clocks-append : (s : SessionView) (ls ms : List (List ℕ)) → clocks_over s (ls ++ ms)
@@ -131,33 +126,33 @@ obeyed_both s t u ls ms first second = record {
   );
 }
 
-pub answered_none : (bits : ℕ) (s : Stand) (a : Option (List ℕ)) (p : Option Bool) → Answered bits s s a a p p []
-answered_none bits s a p = record {
+pub answered_none : (bits : ℕ) (s : Stand) (a : SinkState) → Answered bits s s a a []
+answered_none bits s a = record {
   state = obeyed_none s;
-  wrote = record { all = keeps a; end = record { taken = λ some. absurd (omega arith); idle = λ none. refl } };
+  wrote = takes_none a;
 }
 
 -- first these lines, and then those
-pub answered_both : (bits : ℕ) (s t u : Stand) (a b c : Option (List ℕ)) (p q r : Option Bool)
+pub answered_both : (bits : ℕ) (s t u : Stand) (a b c : SinkState)
     (ls ms : List (List ℕ))
-    → Answered bits s t a b p q ls → Answered bits t u b c q r ms → Answered bits s u a c p r (ls ++ ms)
-answered_both bits s t u a b c p q r ls ms first second = record {
+    → Answered bits s t a b ls → Answered bits t u b c ms → Answered bits s u a c (ls ++ ms)
+answered_both bits s t u a b c ls ms first second = record {
   state = obeyed_both s t u ls ms first.state second.state;
   wrote = rw (answers-append bits s.session ls ms, ← first.state.session)
-      (takes_both a b c p q r (answers bits s.session ls) (answers bits t.session ms) first.wrote second.wrote);
+      (takes_both a b c (answers bits s.session ls) (answers bits t.session ms) first.wrote second.wrote);
 }
 
-pub answered_until : (bits : ℕ) (s t u : Stand) (a b c : Option (List ℕ)) (p q r : Option Bool)
+pub answered_until : (bits : ℕ) (s t u : Stand) (a b c : SinkState)
     (ls ms : List (List ℕ))
-    → Answered bits s t a b p q ls → has_quit ls ≡ false → Answered bits t u b c q r (until_quit ms)
-    → Answered bits s u a c p r (until_quit (ls ++ ms))
-answered_until bits s t u a b c p q r ls ms first quiet second =
-    rw (until_then ls ms quiet) (answered_both bits s t u a b c p q r ls (until_quit ms) first second)
+    → Answered bits s t a b ls → has_quit ls ≡ false → Answered bits t u b c (until_quit ms)
+    → Answered bits s u a c (until_quit (ls ++ ms))
+answered_until bits s t u a b c ls ms first quiet second =
+    rw (until_then ls ms quiet) (answered_both bits s t u a b c ls (until_quit ms) first second)
 
-pub broke_both : (bits : ℕ) (s t u : Stand) (a b c : Option (List ℕ)) (p q r : Option Bool)
+pub broke_both : (bits : ℕ) (s t u : Stand) (a b c : SinkState)
     (ls ms : List (List ℕ))
-    → Answered bits s t a b p q ls → Broke bits t u b c q r ms → Broke bits s u a c p r (ls ++ ms)
-broke_both bits s t u a b c p q r ls ms first second =
+    → Answered bits s t a b ls → Broke bits t u b c ms → Broke bits s u a c (ls ++ ms)
+broke_both bits s t u a b c ls ms first second =
     let k = second.whole in
     let t0 : take (length ls + k) (ls ++ ms) ≡ ls ++ take k ms = take-append-add ls ms k in
     let t1 : take (length ls + k + 1) (ls ++ ms) ≡ ls ++ take (k + 1) ms =
@@ -169,16 +164,16 @@ broke_both bits s t u a b c p q r ls ms first second =
       within = omega (arith, length-append ls ms, second.within);
       state = rw t1 (obeyed_both s t u ls (take (k + 1) ms) first.state second.state);
       count = length (answers bits s.session ls) + second.count;
-      before = rw (t0, e0, ← first.state.session)
-          (omega (arith, length-append (answers bits s.session ls) (answers bits t.session (take k ms)), second.before));
+      enough = rw (t0, e0, ← first.state.session)
+          (omega (arith, length-append (answers bits s.session ls) (answers bits t.session (take k ms)), second.enough));
       wrote = rw (t1, e1, ← first.state.session)
-          (first_after a b c p q r (answers bits s.session ls) (answers bits t.session (take (k + 1) ms)) second.count first.wrote
+          (first_after a b c (answers bits s.session ls) (answers bits t.session (take (k + 1) ms)) second.count first.wrote
           second.wrote);
     }
 
-pub broke_more : (bits : ℕ) (s t : Stand) (a b : Option (List ℕ)) (p q : Option Bool) (ls ms : List (List ℕ))
-    → Broke bits s t a b p q ls → Broke bits s t a b p q (ls ++ ms)
-broke_more bits s t a b p q ls ms broke =
+pub broke_more : (bits : ℕ) (s t : Stand) (a b : SinkState) (ls ms : List (List ℕ))
+    → Broke bits s t a b ls → Broke bits s t a b (ls ++ ms)
+broke_more bits s t a b ls ms broke =
     let k = broke.whole in
     let t0 : take k (ls ++ ms) ≡ take k ls = take_within k ls ms (omega (arith, broke.within)) in
     let t1 : take (k + 1) (ls ++ ms) ≡ take (k + 1) ls = take_within (k + 1) ls ms (omega (arith, broke.within)) in
@@ -187,43 +182,43 @@ broke_more bits s t a b p q ls ms broke =
       within = omega (arith, length-append ls ms, broke.within);
       state = rw t1 broke.state;
       count = broke.count;
-      before = rw t0 broke.before;
+      enough = rw t0 broke.enough;
       wrote = rw t1 broke.wrote;
     }
 
-pub broke_until : (bits : ℕ) (s t u : Stand) (a b c : Option (List ℕ)) (p q r : Option Bool)
+pub broke_until : (bits : ℕ) (s t u : Stand) (a b c : SinkState)
     (ls ms : List (List ℕ))
-    → Answered bits s t a b p q ls → has_quit ls ≡ false → Broke bits t u b c q r (until_quit ms)
-    → Broke bits s u a c p r (until_quit (ls ++ ms))
-broke_until bits s t u a b c p q r ls ms first quiet second =
-    rw (until_then ls ms quiet) (broke_both bits s t u a b c p q r ls (until_quit ms) first second)
+    → Answered bits s t a b ls → has_quit ls ≡ false → Broke bits t u b c (until_quit ms)
+    → Broke bits s u a c (until_quit (ls ++ ms))
+broke_until bits s t u a b c ls ms first quiet second =
+    rw (until_then ls ms quiet) (broke_both bits s t u a b c ls (until_quit ms) first second)
 
-pub broke_until_more : (bits : ℕ) (s t : Stand) (a b : Option (List ℕ)) (p q : Option Bool)
+pub broke_until_more : (bits : ℕ) (s t : Stand) (a b : SinkState)
     (ls ms : List (List ℕ))
-    → Broke bits s t a b p q (until_quit ls) → Broke bits s t a b p q (until_quit (ls ++ ms))
-broke_until_more bits s t a b p q ls ms broke =
-    rw (until-append ls ms) (broke_more bits s t a b p q (until_quit ls)
+    → Broke bits s t a b (until_quit ls) → Broke bits s t a b (until_quit (ls ++ ms))
+broke_until_more bits s t a b ls ms broke =
+    rw (until-append ls ms) (broke_more bits s t a b (until_quit ls)
     (if has_quit ls then [] else until_quit ms) broke)
 
 -- one line, answered or not
-pub answered_line : (bits : ℕ) (s t : Stand) (a b : Option (List ℕ)) (p q : Option Bool) (l : List ℕ)
+pub answered_line : (bits : ℕ) (s t : Stand) (a b : SinkState) (l : List ℕ)
     → t.session ≡ after_line s.session l → t.work ≤ s.work + line_clocks s.session l
-    → TakesAll a b p q (answer_line bits s.session l) → Answered bits s t a b p q (until_quit (l ∷ []))
-answered_line bits s t a b p q l is few wrote =
+    → TakesAll a b (answer_line bits s.session l) → Answered bits s t a b (until_quit (l ∷ []))
+answered_line bits s t a b l is few wrote =
     rw (until_one l) (record {
       state = obeyed_one s t l is few;
       wrote = rw (append-nil (answer_line bits s.session l)) wrote;
     })
 
-pub broke_line : (bits : ℕ) (s t : Stand) (a b : Option (List ℕ)) (p q : Option Bool) (l : List ℕ)
+pub broke_line : (bits : ℕ) (s t : Stand) (a b : SinkState) (l : List ℕ)
     → t.session ≡ after_line s.session l → t.work ≤ s.work + line_clocks s.session l
-    → TakesFront a b p q (answer_line bits s.session l) → Broke bits s t a b p q (until_quit (l ∷ []))
-broke_line bits s t a b p q l is few (n, wrote) = rw (until_one l) (record {
+    → TakesFront a b (answer_line bits s.session l) → Broke bits s t a b (until_quit (l ∷ []))
+broke_line bits s t a b l is few (n, wrote) = rw (until_one l) (record {
   whole = 0;
   within = omega arith;
   state = obeyed_one s t l is few;
   count = n;
-  before = omega arith;
+  enough = omega arith;
   wrote = rw (append-nil (answer_line bits s.session l)) wrote;
 })
 
@@ -268,22 +263,22 @@ pub quit_is : (on : Going) (l : List ℕ) → on ≡ going (line_command l) → 
 quit_is on l is = rw is (sym (quit_one l ∙ quit_of l))
 
 -- a line given, whose answer was written or not
-pub given_answered : (bits : ℕ) (s t : SessionView) (m n : ℕ) (a b : Option (List ℕ)) (p q : Option Bool) (l : List ℕ)
+pub given_answered : (bits : ℕ) (s t : SessionView) (m n : ℕ) (a b : SinkState) (l : List ℕ)
     → t ≡ record { scene = s.scene; now = moved s.scene s.now (line_command l); lines = s.lines + 1 }
     → n ≤ m + most_clocks s.scene s.now (line_command l)
-    → TakesAll a b p q (answer bits t.scene t.now t.lines (line_command l))
-    → Answered bits (stand s m) (stand t n) a b p q (until_quit (l ∷ []))
-given_answered bits s t m n a b p q l is few wrote =
-    answered_line bits (stand s m) (stand t n) a b p q l (state_is s t l is) (clocks_are s l m n few)
+    → TakesAll a b (answer bits t.scene t.now t.lines (line_command l))
+    → Answered bits (stand s m) (stand t n) a b (until_quit (l ∷ []))
+given_answered bits s t m n a b l is few wrote =
+    answered_line bits (stand s m) (stand t n) a b l (state_is s t l is) (clocks_are s l m n few)
     (rw (answer_is bits s t l is) at wrote)
 
-pub given_broke : (bits : ℕ) (s t : SessionView) (m n : ℕ) (a b : Option (List ℕ)) (p q : Option Bool) (l : List ℕ)
+pub given_broke : (bits : ℕ) (s t : SessionView) (m n : ℕ) (a b : SinkState) (l : List ℕ)
     → t ≡ record { scene = s.scene; now = moved s.scene s.now (line_command l); lines = s.lines + 1 }
     → n ≤ m + most_clocks s.scene s.now (line_command l)
-    → TakesFront a b p q (answer bits t.scene t.now t.lines (line_command l))
-    → Broke bits (stand s m) (stand t n) a b p q (until_quit (l ∷ []))
-given_broke bits s t m n a b p q l is few wrote =
-    broke_line bits (stand s m) (stand t n) a b p q l (state_is s t l is) (clocks_are s l m n few)
+    → TakesFront a b (answer bits t.scene t.now t.lines (line_command l))
+    → Broke bits (stand s m) (stand t n) a b (until_quit (l ∷ []))
+given_broke bits s t m n a b l is few wrote =
+    broke_line bits (stand s m) (stand t n) a b l (state_is s t l is) (clocks_are s l m n few)
     (rw (answer_is bits s t l is) at wrote)
 
 -- what follows from what holds of an answer

@@ -1,7 +1,8 @@
 -- One ask after another.
-use Rattle.std.proofs.Common.{◌≡◌, ℕ, ◌+◌, ◌-◌, ◌<◌, arith, length-append, Bool, false, List, [], ◌∷◌, ◌++◌, length, Option, sym, append_assoc, append-nil, ap, ◌∙◌}
+use Rattle.std.proofs.Common.{◌≡◌, ℕ, ◌+◌, ◌-◌, ◌<◌, arith, length-append, false, List, [], ◌∷◌, ◌++◌, length, Option, sym, append_assoc, append-nil, ap, ◌∙◌}
 use Rattle.std.specs.Io.KnownBytes.{Appends, Consumes}
 use Rattle.px_io.proofs.ToldLaws.{consumes_both, consumes_none}
+use Rattle.px_io.specs.Told.{SinkState}
 use Rattle.px_asked.specs.Asks.{Ask, Notes, all_given}
 use Rattle.px_asked.proofs.AskLaws.{asked_both, asked_none, given-one}
 use Rattle.px_debug.specs.Moves.{SessionView}
@@ -38,36 +39,35 @@ pub prompts_none : (bits : ℕ) (s : SessionView) (read : List ℕ) (n : ℕ) (a
     → Prompts bits s read n a a r r w
 prompts_none bits s read n a r w = record { asks = []; asked = asked_none a; taken = consumes_none r; prompt = tt }
 
-pub prompts_caught : (bits : ℕ) (b : Begun) (n : ℕ) (t : Stand) (h : List ℕ) (c : Option (List Ask)) (r w : Option (List ℕ)) (f : Option Bool)
-    → Caught bits b n t h c r w f → PromptsFrom bits b c r
-prompts_caught bits b n t h c r w f caught =
+pub prompts_caught : (bits : ℕ) (b : Begun) (n : ℕ) (t : Stand) (h : List ℕ) (c : Option (List Ask)) (r : Option (List ℕ)) (w : SinkState)
+    → Caught bits b n t h c r w → PromptsFrom bits b c r
+prompts_caught bits b n t h c r w caught =
     record { asks = caught.asks; asked = caught.asked; taken = caught.taken; prompt = caught.prompt }
 
 -- and one ask more
-pub prompts_ask : (bits : ℕ) (b : Begun) (n : ℕ) (t : Stand) (h : List ℕ) (c d : Option (List Ask)) (r s w : Option (List ℕ)) (f : Option Bool)
-    (bytes : List ℕ) → Caught bits b n t h c r w f → 0 < n → Notes c d w bytes → Consumes r s bytes → PromptsFrom bits b d s
-prompts_ask bits b n t h c d r s w f bytes caught some noted took =
-    let one : Ask = record { told = w; bytes = bytes } in
+pub prompts_ask : (bits : ℕ) (b : Begun) (n : ℕ) (t : Stand) (h : List ℕ) (c d : Option (List Ask)) (r s : Option (List ℕ)) (w : SinkState)
+    (bytes : List ℕ) → Caught bits b n t h c r w → 0 < n → Notes c d w.written bytes → Consumes r s bytes → PromptsFrom bits b d s
+prompts_ask bits b n t h c d r s w bytes caught some noted took =
+    let one : Ask = record { told = w.written; bytes = bytes } in
     let text = b.read ++ all_given caught.asks in
     record {
       asks = caught.asks ++ one ∷ [];
       asked = asked_both b.asks c d caught.asks (one ∷ []) caught.asked noted;
       taken = rw (given-one caught.asks one) (consumes_both b.rest r s (all_given caught.asks) bytes caught.taken took);
-      prompt = prompt_more bits b.from.session b.written b.more b.read caught.asks one caught.prompt
+      prompt = prompt_more bits b.from.session b.out.written b.more b.read caught.asks one caught.prompt
           (rw (whole_answers bits b.from.session text) at caught.answered.wrote.all) (sym (whole_quiet text) ∙ caught.quiet)
           (omega (arith, caught.left, some));
     }
 
 -- whose bytes are answered
-pub caught_fed : (bits : ℕ) (b : Begun) (n m : ℕ) (t u : Stand) (h k : List ℕ) (c d : Option (List Ask)) (r s w x : Option (List ℕ))
-    (f g : Option Bool) (bytes fed : List ℕ) → Caught bits b n t h c r w f → 0 < n → n ≡ length bytes + m
-    → Notes c d w bytes → Consumes r s bytes
-    → fed ≡ bytes → Answered bits t u w x f g (until_quit (short_ended h fed)) → has_quit (short_ended h fed) ≡ false
-    → k ≡ short_left h fed → Caught bits b m u k d s x g
+pub caught_fed : (bits : ℕ) (b : Begun) (n m : ℕ) (t u : Stand) (h k : List ℕ) (c d : Option (List Ask)) (r s : Option (List ℕ)) (w x : SinkState) (bytes fed : List ℕ) → Caught bits b n t h c r w → 0 < n → n ≡ length bytes + m
+    → Notes c d w.written bytes → Consumes r s bytes
+    → fed ≡ bytes → Answered bits t u w x (until_quit (short_ended h fed)) → has_quit (short_ended h fed) ≡ false
+    → k ≡ short_left h fed → Caught bits b m u k d s x
 unfolding prompts_ask
-caught_fed bits b n m t u h k c d r s w x f g bytes fed caught some count noted took is answered quiet kept =
-    let one : Ask = record { told = w; bytes = bytes } in
-    let more = prompts_ask bits b n t h c d r s w f bytes caught some noted took in
+caught_fed bits b n m t u h k c d r s w x bytes fed caught some count noted took is answered quiet kept =
+    let one : Ask = record { told = w.written; bytes = bytes } in
+    let more = prompts_ask bits b n t h c d r s w bytes caught some noted took in
     let text = b.read ++ all_given caught.asks in
     let whole : b.read ++ all_given (caught.asks ++ one ∷ []) ≡ text ++ bytes =
     rw (given-one caught.asks one) (sym (append_assoc b.read (all_given caught.asks) bytes)) in
@@ -79,20 +79,20 @@ caught_fed bits b n m t u h k c d r s w x f g bytes fed caught some count noted 
       taken = more.taken;
       left = omega (arith, caught.left, count, ap length (given-one caught.asks one), length-append (all_given caught.asks) bytes);
       prompt = more.prompt;
-      answered = rw (whole, lines) (answered_both bits b.from t u b.written w x b.finished f g _ _ caught.answered
+      answered = rw (whole, lines) (answered_both bits b.from t u b.out w x _ _ caught.answered
           (rw is at (rw (until_quiet (short_ended h fed) quiet) at answered)));
       quiet = rw (whole, lines) (quits_then _ _ false caught.quiet (rw is at quiet));
       kept = rw (whole, left-append [] text bytes, ← caught.kept, ← is) kept;
     }
 
-abbrev pub begun : Stand → List ℕ → ℕ → Option (List Ask) → (rest written : Option (List ℕ)) → Option Bool → Begun
-begun s read n a r w f = record { from = s; read = read; more = n; asks = a; rest = r; written = w; finished = f }
+abbrev pub begun : Stand → List ℕ → ℕ → Option (List Ask) → (rest : Option (List ℕ)) → SinkState → Begun
+begun s read n a r w = record { from = s; read = read; more = n; asks = a; rest = r; out = w }
 
 -- the lines of what was read before were answered
-pub caught_begun : (bits : ℕ) (s t : Stand) (start read h : List ℕ) (n : ℕ) (a : Option (List Ask)) (r w x : Option (List ℕ)) (f g : Option Bool)
-    → start ≡ [] → Answered bits s t w x f g (until_quit (short_ended start read)) → has_quit (short_ended start read) ≡ false
-    → h ≡ short_left start read → Caught bits (begun s read n a r w f) n t h a r x g
-caught_begun bits s t start read h n a r w x f g none answered quiet kept =
+pub caught_begun : (bits : ℕ) (s t : Stand) (start read h : List ℕ) (n : ℕ) (a : Option (List Ask)) (r : Option (List ℕ)) (w x : SinkState)
+    → start ≡ [] → Answered bits s t w x (until_quit (short_ended start read)) → has_quit (short_ended start read) ≡ false
+    → h ≡ short_left start read → Caught bits (begun s read n a r w) n t h a r x
+caught_begun bits s t start read h n a r w x none answered quiet kept =
     let quiet' = rw none at quiet in
     record {
       asks = [];

@@ -4,7 +4,7 @@ use Rattle.std.proofs.Common.{refl, sym, ap, ◌∙◌, ◌⊎◌, inl, inr, ◌
 use Rattle.std.specs.Io.KnownBytes.{Keeps}
 use Rattle.std.proofs.lemmas.List.{take_all}
 use Rattle.std.proofs.lemmas.List.{map-append}
-use Rattle.px_io.specs.Told.{Tells}
+use Rattle.px_io.specs.Told.{SinkState, Tells}
 use Rattle.px_io.proofs.ToldLaws.{appends_kept, consumes_none}
 use Rattle.px_io.specs.Counts.{Rose}
 use Rattle.px_lines.specs.Lines.{all_lines, ended, last_of, left, whole_lines}
@@ -44,11 +44,11 @@ texts_of read more bytes =
     }
 
 pub stopped_both : (ending : Ending) (bits : ℕ) (read held : List ℕ) (more : ℕ) (s t u : Stand)
-    (x y a b c : Option (List ℕ)) (p q r : Option Bool)
-    → Answered bits s t a b p q (until_quit (short_ended [] read)) → has_quit (short_ended [] read) ≡ false
+    (x y : Option (List ℕ)) (a b c : SinkState)
+    → Answered bits s t a b (until_quit (short_ended [] read)) → has_quit (short_ended [] read) ≡ false
     → held ≡ short_left [] read
-    → Ended ending more bits held t u x y b c q r → Stopped ending bits read more s u x y a c p r
-stopped_both ending bits read held more s t u x y a b c p q r first quiet is last = record {
+    → Ended ending more bits held t u x y b c → Stopped ending bits read more s u x y a c
+stopped_both ending bits read held more s t u x y a b c first quiet is last = record {
   bytes = last.bytes;
   few = last.few;
   taken = last.taken;
@@ -58,7 +58,7 @@ stopped_both ending bits read held more s t u x y a b c p q r first quiet is las
     text : List ℕ
     text = read ++ seen more last.bytes
 
-    before : Answered bits s t a b p q (short_ended [] read)
+    before : Answered bits s t a b (short_ended [] read)
     before = rw (until_quiet (short_ended [] read) quiet) at first
 
     texts : Texts read more last.bytes
@@ -75,82 +75,80 @@ stopped_both ending bits read held more s t u x y a b c p q r first quiet is las
     quits e is = sym (quits_short (whole_lines text)) ∙ ap has_quit (sym whole)
         ∙ quits_then (short_ended [] read) _ e quiet is
 
-    by_ending : (ending : Ending) → HasAnswered ending more bits (short_left [] read) last.bytes t u y b c q r
-        → HasStopped ending bits s u a c p r text last.bytes more y
+    by_ending : (ending : Ending) → HasAnswered ending more bits (short_left [] read) last.bytes t u y b c
+        → HasStopped ending bits s u a c text last.bytes more y
     by_ending e.Quit served = (
-      answered_short bits s u a c p r (until_quit (whole_lines text))
-          (rw (← until_short (whole_lines text), ← whole) (answered_until bits s t u a b c p q r (short_ended [] read)
+      answered_short bits s u a c (until_quit (whole_lines text))
+          (rw (← until_short (whole_lines text), ← whole) (answered_until bits s t u a b c (short_ended [] read)
           _ before quiet served.0)),
       quits true served.1,
     )
     by_ending e.End served = (
-      answered_short bits s u a c p r (until_quit (all_lines text))
-          (rw (← until_short (all_lines text), ← all) (answered_until bits s t u a b c p q r (short_ended [] read) _
+      answered_short bits s u a c (until_quit (all_lines text))
+          (rw (← until_short (all_lines text), ← all) (answered_until bits s t u a b c (short_ended [] read) _
           before quiet served.0)),
       quits false served.1,
       served.2,
       served.3,
     )
     by_ending e.Long served = (
-      answered_short bits s u a c p r (whole_lines text)
-          (rw (← whole) (answered_both bits s t u a b c p q r (short_ended [] read) _ before served.0)),
+      answered_short bits s u a c (whole_lines text)
+          (rw (← whole) (answered_both bits s t u a b c (short_ended [] read) _ before served.0)),
       quits false served.1,
       served.2,
     )
     by_ending e.ReadFault served = (
-      answered_short bits s u a c p r (whole_lines text)
-          (rw (← whole) (answered_both bits s t u a b c p q r (short_ended [] read) _ before served.0)),
+      answered_short bits s u a c (whole_lines text)
+          (rw (← whole) (answered_both bits s t u a b c (short_ended [] read) _ before served.0)),
       quits false served.1,
     )
     by_ending e.WriteFault served =
-        broke_short bits s u a c p r (until_quit (all_lines text))
-        (rw (← until_short (all_lines text), ← all) (broke_until bits s t u a b c p q r (short_ended [] read) _ before
+        broke_short bits s u a c (until_quit (all_lines text))
+        (rw (← until_short (all_lines text), ← all) (broke_until bits s t u a b c (short_ended [] read) _ before
         quiet served))
 
 nothing_seen : (read : List ℕ) (more : ℕ) → read ++ seen more [] ≡ read
 nothing_seen read more = rw (seen_none more) (append-nil read)
 
 -- a quit among the lines that were read before
-pub stopped_quit : (bits : ℕ) (read : List ℕ) (more : ℕ) (s t : Stand) (x a b : Option (List ℕ))
-    (p q : Option Bool)
-    → Answered bits s t a b p q (until_quit (short_ended [] read)) → has_quit (short_ended [] read) ≡ true
-    → Stopped e.Quit bits read more s t x x a b p q
-stopped_quit bits read more s t x a b p q answered quits = record {
+pub stopped_quit : (bits : ℕ) (read : List ℕ) (more : ℕ) (s t : Stand) (x : Option (List ℕ)) (a b : SinkState)
+    → Answered bits s t a b (until_quit (short_ended [] read)) → has_quit (short_ended [] read) ≡ true
+    → Stopped e.Quit bits read more s t x x a b
+stopped_quit bits read more s t x a b answered quits = record {
   bytes = [];
   few = omega arith;
   taken = consumes_none x;
   stopped = rw (nothing_seen read more) (
-    answered_short bits s t a b p q (until_quit (whole_lines read))
+    answered_short bits s t a b (until_quit (whole_lines read))
         (rw (← until_short (whole_lines read), ← whole_short read) answered),
     sym (quits_short (whole_lines read)) ∙ ap has_quit (sym (whole_short read)) ∙ quits,
   );
 }
 
 -- a write that failed in an answer to them
-pub stopped_broke : (bits : ℕ) (read : List ℕ) (more : ℕ) (s t : Stand) (x a b : Option (List ℕ))
-    (p q : Option Bool)
-    → Broke bits s t a b p q (until_quit (short_ended [] read)) → Stopped e.WriteFault bits read more s t x x a b p q
-stopped_broke bits read more s t x a b p q broke = record {
+pub stopped_broke : (bits : ℕ) (read : List ℕ) (more : ℕ) (s t : Stand) (x : Option (List ℕ)) (a b : SinkState)
+    → Broke bits s t a b (until_quit (short_ended [] read)) → Stopped e.WriteFault bits read more s t x x a b
+stopped_broke bits read more s t x a b broke = record {
   bytes = [];
   few = omega arith;
   taken = consumes_none x;
-  stopped = rw (nothing_seen read more) (broke_short bits s t a b p q (until_quit (all_lines read))
-      (rw (← until_short (all_lines read), ← all_short read) (broke_until_more bits s t a b p q (short_ended [] read)
+  stopped = rw (nothing_seen read more) (broke_short bits s t a b (until_quit (all_lines read))
+      (rw (← until_short (all_lines read), ← all_short read) (broke_until_more bits s t a b (short_ended [] read)
       (last_of (short_left [] read)) broke)));
 }
 
-finished : (bits : ℕ) (s t : Stand) (a b c : Option (List ℕ)) (p q r : Option Bool) (ls : List (List ℕ))
-    → Answered bits s t a b p q ls → Keeps b c → Tells r true → Finished bits s t a c r ls
-finished bits s t a b c p q r ls answered kept end = record {
+finished : (bits : ℕ) (s t : Stand) (a b c : SinkState) (ls : List (List ℕ))
+    → Answered bits s t a b ls → Keeps b.written c.written → Tells c.finished true → Finished bits s t a c ls
+finished bits s t a b c ls answered kept end = record {
   state = answered.state;
-  wrote = appends_kept a b c (answers bits s.session ls) answered.wrote.all kept;
+  wrote = appends_kept a.written b.written c.written (answers bits s.session ls) answered.wrote.all kept;
   end = end;
 }
 
 -- a write that failed in finishing
-broken_end : (bits : ℕ) (s t : Stand) (a b c : Option (List ℕ)) (p q r : Option Bool) (ls : List (List ℕ))
-    → Answered bits s t a b p q ls → Keeps b c → r ≡ q → Broken bits s t a c p r ls
-broken_end bits s t a b c p q r ls answered kept same =
+broken_end : (bits : ℕ) (s t : Stand) (a b c : SinkState) (ls : List (List ℕ))
+    → Answered bits s t a b ls → Keeps b.written c.written → c.finished ≡ b.finished → Broken bits s t a c ls
+broken_end bits s t a b c ls answered kept same =
     let text = answers bits s.session ls in
     let all : take (length ls) ls ≡ ls = take_all (length ls) ls (omega arith) in
     record {
@@ -159,10 +157,10 @@ broken_end bits s t a b c p q r ls answered kept same =
       some = no_lines ls;
       state = rw all answered.state;
       gained = length text;
-      before = answers_grow bits s.session ls (length ls - 1);
+      enough = answers_grow bits s.session ls (length ls - 1);
       wrote = rw all (record {
         within = omega arith;
-        front = rw (take_all (length text) text (omega arith)) (appends_kept a b c text answered.wrote.all kept);
+        front = rw (take_all (length text) text (omega arith)) (appends_kept a.written b.written c.written text answered.wrote.all kept);
         end = rw same answered.wrote.end;
       });
     }
@@ -171,9 +169,9 @@ broken_end bits s t a b c p q r ls answered kept same =
     no_lines [] none = refl
     no_lines (l ∷ ls) none = absurd (omega arith)
 
-broken_in : (bits : ℕ) (s t : Stand) (a b : Option (List ℕ)) (p q : Option Bool) (ls : List (List ℕ))
-    → Broke bits s t a b p q ls → Broken bits s t a b p q ls
-broken_in bits s t a b p q ls broke =
+broken_in : (bits : ℕ) (s t : Stand) (a b : SinkState) (ls : List (List ℕ))
+    → Broke bits s t a b ls → Broken bits s t a b ls
+broken_in bits s t a b ls broke =
     let whole : broke.whole + 1 - 1 ≡ broke.whole = omega arith in
     record {
       count = broke.whole + 1;
@@ -181,99 +179,98 @@ broken_in bits s t a b p q ls broke =
       some = λ none. absurd (omega arith);
       state = broke.state;
       gained = broke.count;
-      before = rw whole broke.before;
+      enough = rw whole broke.enough;
       wrote = broke.wrote;
     }
 
 -- what finishing says of the output and of its result
-abbrev pub Finishes : (ending result : Ending) (q r : Option Bool) (m n : ℕ) → Type 0
-Finishes ending result q r m n =
-    (Tells r true × (result ≡ ending) × (n ≡ m)) ⊎ ((r ≡ q) × (result ≡ e.WriteFault) × Rose m n)
+abbrev pub Finishes : (ending result : Ending) (b c : SinkState) → Type 0
+Finishes ending result b c =
+    (Tells c.finished true × (result ≡ ending) × (c.faults ≡ b.faults))
+    ⊎ ((c.finished ≡ b.finished) × (result ≡ e.WriteFault) × Rose b.faults c.faults)
 
 pub served_quit : (result : Ending) (bits : ℕ) (read : List ℕ) (more : ℕ) (s t : Stand)
-    (x y a b c : Option (List ℕ)) (p q r : Option Bool) (m n : ℕ)
-    → Stopped e.Quit bits read more s t x y a b p q → Keeps b c → Finishes e.Quit result q r m n
-    → Serves result bits read more s t x y a c p r
-served_quit result bits read more s t x y a b c p q r m n stopped kept (inl (end, is, calm)) = rw is (record {
+    (x y : Option (List ℕ)) (a b c : SinkState)
+    → Stopped e.Quit bits read more s t x y a b → Keeps b.written c.written → Finishes e.Quit result b c
+    → Serves result bits read more s t x y a c
+served_quit result bits read more s t x y a b c stopped kept (inl (end, is, calm)) = rw is (record {
   bytes = stopped.bytes;
   few = stopped.few;
   taken = stopped.taken;
-  served = (finished bits s t a b c p q r _ stopped.stopped.0 kept end, stopped.stopped.1);
+  served = (finished bits s t a b c _ stopped.stopped.0 kept end, stopped.stopped.1);
 })
-served_quit result bits read more s t x y a b c p q r m n stopped kept (inr (same, is, rose)) = rw is (record {
+served_quit result bits read more s t x y a b c stopped kept (inr (same, is, rose)) = rw is (record {
   bytes = stopped.bytes;
   few = stopped.few;
   taken = stopped.taken;
   served =
       let text = read ++ seen more stopped.bytes in
       rw (until_more (whole_lines text) (last_of (left [] text)) stopped.stopped.1)
-      (broken_end bits s t a b c p q r _ stopped.stopped.0 kept same);
+      (broken_end bits s t a b c _ stopped.stopped.0 kept same);
 })
 
 pub served_end : (result : Ending) (bits : ℕ) (read : List ℕ) (more : ℕ) (s t : Stand)
-    (x y a b c : Option (List ℕ)) (p q r : Option Bool) (m n : ℕ)
-    → Stopped e.End bits read more s t x y a b p q → Keeps b c → Finishes e.End result q r m n
-    → Serves result bits read more s t x y a c p r
-served_end result bits read more s t x y a b c p q r m n stopped kept (inl (end, is, calm)) = rw is (record {
+    (x y : Option (List ℕ)) (a b c : SinkState)
+    → Stopped e.End bits read more s t x y a b → Keeps b.written c.written → Finishes e.End result b c
+    → Serves result bits read more s t x y a c
+served_end result bits read more s t x y a b c stopped kept (inl (end, is, calm)) = rw is (record {
   bytes = stopped.bytes;
   few = stopped.few;
   taken = stopped.taken;
   served = (
-    finished bits s t a b c p q r _ stopped.stopped.0 kept end,
+    finished bits s t a b c _ stopped.stopped.0 kept end,
     stopped.stopped.1,
     stopped.stopped.2,
     stopped.stopped.3,
   );
 })
-served_end result bits read more s t x y a b c p q r m n stopped kept (inr (same, is, rose)) = rw is (record {
+served_end result bits read more s t x y a b c stopped kept (inr (same, is, rose)) = rw is (record {
   bytes = stopped.bytes;
   few = stopped.few;
   taken = stopped.taken;
-  served = broken_end bits s t a b c p q r _ stopped.stopped.0 kept same;
+  served = broken_end bits s t a b c _ stopped.stopped.0 kept same;
 })
 
 -- without finishing
 pub served_as : (ending : Ending) (bits : ℕ) (read : List ℕ) (more : ℕ) (s t : Stand)
-    (x y a b : Option (List ℕ)) (p q : Option Bool)
-    → ending ≢ e.Quit → ending ≢ e.End → Stopped ending bits read more s t x y a b p q
-    → Serves ending bits read more s t x y a b p q
-served_as e.Quit bits read more s t x y a b p q not_quit not_end stopped = absurd (not_quit refl)
-served_as e.End bits read more s t x y a b p q not_quit not_end stopped = absurd (not_end refl)
-served_as e.Long bits read more s t x y a b p q not_quit not_end stopped =
+    (x y : Option (List ℕ)) (a b : SinkState)
+    → ending ≢ e.Quit → ending ≢ e.End → Stopped ending bits read more s t x y a b
+    → Serves ending bits read more s t x y a b
+served_as e.Quit bits read more s t x y a b not_quit not_end stopped = absurd (not_quit refl)
+served_as e.End bits read more s t x y a b not_quit not_end stopped = absurd (not_end refl)
+served_as e.Long bits read more s t x y a b not_quit not_end stopped =
     record { bytes = stopped.bytes; few = stopped.few; taken = stopped.taken; served = stopped.stopped }
-served_as e.ReadFault bits read more s t x y a b p q not_quit not_end stopped =
+served_as e.ReadFault bits read more s t x y a b not_quit not_end stopped =
     record { bytes = stopped.bytes; few = stopped.few; taken = stopped.taken; served = stopped.stopped }
-served_as e.WriteFault bits read more s t x y a b p q not_quit not_end stopped =
+served_as e.WriteFault bits read more s t x y a b not_quit not_end stopped =
     record {
       bytes = stopped.bytes;
       few = stopped.few;
       taken = stopped.taken;
-      served = broken_in bits s t a b p q _
+      served = broken_in bits s t a b _
           stopped.stopped;
     }
 
 -- the same, where the buffer was empty before
 pub begun_both : (ending : Ending) (bits : ℕ) (start read held : List ℕ) (more : ℕ) (s t u : Stand)
-    (x y a b c : Option (List ℕ)) (p q r : Option Bool)
-    → start ≡ [] → Answered bits s t a b p q (until_quit (short_ended start read))
+    (x y : Option (List ℕ)) (a b c : SinkState)
+    → start ≡ [] → Answered bits s t a b (until_quit (short_ended start read))
     → has_quit (short_ended start read) ≡ false
-    → held ≡ short_left start read → Ended ending more bits held t u x y b c q r → Stopped ending bits read more s u
-    x y a c p r
-begun_both ending bits start read held more s t u x y a b c p q r none first quiet is last =
-    stopped_both ending bits read held more s t u x y a b c p q r (rw none at first) (rw none at quiet)
+    → held ≡ short_left start read → Ended ending more bits held t u x y b c → Stopped ending bits read more s u
+    x y a c
+begun_both ending bits start read held more s t u x y a b c none first quiet is last =
+    stopped_both ending bits read held more s t u x y a b c (rw none at first) (rw none at quiet)
     (rw none at is) last
 
-pub begun_quit : (bits : ℕ) (start read : List ℕ) (more : ℕ) (s t : Stand) (x a b : Option (List ℕ))
-    (p q : Option Bool)
-    → start ≡ [] → Answered bits s t a b p q (until_quit (short_ended start read))
+pub begun_quit : (bits : ℕ) (start read : List ℕ) (more : ℕ) (s t : Stand) (x : Option (List ℕ)) (a b : SinkState)
+    → start ≡ [] → Answered bits s t a b (until_quit (short_ended start read))
     → has_quit (short_ended start read) ≡ true
-    → Stopped e.Quit bits read more s t x x a b p q
-begun_quit bits start read more s t x a b p q none answered quits =
-    stopped_quit bits read more s t x a b p q (rw none at answered) (rw none at quits)
+    → Stopped e.Quit bits read more s t x x a b
+begun_quit bits start read more s t x a b none answered quits =
+    stopped_quit bits read more s t x a b (rw none at answered) (rw none at quits)
 
-pub begun_broke : (bits : ℕ) (start read : List ℕ) (more : ℕ) (s t : Stand) (x a b : Option (List ℕ))
-    (p q : Option Bool)
-    → start ≡ [] → Broke bits s t a b p q (until_quit (short_ended start read)) → Stopped e.WriteFault bits read more
-    s t x x a b p q
-begun_broke bits start read more s t x a b p q none broke =
-    stopped_broke bits read more s t x a b p q (rw none at broke)
+pub begun_broke : (bits : ℕ) (start read : List ℕ) (more : ℕ) (s t : Stand) (x : Option (List ℕ)) (a b : SinkState)
+    → start ≡ [] → Broke bits s t a b (until_quit (short_ended start read)) → Stopped e.WriteFault bits read more
+    s t x x a b
+begun_broke bits start read more s t x a b none broke =
+    stopped_broke bits read more s t x a b (rw none at broke)

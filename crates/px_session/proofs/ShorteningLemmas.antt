@@ -1,5 +1,5 @@
 -- A line's first 256 bytes say what the line says.
-use Rattle.std.proofs.Common.{◌≡◌, ℕ, ◌+◌, Bool, true, false, ◌==◌, List, [], ◌∷◌, ◌++◌, Option, length}
+use Rattle.std.proofs.Common.{◌≡◌, ℕ, ◌+◌, true, false, ◌==◌, List, [], ◌∷◌, ◌++◌, length}
 use Rattle.std.proofs.Common.{take, map, refl, sym, ap, ◌∙◌, inl, inr, length-append, length-take, arith}
 use Rattle.std.proofs.Common.{if◌then◌else◌}
 use Rattle.std.proofs.lemmas.Bool.{cases_lt}
@@ -7,6 +7,7 @@ use Rattle.std.proofs.lemmas.List.{length-map, take_all, take-append-le, take-ma
 use Rattle.px_num.proofs.TruthLaws.{lt_true}
 use Rattle.px_debug.specs.Commands.{line_command}
 use Rattle.px_debug.specs.Moves.{SessionView}
+use Rattle.px_io.specs.Told.{SinkState}
 use Rattle.px_lines.specs.Lines.{ended, last_of, left}
 use Rattle.px_session.specs.Buffers.{held_with, short_ended, short_left}
 use Rattle.px_session.specs.Servings.{Answered}
@@ -104,16 +105,16 @@ obeyed_short s t ls obeyed = record {
   work = omega (arith, obeyed.work, over_short s.session ls);
 }
 
-pub answered_short : (bits : ℕ) (s t : Stand) (a b : Option (List ℕ)) (p q : Option Bool) (ls : List (List ℕ))
-    → Answered bits s t a b p q (map short ls) → Answered bits s t a b p q ls
-answered_short bits s t a b p q ls answered = record {
+pub answered_short : (bits : ℕ) (s t : Stand) (a b : SinkState) (ls : List (List ℕ))
+    → Answered bits s t a b (map short ls) → Answered bits s t a b ls
+answered_short bits s t a b ls answered = record {
   state = obeyed_short s t ls answered.state;
   wrote = rw (← answers_short bits s.session ls) answered.wrote;
 }
 
-pub broke_short : (bits : ℕ) (s t : Stand) (a b : Option (List ℕ)) (p q : Option Bool) (ls : List (List ℕ))
-    → Broke bits s t a b p q (map short ls) → Broke bits s t a b p q ls
-broke_short bits s t a b p q ls broke =
+pub broke_short : (bits : ℕ) (s t : Stand) (a b : SinkState) (ls : List (List ℕ))
+    → Broke bits s t a b (map short ls) → Broke bits s t a b ls
+broke_short bits s t a b ls broke =
     let k = broke.whole in
     let first : answers bits s.session (take k (map short ls)) ≡ answers bits s.session (take k ls) =
     ap (λ ks. answers bits s.session ks) (take-map short k ls) ∙ answers_short bits s.session (take k ls) in
@@ -124,6 +125,6 @@ broke_short bits s t a b p q ls broke =
       within = omega (arith, broke.within, length-map ls short);
       state = obeyed_short s t (take (k + 1) ls) (rw (take-map short (k + 1) ls) at broke.state);
       count = broke.count;
-      before = rw first at broke.before;
+      enough = rw first at broke.enough;
       wrote = rw more at broke.wrote;
     }

@@ -1,10 +1,11 @@
 -- One turn after another.
-use Rattle.std.proofs.Common.{◌≡◌, ℕ, ◌+◌, ◌-◌, ◌<◌, ◌≤◌, Bool, true, false, List, [], ◌++◌, length, take, Option}
+use Rattle.std.proofs.Common.{◌≡◌, ℕ, ◌+◌, ◌-◌, ◌<◌, ◌≤◌, true, false, List, [], ◌++◌, length, take, Option}
 use Rattle.std.proofs.Common.{refl, sym, ◌∙◌, min, append_assoc, length-append, arith}
 use Rattle.std.specs.Io.KnownBytes.{Consumes, Keeps}
 use Rattle.std.proofs.Math.Seq.{take-append-add}
 use Rattle.std.proofs.lemmas.List.{take_all, take_min, length-take, take-take, take-append-le as take_within}
 use Rattle.px_io.proofs.ToldLaws.{consumes_both, consumes_kept, consumes_none}
+use Rattle.px_io.specs.Told.{SinkState}
 use Rattle.px_lines.specs.Lines.{last_of}
 use Rattle.px_session.specs.Buffers.{short_ended, short_left}
 use Rattle.px_session.specs.Servings.{Answered, seen}
@@ -26,15 +27,15 @@ seen_all limit xs some = take_all (limit - 1) xs (omega arith)
 pub seen_none : (limit : ℕ) → seen limit [] ≡ []
 seen_none limit = take_all (limit - 1) [] (omega arith)
 
-pub went_none : (limit bits : ℕ) (held : List ℕ) (s : Stand) (rest a : Option (List ℕ)) (p : Option Bool)
-    → Went limit 0 bits held held s s rest rest a a p p
-went_none limit bits held s rest a p =
+pub went_none : (limit bits : ℕ) (held : List ℕ) (s : Stand) (rest : Option (List ℕ)) (a : SinkState)
+    → Went limit 0 bits held held s s rest rest a a
+went_none limit bits held s rest a =
     let none = seen_none limit in
     record {
       bytes = [];
       size = refl;
       taken = consumes_none rest;
-      answered = rw none (answered_none bits s a p);
+      answered = rw none (answered_none bits s a);
       quiet = rw none refl;
       kept = rw none refl;
     }
@@ -52,12 +53,11 @@ left_both : (limit m : ℕ) (held held' xs ys : List ℕ) → length xs < limit 
 left_both limit m held held' xs ys some left kept =
     rw (seen_both limit xs ys some, left-append, kept, seen_all limit xs some, left) refl
 
-pub went_both : (limit n k c m bits : ℕ) (h h' h'' : List ℕ) (s t u : Stand) (x y z a b c' : Option (List ℕ))
-    (p q r : Option Bool)
+pub went_both : (limit n k c m bits : ℕ) (h h' h'' : List ℕ) (s t u : Stand) (x y z : Option (List ℕ)) (a b c' : SinkState)
     → n < limit → c ≡ n + k → m ≡ limit - n
-    → Went limit n bits h h' s t x y a b p q → Went m k bits h' h'' t u y z b c' q r
-    → Went limit c bits h h'' s u x z a c' p r
-went_both limit n k c m bits h h' h'' s t u x y z a b c' p q r less is left first second =
+    → Went limit n bits h h' s t x y a b → Went m k bits h' h'' t u y z b c'
+    → Went limit c bits h h'' s u x z a c'
+went_both limit n k c m bits h h' h'' s t u x y z a b c' less is left first second =
     let some : length first.bytes < limit = omega (arith, first.size) in
     let behind : m ≡ limit - length first.bytes = omega (arith, first.size) in
     let lines = lines_both limit m h h' first.bytes second.bytes some behind first.kept in
@@ -66,7 +66,7 @@ went_both limit n k c m bits h h' h'' s t u x y z a b c' p q r less is left firs
       bytes = first.bytes ++ second.bytes;
       size = omega (arith, length-append first.bytes second.bytes, first.size, second.size);
       taken = consumes_both x y z first.bytes second.bytes first.taken second.taken;
-      answered = rw lines (answered_both bits s t u a b c' p q r _ _ first.answered second.answered);
+      answered = rw lines (answered_both bits s t u a b c' _ _ first.answered second.answered);
       quiet = rw lines (quits_then _ _ false first.quiet second.quiet);
       kept = rw kept second.kept;
     }
@@ -88,51 +88,51 @@ lines_of limit m h h' xs ys some left kept =
 
 abbrev Both : Ending → Type 0
 Both ending =
-    (limit m bits : ℕ) (h h' xs ys : List ℕ) (s t u : Stand) (rest a b c : Option (List ℕ)) (p q r : Option Bool)
+    (limit m bits : ℕ) (h h' xs ys : List ℕ) (s t u : Stand) (rest : Option (List ℕ)) (a b c : SinkState)
     → length xs < limit → m ≡ limit - length xs → h' ≡ seen_left limit h xs
-    → Answered bits s t a b p q (seen_lines limit h xs) → has_quit (seen_lines limit h xs) ≡ false
-    → HasAnswered ending m bits h' ys t u rest b c q r → HasAnswered ending limit bits h (xs ++ ys) s u rest a c p r
+    → Answered bits s t a b (seen_lines limit h xs) → has_quit (seen_lines limit h xs) ≡ false
+    → HasAnswered ending m bits h' ys t u rest b c → HasAnswered ending limit bits h (xs ++ ys) s u rest a c
 
 both_answered : (ending : Ending) → Both ending
-both_answered e.ReadFault limit m bits h h' xs ys s t u rest a b c p q r some left kept first quiet second =
+both_answered e.ReadFault limit m bits h h' xs ys s t u rest a b c some left kept first quiet second =
     let lines = lines_of limit m h h' xs ys some left kept in (
-      rw lines.whole (answered_both bits s t u a b c p q r _ _ first second.0),
+      rw lines.whole (answered_both bits s t u a b c _ _ first second.0),
       rw lines.whole (quits_then _ _ false quiet second.1),
     )
-both_answered e.Quit limit m bits h h' xs ys s t u rest a b c p q r some left kept first quiet second =
+both_answered e.Quit limit m bits h h' xs ys s t u rest a b c some left kept first quiet second =
     let lines = lines_of limit m h h' xs ys some left kept in (
-      rw lines.whole (answered_until bits s t u a b c p q r _ _ first quiet second.0),
+      rw lines.whole (answered_until bits s t u a b c _ _ first quiet second.0),
       rw lines.whole (quits_then _ _ true quiet second.1),
     )
-both_answered e.Long limit m bits h h' xs ys s t u rest a b c p q r some left kept first quiet second =
+both_answered e.Long limit m bits h h' xs ys s t u rest a b c some left kept first quiet second =
     let lines = lines_of limit m h h' xs ys some left kept in (
-      rw lines.whole (answered_both bits s t u a b c p q r _ _ first second.0),
+      rw lines.whole (answered_both bits s t u a b c _ _ first second.0),
       rw lines.whole (quits_then _ _ false quiet second.1),
       omega (arith, length-append xs ys, second.2),
     )
-both_answered e.End limit m bits h h' xs ys s t u rest a b c p q r some left kept first quiet second =
+both_answered e.End limit m bits h h' xs ys s t u rest a b c some left kept first quiet second =
     let lines = lines_of limit m h h' xs ys some left kept in (
-      rw lines.all (answered_until bits s t u a b c p q r _ _ first quiet second.0),
+      rw lines.all (answered_until bits s t u a b c _ _ first quiet second.0),
       rw lines.whole (quits_then _ _ false quiet second.1),
       omega (arith, length-append xs ys, second.2),
       second.3,
     )
-both_answered e.WriteFault limit m bits h h' xs ys s t u rest a b c p q r some left kept first quiet second =
+both_answered e.WriteFault limit m bits h h' xs ys s t u rest a b c some left kept first quiet second =
     let lines = lines_of limit m h h' xs ys some left kept in
-    rw lines.all (broke_until bits s t u a b c p q r _ _ first quiet second)
+    rw lines.all (broke_until bits s t u a b c _ _ first quiet second)
 
 pub ended_both : (ending : Ending) (limit n m bits : ℕ) (h h' : List ℕ) (s t u : Stand)
-    (x y z a b c : Option (List ℕ)) (p q r : Option Bool)
-    → n < limit → m ≡ limit - n → Went limit n bits h h' s t x y a b p q → Ended ending m bits h' t u y z b c q r
-    → Ended ending limit bits h s u x z a c p r
-ended_both ending limit n m bits h h' s t u x y z a b c p q r less left first last =
+    (x y z : Option (List ℕ)) (a b c : SinkState)
+    → n < limit → m ≡ limit - n → Went limit n bits h h' s t x y a b → Ended ending m bits h' t u y z b c
+    → Ended ending limit bits h s u x z a c
+ended_both ending limit n m bits h h' s t u x y z a b c less left first last =
     let some : length first.bytes < limit = omega (arith, first.size) in
     let behind : m ≡ limit - length first.bytes = omega (arith, first.size) in
     record {
       bytes = first.bytes ++ last.bytes;
       few = omega (arith, length-append first.bytes last.bytes, first.size, last.few);
       taken = consumes_both x y z first.bytes last.bytes first.taken last.taken;
-      answered = both_answered ending limit m bits h h' first.bytes last.bytes s t u z a b c p q r some behind
+      answered = both_answered ending limit m bits h h' first.bytes last.bytes s t u z a b c some behind
           first.kept first.answered first.quiet last.answered;
     }
 
@@ -146,39 +146,37 @@ seen_read limit n k buf ys within is =
     let whole : take k t ≡ take (limit - 1) t = rw m at (take_min (limit - 1) t) in
     take_within k buf ys (omega arith) ∙ sym (take-take k n buf (omega arith)) ∙ whole
 
-pub ended_broke : (limit bits : ℕ) (h bytes fed : List ℕ) (s t : Stand) (x y a b : Option (List ℕ))
-    (p q : Option Bool)
+pub ended_broke : (limit bits : ℕ) (h bytes fed : List ℕ) (s t : Stand) (x y : Option (List ℕ)) (a b : SinkState)
     → length bytes ≤ limit → Consumes x y bytes → fed ≡ seen limit bytes
-    → Broke bits s t a b p q (until_quit (short_ended h fed)) → Ended e.WriteFault limit bits h s t x y a b p q
-ended_broke limit bits h bytes fed s t x y a b p q few taken is broke = record {
+    → Broke bits s t a b (until_quit (short_ended h fed)) → Ended e.WriteFault limit bits h s t x y a b
+ended_broke limit bits h bytes fed s t x y a b few taken is broke = record {
   bytes = bytes;
   few = few;
   taken = taken;
-  answered = broke_until_more bits s t a b p q (seen_lines limit h bytes) (last_of (seen_left limit h bytes))
+  answered = broke_until_more bits s t a b (seen_lines limit h bytes) (last_of (seen_left limit h bytes))
       (rw is at broke);
 }
 
 -- a read failed
-pub ended_fault : (limit bits : ℕ) (h : List ℕ) (s : Stand) (x y a : Option (List ℕ)) (p : Option Bool)
+pub ended_fault : (limit bits : ℕ) (h : List ℕ) (s : Stand) (x y : Option (List ℕ)) (a : SinkState)
     → Keeps x y
-    → Ended e.ReadFault limit bits h s s x y a a p p
-ended_fault limit bits h s x y a p kept =
+    → Ended e.ReadFault limit bits h s s x y a a
+ended_fault limit bits h s x y a kept =
     let none = seen_none limit in
     record {
       bytes = [];
       few = omega arith;
       taken = consumes_kept x x y [] (consumes_none x) kept;
-      answered = (rw none (answered_none bits s a p), rw none refl);
+      answered = (rw none (answered_none bits s a), rw none refl);
     }
 
 -- bytes were read and fed
-pub went_fed : (limit n bits : ℕ) (h h' buf fed : List ℕ) (s t : Stand) (x y a b : Option (List ℕ))
-    (p q : Option Bool)
+pub went_fed : (limit n bits : ℕ) (h h' buf fed : List ℕ) (s t : Stand) (x y : Option (List ℕ)) (a b : SinkState)
     → n ≤ length buf → Consumes x y (take n buf) → fed ≡ seen limit (take n buf)
-    → Answered bits s t a b p q (until_quit (short_ended h fed)) → has_quit (short_ended h fed) ≡ false
+    → Answered bits s t a b (until_quit (short_ended h fed)) → has_quit (short_ended h fed) ≡ false
     → h' ≡ short_left h fed
-    → Went limit n bits h h' s t x y a b p q
-went_fed limit n bits h h' buf fed s t x y a b p q within taken is answered quiet kept = record {
+    → Went limit n bits h h' s t x y a b
+went_fed limit n bits h h' buf fed s t x y a b within taken is answered quiet kept = record {
   bytes = take n buf;
   size = omega (arith, length-take n buf);
   taken = taken;
@@ -187,12 +185,11 @@ went_fed limit n bits h h' buf fed s t x y a b p q within taken is answered quie
   kept = rw (← is) kept;
 }
 
-pub ended_quit : (limit n bits : ℕ) (h buf fed : List ℕ) (s t : Stand) (x y a b : Option (List ℕ))
-    (p q : Option Bool)
+pub ended_quit : (limit n bits : ℕ) (h buf fed : List ℕ) (s t : Stand) (x y : Option (List ℕ)) (a b : SinkState)
     → n ≤ length buf → n ≤ limit → Consumes x y (take n buf) → fed ≡ seen limit (take n buf)
-    → Answered bits s t a b p q (until_quit (short_ended h fed)) → has_quit (short_ended h fed) ≡ true
-    → Ended e.Quit limit bits h s t x y a b p q
-ended_quit limit n bits h buf fed s t x y a b p q within few taken is answered quits = record {
+    → Answered bits s t a b (until_quit (short_ended h fed)) → has_quit (short_ended h fed) ≡ true
+    → Ended e.Quit limit bits h s t x y a b
+ended_quit limit n bits h buf fed s t x y a b within few taken is answered quits = record {
   bytes = take n buf;
   few = omega (arith, length-take n buf);
   taken = taken;
@@ -200,9 +197,9 @@ ended_quit limit n bits h buf fed s t x y a b p q within few taken is answered q
 }
 
 -- a write failed in the answer to the last piece, at the end of the input
-pub ended_last : (limit bits count : ℕ) (h buf : List ℕ) (s t : Stand) (x y a b : Option (List ℕ)) (p q : Option Bool)
-    → count ≡ 0 → Consumes x y (take count buf) → Broke bits s t a b p q (until_quit (last_of h))
-    → Ended e.WriteFault limit bits h s t x y a b p q
-ended_last limit bits count h buf s t x y a b p q none taken broke =
+pub ended_last : (limit bits count : ℕ) (h buf : List ℕ) (s t : Stand) (x y : Option (List ℕ)) (a b : SinkState)
+    → count ≡ 0 → Consumes x y (take count buf) → Broke bits s t a b (until_quit (last_of h))
+    → Ended e.WriteFault limit bits h s t x y a b
+ended_last limit bits count h buf s t x y a b none taken broke =
     let nothing = seen_none limit in
     record { bytes = []; few = omega arith; taken = rw none at taken; answered = rw nothing broke }

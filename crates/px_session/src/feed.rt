@@ -37,15 +37,15 @@ fn give<A: Operating, O: Sink>(
     ensures fits { Fits A.BITS session.new (A.device array.new) (A.slots array.new) }
     ensures ok { OnOk result (Answered A.BITS
         (stand session.old (A.work array.old)) (stand session.new (A.work array.new))
-        (O.written out.old) (O.written out.new) (O.finished out.old) (O.finished out.new)
+        (O.state out.old) (O.state out.new)
         (until_quit (line.now ∷ []))) }
     ensures going { IfOk result (λ on. is_last on ≡ has_quit (line.now ∷ [])) }
     ensures err { OnErr result (Broke A.BITS
         (stand session.old (A.work array.old)) (stand session.new (A.work array.new))
-        (O.written out.old) (O.written out.new) (O.finished out.old) (O.finished out.new)
+        (O.state out.old) (O.state out.new)
         (until_quit (line.now ∷ []))) }
     ensures count { session.new.lines ≡ session.old.lines + 1 }
-    ensures cause { HasCause (O.faults out.old) (O.faults out.new) result }
+    ensures cause { HasCause (O.state out.old).faults (O.state out.new).faults result }
 {
     session.line(array, line, out)
 }
@@ -63,17 +63,17 @@ fn take_byte<A: Operating, O: Sink>(
     ensures fits { Fits A.BITS session.new (A.device array.new) (A.slots array.new) }
     ensures ok { OnOk result (Answered A.BITS
         (stand session.old (A.work array.old)) (stand session.new (A.work array.new))
-        (O.written out.old) (O.written out.new) (O.finished out.old) (O.finished out.new)
+        (O.state out.old) (O.state out.new)
         (until_quit (short_ended held.old.items (byte ∷ [])))) }
     ensures going { IfOk result (λ on.
         is_last on ≡ has_quit (short_ended held.old.items (byte ∷ []))) }
     ensures held { OnOk result (held.new.items ≡ short_left held.old.items (byte ∷ [])) }
     ensures err { OnErr result (Broke A.BITS
         (stand session.old (A.work array.old)) (stand session.new (A.work array.new))
-        (O.written out.old) (O.written out.new) (O.finished out.old) (O.finished out.new)
+        (O.state out.old) (O.state out.new)
         (until_quit (short_ended held.old.items (byte ∷ [])))) }
     ensures count { session.new.lines ≤ session.old.lines + 1 }
-    ensures cause { HasCause (O.faults out.old) (O.faults out.new) result }
+    ensures cause { HasCause (O.state out.old).faults (O.state out.new).faults result }
 {
     if byte == b'\n' {
         let going = give(session, array, held.as_slice(), out)?;
@@ -98,17 +98,17 @@ pub(crate) fn feed<A: Operating, O: Sink>(
     ensures fits { Fits A.BITS session.new (A.device array.new) (A.slots array.new) }
     ensures ok { OnOk result (Answered A.BITS
         (stand session.old (A.work array.old)) (stand session.new (A.work array.new))
-        (O.written out.old) (O.written out.new) (O.finished out.old) (O.finished out.new)
+        (O.state out.old) (O.state out.new)
         (until_quit (short_ended held.old.items bytes.now))) }
     ensures going { IfOk result (λ on. is_last on ≡ has_quit (short_ended held.old.items bytes.now)) }
     ensures held { IfOk result (λ on. on ≡ Going.More →
         held.new.items ≡ short_left held.old.items bytes.now) }
     ensures err { OnErr result (Broke A.BITS
         (stand session.old (A.work array.old)) (stand session.new (A.work array.new))
-        (O.written out.old) (O.written out.new) (O.finished out.old) (O.finished out.new)
+        (O.state out.old) (O.state out.new)
         (until_quit (short_ended held.old.items bytes.now))) }
     ensures count { session.new.lines ≤ session.old.lines + length bytes.now }
-    ensures cause { HasCause (O.faults out.old) (O.faults out.new) result }
+    ensures cause { HasCause (O.state out.old).faults (O.state out.new).faults result }
 {
     for byte in bytes {
         match take_byte(session, held, array, *byte, out)? {
@@ -131,13 +131,13 @@ pub(crate) fn finish_line<A: Operating, O: Sink>(
     ensures fits { Fits A.BITS session.new (A.device array.new) (A.slots array.new) }
     ensures ok { OnOk result (Answered A.BITS
         (stand session.old (A.work array.old)) (stand session.new (A.work array.new))
-        (O.written out.old) (O.written out.new) (O.finished out.old) (O.finished out.new)
+        (O.state out.old) (O.state out.new)
         (until_quit (last_of held.now.items))) }
     ensures err { OnErr result (Broke A.BITS
         (stand session.old (A.work array.old)) (stand session.new (A.work array.new))
-        (O.written out.old) (O.written out.new) (O.finished out.old) (O.finished out.new)
+        (O.state out.old) (O.state out.new)
         (until_quit (last_of held.now.items))) }
-    ensures cause { HasCause (O.faults out.old) (O.faults out.new) result }
+    ensures cause { HasCause (O.state out.old).faults (O.state out.new).faults result }
 {
     match held.as_slice() {
         [] => Ok(()),

@@ -51,13 +51,12 @@ pub fn serve<S: Asks<O>, O: Sink, A: Operating>(
     ensures fits { Fits A.BITS session.new (A.device array.new) (A.slots array.new) }
     ensures serves { Serves result A.BITS read.now more
         (stand session.old (A.work array.old)) (stand session.new (A.work array.new))
-        (S.rest input.old) (S.rest input.new) (O.written out.old) (O.written out.new)
-        (O.finished out.old) (O.finished out.new) }
+        (S.rest input.old) (S.rest input.new) (O.state out.old) (O.state out.new) }
     ensures causes { HasCauses result (S.faults input.old) (S.faults input.new)
-        (O.faults out.old) (O.faults out.new) }
+        (O.state out.old).faults (O.state out.new).faults }
     ensures prompt { Prompts A.BITS session.old read.now more
         (S.asks input.old) (S.asks input.new)
-        (S.rest input.old) (S.rest input.new) (O.written out.old) }
+        (S.rest input.old) (S.rest input.new) (O.state out.old).written }
 {
     match answer_all(session, array, read, input, more, out) {
         Ending::Quit => finish(out, Ending::Quit),
@@ -68,10 +67,10 @@ pub fn serve<S: Asks<O>, O: Sink, A: Operating>(
 
 /// Finishes the output at the end of a session.
 fn finish<O: Sink>(out: &mut O, ending: Ending) -> Ending
-    ensures bytes { Keeps (O.written out.old) (O.written out.new) }
-    ensures ends { (Tells (O.finished out.new) true × (result ≡ ending) × (O.faults out.new ≡ O.faults out.old))
-        ⊎ ((O.finished out.new ≡ O.finished out.old) × (result ≡ Ending.WriteFault)
-        × Rose (O.faults out.old) (O.faults out.new)) }
+    ensures bytes { Keeps (O.state out.old).written (O.state out.new).written }
+    ensures ends { (Tells (O.state out.new).finished true × (result ≡ ending) × ((O.state out.new).faults ≡ (O.state out.old).faults))
+        ⊎ (((O.state out.new).finished ≡ (O.state out.old).finished) × (result ≡ Ending.WriteFault)
+        × Rose (O.state out.old).faults (O.state out.new).faults) }
 {
     match out.finish() {
         Ok(()) => ending,
@@ -93,13 +92,12 @@ fn answer_all<S: Asks<O>, O: Sink, A: Operating>(
     ensures fits { Fits A.BITS session.new (A.device array.new) (A.slots array.new) }
     ensures stopped { Stopped result A.BITS read.now more
         (stand session.old (A.work array.old)) (stand session.new (A.work array.new))
-        (S.rest input.old) (S.rest input.new) (O.written out.old) (O.written out.new)
-        (O.finished out.old) (O.finished out.new) }
+        (S.rest input.old) (S.rest input.new) (O.state out.old) (O.state out.new) }
     ensures causes { HasCauses result (S.faults input.old) (S.faults input.new)
-        (O.faults out.old) (O.faults out.new) }
+        (O.state out.old).faults (O.state out.new).faults }
     ensures prompt { Prompts A.BITS session.old read.now more
         (S.asks input.old) (S.asks input.new)
-        (S.rest input.old) (S.rest input.new) (O.written out.old) }
+        (S.rest input.old) (S.rest input.new) (O.state out.old).written }
 {
     let mut held = ArrayVec::new();
     match feed(session, &mut held, array, read, out) {
@@ -123,13 +121,12 @@ fn read_on<S: Asks<O>, O: Sink, A: Operating>(
     ensures fits { Fits A.BITS session.new (A.device array.new) (A.slots array.new) }
     ensures ended { Ended result limit A.BITS held.old.items
         (stand session.old (A.work array.old)) (stand session.new (A.work array.new))
-        (S.rest input.old) (S.rest input.new) (O.written out.old) (O.written out.new)
-        (O.finished out.old) (O.finished out.new) }
+        (S.rest input.old) (S.rest input.new) (O.state out.old) (O.state out.new) }
     ensures causes { HasCauses result (S.faults input.old) (S.faults input.new)
-        (O.faults out.old) (O.faults out.new) }
+        (O.state out.old).faults (O.state out.new).faults }
     ensures prompt { (b : Begun) → Caught A.BITS b limit
         (stand session.old (A.work array.old)) held.old.items (S.asks input.old) (S.rest input.old)
-        (O.written out.old) (O.finished out.old)
+        (O.state out.old)
         → PromptsFrom A.BITS b (S.asks input.new) (S.rest input.new) }
 {
     let mut piece = [0; 4096];
@@ -161,27 +158,27 @@ fn turn<S: Asks<O>, O: Sink, A: Operating>(
     ensures on { IfOk result (λ count. Went limit count A.BITS held.old.items held.new.items
         (stand session.old (A.work array.old)) (stand session.new (A.work array.new))
         (S.rest input.old) (S.rest input.new)
-        (O.written out.old) (O.written out.new) (O.finished out.old) (O.finished out.new)) }
+        (O.state out.old) (O.state out.new)) }
     ensures count { IfOk result (λ count. (0 < count) × (count ≤ limit)
         × (session.new.lines + (limit - count) < 2 ^ 64 - 1)) }
     ensures calm { OnOk result ((S.faults input.new ≡ S.faults input.old)
-        × (O.faults out.new ≡ O.faults out.old)) }
+        × ((O.state out.new).faults ≡ (O.state out.old).faults)) }
     ensures off { IfErr result (λ ending. Ended ending limit A.BITS held.old.items
         (stand session.old (A.work array.old)) (stand session.new (A.work array.new))
         (S.rest input.old) (S.rest input.new)
-        (O.written out.old) (O.written out.new) (O.finished out.old) (O.finished out.new)) }
+        (O.state out.old) (O.state out.new)) }
     ensures causes { IfErr result (λ ending. HasCauses ending
-        (S.faults input.old) (S.faults input.new) (O.faults out.old) (O.faults out.new)) }
+        (S.faults input.old) (S.faults input.new) (O.state out.old).faults (O.state out.new).faults) }
     ensures prompt { (b : Begun) → Caught A.BITS b limit
         (stand session.old (A.work array.old)) held.old.items (S.asks input.old) (S.rest input.old)
-        (O.written out.old) (O.finished out.old)
+        (O.state out.old)
         → PromptsFrom A.BITS b (S.asks input.new) (S.rest input.new) }
     ensures caught { IfOk result (λ count. (b : Begun) → Caught A.BITS b limit
         (stand session.old (A.work array.old)) held.old.items (S.asks input.old) (S.rest input.old)
-        (O.written out.old) (O.finished out.old)
+        (O.state out.old)
         → count < limit → Caught A.BITS b (limit - count)
         (stand session.new (A.work array.new)) held.new.items (S.asks input.new) (S.rest input.new)
-        (O.written out.new) (O.finished out.new)) }
+        (O.state out.new)) }
 {
     let room = piece.len().min(limit);
     let Ok(count) = input.ask(out, &mut piece[..room]) else {

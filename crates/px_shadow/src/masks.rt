@@ -37,13 +37,11 @@ pub fn write_masks<A: Array, O: Sink>(
     requires rows { HasRows scene.now (A.device array.now).state }
     requires few { lights ≤ MAX_LIGHTS }
     requires room { need_with layout.now lights ≤ A.BITS }
-    ensures ok { OnOk result (TakesAll (O.written out.old) (O.written out.new)
-        (O.finished out.old) (O.finished out.new)
+    ensures ok { OnOk result (TakesAll (O.state out.old) (O.state out.new)
         (stored_masks scene.now layout.now lights (A.device array.now).state)) }
-    ensures err { OnErr result (TakesFront (O.written out.old) (O.written out.new)
-        (O.finished out.old) (O.finished out.new)
+    ensures err { OnErr result (TakesFront (O.state out.old) (O.state out.new)
         (stored_masks scene.now layout.now lights (A.device array.now).state)) }
-    ensures cause { HasCause (O.faults out.old) (O.faults out.new) result }
+    ensures cause { HasCause (O.state out.old).faults (O.state out.new).faults result }
 {
     let field = lights_field(layout, lights);
     let header = header(scene.width(), scene.height());

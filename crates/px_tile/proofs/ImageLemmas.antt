@@ -1,5 +1,5 @@
 -- The images of the numbers of a wide picture.
-use Rattle.std.proofs.Common.{◌≡◌, ℕ, zero, suc, ◌+◌, ◌*◌, ◌/◌, ◌%◌, ◌^◌, ◌<◌, ◌≤◌, All, Bool, Result, Ok, Err, OnErr}
+use Rattle.std.proofs.Common.{◌≡◌, ℕ, zero, suc, ◌+◌, ◌*◌, ◌/◌, ◌%◌, ◌^◌, ◌<◌, ◌≤◌, All, Result, Ok, Err, OnErr}
 use Rattle.std.proofs.Common.{OnOk, List, [], ◌∷◌, ◌++◌, Option, Some, None, length, get_or, take, drop, refl, ap}
 use Rattle.std.proofs.Common.{sym, ◌∙◌, arith}
 use Rattle.std.specs.List.{between, flat_map, range_with_len}
@@ -9,7 +9,7 @@ use Rattle.std.proofs.lemmas.Grind.{flat_map-append}
 use Rattle.std.proofs.lemmas.List.{get_or_default, take-append-drop}
 use Rattle.std.proofs.lemmas.Slice.{between_is}
 use Rattle.px_num.proofs.RangeLaws.{range_cut, same_parts}
-use Rattle.px_io.specs.Told.{TakesAll, TakesFront}
+use Rattle.px_io.specs.Told.{SinkState, TakesAll, TakesFront}
 use Rattle.px_io.proofs.ToldLaws.{front_after, takes_both}
 use Rattle.px_frame.specs.Picture.{header, three_bytes, depth_at, face_at}
 use Rattle.px_frame.specs.Rows.{row_bytes}
@@ -147,17 +147,17 @@ on_err (Ok x) f p = p
 on_err (Err x) f p = f p
 
 -- first all of some bytes, and then all of others, or a front of them
-pub all_after : {T E : Type 0} (r : Result T E) (a b c : Option (List ℕ)) (f g h : Option Bool) (xs ys zs : List ℕ)
+pub all_after : {T E : Type 0} (r : Result T E) (a b c : SinkState) (xs ys zs : List ℕ)
     → xs ++ ys ≡ zs
-    → TakesAll a b f g xs → OnOk r (TakesAll b c g h ys) → OnOk r (TakesAll a c f h zs)
-all_after r a b c f g h xs ys zs whole first second =
-    on_ok r (λ next. rw whole at (takes_both a b c f g h xs ys first next)) second
+    → TakesAll a b xs → OnOk r (TakesAll b c ys) → OnOk r (TakesAll a c zs)
+all_after r a b c xs ys zs whole first second =
+    on_ok r (λ next. rw whole at (takes_both a b c xs ys first next)) second
 
-pub front_then : {T E : Type 0} (r : Result T E) (a b c : Option (List ℕ)) (f g h : Option Bool) (xs ys zs : List ℕ)
+pub front_then : {T E : Type 0} (r : Result T E) (a b c : SinkState) (xs ys zs : List ℕ)
     → xs ++ ys ≡ zs
-    → TakesAll a b f g xs → OnErr r (TakesFront b c g h ys) → OnErr r (TakesFront a c f h zs)
-front_then r a b c f g h xs ys zs whole first second =
-    on_err r (λ next. rw whole at (front_after a b c f g h xs ys first next)) second
+    → TakesAll a b xs → OnErr r (TakesFront b c ys) → OnErr r (TakesFront a c zs)
+front_then r a b c xs ys zs whole first second =
+    on_err r (λ next. rw whole at (front_after a b c xs ys first next)) second
 
 -- a list up to a place, and on to a later one
 taken_on : (xs : List ℕ) (i j : ℕ) → i ≤ j → take i xs ++ between i j xs ≡ take j xs

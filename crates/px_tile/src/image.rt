@@ -42,15 +42,13 @@ pub fn write_wide<O: Sink>(
 ) -> Result<(), Failed>
     requires size { IsWideSize width height }
     requires found { IsFound scene.now width height found.now }
-    ensures ok { OnOk result (TakesAll (O.written out.old) (O.written out.new)
-        (O.finished out.old) (O.finished out.new)
+    ensures ok { OnOk result (TakesAll (O.state out.old) (O.state out.new)
         (depth_image (wide_scene scene.now width height)
         ++ face_image (wide_scene scene.now width height))) }
-    ensures err { OnErr result (TakesFront (O.written out.old) (O.written out.new)
-        (O.finished out.old) (O.finished out.new)
+    ensures err { OnErr result (TakesFront (O.state out.old) (O.state out.new)
         (depth_image (wide_scene scene.now width height)
         ++ face_image (wide_scene scene.now width height))) }
-    ensures cause { HasCause (O.faults out.old) (O.faults out.new) result }
+    ensures cause { HasCause (O.state out.old).faults (O.state out.new).faults result }
 {
     write_part(found, scene, width, height, Part::Depth, out)?;
     write_part(found, scene, width, height, Part::Face, out)
@@ -67,13 +65,11 @@ fn write_part<O: Sink>(
 ) -> Result<(), Failed>
     requires size { IsWideSize width height }
     requires found { IsFound scene.now width height found.now }
-    ensures ok { OnOk result (TakesAll (O.written out.old) (O.written out.new)
-        (O.finished out.old) (O.finished out.new)
+    ensures ok { OnOk result (TakesAll (O.state out.old) (O.state out.new)
         (part_image part (wide_scene scene.now width height))) }
-    ensures err { OnErr result (TakesFront (O.written out.old) (O.written out.new)
-        (O.finished out.old) (O.finished out.new)
+    ensures err { OnErr result (TakesFront (O.state out.old) (O.state out.new)
         (part_image part (wide_scene scene.now width height))) }
-    ensures cause { HasCause (O.faults out.old) (O.faults out.new) result }
+    ensures cause { HasCause (O.state out.old).faults (O.state out.new).faults result }
 {
     laws_of_scenes(scene);
     laws_of_surfaces();
@@ -85,11 +81,9 @@ fn write_part<O: Sink>(
 /// Appends the pixels of one of the images.
 fn write_pixels<O: Sink>(found: &[u64], part: Part, out: &mut O) -> Result<(), Failed>
     requires small { All (IsSmall part) found.now }
-    ensures ok { OnOk result (TakesAll (O.written out.old) (O.written out.new)
-        (O.finished out.old) (O.finished out.new) (bytes_of part found.now)) }
-    ensures err { OnErr result (TakesFront (O.written out.old) (O.written out.new)
-        (O.finished out.old) (O.finished out.new) (bytes_of part found.now)) }
-    ensures cause { HasCause (O.faults out.old) (O.faults out.new) result }
+    ensures ok { OnOk result (TakesAll (O.state out.old) (O.state out.new) (bytes_of part found.now)) }
+    ensures err { OnErr result (TakesFront (O.state out.old) (O.state out.new) (bytes_of part found.now)) }
+    ensures cause { HasCause (O.state out.old).faults (O.state out.new).faults result }
 {
     let mut start = 0;
     while start < found.len() {

@@ -11,6 +11,6 @@ returns-in_err-write_image-clause-err g c =
     let planes = c.args.planes.now in
     let i = c.loop-plane.plane-index in
     rw (images_at scene planes i plane.Depth c.loop-plane-test.true)
-    (on_err _ (front_before _ _ _ _ _ (images scene (drop (i + 1) planes))
-    (front_after _ _ _ _ _ _ (images scene (take i planes)) _ c.loop-plane.invariant.taken
+    (on_err _ (front_before _ _ _ (images scene (drop (i + 1) planes))
+    (front_after _ _ _ (images scene (take i planes)) _ c.loop-plane.invariant.taken
     c.in_err-write_image.ensures.err)))

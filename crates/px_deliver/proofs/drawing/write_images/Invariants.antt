@@ -5,8 +5,7 @@ use Rattle.px_deliver.proofs.drawing.write_images.Given as goal
 
 abbrev pub invariant-loop-plane : goal.invariant-loop-plane
 invariant-loop-plane g l = record {
-  taken : TakesAll (g.O.Sink.written l.fn.out) (g.O.Sink.written l.out) (g.O.Sink.finished l.fn.out)
-      (g.O.Sink.finished l.out)
+  taken : TakesAll (g.O.Sink.state l.fn.out) (g.O.Sink.state l.out)
       (images l.scene (take l.plane-index l.planes));
-  calm : g.O.Sink.faults l.out ≡ g.O.Sink.faults l.fn.out;
+  calm : (g.O.Sink.state l.out).faults ≡ (g.O.Sink.state l.fn.out).faults;
 }

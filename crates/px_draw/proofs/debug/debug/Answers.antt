@@ -10,7 +10,7 @@ use Rattle.px_draw.proofs.debug.debug.Goals as goal
 pub returns-in_err-opening-clause-performs : goal.returns-in_err-opening-clause-performs
 returns-in_err-opening-clause-performs g c =
     let is : c.from_residual.result ≡ Err c.in_err-opening.field-0.0 = search rules in
-    performs_open _ _ _ _ _ _ _ _ is c.in_err-opening.ensures.err c.in_err-opening.ensures.most
+    performs_open _ _ _ _ _ _ _ is c.in_err-opening.ensures.err c.in_err-opening.ensures.most
 
 pub returns-in_err-scene-clause-performs : goal.returns-in_err-scene-clause-performs
 returns-in_err-scene-clause-performs g c =
@@ -21,7 +21,7 @@ returns-in_err-scene-clause-performs g c =
       quit = c.laws_of_sessions.ensures.quit;
       scene = c.laws_of_sessions.ensures.scene;
     } in
-    performs_part laws _ _ _ c.in_ok-opening.opening _ _ _ _ _ is c.in_ok-opening.ensures.opens
+    performs_part laws _ _ _ c.in_ok-opening.opening _ _ _ _ is c.in_ok-opening.ensures.opens
     c.in_err-scene.ensures.err
 
 pub returns-in_err-session-clause-performs : goal.returns-in_err-session-clause-performs
@@ -33,7 +33,7 @@ returns-in_err-session-clause-performs g c =
       quit = c.laws_of_sessions.ensures.quit;
       scene = c.laws_of_sessions.ensures.scene;
     } in
-    performs_closed laws _ _ _ c.in_ok-opening.opening _ _ _ _ _ _ _ is c.in_ok-opening.ensures.opens
+    performs_closed laws _ _ _ c.in_ok-opening.opening _ _ _ _ _ _ is c.in_ok-opening.ensures.opens
     c.in_ok-scene.ensures.ok
     c.in_err-session.ensures.err c.in_err-session.ensures.array
 
@@ -52,7 +52,7 @@ returns-in-Some-clause-performs g c =
     let seated : Seated g.A.Array.BITS c.in-Some.length text c.in_ok-scene.scene =
     record { part = part; good = on.good; scene = on.scene; draws = c.in_ok-session.ensures.draws } in
     let left : 1048577 - c.len-more.result ≡ 1048577 - length text = omega (arith, c.len-more.ensures) in
-    performs_sat laws _ _ _ text _ _ _ _ _ _ _ _ _ _ _ _ _ _ seated o.few o.taken
+    performs_sat laws _ _ _ text _ _ _ _ _ _ _ _ _ _ _ _ seated o.few o.taken
     c.in_ok-session.ensures.session (record {
       fits = c.sit.ensures.fits;
       none = c.in_ok-session.ensures.work;
@@ -65,7 +65,7 @@ returns-in-Some-clause-took g c =
     let o = c.in_ok-opening.ensures.opens in
     let text = c.in_ok-opening.opening.text.items in
     let left : 1048577 - c.len-more.result ≡ 1048577 - length text = omega (arith, c.len-more.ensures) in
-    took_sat _ _ text _ _ _ _ _ _ _ _ _ _ _ o.few o.taken left c.sit.ensures.sits
+    took_sat _ _ text _ _ _ _ _ _ _ _ _ o.few o.taken left c.sit.ensures.sits
 
 pub returns-clause-performs : goal.returns-clause-performs
 returns-clause-performs g c =
@@ -79,7 +79,7 @@ returns-clause-performs g c =
     (g.A.Array.slots c.open_session.new.array) =
     subst (λ s. Fits g.A.Array.BITS s (g.A.Array.device c.open_session.new.array)
     (g.A.Array.slots c.open_session.new.array)) c.in_ok-session.ensures.session c.in_ok-session.ensures.fits in
-    performs_empty laws _ _ c.in_ok-opening.opening _ _ _ _ _ _ _ _ _ c.in_ok-opening.ensures.opens
+    performs_empty laws _ _ c.in_ok-opening.opening _ _ _ _ _ _ _ c.in_ok-opening.ensures.opens
     c.in_ok-scene.ensures.ok c.in-None.is
     c.in_ok-session.ensures.draws fits c.in_ok-session.ensures.work c.finish.ensures.bytes c.finish.ensures.end
 

@@ -6,5 +6,5 @@ use Rattle.px_draw.proofs.make.draw.Goals as goal
 pub returns-clause-serves : goal.returns-clause-serves
 returns-clause-serves g c =
     let bytes = images c.args.scene.now c.args.planes.now in
-    serves_front _ bytes _ _ _ _ _ _ (c.in_ok-job.ensures.fits (done bytes)) c.in-Err.ensures.err
+    serves_front _ bytes _ _ (c.in_ok-job.ensures.fits (done bytes)) c.in-Err.ensures.err
     c.in-Err.ensures.cause.failed

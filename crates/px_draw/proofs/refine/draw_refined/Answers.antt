@@ -6,11 +6,11 @@ use Rattle.px_draw.proofs.refine.draw_refined.Goals as goal
 pub returns-in-Ok-clause-serves : goal.returns-in-Ok-clause-serves
 returns-in-Ok-clause-serves g c =
     let bytes = refined_image c.args.s c.args.scene.now in
-    serves_whole _ bytes _ _ _ _ _ _ _ (c.in_ok-job.ensures.fits (done bytes)) c.in-Ok.ensures.ok c.in-Ok.ensures.end
+    serves_whole _ bytes _ _ _ (c.in_ok-job.ensures.fits (done bytes)) c.in-Ok.ensures.ok c.in-Ok.ensures.end
     c.in-Ok.ensures.cause.calm
 
 pub returns-clause-serves : goal.returns-clause-serves
 returns-clause-serves g c =
     let bytes = refined_image c.args.s c.args.scene.now in
-    serves_front _ bytes _ _ _ _ _ _ (c.in_ok-job.ensures.fits (done bytes)) c.in-Err.ensures.err
+    serves_front _ bytes _ _ (c.in_ok-job.ensures.fits (done bytes)) c.in-Err.ensures.err
     c.in-Err.ensures.cause.failed

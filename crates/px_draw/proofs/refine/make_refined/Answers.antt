@@ -3,7 +3,7 @@ use Rattle.px_draw.proofs.refine.make_refined.Goals as goal
 
 pub returns-clause-serves : goal.returns-clause-serves
 returns-clause-serves g c =
-    serves_refined _ _ _ _ _ _ _ _ _ _ _ _ c.doublings-s.ensures c.in_ok-fine.ensures.ok.0 c.in_ok-fine.ensures.ok.1
+    serves_refined _ _ _ _ _ _ _ _ c.doublings-s.ensures c.in_ok-fine.ensures.ok.0 c.in_ok-fine.ensures.ok.1
     c.draw_refined.ensures.serves
 
 pub returns-clause-array : goal.returns-clause-array

@@ -13,11 +13,11 @@ returns-in_err-products-clause-array g c =
 pub returns-clause-serves : goal.returns-clause-serves
 returns-clause-serves g c =
     let bytes = measures c.args.scene.now in
-    serves_front _ bytes _ _ _ _ _ _ (c.in_ok-job.ensures.fits (done bytes)) c.in-Err.ensures.err
+    serves_front _ bytes _ _ (c.in_ok-job.ensures.fits (done bytes)) c.in-Err.ensures.err
     c.in-Err.ensures.cause.failed
 
 pub returns-in-Ok-clause-serves : goal.returns-in-Ok-clause-serves
 returns-in-Ok-clause-serves g c =
     let bytes = measures c.args.scene.now in
-    serves_done _ bytes _ _ _ _ _ _ (c.in_ok-job.ensures.fits (done bytes)) c.in-Ok.ensures.ok c.in-Ok.ensures.end
+    serves_done _ bytes _ _ (c.in_ok-job.ensures.fits (done bytes)) c.in-Ok.ensures.ok c.in-Ok.ensures.end
     c.in-Ok.ensures.cause.calm

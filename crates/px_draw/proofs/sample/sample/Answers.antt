@@ -4,7 +4,7 @@ use Rattle.px_draw.proofs.sample.sample.Goals as goal
 
 pub returns-clause-serves : goal.returns-clause-serves
 returns-clause-serves g c =
-    sample_serves _ c.args.n g.A.Array.BITS c.as_slice.result.now _ _ _ _ _ _ (c.as_slice.ensures.value
+    sample_serves _ c.args.n g.A.Array.BITS c.as_slice.result.now _ _ (c.as_slice.ensures.value
     ∙ c.in-Ok.ensures) c.measure_text.ensures.serves
 
 pub returns-clause-array : goal.returns-clause-array

@@ -9,7 +9,7 @@ use Rattle.px_frame.proofs.image.write_picture.Goals as goal
 pub returns-in_err-write_whole-clause-err : goal.returns-in_err-write_whole-clause-err
 returns-in_err-write_whole-clause-err g c =
     let bytes : c.as_bytes.result.now ≡ header c.args.scene.now.width c.args.scene.now.height = cc
-    in on_err _ (front_before _ _ _ _ _ _ (rw bytes at c.in_err-write_whole.ensures.err))
+    in on_err _ (front_before _ _ _ _ (rw bytes at c.in_err-write_whole.ensures.err))
 
 pub returns-in_err-write_whole-2-clause-err : goal.returns-in_err-write_whole-2-clause-err
 returns-in_err-write_whole-2-clause-err g c =
@@ -19,7 +19,7 @@ returns-in_err-write_whole-2-clause-err g c =
     in let shown = row_shown c.args.scene.now c.args.layout.now state c.args.plane _ c.loop-y.y inside held
     in let row = rw (c.as_slice.ensures.value, c.row_bytes-row.ensures, shown) at c.in_err-write_whole-2.ensures.err
     in let above : c.loop-y.y < c.args.scene.now.height = omega (arith, c.height-y-end.ensures.value)
-    in on_err _ (rows_broken _ _ _ _ _ _ _ _ _ _ above c.loop-y.invariant.front row)
+    in on_err _ (rows_broken _ _ _ _ _ _ _ above c.loop-y.invariant.front row)
 
 pub loop-y-preserved : goal.loop-y-preserved
 loop-y-preserved g c =
@@ -33,7 +33,7 @@ loop-y-preserved g c =
     row_of_pixels c.args.scene.now.width (stored_pixel c.args.scene.now c.args.layout.now state c.args.plane)
     in let next = rw (c.as_slice.ensures.value, c.row_bytes-row.ensures, shown) at c.in_ok-write_whole-2.ensures.ok
     in record {
-      front = rows_grown _ _ _ _ _ _ above row y c.loop-y.invariant.front next;
+      front = rows_grown _ _ _ above row y c.loop-y.invariant.front next;
       strip = λ further. other_row _ (field_of c.args.layout.now c.args.plane) state c.args.scene.now.width y (y + 1)
           (omega (arith, further)) held;
       calm = grind (arith, c.loop-y.invariant.calm, c.in_ok-write_whole-2.ensures.cause.calm);

@@ -12,9 +12,8 @@ invariant-loop-y g l =
     let state = (g.A.Array.device l.array).state
     in let row = row_of_pixels l.scene.width (stored_pixel l.scene l.layout state l.plane)
     in record {
-      front : TakesAll (g.O.Sink.written l.fn.out) (g.O.Sink.written l.out)
-          (g.O.Sink.finished l.fn.out) (g.O.Sink.finished l.out)
+      front : TakesAll (g.O.Sink.state l.fn.out) (g.O.Sink.state l.out)
           (header l.scene.width l.scene.height ++ flat_map row (range_with_len 0 l.y));
       strip : l.y % 8 ≢ 0 → HoldsRow l.strip (field_of l.layout l.plane) state l.scene.width l.y;
-      calm : g.O.Sink.faults l.out ≡ g.O.Sink.faults l.fn.out;
+      calm : (g.O.Sink.state l.out).faults ≡ (g.O.Sink.state l.fn.out).faults;
     }

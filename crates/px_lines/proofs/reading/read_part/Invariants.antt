@@ -7,7 +7,7 @@ abbrev pub invariant-loop-piece : goal.invariant-loop-piece
 invariant-loop-piece g l = record {
   within : vec_len l.text ≤ l.limit;
   heard : Heard (record { limit = l.limit; asks = g.S.Asks.asks l.fn.input; rest = g.S.Source.rest l.fn.input })
-      (g.S.Asks.asks l.input) (g.S.Source.rest l.input) (g.O.Sink.written l.out) l.text.items;
+      (g.S.Asks.asks l.input) (g.S.Source.rest l.input) (g.O.Sink.state l.out).written l.text.items;
   calm : g.S.Source.faults l.input ≡ g.S.Source.faults l.fn.input;
   seen : HasSeen l.search (take (l.limit - 1) l.text.items);
   all : l.search.at ≡ length (take (l.limit - 1) l.text.items);

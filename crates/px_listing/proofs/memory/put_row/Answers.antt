@@ -15,7 +15,7 @@ returns-in_err-put-clause-err g c =
     let x = c.loop-x.x in
     let within : x < c.args.columns = omega arith in
     let line = c.as_str.ensures.value ∙ c.pixel_line.ensures in
-    on_err _ (puts_cut _ _ _ _ _ _ _ _ _ (f x) (flat_map f (range_with_len (x + 1) (c.args.columns - (x + 1)))) _
+    on_err _ (puts_cut _ _ _ _ _ _ (f x) (flat_map f (range_with_len (x + 1) (c.args.columns - (x + 1)))) _
     (made_cut f x c.args.columns within) c.loop-x.invariant.put (rw line at c.in_err-put.ensures.err))
 
 pub loop-x-preserved : goal.loop-x-preserved
@@ -24,7 +24,7 @@ loop-x-preserved g c =
     let f : ℕ → List ℕ = λ x. line_of_pixel g.A.Array.BITS x c.args.y (bits_of (pixel_of state x c.args.y)) in
     let line = c.as_str.ensures.value ∙ c.pixel_line.ensures in
     record {
-      put = rw (made_more f c.loop-x.x) at (puts_both _ _ _ _ _ _ _ _ _ _ _ c.loop-x.invariant.put
+      put = rw (made_more f c.loop-x.x) at (puts_both _ _ _ _ _ _ _ _ c.loop-x.invariant.put
           (rw line at c.in_ok-put.ensures.ok));
       calm = c.in_ok-put.ensures.cause.calm ∙ c.loop-x.invariant.calm;
     }

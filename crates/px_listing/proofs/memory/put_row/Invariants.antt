@@ -9,8 +9,7 @@ abbrev pub invariant-loop-x : goal.invariant-loop-x
 invariant-loop-x g l =
     let state = (g.A.Array.device l.array).state in
     record {
-      put : Puts (g.O.Sink.written l.fn.out) (g.O.Sink.written l.out)
-          (g.O.Sink.finished l.fn.out) (g.O.Sink.finished l.out) l.fn.piece.bytes
+      put : Puts (g.O.Sink.state l.fn.out) (g.O.Sink.state l.out) l.fn.piece.bytes
           (row_lines g.A.Array.BITS l.x (λ x y. bits_of (pixel_of state x y)) l.y) l.piece.bytes;
-      calm : g.O.Sink.faults l.out ≡ g.O.Sink.faults l.fn.out;
+      calm : (g.O.Sink.state l.out).faults ≡ (g.O.Sink.state l.fn.out).faults;
     }

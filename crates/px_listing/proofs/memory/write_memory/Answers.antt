@@ -19,7 +19,7 @@ returns-in_err-put_row-clause-err g c =
     let end : c.power-y-end.result ≡ 2 ^ state.tree.ny = c.power-y-end.ensures ∙ ap (λ n. 2 ^ n) rows in
     let within : y < 2 ^ state.tree.ny = omega (arith, end, c.loop-y-test.true) in
     let row = rw (c.power.ensures, columns) at c.in_err-put_row.ensures.err in
-    on_err _ (puts_cut _ _ _ _ _ _ [] _ _ (f y) (flat_map f (range_with_len (y + 1) (2 ^ state.tree.ny - (y + 1)))) _
+    on_err _ (puts_cut _ _ _ [] _ _ (f y) (flat_map f (range_with_len (y + 1) (2 ^ state.tree.ny - (y + 1)))) _
     (made_cut f y (2 ^ state.tree.ny) within) (rw columns at c.loop-y.invariant.put) row)
 
 pub loop-y-preserved : goal.loop-y-preserved
@@ -28,7 +28,7 @@ loop-y-preserved g c =
     let f : ℕ → List ℕ = row_lines g.A.Array.BITS (2 ^ c.size-nx.result.0) (λ x y. bits_of (pixel_of state x y)) in
     let row = rw c.power.ensures at c.in_ok-put_row.ensures.ok in
     record {
-      put = rw (made_more f c.loop-y.y) at (puts_both _ _ _ _ _ _ [] _ _ _ _ c.loop-y.invariant.put row);
+      put = rw (made_more f c.loop-y.y) at (puts_both _ _ _ [] _ _ _ _ c.loop-y.invariant.put row);
       calm = c.in_ok-put_row.ensures.cause.calm ∙ c.loop-y.invariant.calm;
     }
 
@@ -41,7 +41,7 @@ returns-clause-ok g c =
     let end : c.power-y-end.result ≡ 2 ^ state.tree.ny = c.power-y-end.ensures ∙ ap (λ n. 2 ^ n) rows in
     let all : c.loop-y.y ≡ 2 ^ state.tree.ny = omega (arith, end, c.loop-y-test.false, c.loop-y.auto.y-end) in
     let put = rw (columns, all) at c.loop-y.invariant.put in
-    ok_flushed _ _ _ _ _ _ _ _ _ _ put c.flush.ensures.empty c.flush.ensures.ok
+    ok_flushed _ _ _ _ _ _ _ put c.flush.ensures.empty c.flush.ensures.ok
 
 pub returns-clause-err : goal.returns-clause-err
 returns-clause-err g c =
@@ -53,5 +53,5 @@ returns-clause-err g c =
     let all : c.loop-y.y ≡ 2 ^ state.tree.ny = omega (arith, end, c.loop-y-test.false, c.loop-y.auto.y-end) in
     let put = rw (columns, all) at c.loop-y.invariant.put in
     let text = flat_map f (range_with_len 0 (2 ^ state.tree.ny)) in
-    err_cut _ _ _ _ _ _ _ [] _ text [] [] text (append-nil text) put (rw (sym (append-nil c.loop-y.piece.bytes)) at
+    err_cut _ _ _ _ [] _ text [] [] text (append-nil text) put (rw (sym (append-nil c.loop-y.piece.bytes)) at
     c.flush.ensures.err)

@@ -10,9 +10,8 @@ abbrev pub invariant-loop-y : goal.invariant-loop-y
 invariant-loop-y g l =
     let state = (g.A.Array.device l.array).state in
     record {
-      put : Puts (g.O.Sink.written l.fn.out) (g.O.Sink.written l.out)
-          (g.O.Sink.finished l.fn.out) (g.O.Sink.finished l.out) []
+      put : Puts (g.O.Sink.state l.fn.out) (g.O.Sink.state l.out) []
           (flat_map (row_lines g.A.Array.BITS (2 ^ l.nx) (λ x y. bits_of (pixel_of state x y)))
           (range_with_len 0 l.y)) l.piece.bytes;
-      calm : g.O.Sink.faults l.out ≡ g.O.Sink.faults l.fn.out;
+      calm : (g.O.Sink.state l.out).faults ≡ (g.O.Sink.state l.fn.out).faults;
     }

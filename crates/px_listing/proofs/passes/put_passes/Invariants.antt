@@ -12,8 +12,7 @@ decreases-loop-m g l = length (passes l.scene) - l.cursor.given
 abbrev pub invariant-loop-m : goal.invariant-loop-m
 invariant-loop-m g l = record {
   stands : Stands l.scene l.cursor;
-  put : Puts (g.O.Sink.written l.fn.out) (g.O.Sink.written l.out)
-      (g.O.Sink.finished l.fn.out) (g.O.Sink.finished l.out) l.fn.piece.bytes
+  put : Puts (g.O.Sink.state l.fn.out) (g.O.Sink.state l.out) l.fn.piece.bytes
       (flat_map macro_line (take l.cursor.given (passes l.scene))) l.piece.bytes;
-  calm : g.O.Sink.faults l.out ≡ g.O.Sink.faults l.fn.out;
+  calm : (g.O.Sink.state l.out).faults ≡ (g.O.Sink.state l.fn.out).faults;
 }

@@ -23,7 +23,7 @@ pub returns-in_err-put_first_lines-clause-err : goal.returns-in_err-put_first_li
 returns-in_err-put_first_lines-clause-err g c =
     let scene = c.args.scene.now in
     let first = rw (c.grid-nx.ensures.columns, c.grid-nx.ensures.rows) at c.in_err-put_first_lines.ensures.err in
-    on_err _ (front_of_first _ _ _ _ _ (first_lines (exponent_of scene.width) (exponent_of scene.height))
+    on_err _ (front_of_first _ _ _ (first_lines (exponent_of scene.width) (exponent_of scene.height))
     (flat_map macro_line (passes scene)) end_line
     c.new-piece.ensures first)
 
@@ -31,7 +31,7 @@ pub returns-in_err-put_passes-clause-err : goal.returns-in_err-put_passes-clause
 returns-in_err-put_passes-clause-err g c =
     let scene = c.args.scene.now in
     let first = rw (c.grid-nx.ensures.columns, c.grid-nx.ensures.rows) at c.in_ok-put_first_lines.ensures.ok in
-    on_err _ (front_of_middle _ _ _ _ _ _ _ _ (first_lines (exponent_of scene.width) (exponent_of scene.height))
+    on_err _ (front_of_middle _ _ _ _ _ (first_lines (exponent_of scene.width) (exponent_of scene.height))
     (flat_map macro_line (passes scene)) end_line
     c.new-piece.ensures first c.in_err-put_passes.ensures.err)
 
@@ -39,7 +39,7 @@ pub returns-clause-ok : goal.returns-clause-ok
 returns-clause-ok g c =
     let scene = c.args.scene.now in
     let first = rw (c.grid-nx.ensures.columns, c.grid-nx.ensures.rows) at c.in_ok-put_first_lines.ensures.ok in
-    ok_to_last _ _ _ _ _ _ _ _ _ _ _ _ (first_lines (exponent_of scene.width) (exponent_of scene.height))
+    ok_to_last _ _ _ _ _ _ _ _ (first_lines (exponent_of scene.width) (exponent_of scene.height))
     (flat_map macro_line (passes scene)) end_line
     c.new-piece.ensures first c.in_ok-put_passes.ensures.ok c.put_end.ensures.ok
 
@@ -47,6 +47,6 @@ pub returns-clause-err : goal.returns-clause-err
 returns-clause-err g c =
     let scene = c.args.scene.now in
     let first = rw (c.grid-nx.ensures.columns, c.grid-nx.ensures.rows) at c.in_ok-put_first_lines.ensures.ok in
-    err_to_last _ _ _ _ _ _ _ _ _ _ _ _ (first_lines (exponent_of scene.width) (exponent_of scene.height))
+    err_to_last _ _ _ _ _ _ _ _ (first_lines (exponent_of scene.width) (exponent_of scene.height))
     (flat_map macro_line (passes scene)) end_line
     c.new-piece.ensures first c.in_ok-put_passes.ensures.ok c.put_end.ensures.err

@@ -8,12 +8,12 @@ pub returns-clause-ok : goal.returns-clause-ok
 returns-clause-ok g c =
     let header = rw c.header_line.ensures.text at c.in_ok-put.ensures.ok in
     let grid = rw (c.as_str.ensures.value ∙ c.grid_line.ensures) at c.put-2.ensures.ok in
-    ok_both _ _ _ _ _ _ _ _ _ _ _ _ header grid
+    ok_both _ _ _ _ _ _ _ _ _ header grid
 
 pub returns-clause-err : goal.returns-clause-err
 returns-clause-err g c =
     let header = rw c.header_line.ensures.text at c.in_ok-put.ensures.ok in
     let grid = rw (c.as_str.ensures.value ∙ c.grid_line.ensures) at c.put-2.ensures.err in
     let line = grid_line c.args.nx c.args.ny in
-    err_cut _ _ _ _ _ _ _ _ _ header_line line [] (first_lines c.args.nx c.args.ny)
+    err_cut _ _ _ _ _ _ header_line line [] (first_lines c.args.nx c.args.ny)
     (ap (λ bytes. header_line ++ bytes) (append-nil line)) header grid

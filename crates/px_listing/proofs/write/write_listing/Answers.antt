@@ -21,7 +21,7 @@ returns-in_err-put-clause-err g c =
     let cut = behind first (flat_map macro_line (take i l.macros)) (macro_line (get_or l.macros i m.All))
     (flat_map macro_line (drop (i + 1) l.macros))
     end_line (flat_map macro_line l.macros) (listed_cut macro_line l.macros i m.All within) in
-    on_err _ (puts_cut _ _ _ _ _ _ [] _ _ _ others (canonical_text l) cut c.loop-m.invariant.put
+    on_err _ (puts_cut _ _ _ [] _ _ _ others (canonical_text l) cut c.loop-m.invariant.put
     (rw line at c.in_err-put.ensures.err))
 
 pub loop-m-preserved : goal.loop-m-preserved
@@ -35,7 +35,7 @@ loop-m-preserved g c =
     let more = append_assoc first (flat_map macro_line (take i l.macros)) (macro_line (get_or l.macros i m.All))
     ∙ ap (λ bytes. first ++ bytes) (listed_more macro_line l.macros i m.All within) in
     record {
-      put = rw more at (puts_both _ _ _ _ _ _ [] _ _ _ _ c.loop-m.invariant.put (rw line at c.in_ok-put.ensures.ok));
+      put = rw more at (puts_both _ _ _ [] _ _ _ _ c.loop-m.invariant.put (rw line at c.in_ok-put.ensures.ok));
       calm = c.in_ok-put.ensures.cause.calm ∙ c.loop-m.invariant.calm;
     }
 
@@ -45,7 +45,7 @@ returns-clause-ok g c =
     let items = c.deref-m-items.ensures.value ∙ ap (λ (l : ListingView). l.macros) c.listing.view_is in
     let all = take_all c.loop-m.m-index l.macros (rw items at c.loop-m-test.false) in
     let put = rw all at c.loop-m.invariant.put in
-    ok_all _ _ _ _ _ _ _ [] _ _ end_line (canonical_text l) refl put c.put_end.ensures.ok
+    ok_all _ _ _ _ [] _ _ end_line (canonical_text l) refl put c.put_end.ensures.ok
 
 pub returns-clause-err : goal.returns-clause-err
 returns-clause-err g c =
@@ -55,5 +55,5 @@ returns-clause-err g c =
     let put = rw all at c.loop-m.invariant.put in
     let first = first_lines l.nx l.ny in
     let text = flat_map macro_line l.macros in
-    err_cut _ _ _ _ _ _ _ [] _ (first ++ text) end_line [] (canonical_text l)
+    err_cut _ _ _ _ [] _ (first ++ text) end_line [] (canonical_text l)
     (ap (λ bytes. (first ++ text) ++ bytes) (append-nil end_line)) put c.put_end.ensures.err

@@ -6,8 +6,7 @@ use Rattle.px_listing.proofs.write.write_listing.Given as goal
 
 abbrev pub invariant-loop-m : goal.invariant-loop-m
 invariant-loop-m g l = record {
-  put : Puts (g.O.Sink.written l.fn.out) (g.O.Sink.written l.out)
-      (g.O.Sink.finished l.fn.out) (g.O.Sink.finished l.out) []
+  put : Puts (g.O.Sink.state l.fn.out) (g.O.Sink.state l.out) []
       (first_lines l.listing.nx l.listing.ny ++ flat_map macro_line (take l.m-index l.listing.macros)) l.piece.bytes;
-  calm : g.O.Sink.faults l.out ≡ g.O.Sink.faults l.fn.out;
+  calm : (g.O.Sink.state l.out).faults ≡ (g.O.Sink.state l.fn.out).faults;
 }

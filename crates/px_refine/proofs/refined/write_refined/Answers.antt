@@ -61,7 +61,7 @@ returns-in_err-write_whole-2-clause-err g c =
     in let row = rw (c.as_slice.ensures.value, c.mean_row-row.ensures, width, same)
     at c.in_err-write_whole-2.ensures.err
     in let front = rw (width, height) at c.loop-y.invariant.front
-    in let broken = rows_broken _ _ _ _ _ _ _ _ _ _ above front row
+    in let broken = rows_broken _ _ _ _ _ _ _ above front row
     in on_err _ broken
 
 pub loop-y-preserved : goal.loop-y-preserved
@@ -84,7 +84,7 @@ loop-y-preserved g c =
     let next = rw (c.as_slice.ensures.value, c.mean_row-row.ensures, wide, same) at c.in_ok-write_whole-2.ensures.ok in
     let front = rw (wide, high) at c.loop-y.invariant.front in
     record {
-      front = rw (wide, high) (rows_grown _ _ _ _ _ _ (header width height) row c.loop-y.y front next);
+      front = rw (wide, high) (rows_grown _ _ _ (header width height) row c.loop-y.y front next);
       strip = λ further. other_row _ _ state c.args.fine.now.width (2 ^ s * c.loop-y.y) (2 ^ s * (c.loop-y.y + 1))
           (next_in_strip s c.loop-y.y c.requires.few further) held;
       calm = grind (arith, c.loop-y.invariant.calm, c.in_ok-write_whole-2.ensures.cause.calm);

@@ -9,10 +9,9 @@ abbrev pub invariant-loop-byte : goal.invariant-loop-byte
 invariant-loop-byte g l = record {
   fits : Fits g.A.Array.BITS l.session (g.A.Array.device l.array) (g.A.Array.slots l.array);
   answered : Answered g.A.Array.BITS (stand l.fn.session (g.A.Array.work l.fn.array))
-      (stand l.session (g.A.Array.work l.array)) (g.O.Sink.written l.fn.out) (g.O.Sink.written l.out)
-      (g.O.Sink.finished l.fn.out) (g.O.Sink.finished l.out) (short_ended l.fn.held.items (take l.byte-index l.bytes));
+      (stand l.session (g.A.Array.work l.array)) (g.O.Sink.state l.fn.out) (g.O.Sink.state l.out) (short_ended l.fn.held.items (take l.byte-index l.bytes));
   quiet : has_quit (short_ended l.fn.held.items (take l.byte-index l.bytes)) ≡ false;
   held : l.held.items ≡ short_left l.fn.held.items (take l.byte-index l.bytes);
   count : l.session.lines ≤ l.fn.session.lines + l.byte-index;
-  calm : g.O.Sink.faults l.out ≡ g.O.Sink.faults l.fn.out;
+  calm : (g.O.Sink.state l.out).faults ≡ (g.O.Sink.state l.fn.out).faults;
 }

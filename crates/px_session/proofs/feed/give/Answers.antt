@@ -4,7 +4,7 @@ use Rattle.px_session.proofs.feed.give.Goals as goal
 
 pub returns-clause-ok : goal.returns-clause-ok
 returns-clause-ok g c =
-    on_ok_by _ c.line.ensures.ok (λ wrote. given_answered _ _ _ _ _ _ _ _ _ _ c.line.ensures.session
+    on_ok_by _ c.line.ensures.ok (λ wrote. given_answered _ _ _ _ _ _ _ _ c.line.ensures.session
     c.line.ensures.work wrote)
 
 pub returns-clause-going : goal.returns-clause-going
@@ -12,5 +12,5 @@ returns-clause-going g c = going_is _ c.args.line.now c.line.ensures.going
 
 pub returns-clause-err : goal.returns-clause-err
 returns-clause-err g c =
-    on_err_by _ c.line.ensures.err (λ wrote. given_broke _ _ _ _ _ _ _ _ _ _ c.line.ensures.session
+    on_err_by _ c.line.ensures.err (λ wrote. given_broke _ _ _ _ _ _ _ _ c.line.ensures.session
     c.line.ensures.work wrote)

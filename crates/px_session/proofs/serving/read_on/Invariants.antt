@@ -11,18 +11,17 @@ invariant-loop-more g l = record {
   within : l.more ≤ l.limit;
   went : Went l.limit (l.limit - l.more) g.A.Array.BITS l.fn.held.items l.held.items
       (stand l.fn.session (g.A.Array.work l.fn.array)) (stand l.session (g.A.Array.work l.array))
-      (g.S.Source.rest l.fn.input) (g.S.Source.rest l.input) (g.O.Sink.written l.fn.out) (g.O.Sink.written l.out)
-      (g.O.Sink.finished l.fn.out) (g.O.Sink.finished l.out);
+      (g.S.Source.rest l.fn.input) (g.S.Source.rest l.input) (g.O.Sink.state l.fn.out) (g.O.Sink.state l.out);
   few : l.session.lines + l.more < 2 ^ 64 - 1;
   prompt : (b : Begun) → Caught g.A.Array.BITS b l.limit (stand l.fn.session (g.A.Array.work l.fn.array)) l.fn.held.items (g.S.Asks.asks l.fn.input) (g.S.Source.rest l.fn.input)
-      (g.O.Sink.written l.fn.out) (g.O.Sink.finished l.fn.out)
+      (g.O.Sink.state l.fn.out)
       → PromptsFrom g.A.Array.BITS b (g.S.Asks.asks l.input) (g.S.Source.rest l.input);
   caught : (b : Begun) → Caught g.A.Array.BITS b l.limit (stand l.fn.session (g.A.Array.work l.fn.array)) l.fn.held.items (g.S.Asks.asks l.fn.input) (g.S.Source.rest l.fn.input)
-      (g.O.Sink.written l.fn.out) (g.O.Sink.finished l.fn.out)
+      (g.O.Sink.state l.fn.out)
       → 0 < l.more → Caught g.A.Array.BITS b l.more (stand l.session (g.A.Array.work l.array)) l.held.items (g.S.Asks.asks l.input) (g.S.Source.rest l.input)
-      (g.O.Sink.written l.out) (g.O.Sink.finished l.out);
+      (g.O.Sink.state l.out);
   calm_in : g.S.Source.faults l.input ≡ g.S.Source.faults l.fn.input;
-  calm_out : g.O.Sink.faults l.out ≡ g.O.Sink.faults l.fn.out;
+  calm_out : (g.O.Sink.state l.out).faults ≡ (g.O.Sink.state l.fn.out).faults;
 }
 
 abbrev pub decreases-loop-more : goal.decreases-loop-more

@@ -9,14 +9,14 @@ use Rattle.px_shadow.proofs.masks.write_masks.Goals as goal
 pub returns-in_err-write_whole-clause-err : goal.returns-in_err-write_whole-clause-err
 returns-in_err-write_whole-clause-err g c =
     let bytes : c.as_bytes.result.now ≡ header c.args.scene.now.width c.args.scene.now.height = cc
-    in on_err _ (front_before _ _ _ _ _ _ (rw bytes at c.in_err-write_whole.ensures.err))
+    in on_err _ (front_before _ _ _ _ (rw bytes at c.in_err-write_whole.ensures.err))
 
 pub returns-in_err-write_whole-2-clause-err : goal.returns-in_err-write_whole-2-clause-err
 returns-in_err-write_whole-2-clause-err g c =
     let row = rw (c.as_slice.ensures.value, c.mask_row-row.ensures) at c.in_err-write_whole-2.ensures.err
     in let above : c.loop-y.y < c.args.scene.now.height = omega (arith, c.height-y-end.ensures.value)
     in on_err _ (rw c.lights_field-field.ensures.field at
-    (rows_broken _ _ _ _ _ _ _ _ _ _ above c.loop-y.invariant.front row))
+    (rows_broken _ _ _ _ _ _ _ above c.loop-y.invariant.front row))
 
 pub loop-y-preserved : goal.loop-y-preserved
 loop-y-preserved g c =
@@ -25,7 +25,7 @@ loop-y-preserved g c =
     in let row = row_bytes c.args.scene.now.width (stored_number c.lights_field-field.result state)
     in let next = rw (c.as_slice.ensures.value, c.mask_row-row.ensures) at c.in_ok-write_whole-2.ensures.ok
     in record {
-      front = rows_grown _ _ _ _ _ _ above row c.loop-y.y c.loop-y.invariant.front next;
+      front = rows_grown _ _ _ above row c.loop-y.y c.loop-y.invariant.front next;
       calm = grind (arith, c.loop-y.invariant.calm, c.in_ok-write_whole-2.ensures.cause.calm);
     }
 

@@ -10,8 +10,7 @@ abbrev pub invariant-loop-y : goal.invariant-loop-y
 invariant-loop-y g l =
     let row = row_bytes l.scene.width (stored_number l.field (g.A.Array.device l.array).state)
     in record {
-      front : TakesAll (g.O.Sink.written l.fn.out) (g.O.Sink.written l.out)
-          (g.O.Sink.finished l.fn.out) (g.O.Sink.finished l.out)
+      front : TakesAll (g.O.Sink.state l.fn.out) (g.O.Sink.state l.out)
           (header l.scene.width l.scene.height ++ flat_map row (range_with_len 0 l.y));
-      calm : g.O.Sink.faults l.out ≡ g.O.Sink.faults l.fn.out;
+      calm : (g.O.Sink.state l.out).faults ≡ (g.O.Sink.state l.fn.out).faults;
     }

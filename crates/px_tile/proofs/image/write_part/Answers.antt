@@ -18,7 +18,7 @@ returns-clause-ok g c =
     c.laws_of_surfaces.ensures.first
     c.args.width c.args.height c.args.found.now c.requires.found c.args.part in
     let bytes : c.as_bytes.result.now ≡ header c.args.width c.args.height = cc in
-    all_after _ _ _ _ _ _ _ _ _ _ image (rw bytes at c.in_ok-write_whole.ensures.ok) c.write_pixels.ensures.ok
+    all_after _ _ _ _ _ _ _ image (rw bytes at c.in_ok-write_whole.ensures.ok) c.write_pixels.ensures.ok
 
 pub returns-clause-err : goal.returns-clause-err
 returns-clause-err g c =
@@ -26,4 +26,4 @@ returns-clause-err g c =
     c.laws_of_surfaces.ensures.first
     c.args.width c.args.height c.args.found.now c.requires.found c.args.part in
     let bytes : c.as_bytes.result.now ≡ header c.args.width c.args.height = cc in
-    front_then _ _ _ _ _ _ _ _ _ _ image (rw bytes at c.in_ok-write_whole.ensures.ok) c.write_pixels.ensures.err
+    front_then _ _ _ _ _ _ _ image (rw bytes at c.in_ok-write_whole.ensures.ok) c.write_pixels.ensures.err

@@ -16,7 +16,7 @@ loop-start-preserved g c =
     record {
       within = omega arith;
       front = rw (bytes_on p xs start end low) at
-          (takes_both _ _ _ _ _ _ (bytes_of p (take start xs)) (bytes_of p (between start end xs))
+          (takes_both _ _ _ (bytes_of p (take start xs)) (bytes_of p (between start end xs))
           c.loop-start.invariant.front wrote);
       calm = c.in_ok-write_whole.ensures.cause.calm ∙ c.loop-start.invariant.calm;
     }
@@ -30,7 +30,7 @@ returns-in_err-write_whole-clause-err g c =
     let low : start ≤ end = omega (arith, c.loop-start-test.true) in
     let wrote = rw (c.as_slice.ensures.value, c.piece_bytes-bytes.ensures) at c.in_err-write_whole.ensures.err in
     let front = rw (bytes_on p xs start end low) at
-    (front_after _ _ _ _ _ _ (bytes_of p (take start xs)) (bytes_of p (between start end xs))
+    (front_after _ _ _ (bytes_of p (take start xs)) (bytes_of p (between start end xs))
     c.loop-start.invariant.front wrote) in
-    on_err _ (rw (bytes_all p xs end) at (front_before _ _ _ _ (bytes_of p (take end xs))
+    on_err _ (rw (bytes_all p xs end) at (front_before _ _ (bytes_of p (take end xs))
     (bytes_of p (drop end xs)) front))

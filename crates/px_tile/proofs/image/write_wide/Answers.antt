@@ -4,4 +4,4 @@ use Rattle.px_tile.proofs.image.write_wide.Goals as goal
 
 pub returns-clause-err : goal.returns-clause-err
 returns-clause-err g c =
-    front_then _ _ _ _ _ _ _ _ _ _ refl c.in_ok-write_part.ensures.ok c.write_part-2.ensures.err
+    front_then _ _ _ _ _ _ _ refl c.in_ok-write_part.ensures.ok c.write_part-2.ensures.err
