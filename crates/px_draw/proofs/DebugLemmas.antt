@@ -1,12 +1,12 @@
 -- What a session over an input is, by what was read of it.
-use Rattle.std.proofs.Common.{ℕ, pos, ◌≡◌, ◌+◌, ◌-◌, ◌<◌, ◌≤◌, ◌++◌, ◌&&◌, not, inl, inr, List, [], length, take}
+use Rattle.std.proofs.Common.{ℕ, ◌≡◌, ◌+◌, ◌-◌, ◌<◌, ◌≤◌, ◌++◌, ◌&&◌, not, inl, inr, List, [], length, take}
 use Rattle.std.proofs.Common.{true, false, Bool, Option, Some, None, Result, refl, ap, sym, ◌∙◌, arith, append_assoc}
 use Rattle.std.proofs.Common.{append-nil, length-append, is_some, subst, if◌then◌else◌}
 use Rattle.std.proofs.lemmas.Bool.{cases_lt}
 use Rattle.std.proofs.lemmas.List.{take_all, take-append-le, drop-append-le}
 use Rattle.std.proofs.Math.Seq.{take-append-add}
 use Rattle.std.specs.Io.KnownBytes.{Consumes, IsAtEnd}
-use Rattle.px_io.specs.Told.{SinkState, ConsumesAtMost}
+use Rattle.px_io.specs.Told.{ConsumesAtMost}
 use Rattle.px_io.proofs.ToldLaws.{consumes_both}
 use Rattle.px_array.specs.Slots.{ArrayView}
 use Rattle.px_scene.specs.Scenes.{SceneView}
@@ -14,7 +14,9 @@ use Rattle.px_debug.specs.Moves.{Fits, SessionView}
 use Rattle.px_lines.specs.Lines.{whole_lines}
 use Rattle.px_lines.specs.PartLaws.{PartIsKept, PartIsWithin}
 use Rattle.px_lines.specs.Parts.{behind_part, holds_part, part_end, scene_part}
-use Rattle.px_session.specs.Servings.{Answered, Broken, Finished, HasServed, seen}
+use Rattle.px_session.specs.Prompts.{Moment}
+use Rattle.px_session.specs.Servings as session
+use Rattle.px_session.specs.Servings.{Answered, Broken, HasRead, HasServed, lines_in, seen}
 use Rattle.px_session.specs.SessionLaws.{QuitEnds, SceneStays}
 use Rattle.px_session.specs.Sessions.{Obeyed, Stand, after, answers, clocks_over, has_quit, session_opened, until_quit}
 use Rattle.px_session.specs.declared.serving.Ending.{Ending}
@@ -23,14 +25,15 @@ use Rattle.px_show.specs.declared.fault.LimitKind.TheVariants as kind
 use Rattle.px_command.specs.declared.command.Command.TheVariants as c
 use Rattle.px_draw.specs.declared.refusal.Kind.TheVariants as k
 use Rattle.px_draw.specs.declared.stop.Stop.{Stop}
-use Rattle.px_draw.specs.Debugs.{IsAfter, IsAnswered, IsBroken, IsOver, admitted, all_commands, answered}
+use Rattle.px_draw.specs.Debugs.{IsAfter, IsAnswered, IsBroken, admitted, all_commands, answered}
 use Rattle.px_draw.specs.Debugs.{command_text, debugged, has_part, is_long, scene_part_of, part_scene, scene_written}
 use Rattle.px_draw.specs.Debugs.{session_of, whole_commands, within_limit}
-use Rattle.px_draw.specs.Outcomes.{Outcome, cut, done, drawable, unless_refused}
+use Rattle.px_draw.specs.Ends.{Ends}
+use Rattle.px_draw.specs.Outcomes.{Outcome, cut, done, drawable, has_output, unless_refused}
 use Rattle.px_draw.specs.Refusals.{text_refusal, too_long}
-use Rattle.px_draw.specs.Runs.{IsInput, HasOutput}
+use Rattle.px_draw.specs.Results.{HasCauses}
+use Rattle.px_draw.specs.Runs.{IsInput, Performs}
 use Rattle.px_draw.specs.Sittings.{Sits, result_of}
-use Rattle.px_draw.specs.Stops.{Performs}
 use Rattle.px_draw.proofs.LimitLemmas.{not_filled, past_limit}
 
 cut_both : (n : ℕ) (xs ys : List ℕ) → take n (xs ++ ys) ≡ take n xs ++ take (n - length xs) ys
@@ -149,12 +152,12 @@ outcome_is bits scene bytes holds =
     debugged_is bytes bits (and_not (is_long bytes) (has_part bytes) holds.part) ∙ holds.admits (answered bytes bits)
 
 -- an output stands to be written
-has_output : (bytes : List ℕ) (bits : ℕ) → HasOutput (answered bytes bits)
+has_answered : (bytes : List ℕ) (bits : ℕ) → has_output (answered bytes bits) ≡ true
 unfolding answered
-has_output bytes bits =
+has_answered bytes bits =
     elim (is_long bytes && not (has_quit (whole_commands bytes))) as (λ t.
-    HasOutput (if t then cut (answers bits (session_of bytes) (whole_commands bytes)) too_long
-    else done (answers bits (session_of bytes) (until_quit (all_commands bytes))))) [ true ↦ tt | false ↦ tt ]
+    has_output (if t then cut (answers bits (session_of bytes) (whole_commands bytes)) too_long
+    else done (answers bits (session_of bytes) (until_quit (all_commands bytes)))) ≡ true) [ true ↦ refl | false ↦ refl ]
 
 -- the array that a session is lent, whose work was 0 where it began
 pub record IsLent (bits : ℕ) (from now : Stand) (array : ArrayView) : Type 0 where
@@ -175,49 +178,37 @@ stands stays bits bytes from now lines array start state lent =
       work = omega (arith, state.work, lent.none, lent.same, ap (λ x. clocks_over x lines) start);
     }
 
-over : SceneStays → (bits : ℕ) (bytes : List ℕ) (from now : Stand) (lines : List (List ℕ))
-    (a b : SinkState) (array : ArrayView)
-    → from.session ≡ session_of bytes → IsLent bits from now array → Finished bits from now a b lines
-    → IsOver bits bytes lines a b array
-over stays bits bytes from now lines a b array start fits finished = record {
-  wrote = rw (← start) finished.wrote;
-  end = finished.end;
-  array = stands stays bits bytes from now lines array start finished.state fits;
+all_answered : SceneStays → (ends : Bool) (bits : ℕ) (bytes : List ℕ) (from now : Stand) (lines : List (List ℕ))
+    (before after : Ends) → from.session ≡ session_of bytes → from.out ≡ before.out → now.out ≡ after.out
+    → IsLent bits from now after.array → Answered ends bits from now lines → IsAnswered ends bits bytes lines before after
+all_answered stays ends bits bytes from now lines before after start old new fits said = record {
+  wrote = rw (← start, ← old, ← new) said.wrote;
+  array = stands stays bits bytes from now lines after.array start said.state fits;
 }
 
-all_answered : SceneStays → (bits : ℕ) (bytes : List ℕ) (from now : Stand) (lines : List (List ℕ))
-    (a b : SinkState) (array : ArrayView)
-    → from.session ≡ session_of bytes → IsLent bits from now array → Answered bits from now a b lines
-    → IsAnswered bits bytes lines a b array
-all_answered stays bits bytes from now lines a b array start fits said = record {
-  wrote = rw (← start) said.wrote;
-  array = stands stays bits bytes from now lines array start said.state fits;
-}
-
-broken : SceneStays → (bits : ℕ) (bytes : List ℕ) (from now : Stand) (lines : List (List ℕ))
-    (a b : SinkState) (array : ArrayView)
-    → from.session ≡ session_of bytes → IsLent bits from now array → Broken bits from now a b lines
-    → IsBroken bits bytes lines a b array
-broken stays bits bytes from now lines a b array start fits broke = record {
+broken : SceneStays → (bits : ℕ) (bytes : List ℕ) (from now : Stand) (lines : List (List ℕ)) (before after : Ends)
+    → from.session ≡ session_of bytes → from.out ≡ before.out → now.out ≡ after.out
+    → IsLent bits from now after.array → Broken true bits from now lines → IsBroken bits bytes lines before after
+broken stays bits bytes from now lines before after start old new fits broke = record {
   count = broke.count;
   within = broke.within;
-  some = broke.some;
+  some = λ none. (broke.some none).1;
   gained = broke.gained;
-  before = rw (← start) broke.enough;
-  wrote = rw (← start) broke.wrote;
-  array = stands stays bits bytes from now (take broke.count lines) array start broke.state fits;
+  enough = rw (← start) broke.before;
+  wrote = rw (← start, ← old, ← new) broke.wrote;
+  array = stands stays bits bytes from now (take broke.count lines) after.array start broke.state fits;
 }
 
 -- a session over a scene part, and what was read behind it
-pub record Sat (bits n : ℕ) (text z : List ℕ) (scene : SceneView) (known rest : Option (List ℕ))
-    (from now : Stand)
-    (array : ArrayView) : Type 0 where
+pub record Sat (bits n : ℕ) (text z : List ℕ) (scene : SceneView) (from now : Stand) (before after : Ends) : Type 0 where
   pub laws : Laws
   pub seated : Seated bits n text scene
   pub few : length text ≤ 1048577
-  pub consumed : Consumes known rest (text ++ z)
+  pub consumed : Consumes before.rest after.rest (text ++ z)
   pub start : from.session ≡ session_opened scene
-  pub fits : IsLent bits from now array
+  pub fits : IsLent bits from now after.array
+  pub old : from.out ≡ before.out
+  pub new : now.out ≡ after.out
 
 -- and of all bytes of the input
 record Sees (bits : ℕ) (text z more bytes : List ℕ) (scene : SceneView) (from : Stand) : Type 0 where
@@ -274,15 +265,14 @@ answered_long bytes bits long quiet = rw (long, quiet) refl
 -- what a session does, by how it ended
 abbrev ServedAs : Ending → Type 0
 ServedAs ending =
-    (bits n : ℕ) (text z : List ℕ) (scene : SceneView) (known rest : Option (List ℕ)) (a b : SinkState)
-    (from now : Stand) (before array : ArrayView)
-    → Sat bits n text z scene known rest from now array
-    → HasServed ending bits from now a b (command_text (text ++ z)) z (more_than text) rest
-    → Performs (result_of ending) (Some c.Debug) bits known rest a b before array
+    (bits n : ℕ) (text z : List ℕ) (scene : SceneView) (from now : Stand) (before after : Ends)
+    → Sat bits n text z scene from now before after → HasRead ending z (more_than text) after.rest
+    → HasServed ending true bits from now (lines_in (command_text (text ++ z)))
+    → Performs (result_of ending) (Some c.Debug) bits before after
 
 served_as : (ending : Ending) → ServedAs ending
-served_as e.Quit bits n text z scene known rest a b from now before array sat served =
-    let ext = extends known rest (text ++ z) sat.consumed in
+served_as e.Quit bits n text z scene from now before after sat read served =
+    let ext = extends before.rest after.rest (text ++ z) sat.consumed in
     let bytes = ext.bytes in
     let see = sees sat.laws bits n text z ext.more bytes scene from sat.seated sat.start (ext.whole
     ∙ append_assoc text z ext.more) in
@@ -292,139 +282,151 @@ served_as e.Quit bits n text z scene known rest a b from now before array sat se
     let lines : until_quit (all_commands bytes) ≡ until_quit (whole_lines behind) = rw see.behind stays.lines in
     let is = outcome_is bits scene bytes see.all ∙ answered_quit bytes bits quits in
     record {
-      bytes = bytes;
-      taken = text ++ z;
-      input = ext.input;
+      input = record { bytes = bytes; taken = text ++ z };
+      known = ext.input;
       consumed = sat.consumed;
       front = (ext.more, ext.whole);
-      status = rw is refl;
-      line = tt;
-      leaves = over sat.laws.scene bits bytes from now (until_quit (all_commands bytes)) a b array
-          see.start_all sat.fits (rw lines served.0);
+      meets = rw is refl;
+      leaves = all_answered sat.laws.scene true bits bytes from now (until_quit (all_commands bytes)) before after
+          see.start_all sat.old sat.new sat.fits (rw lines served.0);
     }
-served_as e.End bits n text z scene known rest a b from now before array sat served =
-    let ext = extends known rest (text ++ z) sat.consumed in
+served_as e.End bits n text z scene from now before after sat read served =
+    let ext = extends before.rest after.rest (text ++ z) sat.consumed in
     let bytes = ext.bytes in
     let see = sees sat.laws bits n text z ext.more bytes scene from sat.seated sat.start (ext.whole
     ∙ append_assoc text z ext.more) in
-    let same : bytes ≡ text ++ z = ext.whole ∙ ap (λ more. (text ++ z) ++ more) (ext.end served.3)
+    let same : bytes ≡ text ++ z = ext.whole ∙ ap (λ more. (text ++ z) ++ more) (ext.end read.1)
     ∙ append-nil (text ++ z) in
-    let short = short_is bytes (rw same (omega (arith, length-append text z, served.2, sat.few))) in
+    let short = short_is bytes (rw same (omega (arith, length-append text z, read.0, sat.few))) in
     let is = outcome_is bits scene bytes see.all ∙ answered_end bytes bits short in
     record {
-      bytes = bytes;
-      taken = text ++ z;
-      input = ext.input;
+      input = record { bytes = bytes; taken = text ++ z };
+      known = ext.input;
       consumed = sat.consumed;
       front = (ext.more, ext.whole);
-      status = rw is refl;
-      line = tt;
-      leaves = over sat.laws.scene bits bytes from now (until_quit (all_commands bytes)) a b array
-          see.start_all sat.fits (rw same served.0);
+      meets = rw is refl;
+      leaves = all_answered sat.laws.scene true bits bytes from now (until_quit (all_commands bytes)) before after
+          see.start_all sat.old sat.new sat.fits (rw same served.0);
     }
-served_as e.Long bits n text z scene known rest a b from now before array sat served =
-    let ext = extends known rest (text ++ z) sat.consumed in
+served_as e.Long bits n text z scene from now before after sat read served =
+    let ext = extends before.rest after.rest (text ++ z) sat.consumed in
     let bytes = ext.bytes in
     let see = sees sat.laws bits n text z ext.more bytes scene from sat.seated sat.start (ext.whole
     ∙ append_assoc text z ext.more) in
-    let none : more_than text - 1 - length z ≡ 0 = omega (arith, served.2) in
+    let none : more_than text - 1 - length z ≡ 0 = omega (arith, read) in
     let behind : command_text bytes ≡ command_text (text ++ z) =
     see.behind ∙ ap (λ k. command_text (text ++ z) ++ take k ext.more) none ∙ append-nil (command_text (text ++ z)) in
     let long = long_is bytes (rw ext.whole (omega (
       arith,
       length-append (text ++ z) ext.more,
       length-append text z,
-      served.2,
+      read,
       sat.few,
     ))) in
     let quiet : has_quit (whole_commands bytes) ≡ false = rw behind served.1 in
     let is = outcome_is bits scene bytes see.all ∙ answered_long bytes bits long quiet in
     record {
-      bytes = bytes;
-      taken = text ++ z;
-      input = ext.input;
+      input = record { bytes = bytes; taken = text ++ z };
+      known = ext.input;
       consumed = sat.consumed;
       front = (ext.more, ext.whole);
-      status = (0, k.Scene kind.Text, pos 1048577, rw is refl);
-      line = rw is refl;
-      leaves = rw is (all_answered sat.laws.scene bits bytes from now (whole_commands bytes) a b array
-          see.start_all sat.fits (rw behind served.0));
+      meets = rw is refl;
+      leaves = rw is (all_answered sat.laws.scene false bits bytes from now (whole_commands bytes) before after
+          see.start_all sat.old sat.new sat.fits (rw behind served.0));
     }
-served_as e.ReadFault bits n text z scene known rest a b from now before array sat served =
-    let ext = extends known rest (text ++ z) sat.consumed in
+served_as e.ReadFault bits n text z scene from now before after sat read served =
+    let ext = extends before.rest after.rest (text ++ z) sat.consumed in
     let bytes = ext.bytes in
     let see = sees sat.laws bits n text z ext.more bytes scene from sat.seated sat.start (ext.whole
     ∙ append_assoc text z ext.more) in
     record {
-      bytes = bytes;
-      taken = text ++ z;
-      input = ext.input;
+      input = record { bytes = bytes; taken = text ++ z };
+      known = ext.input;
       consumed = sat.consumed;
       front = (ext.more, ext.whole);
-      status = tt;
-      line = refl;
+      meets = tt;
       leaves = record {
         whole = λ part. record {
           admits = see.taken.admits;
           quiet = served.1;
-          answered = all_answered sat.laws.scene bits (text ++ z) from now (whole_commands (text ++ z)) a b array see.start_taken sat.fits served.0;
+          answered = all_answered sat.laws.scene false bits (text ++ z) from now (whole_commands (text ++ z)) before after
+              see.start_taken sat.old sat.new sat.fits served.0;
         };
         other = λ none. absurd (let two : true ≡ false = sym see.taken.part ∙ none in cc);
       };
     }
-served_as e.WriteFault bits n text z scene known rest a b from now before array sat served =
-    let ext = extends known rest (text ++ z) sat.consumed in
+served_as e.WriteFault bits n text z scene from now before after sat read served =
+    let ext = extends before.rest after.rest (text ++ z) sat.consumed in
     let bytes = ext.bytes in
     let see = sees sat.laws bits n text z ext.more bytes scene from sat.seated sat.start (ext.whole
     ∙ append_assoc text z ext.more) in
     record {
-      bytes = bytes;
-      taken = text ++ z;
-      input = ext.input;
+      input = record { bytes = bytes; taken = text ++ z };
+      known = ext.input;
       consumed = sat.consumed;
       front = (ext.more, ext.whole);
-      status = rw (outcome_is bits scene bytes see.all) (has_output bytes bits);
-      line = refl;
+      meets = ap has_output (outcome_is bits scene bytes see.all) ∙ has_answered bytes bits;
       leaves = record {
         admits = see.taken.admits;
-        broken = broken sat.laws.scene bits (text ++ z) from now (until_quit (all_commands (text ++ z))) a b array
-            see.start_taken sat.fits served;
+        broken = broken sat.laws.scene bits (text ++ z) from now (until_quit (all_commands (text ++ z))) before after
+            see.start_taken sat.old sat.new sat.fits served;
       };
     }
 
 -- command lines were answered behind a scene part
 pub performs_sat : (laws : Laws) (result : Result (Unit {0}) Stop) (bits n : ℕ) (text read : List ℕ) (more : ℕ)
-    (scene : SceneView)
-    (known rest rest' : Option (List ℕ)) (a b : SinkState) (from now : Stand) (before array : ArrayView)
-    → Seated bits n text scene → length text ≤ 1048577 → Consumes known rest text → from.session ≡ session_opened scene
-    → IsLent bits from now array
-    → read ≡ command_text text → more ≡ more_than text → Sits result bits read more from now rest rest' a b
-    → Performs result (Some c.Debug) bits known rest' a b before array
-performs_sat laws result bits n text read more scene known rest rest' a b from now before array seated few
-    opens start fits behind left sits =
+    (scene : SceneView) (was now : Moment) (before after : Ends)
+    → Seated bits n text scene → length text ≤ 1048577 → Consumes before.rest was.rest text
+    → was.at.session ≡ session_opened scene → IsLent bits was.at now.at after.array
+    → was.at.out ≡ before.out → now.at.out ≡ after.out → now.rest ≡ after.rest
+    → read ≡ command_text text → more ≡ more_than text → Sits result bits read more was now
+    → Performs result (Some c.Debug) bits before after
+performs_sat laws result bits n text read more scene was now before after seated few opens start fits old new rest
+    behind left sits =
     let serves = sits.serves in
     let z = serves.bytes in
-    let here = subst (λ m. HasServed sits.ending bits from now a b (read ++ seen m z) z m rest') left
-    serves.served in
     let whole : read ++ seen (more_than text) z ≡ command_text (text ++ z) =
     ap (λ t. t ++ seen (more_than text) z) behind ∙ sym (grown laws.kept laws.within text z n seated.part).behind in
-    let served = subst (λ t. HasServed sits.ending bits from now a b t z (more_than text) rest') whole here in
-    rw sits.result (served_as sits.ending bits n text z scene known rest' a b from now before array (record {
+    let served = subst (λ t. HasServed sits.ending true bits was.at now.at (lines_in t)) whole
+    (subst (λ m. HasServed sits.ending true bits was.at now.at (lines_in (read ++ seen m z))) left serves.served) in
+    let taken = rw rest at (consumes_both before.rest was.rest now.rest text z opens serves.taken) in
+    let ended = rw rest at (subst (λ m. HasRead sits.ending z m now.rest) left serves.ended) in
+    rw sits.result (served_as sits.ending bits n text z scene was.at now.at before after (record {
       laws = laws;
       seated = seated;
       few = few;
-      consumed = consumes_both known rest rest' text z opens serves.taken;
+      consumed = taken;
       start = start;
       fits = fits;
-    }) served)
+      old = old;
+      new = new;
+    }) ended served)
 
 pub took_sat : (result : Result (Unit {0}) Stop) (bits : ℕ) (text read : List ℕ) (more : ℕ)
-    (known rest rest' : Option (List ℕ)) (a b : SinkState)
-    (from now : Stand) → length text ≤ 1048577 → Consumes known rest text → more ≡ more_than text
-    → Sits result bits read more from now rest rest' a b
-    → ConsumesAtMost known rest' 1048577
-took_sat result bits text read more known rest rest' a b from now few opens left sits = (
+    (known : Option (List ℕ)) (was now : Moment) → length text ≤ 1048577 → Consumes known was.rest text
+    → more ≡ more_than text → Sits result bits read more was now → ConsumesAtMost known now.rest 1048577
+took_sat result bits text read more known was now few opens left sits = (
   text ++ sits.serves.bytes,
-  consumes_both known rest rest' text sits.serves.bytes opens sits.serves.taken,
+  consumes_both known was.rest now.rest text sits.serves.bytes opens sits.serves.taken,
   omega (arith, length-append text sits.serves.bytes, sits.serves.few, few, left),
 )
+
+-- which counts of faults rose in a session, rose in the command
+pub session_causes : (ending : Ending) (was now : Moment) → session.HasCauses ending was now
+    → HasCauses (result_of ending) was.faults now.faults was.at.out.faults now.at.out.faults
+session_causes e.Quit was now causes =
+    record { read = λ e. cc; write = λ e. cc; input = λ other. causes.0; out = λ other. causes.1 }
+session_causes e.End was now causes =
+    record { read = λ e. cc; write = λ e. cc; input = λ other. causes.0; out = λ other. causes.1 }
+session_causes e.Long was now causes =
+    record { read = λ e. cc; write = λ e. cc; input = λ other. causes.0; out = λ other. causes.1 }
+session_causes e.ReadFault was now causes =
+    record { read = λ e. causes.0; write = λ e. cc; input = λ other. absurd (other refl); out = λ other. causes.1 }
+session_causes e.WriteFault was now causes =
+    record { read = λ e. cc; write = λ e. causes.0; input = λ other. causes.1; out = λ other. absurd (other refl) }
+
+pub sat_causes : (result : Result (Unit {0}) Stop) (bits : ℕ) (read : List ℕ) (more : ℕ) (was now : Moment)
+    (m : ℕ) → was.faults ≡ m → Sits result bits read more was now
+    → HasCauses result m now.faults was.at.out.faults now.at.out.faults
+sat_causes result bits read more was now m calm sits =
+    rw (← calm, sits.result) (session_causes sits.ending was now sits.serves.causes)

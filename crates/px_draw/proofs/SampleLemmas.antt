@@ -1,8 +1,7 @@
 -- What is made of the sample's text is what the command does, and the shown pixels grow pixel by pixel and row by row.
-use Rattle.std.proofs.Common.{ℕ, ◌≡◌, ◌≢◌, ◌+◌, ◌*◌, ◌≤◌, List, [], true, Option, Some, None, Result, Ok}
+use Rattle.std.proofs.Common.{ℕ, ◌≡◌, ◌≢◌, ◌+◌, ◌*◌, ◌≤◌, List, [], Option, Some, None, Result}
 use Rattle.std.proofs.Common.{Err, inl, refl, sym, subst, arith}
-use Rattle.std.specs.Io.KnownBytes.{Appends}
-use Rattle.px_io.specs.Told.{SinkState, Tells}
+use Rattle.px_io.specs.Told.{SinkState}
 use Rattle.px_array.specs.Slots.{ArrayView}
 use Rattle.px_scene.specs.Scenes.{SceneView}
 use Rattle.px_scene.specs.Sample.{sample_text}
@@ -22,51 +21,21 @@ use Rattle.px_draw.specs.Countings.{IsShownAtMost, shown_at, shown_within, shown
 use Rattle.px_draw.specs.Outcomes.{Outcome, done, unless_refused}
 use Rattle.px_draw.specs.Refusals.{text_refusal}
 use Rattle.px_draw.specs.Samples.{measured, one_at, row_sum, sample_scene, sampled, shown_depth_at, text_measured}
-use Rattle.px_draw.specs.Stops.{HasStopCauses, IsSceneStop, IsTextStop, Meets, Performs, DoesWork, WritesOutcome}
-use Rattle.px_draw.specs.Stops.{status_in}
-use Rattle.px_draw.specs.Stops.{status_of}
-use Rattle.px_draw.proofs.WorkLemmas.{begins, bytes_of, is_input, keeps_same, line_meets, status_meets, wrote}
-use Rattle.px_io.proofs.ToldLaws.{consumes_none}
-
--- what reads nothing has no status of a read fault
-no_read_fault : (result : Result (Unit {0}) Stop) → result ≢ Err s.ReadFault → status_in result ≢ status.ReadFault
-no_read_fault (Ok u) reads = λ e. cc
-no_read_fault (Err s.Usage) reads = λ e. cc
-no_read_fault (Err (s.Refused (r.Malformed line cause))) reads = λ e. cc
-no_read_fault (Err (s.Refused (r.Limit line kind found))) reads = λ e. cc
-no_read_fault (Err s.ReadFault) reads = absurd (reads refl)
-no_read_fault (Err s.WriteFault) reads = λ e. cc
-no_read_fault (Err s.Memory) reads = λ e. cc
-
-sample_performs : (result : Result (Unit {0}) Stop) (n bits : ℕ) (known : Option (List ℕ))
-    (a b : SinkState) (before now : ArrayView) → DoesWork result (sampled n bits) a
-    b
-    → Draws (status_in result) bits (sample_scene n) before now → Performs result (Some (c.Sample n)) bits known known
-    a b before now
-sample_performs result n bits known a b before now serves array = record {
-  bytes = bytes_of known [];
-  taken = [];
-  input = is_input known [];
-  consumed = consumes_none known;
-  front = begins known known [] (consumes_none known);
-  status = status_meets result (sampled n bits) serves.meets;
-  line = line_meets result (sampled n bits) serves.meets;
-  leaves = record {
-    reads = no_read_fault result serves.reads;
-    wrote = wrote result (sampled n bits) a b serves.writes;
-    array = array;
-  };
-}
+use Rattle.px_draw.specs.Ends.{Ends}
+use Rattle.px_draw.specs.Results.{HasCauses, Meets, Wrote, status_in, status_of}
+use Rattle.px_draw.specs.Runs.{Performs}
+use Rattle.px_draw.specs.Stops.{DoesWork, IsSceneStop, IsTextStop}
+use Rattle.px_draw.proofs.WorkLemmas.{performs_over}
+use Rattle.px_io.proofs.ToldLaws.{consumes_none, stays}
 
 -- what is done for the outcome of the sample is what the command does
-pub performs_sample : (result : Result (Unit {0}) Stop) (command : Option Command) (n bits : ℕ)
-    (known : Option (List ℕ))
-    (a b : SinkState) (before now : ArrayView) → command ≡ Some (c.Sample n)
-    → DoesWork result (sampled n bits) a b → Draws (status_in result) bits (sample_scene n) before now
-    → Performs result command bits known known a b before now
-performs_sample result command n bits known a b before now is serves array =
-    subst (λ x. Performs result x bits known known a b before now) (sym is)
-    (sample_performs result n bits known a b before now serves array)
+pub performs_sample : (result : Result (Unit {0}) Stop) (command : Option Command) (n bits : ℕ) (before after : Ends)
+    → command ≡ Some (c.Sample n) → after.rest ≡ before.rest → DoesWork result (sampled n bits) before.out after.out
+    → Draws (status_in result) bits (sample_scene n) before.array after.array → Performs result command bits before after
+performs_sample result command n bits before after is same serves array =
+    subst (λ x. Performs result x bits before after) (sym is)
+    (performs_over result (Some (c.Sample n)) bits before after [] (rw same (consumes_none before.rest)) serves.meets
+    (record { wrote = serves.writes; array = (serves.reads, array) }))
 
 -- what is done for the sample's text is done for the sample
 pub sample_serves : (result : Result (Unit {0}) Stop) (n bits : ℕ) (text : List ℕ) (a b : SinkState)
@@ -83,20 +52,19 @@ sample_draws found n bits text before now is draws =
     subst (λ t. Draws found bits (scene_of (worded t)) before now) is draws
 
 -- a stop that neither a write nor a read fault made
-pub stop_causes : (stop : Stop) (k m : ℕ) → IsSceneStop stop → HasStopCauses (Err stop) k k m m
+pub stop_causes : (stop : Stop) (k m : ℕ) → IsSceneStop stop → HasCauses (Err stop) k k m m
 stop_causes (s.Refused reason) k m is = record { read = λ e. cc; write = λ e. cc; input = λ e. refl; out = λ e. refl }
 stop_causes s.Memory k m is = record { read = λ e. cc; write = λ e. cc; input = λ e. refl; out = λ e. refl }
 stop_causes s.Usage k m is = absurd is
 stop_causes s.ReadFault k m is = absurd is
 stop_causes s.WriteFault k m is = absurd is
 
-pub stop_writes : (stop : Stop) (o : Outcome) (a : SinkState) → IsSceneStop stop
-    → WritesOutcome (Err stop) o a a
-stop_writes (s.Refused reason) o a is = (keeps_same a.written, refl)
-stop_writes s.Memory o a is = (keeps_same a.written, refl)
-stop_writes s.Usage o a is = absurd is
-stop_writes s.ReadFault o a is = absurd is
-stop_writes s.WriteFault o a is = absurd is
+pub stop_writes : (stop : Stop) (text : List ℕ) (a : SinkState) → IsSceneStop stop → Wrote (Err stop) text a a
+stop_writes (s.Refused reason) text a is = stays a
+stop_writes s.Memory text a is = stays a
+stop_writes s.Usage text a is = absurd is
+stop_writes s.ReadFault text a is = absurd is
+stop_writes s.WriteFault text a is = absurd is
 
 pub not_usage : (result : Result (Unit {0}) Stop) (stop : Stop) → result ≡ Err stop → IsSceneStop stop
     → result ≢ Err s.Usage
@@ -149,17 +117,6 @@ text_meets s.Memory text o is = tt
 text_meets s.Usage text o is = absurd is
 text_meets s.ReadFault text o is = absurd is
 text_meets s.WriteFault text o is = absurd is
-
--- the numbers were written
-pub serves_done : (o : Outcome) (bytes : List ℕ) (a b : SinkState) → o ≡ done bytes
-    → Appends a.written b.written bytes → Tells b.finished true → b.faults ≡ a.faults → DoesWork (Ok tt) o a b
-serves_done o bytes a b is wrote end calm = rw is (record {
-  meets = refl;
-  writes = (wrote, end);
-  causes = λ k. record { read = λ e. cc; write = λ e. cc; input = λ e. refl; out = λ e. calm };
-  worded = λ e. cc;
-  reads = λ e. cc;
-})
 
 -- the text is no scene's
 pub text_serves : (result : Result (Unit {0}) Stop) (stop : Stop) (text : List ℕ) (bits : ℕ) (a : SinkState)

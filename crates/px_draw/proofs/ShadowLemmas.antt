@@ -1,5 +1,5 @@
 -- What is found of the shadows of a text that was read is found of the input, and what stops it.
-use Rattle.std.proofs.Common.{ℕ, ◌≡◌, ◌<◌, ◌≤◌, inl, inr, List, length, take, drop, unwrap_or, Option, Some}
+use Rattle.std.proofs.Common.{ℕ, ◌≡◌, ◌<◌, ◌≤◌, inl, inr, List, length, take, drop, unwrap_or, Some}
 use Rattle.std.proofs.Common.{None, Result, Ok, Err, refl, ap, sym, subst, ◌∙◌, arith, length-take}
 use Rattle.std.proofs.lemmas.Bool.{cases_lt}
 use Rattle.std.proofs.lemmas.List.{take_all}
@@ -21,15 +21,17 @@ use Rattle.px_draw.specs.declared.refusal.Refusal.{Refusal}
 use Rattle.px_draw.specs.declared.refusal.Refusal.TheVariants as r
 use Rattle.px_draw.specs.declared.stop.Stop.{Stop}
 use Rattle.px_draw.specs.declared.stop.Stop.TheVariants as s
-use Rattle.px_draw.specs.Outcomes.{Outcome, done, refused, unless_refused}
+use Rattle.px_draw.specs.Ends.{Ends, IsUntouched}
+use Rattle.px_draw.specs.Outcomes.{Outcome, done, refusal, refused, unless_refused}
 use Rattle.px_draw.specs.Refusals.{text_refusal, too_long}
-use Rattle.px_draw.specs.Runs.{BeginsWith, IsInput}
+use Rattle.px_draw.specs.Results.{Meets, status_in}
+use Rattle.px_draw.specs.Runs.{Performs}
 use Rattle.px_draw.specs.Shadows.{Shades, lights_in, lights_refusal, line_behind, lit, lit_by_lines, lit_drawable}
 use Rattle.px_draw.specs.Shadows.{parts_lit, shadowed}
-use Rattle.px_draw.specs.Stops.{IsReadStop, IsSceneStop, Meets, Performs, DoesWork, status_in}
+use Rattle.px_draw.specs.Stops.{DoesWork, IsReadStop, IsSceneStop}
 use Rattle.px_draw.proofs.DebugLemmas.{long_is, short_is}
 use Rattle.px_draw.proofs.SampleLemmas.{not_read, not_usage, stop_causes, stop_writes}
-use Rattle.px_draw.proofs.WorkLemmas.{begins, bytes_of, is_input, keeps_same, line_meets, status_meets, wrote}
+use Rattle.px_draw.proofs.WorkLemmas.{bytes_of, of_known, performs_over}
 
 -- a text past its limit, and one within it
 pub long_shadowed : (bytes : List ℕ) (bits : ℕ) → 1048577 ≤ length bytes → shadowed bytes bits ≡ refused too_long
@@ -55,114 +57,70 @@ shades_refused (Err s.ReadFault) bits one other before now reason meets is = is
 shades_refused (Err s.Memory) bits one other before now reason meets is = is
 
 -- the shadows of a text are found
-pub record ShadesText (result : Result (Unit {0}) Stop) (bits : ℕ) (text : List ℕ) (a b : SinkState) (before now : ArrayView) : Type 0 where
-  pub serves : DoesWork result (shadowed text bits) a b
-  pub array : Shades (status_in result) bits text before now
+pub record ShadesText (result : Result (Unit {0}) Stop) (bits : ℕ) (before after : Ends) (text : List ℕ) : Type 0 where
+  pub serves : DoesWork result (shadowed text bits) before.out after.out
+  pub array : Shades (status_in result) bits text before.array after.array
 
 -- a text's front answers for it
-shades_front : (result : Result (Unit {0}) Stop) (bits : ℕ) (bytes : List ℕ) (a b : SinkState)
-    (before now : ArrayView) → ShadesText result bits (take 1048577 bytes) a b before now
-    → ShadesText result bits bytes a b before now
-shades_front result bits bytes a b before now shades = elim (cases_lt (length bytes) 1048577) [
-  | inl short ↦ subst (λ text. ShadesText result bits text a b before now)
+shades_front : (result : Result (Unit {0}) Stop) (bits : ℕ) (before after : Ends) (bytes : List ℕ)
+    → ShadesText result bits before after (take 1048577 bytes) → ShadesText result bits before after bytes
+shades_front result bits before after bytes shades = elim (cases_lt (length bytes) 1048577) [
+  | inl short ↦ subst (λ text. ShadesText result bits before after text)
       (take_all 1048577 bytes (omega arith)) shades
   | inr past ↦
       let here : shadowed (take 1048577 bytes) bits ≡ refused too_long =
       long_shadowed (take 1048577 bytes) bits (omega (arith, length-take 1048577 bytes)) in
       let there : shadowed bytes bits ≡ refused too_long = long_shadowed bytes bits past in
       record {
-        serves = subst (λ o. DoesWork result o a b) (here ∙ sym there) shades.serves;
-        array = shades_refused result bits (take 1048577 bytes) bytes before now too_long
+        serves = subst (λ o. DoesWork result o before.out after.out) (here ∙ sym there) shades.serves;
+        array = shades_refused result bits (take 1048577 bytes) bytes before.array after.array too_long
             (subst (λ o. Meets result o) here shades.serves.meets) shades.array;
       }
 ]
 
-performs : (result : Result (Unit {0}) Stop) (bytes taken : List ℕ) (bits : ℕ) (known rest : Option (List ℕ))
-    (a b : SinkState) (before now : ArrayView) → IsInput known bytes
-    → Consumes known rest taken
-    → BeginsWith bytes taken
-    → ShadesText result bits bytes a b before now → Performs result (Some c.Shadow) bits known rest a b
-    before now
-performs result bytes taken bits known rest a b before now input consumed begins shades = record {
-  bytes = bytes;
-  taken = taken;
-  input = input;
-  consumed = consumed;
-  front = begins;
-  status = status_meets result (shadowed bytes bits) shades.serves.meets;
-  line = line_meets result (shadowed bytes bits) shades.serves.meets;
-  leaves = record {
-    wrote = wrote result (shadowed bytes bits) a b shades.serves.writes;
-    array = shades.array;
-  };
-}
+performs : (result : Result (Unit {0}) Stop) (taken : List ℕ) (bits : ℕ) (before after : Ends)
+    → Consumes before.rest after.rest taken → ShadesText result bits before after (bytes_of before.rest taken)
+    → Performs result (Some c.Shadow) bits before after
+performs result taken bits before after consumed shades =
+    performs_over result (Some c.Shadow) bits before after taken consumed shades.serves.meets
+    (record { wrote = shades.serves.writes; array = shades.array })
 
 -- a text that was read answers for the input
-performs_text : (result : Result (Unit {0}) Stop) (text : List ℕ) (bits : ℕ) (known rest : Option (List ℕ))
-    (a b : SinkState) (before now : ArrayView) → IsFrontOf known 1048577 text
-    → Consumes known rest text
-    → ShadesText result bits text a b before now → Performs result (Some c.Shadow) bits known rest a b
-    before now
-performs_text result text bits None rest a b before now front consumed shades =
-    performs result text text bits None rest a b before now tt consumed (begins None rest text consumed) shades
-performs_text result text bits (Some bytes) rest a b before now front consumed shades =
-    performs result bytes text bits (Some bytes) rest a b before now refl consumed
-    (begins (Some bytes) rest text consumed)
-    (shades_front result bits bytes a b before now
-    (subst (λ t. ShadesText result bits t a b before now) front shades))
+pub performs_shades : (result : Result (Unit {0}) Stop) (text lent : List ℕ) (bits : ℕ) (before after : Ends)
+    → IsFrontOf before.rest 1048577 text → Consumes before.rest after.rest text → lent ≡ text
+    → DoesWork result (shadowed lent bits) before.out after.out
+    → Shades (status_in result) bits lent before.array after.array → Performs result (Some c.Shadow) bits before after
+performs_shades result text lent bits before after front consumed same serves array =
+    performs result text bits before after consumed
+    (of_known (ShadesText result bits before after) before.rest text (shades_front result bits before after) front
+    (subst (λ t. ShadesText result bits before after t) same (record { serves = serves; array = array })))
 
-pub performs_shades : (result : Result (Unit {0}) Stop) (text lent : List ℕ) (bits : ℕ) (known rest : Option (List ℕ))
-    (a b : SinkState) (before now : ArrayView) → IsFrontOf known 1048577 text
-    → Consumes known rest text
-    → lent ≡ text → DoesWork result (shadowed lent bits) a b → Shades (status_in result) bits lent before now
-    → Performs result (Some c.Shadow) bits known rest a b before now
-performs_shades result text lent bits known rest a b before now front consumed same serves array =
-    performs_text result text bits known rest a b before now front consumed
-    (subst (λ t. ShadesText result bits t a b before now) same (record { serves = serves; array = array }))
-
-read_performs : (stop : Stop) (bits : ℕ) (known rest : Option (List ℕ)) (a : SinkState)
-    (device : ArrayView) (m n : ℕ)
-    → IsReadStop stop m n → ConsumesAtMost known rest 1048577 → Performs (Err stop) (Some c.Shadow) bits known rest a
-    a device device
-read_performs s.ReadFault bits known rest a device m n is (taken, consumed, few) = record {
-  bytes = bytes_of known taken;
-  taken = taken;
-  input = is_input known taken;
-  consumed = consumed;
-  front = begins known rest taken consumed;
-  status = tt;
-  line = refl;
-  leaves = record { wrote = (keeps_same a.written, refl); array = refl };
-}
-read_performs s.Memory bits known rest a device m n is (taken, consumed, few) = record {
-  bytes = bytes_of known taken;
-  taken = taken;
-  input = is_input known taken;
-  consumed = consumed;
-  front = begins known rest taken consumed;
-  status = tt;
-  line = refl;
-  leaves = record { wrote = (keeps_same a.written, refl); array = inl refl };
-}
-read_performs s.Usage bits known rest a device m n is consumed = absurd is
-read_performs (s.Refused reason) bits known rest a device m n is consumed = absurd is
-read_performs s.WriteFault bits known rest a device m n is consumed = absurd is
+read_performs : (stop : Stop) (bits : ℕ) (before after : Ends) (m n : ℕ) → IsReadStop stop m n → IsUntouched before after
+    → ConsumesAtMost before.rest after.rest 1048577 → Performs (Err stop) (Some c.Shadow) bits before after
+read_performs s.ReadFault bits before after m n is idle (taken, consumed, few) =
+    performs_over (Err s.ReadFault) (Some c.Shadow) bits before after taken consumed tt
+    (record { wrote = idle.out; array = idle.array })
+read_performs s.Memory bits before after m n is idle (taken, consumed, few) =
+    performs_over (Err s.Memory) (Some c.Shadow) bits before after taken consumed tt
+    (record { wrote = idle.out; array = inl idle.array })
+read_performs s.Usage bits before after m n is idle consumed = absurd is
+read_performs (s.Refused reason) bits before after m n is idle consumed = absurd is
+read_performs s.WriteFault bits before after m n is idle consumed = absurd is
 
 -- the work stops at a read
-pub performs_unread : (result : Result (Unit {0}) Stop) (stop : Stop) (bits : ℕ) (known rest : Option (List ℕ))
-    (a : SinkState) (device : ArrayView) (m n : ℕ) → result ≡ Err stop → IsReadStop stop m n
-    → ConsumesAtMost known rest 1048577
-    → Performs result (Some c.Shadow) bits known rest a a device device
-performs_unread result stop bits known rest a device m n at is most =
-    subst (λ (r : Result (Unit {0}) Stop). Performs r (Some c.Shadow) bits known rest a a device device) (sym at)
-    (read_performs stop bits known rest a device m n is most)
+pub performs_unread : (result : Result (Unit {0}) Stop) (stop : Stop) (bits : ℕ) (before after : Ends) (m n : ℕ)
+    → result ≡ Err stop → IsReadStop stop m n → IsUntouched before after → ConsumesAtMost before.rest after.rest 1048577
+    → Performs result (Some c.Shadow) bits before after
+performs_unread result stop bits before after m n at is idle most =
+    subst (λ (r : Result (Unit {0}) Stop). Performs r (Some c.Shadow) bits before after) (sym at)
+    (read_performs stop bits before after m n is idle most)
 
 -- a stop that comes for want of memory or by what the input is
 pub serves_stop : (result : Result (Unit {0}) Stop) (stop : Stop) (o : Outcome) (a : SinkState)
     → result ≡ Err stop → IsSceneStop stop → Meets (Err stop) o → DoesWork result o a a
 serves_stop result stop o a at here meets = rw at (record {
   meets = meets;
-  writes = stop_writes stop o a here;
+  writes = stop_writes stop _ a here;
   causes = λ k. stop_causes stop k a.faults here;
   worded = not_usage _ stop refl here;
   reads = not_read _ stop refl here;
@@ -171,7 +129,7 @@ serves_stop result stop o a at here meets = rw at (record {
 pub serves_refused : (reason : Refusal) (o : Outcome) (a : SinkState)
     → o ≡ refused reason
     → DoesWork (Err (s.Refused reason)) o a a
-serves_refused reason o a is = serves_stop (Err (s.Refused reason)) (s.Refused reason) o a refl tt is
+serves_refused reason o a is = serves_stop (Err (s.Refused reason)) (s.Refused reason) o a refl tt (ap refusal is)
 
 -- what comes of the parts of a text within its limit comes of it
 pub parts_serve : (result : Result (Unit {0}) Stop) (text part behind : List ℕ) (n bits : ℕ) (a b : SinkState) → length text < 1048577 → n ≡ unwrap_or (part_end text) (length text) → part ≡ take n text

@@ -25,8 +25,8 @@ use Rattle.px_draw.specs.Sittings.{IsOpenStop}
 use Rattle.px_draw.specs.Arrays.{Draws}
 use Rattle.px_draw.specs.Outcomes.{drawable, unless_refused, within_products}
 use Rattle.px_draw.specs.Refining.{fine_refusal}
-use Rattle.px_draw.specs.Stops.{IsReadStop, IsTextStop, StopsAt, fine_stop, job_stop, products_stop, read_stop}
-use Rattle.px_draw.specs.Stops.{scene_stop, status_of}
+use Rattle.px_draw.specs.Results.{status_of}
+use Rattle.px_draw.specs.Stops.{IsReadStop, IsTextStop, StopsAt, fine_stop, job_stop, products_stop, read_stop, scene_stop}
 
 pub read_stops : (fault : ReadError) (old new : ℕ) → (fault ≡ read.Failed → Rose old new)
     → (fault ≡ read.Memory → new ≡ old) → IsReadStop (read_stop fault) old new

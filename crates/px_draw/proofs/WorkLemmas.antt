@@ -1,18 +1,20 @@
 -- What was made of a text that was read, it was made of the input.
 use Rattle.std.proofs.Common.{ℕ, ◌≡◌, ◌≤◌, ◌^◌, ◌++◌, inl, inr, List, [], length, take, drop, true, nat_lt}
-use Rattle.std.proofs.Common.{Option, Some, None, Result, Ok, Err, refl, ap, sym, ◌∙◌, arith, length-take}
+use Rattle.std.proofs.Common.{Option, Some, None, Result, Ok, Err, refl, ap, subst, sym, ◌∙◌, arith, length-take}
 use Rattle.std.proofs.lemmas.Bool.{cases_lt}
 use Rattle.std.proofs.lemmas.Bool.Decides.{nat_tests}
 use Rattle.std.proofs.lemmas.List.{append-nil, take_all, take-append-drop, append_cancel_left}
-use Rattle.std.specs.Io.KnownBytes.{Appends, Consumes, Keeps}
+use Rattle.std.specs.Io.KnownBytes.{Appends, Consumes}
 use Rattle.px_io.specs.Counts.{Rose}
-use Rattle.px_io.specs.Told.{SinkState, ConsumesAtMost, IsFrontOf, TakesFront, Tells}
+use Rattle.px_io.specs.Told.{ConsumesAtMost, IsFrontOf, SinkState, TakesFront, TakesNone, Tells}
+use Rattle.px_io.proofs.ToldLaws.{stays}
 use Rattle.px_array.specs.Slots.{ArrayView}
 use Rattle.px_scene.specs.Scenes.{SceneView}
 use Rattle.px_scene.specs.Text.{worded}
 use Rattle.px_scene.specs.Reading.{scene_of}
 use Rattle.px_refine.specs.Finer.{fine_scene}
 use Rattle.px_command.specs.Commands.{doublings}
+use Rattle.px_command.specs.declared.command.Command.{Command}
 use Rattle.px_command.specs.declared.command.Command.TheVariants as c
 use Rattle.px_command.specs.declared.command.Size.{Size}
 use Rattle.px_command.specs.declared.command.Work.{Work}
@@ -24,10 +26,10 @@ use Rattle.px_draw.specs.declared.stop.Stop.TheVariants as s
 use Rattle.px_draw.specs.Arrays.{Draws, LeavesArray}
 use Rattle.px_draw.specs.Outcomes.{Outcome, done, output}
 use Rattle.px_draw.specs.Refusals.{text_refusal}
-use Rattle.px_draw.specs.Runs.{BeginsWith, IsInput, IsRestBehind, IsStatusOf, Wrote}
-use Rattle.px_draw.specs.Stops.{IsLineOf, IsReadStop, IsTextStop, Meets, Performs, DoesWork, WorksOn, WritesOutcome}
-use Rattle.px_draw.specs.Stops.{status_in}
-use Rattle.px_draw.specs.Stops.{status_of}
+use Rattle.px_draw.specs.Ends.{Ends, Input, IsUntouched}
+use Rattle.px_draw.specs.Results.{Meets, Wrote, status_in, status_of}
+use Rattle.px_draw.specs.Runs.{BeginsWith, IsInput, IsRestBehind, Leaves, Performs, commanded}
+use Rattle.px_draw.specs.Stops.{DoesWork, IsReadStop, IsTextStop, WorksOn}
 use Rattle.px_draw.specs.Tiling.{DrawsTiles}
 use Rattle.px_draw.specs.Works.{made, worked_out}
 
@@ -58,109 +60,83 @@ work_front work bytes bits = by_refusal (text_refusal (take 1048577 bytes)) refl
     by_refusal None good = ap (λ text. worked_out work text bits) (whole_text bytes good)
     by_refusal (Some reason) bad = rw (bad, sym (refusal_front bytes) ∙ bad) refl
 
-array_front : (work : Work) (result : Result (Unit {0}) Stop) (bytes : List ℕ) (bits : ℕ)
-    (a b : SinkState) (before now : ArrayView)
-    → WorksOn result work (take 1048577 bytes) bits a b before now
-    → LeavesArray work (status_in result) bits (scene_of (worded bytes)) before now
-array_front work result bytes bits a b before now works = by_refusal (text_refusal (take 1048577 bytes)) refl
+array_front : (work : Work) (result : Result (Unit {0}) Stop) (bytes : List ℕ) (bits : ℕ) (before after : Ends)
+    → WorksOn result work (take 1048577 bytes) bits before after
+    → LeavesArray work (status_in result) bits (scene_of (worded bytes)) before.array after.array
+array_front work result bytes bits before after works = by_refusal (text_refusal (take 1048577 bytes)) refl
   where
     by_refusal : (reason : Option Refusal) → text_refusal (take 1048577 bytes) ≡ reason
-        → LeavesArray work (status_in result) bits (scene_of (worded bytes)) before now
+        → LeavesArray work (status_in result) bits (scene_of (worded bytes)) before.array after.array
     by_refusal None good = rw (← whole_text bytes good) works.array
     by_refusal (Some reason) bad = works.refused reason bad (scene_of (worded bytes))
 
 -- what is made of the front of a text is made of the text
-works_front : (result : Result (Unit {0}) Stop) (work : Work) (bytes : List ℕ) (bits : ℕ)
-    (a b : SinkState) (before now : ArrayView)
-    → WorksOn result work (take 1048577 bytes) bits a b before now → WorksOn result work bytes bits a b
-    before now
-works_front result work bytes bits a b before now works = record {
+works_front : (result : Result (Unit {0}) Stop) (work : Work) (bits : ℕ) (before after : Ends) (bytes : List ℕ)
+    → WorksOn result work (take 1048577 bytes) bits before after → WorksOn result work bytes bits before after
+works_front result work bits before after bytes works = record {
   meets = rw (← work_front work bytes bits) works.meets;
   writes = rw (← work_front work bytes bits) works.writes;
-  array = array_front work result bytes bits a b before now works;
+  array = array_front work result bytes bits before after works;
   refused = λ reason bad scene. works.refused reason (refusal_front bytes ∙ bad) scene;
 }
-
-pub status_meets : (result : Result (Unit {0}) Stop) (o : Outcome) → Meets result o → IsStatusOf (status_in result) o
-status_meets (Ok u) o meets = meets
-status_meets (Err s.Usage) o meets = meets
-status_meets (Err (s.Refused (r.Malformed line cause))) o meets = (line, cause, rw meets refl)
-status_meets (Err (s.Refused (r.Limit line kind found))) o meets = (line, kind, found, rw meets refl)
-status_meets (Err s.ReadFault) o meets = tt
-status_meets (Err s.WriteFault) o meets = rw meets tt
-status_meets (Err s.Memory) o meets = tt
-
-pub line_meets : (result : Result (Unit {0}) Stop) (o : Outcome) → Meets result o → IsLineOf result o
-line_meets (Ok u) o meets = tt
-line_meets (Err s.Usage) o meets = refl
-line_meets (Err (s.Refused (r.Malformed line cause))) o meets = rw meets refl
-line_meets (Err (s.Refused (r.Limit line kind found))) o meets = rw meets refl
-line_meets (Err s.ReadFault) o meets = refl
-line_meets (Err s.WriteFault) o meets = refl
-line_meets (Err s.Memory) o meets = refl
-
-pub wrote : (result : Result (Unit {0}) Stop) (o : Outcome) (a b : SinkState)
-    → WritesOutcome result o a b → Wrote (status_in result) (output o) a b
-wrote (Ok u) o a b writes = writes
-wrote (Err s.Usage) o a b writes = writes
-wrote (Err (s.Refused (r.Malformed line cause))) o a b writes = writes
-wrote (Err (s.Refused (r.Limit line kind found))) o a b writes = writes
-wrote (Err s.ReadFault) o a b writes = writes
-wrote (Err s.WriteFault) o a b writes = writes
-wrote (Err s.Memory) o a b writes = writes
 
 -- the bytes of an input that tells them, and those taken of another
 abbrev pub bytes_of : Option (List ℕ) → (taken : List ℕ) → List ℕ
 bytes_of None taken = taken
 bytes_of (Some bytes) taken = bytes
 
-pub is_input : (known : Option (List ℕ)) (taken : List ℕ) → IsInput known (bytes_of known taken)
+is_input : (known : Option (List ℕ)) (taken : List ℕ) → IsInput known (bytes_of known taken)
 is_input None taken = tt
 is_input (Some bytes) taken = refl
 
-pub begins : (known rest : Option (List ℕ)) (taken : List ℕ) → Consumes known rest taken
+begins : (known rest : Option (List ℕ)) (taken : List ℕ) → Consumes known rest taken
     → BeginsWith (bytes_of known taken) taken
 begins None rest taken consumed = ([], sym (append-nil taken))
 begins (Some bytes) None taken consumed = absurd consumed
 begins (Some bytes) (Some rest) taken consumed = (rest, consumed)
 
--- what is made of the whole input is what the command does
-performs : (result : Result (Unit {0}) Stop) (work : Work) (bytes taken : List ℕ) (bits : ℕ)
-    (known rest : Option (List ℕ))
-    (a b : SinkState) (before now : ArrayView) → IsInput known bytes → Consumes known rest taken
-    → BeginsWith bytes taken
-    → WorksOn result work bytes bits a b before now → Performs result (Some (c.Make work)) bits known rest a b before now
-performs result work bytes taken bits known rest a b before now input consumed begins works = record {
-  bytes = bytes;
-  taken = taken;
-  input = input;
+abbrev pub input_of : Option (List ℕ) → (taken : List ℕ) → Input
+input_of known taken = record { bytes = bytes_of known taken; taken = taken }
+
+-- what is so of the bytes of an input is what its command does
+pub performs_over : (result : Result (Unit {0}) Stop) (command : Option Command) (bits : ℕ) (before after : Ends) (taken : List ℕ)
+    → Consumes before.rest after.rest taken → Meets result (commanded command (bytes_of before.rest taken) bits)
+    → Leaves command result bits (input_of before.rest taken) before after → Performs result command bits before after
+performs_over result command bits before after taken consumed meets leaves = record {
+  input = input_of before.rest taken;
+  known = is_input before.rest taken;
   consumed = consumed;
-  front = begins;
-  status = status_meets result (worked_out work bytes bits) works.meets;
-  line = line_meets result (worked_out work bytes bits) works.meets;
-  leaves = record {
-    wrote = wrote result (worked_out work bytes bits) a b works.writes;
-    array = works.array;
-  };
+  front = begins before.rest after.rest taken consumed;
+  meets = meets;
+  leaves = leaves;
 }
 
--- a text that was read answers for the input
-pub performs_text : (result : Result (Unit {0}) Stop) (work : Work) (text : List ℕ) (bits : ℕ)
-    (known rest : Option (List ℕ))
-    (a b : SinkState) (before now : ArrayView) → IsFrontOf known 1048577 text
-    → Consumes known rest text
-    → WorksOn result work text bits a b before now → Performs result (Some (c.Make work)) bits known rest a b
-    before now
-performs_text result work text bits None rest a b before now front consumed works =
-    performs result work text text bits None rest a b before now tt consumed (begins None rest text consumed) works
-performs_text result work text bits (Some bytes) rest a b before now front consumed works =
-    performs result work bytes text bits (Some bytes) rest a b before now refl consumed
-    (begins (Some bytes) rest text consumed)
-    (works_front result work bytes bits a b before now (rw (← front) works))
+-- what is so of a text that was read is so of the input, where it is so of a text whose front it is so of
+pub of_known : (P : List ℕ → Type 0) (known : Option (List ℕ)) (text : List ℕ)
+    → ((bytes : List ℕ) → P (take 1048577 bytes) → P bytes) → IsFrontOf known 1048577 text → P text → P (bytes_of known text)
+of_known P None text grows front p = p
+of_known P (Some bytes) text grows front p = grows bytes (subst P front p)
 
-pub keeps_same : (a : Option (List ℕ)) → Keeps a a
-keeps_same None = tt
-keeps_same (Some bytes) = refl
+-- what is made of the whole input is what the command does
+performs : (result : Result (Unit {0}) Stop) (work : Work) (taken : List ℕ) (bits : ℕ) (before after : Ends)
+    → Consumes before.rest after.rest taken → WorksOn result work (bytes_of before.rest taken) bits before after
+    → Performs result (Some (c.Make work)) bits before after
+performs result work taken bits before after consumed works =
+    performs_over result (Some (c.Make work)) bits before after taken consumed works.meets
+    (record { wrote = works.writes; array = works.array })
+
+-- a text that was read answers for the input
+pub performs_text : (result : Result (Unit {0}) Stop) (work : Work) (text : List ℕ) (bits : ℕ) (before after : Ends)
+    → IsFrontOf before.rest 1048577 text → Consumes before.rest after.rest text
+    → WorksOn result work text bits before after → Performs result (Some (c.Make work)) bits before after
+performs_text result work text bits before after front consumed works =
+    performs result work text bits before after consumed
+    (of_known (λ bytes. WorksOn result work bytes bits before after) before.rest text
+    (works_front result work bits before after) front works)
+
+-- the ends of the output and of the array are as before
+pub still : (before after : Ends) → after.out ≡ before.out → after.array ≡ before.array → IsUntouched before after
+still before after out array = record { out = rw out (stays before.out); array = array }
 
 -- an array that is as before is what a stop at a read leaves
 read_array : (work : Work) (bits : ℕ) (scene : SceneView) (device : ArrayView) (stop : Stop) (m n : ℕ)
@@ -192,36 +168,33 @@ read_array (w.Tile size) bits scene device (s.Refused reason) m n is = absurd is
 read_array (w.Tile size) bits scene device s.WriteFault m n is = absurd is
 
 -- a stop at a read is one for all texts
-read_works : (work : Work) (bytes : List ℕ) (bits : ℕ) (stop : Stop) (a : SinkState)
-    (device : ArrayView) (m n : ℕ)
-    → IsReadStop stop m n → WorksOn (Err stop) work bytes bits a a device device
-read_works work bytes bits s.ReadFault a device m n read =
+read_works : (work : Work) (bytes : List ℕ) (bits : ℕ) (stop : Stop) (before after : Ends) (m n : ℕ)
+    → IsReadStop stop m n → IsUntouched before after → WorksOn (Err stop) work bytes bits before after
+read_works work bytes bits s.ReadFault before after m n read idle =
     record {
       meets = tt;
-      writes = (keeps_same a.written, refl);
-      array = read_array work bits _ device s.ReadFault m n read;
-      refused = λ reason bad scene. read_array work bits scene device s.ReadFault m n read;
+      writes = idle.out;
+      array = rw idle.array (read_array work bits _ before.array s.ReadFault m n read);
+      refused = λ reason bad scene. rw idle.array (read_array work bits scene before.array s.ReadFault m n read);
     }
-read_works work bytes bits s.Memory a device m n read =
+read_works work bytes bits s.Memory before after m n read idle =
     record {
       meets = tt;
-      writes = (keeps_same a.written, refl);
-      array = read_array work bits _ device s.Memory m n read;
-      refused = λ reason bad scene. read_array work bits scene device s.Memory m n read;
+      writes = idle.out;
+      array = rw idle.array (read_array work bits _ before.array s.Memory m n read);
+      refused = λ reason bad scene. rw idle.array (read_array work bits scene before.array s.Memory m n read);
     }
-read_works work bytes bits s.Usage a device m n read = absurd read
-read_works work bytes bits (s.Refused reason) a device m n read = absurd read
-read_works work bytes bits s.WriteFault a device m n read = absurd read
+read_works work bytes bits s.Usage before after m n read idle = absurd read
+read_works work bytes bits (s.Refused reason) before after m n read idle = absurd read
+read_works work bytes bits s.WriteFault before after m n read idle = absurd read
 
 -- the work stops at a read
-pub performs_read : (result : Result (Unit {0}) Stop) (work : Work) (bits : ℕ) (stop : Stop)
-    (known rest : Option (List ℕ))
-    (a : SinkState) (device : ArrayView) (m n : ℕ) → result ≡ Err stop → IsReadStop stop m n
-    → ConsumesAtMost known rest 1048577 → Performs result (Some (c.Make work)) bits known rest a a device device
-performs_read result work bits stop known rest a device m n is read (taken, consumed, few) =
-    performs result work (bytes_of known taken) taken bits known rest a a device device (is_input known taken)
-    consumed (begins known rest taken consumed) (rw is (read_works work (bytes_of known taken) bits stop a device m n
-    read))
+pub performs_read : (result : Result (Unit {0}) Stop) (work : Work) (bits : ℕ) (stop : Stop) (before after : Ends) (m n : ℕ)
+    → result ≡ Err stop → IsReadStop stop m n → IsUntouched before after → ConsumesAtMost before.rest after.rest 1048577
+    → Performs result (Some (c.Make work)) bits before after
+performs_read result work bits stop before after m n is read idle (taken, consumed, few) =
+    performs result work taken bits before after consumed
+    (rw is (read_works work (bytes_of before.rest taken) bits stop before after m n read idle))
 
 text_meets : (work : Work) (bytes : List ℕ) (bits : ℕ) (stop : Stop) → IsTextStop stop bytes
     → Meets (Err stop) (worked_out work bytes bits)
@@ -231,14 +204,13 @@ text_meets work bytes bits s.Usage is = absurd is
 text_meets work bytes bits s.ReadFault is = absurd is
 text_meets work bytes bits s.WriteFault is = absurd is
 
-text_writes : (stop : Stop) (bytes : List ℕ) (o : Outcome) (a : SinkState)
-    → IsTextStop stop bytes
-    → WritesOutcome (Err stop) o a a
-text_writes (s.Refused reason) bytes o a is = (keeps_same a.written, refl)
-text_writes s.Memory bytes o a is = (keeps_same a.written, refl)
-text_writes s.Usage bytes o a is = absurd is
-text_writes s.ReadFault bytes o a is = absurd is
-text_writes s.WriteFault bytes o a is = absurd is
+text_writes : (stop : Stop) (bytes text : List ℕ) (before after : SinkState) → IsTextStop stop bytes → TakesNone before after
+    → Wrote (Err stop) text before after
+text_writes (s.Refused reason) bytes text before after is idle = idle
+text_writes s.Memory bytes text before after is idle = idle
+text_writes s.Usage bytes text before after is idle = absurd is
+text_writes s.ReadFault bytes text before after is idle = absurd is
+text_writes s.WriteFault bytes text before after is idle = absurd is
 
 -- an array that is as before is what a stop at the text leaves
 text_draws : (bytes : List ℕ) (bits : ℕ) (scene : SceneView) (device : ArrayView) (stop : Stop) → IsTextStop stop bytes
@@ -275,39 +247,37 @@ text_array w.List bytes bits scene device stop is = refl
 
 -- the work stops at its text
 pub works_text : (result : Result (Unit {0}) Stop) (work : Work) (bytes lent : List ℕ) (bits : ℕ) (stop : Stop)
-    (a : SinkState) (device : ArrayView)
-    → result ≡ Err stop → lent ≡ bytes → IsTextStop stop lent → WorksOn result work bytes bits a a device device
-works_text result work bytes lent bits stop a device at same is =
+    (before after : Ends) → result ≡ Err stop → lent ≡ bytes → IsTextStop stop lent → IsUntouched before after
+    → WorksOn result work bytes bits before after
+works_text result work bytes lent bits stop before after at same is idle =
     let here : IsTextStop stop bytes = rw (← same) is in
     rw at (record {
       meets = text_meets work bytes bits stop here;
-      writes = text_writes stop bytes _ a here;
-      array = text_array work bytes bits _ device stop here;
-      refused = λ reason bad scene. text_array work bytes bits scene device stop here;
+      writes = text_writes stop bytes _ before.out after.out here idle.out;
+      array = rw idle.array (text_array work bytes bits _ before.array stop here);
+      refused = λ reason bad scene. rw idle.array (text_array work bytes bits scene before.array stop here);
     })
 
 -- something is made of the scene of a text
 pub works_scene : (result : Result (Unit {0}) Stop) (work : Work) (bytes lent : List ℕ) (bits : ℕ) (scene : SceneView)
-    (a b : SinkState) (before now : ArrayView) → lent ≡ bytes → text_refusal lent ≡ None
-    → scene ≡ scene_of (worded lent) → Meets result (made work scene bits)
-    → WritesOutcome result (made work scene bits) a b
-    → LeavesArray work (status_in result) bits scene before now → WorksOn result work bytes bits a b before now
-works_scene result work bytes lent bits scene a b before now same good is meets writes array =
+    (before after : Ends) → lent ≡ bytes → text_refusal lent ≡ None → scene ≡ scene_of (worded lent)
+    → DoesWork result (made work scene bits) before.out after.out
+    → LeavesArray work (status_in result) bits scene before.array after.array → WorksOn result work bytes bits before after
+works_scene result work bytes lent bits scene before after same good is serves array =
     let here : worked_out work bytes bits ≡ made work scene bits = rw (← same, good, is) refl in
     record {
-      meets = rw here meets;
-      writes = rw here writes;
+      meets = rw here serves.meets;
+      writes = rw here serves.writes;
       array = rw (← same, ← is) array;
       refused = λ reason bad other. (let two : None ≡ Some reason = sym good ∙ ap text_refusal same ∙ bad in cc);
     }
 
 -- a whole output
-pub serves_whole : (o : Outcome) (bytes : List ℕ) (a b : SinkState) (u : Unit {0})
-    → o ≡ done bytes
+pub serves_whole : (o : Outcome) (bytes : List ℕ) (a b : SinkState) (u : Unit {0}) → o ≡ done bytes
     → Appends a.written b.written bytes → Tells b.finished true → b.faults ≡ a.faults → DoesWork (Ok u) o a b
 serves_whole o bytes a b u is whole finished calm = rw is (record {
   meets = refl;
-  writes = (whole, finished);
+  writes = record { all = whole; end = finished };
   causes = λ k. record { read = λ e. cc; write = λ e. cc; input = λ other. refl; out = λ other. calm };
   worded = λ e. cc;
   reads = λ e. cc;

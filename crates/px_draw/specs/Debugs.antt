@@ -1,7 +1,6 @@
 -- What `debug` answers and leaves: a session over the bytes of an input. Clauses of public calls stand on it.
-use Rattle.std.specs.Prelude.{◌≡◌, ◌⊎◌, ℕ, ◌-◌, ◌≤◌, List, [], Bool, true, false, ◌&&◌, not, if◌then◌else◌, length, nat_lt, take, None}
-use Rattle.std.specs.Io.KnownBytes.{Appends, Keeps}
-use Rattle.px_io.specs.Told.{SinkState, TakesAll, TakesFirst, Tells}
+use Rattle.std.specs.Prelude.{◌≡◌, ◌⊎◌, ℕ, ◌-◌, ◌≤◌, List, [], Bool, true, false, ◌&&◌, not, if◌then◌else◌, length, nat_lt, take, None, Result, Ok, Err}
+use Rattle.px_io.specs.Told.{TakesFirst, TakesNone}
 use Rattle.px_text.specs.declared.text.TheConstants.{MAX_TEXT_BYTES}
 use Rattle.px_array.specs.Slots.{ArrayView, IsRunOnce, none_open}
 use Rattle.px_scene.specs.Scenes.{SceneView}
@@ -11,12 +10,14 @@ use Rattle.px_control.specs.Program.{IsAt}
 use Rattle.px_debug.specs.Moves.{Fits, SessionView}
 use Rattle.px_lines.specs.Lines.{all_lines, whole_lines}
 use Rattle.px_lines.specs.Parts.{behind_part, holds_part, scene_part}
+use Rattle.px_session.specs.Servings.{Gives}
 use Rattle.px_session.specs.Sessions.{after, answers, clocks_over, has_quit, session_opened, until_quit}
-use Rattle.px_draw.specs.declared.status.Status.{Status}
-use Rattle.px_draw.specs.declared.status.Status.TheVariants as status
+use Rattle.px_draw.specs.declared.refusal.Refusal.TheVariants as r
+use Rattle.px_draw.specs.declared.stop.Stop.{Stop}
+use Rattle.px_draw.specs.declared.stop.Stop.TheVariants as s
+use Rattle.px_draw.specs.Ends.{Ends, Input, IsUntouched}
 use Rattle.px_draw.specs.Outcomes.{Outcome, cut, done, drawable, refused, unless_refused}
 use Rattle.px_draw.specs.Refusals.{text_refusal, too_long}
-use Rattle.px_draw.specs.Untouched.{IsUntouched}
 
 -- the bytes that count: as many as a text may have
 abbrev pub within_limit : List ℕ → List ℕ
@@ -79,55 +80,46 @@ pub record IsAfter (bits : ℕ) (bytes : List ℕ) (lines : List (List ℕ)) (no
   pub fits : Fits bits (after (session_of bytes) lines) now.device now.slots
   pub work : now.work ≤ clocks_over (session_of bytes) lines
 
--- all of the lines were answered, and the output was finished
-pub record IsOver (bits : ℕ) (bytes : List ℕ) (lines : List (List ℕ)) (out_old out_new : SinkState) (now : ArrayView) : Type 0 where
-  pub wrote : Appends out_old.written out_new.written (answers bits (session_of bytes) lines)
-  pub end : Tells out_new.finished true
-  pub array : IsAfter bits bytes lines now
-
--- all of the lines were answered
-pub record IsAnswered (bits : ℕ) (bytes : List ℕ) (lines : List (List ℕ)) (out_old out_new : SinkState) (now : ArrayView) : Type 0 where
-  pub wrote : TakesAll out_old out_new (answers bits (session_of bytes) lines)
-  pub array : IsAfter bits bytes lines now
+-- all of the lines were answered, and the output then finished where `ends` is true
+pub record IsAnswered (ends : Bool) (bits : ℕ) (bytes : List ℕ) (lines : List (List ℕ)) (before after : Ends) : Type 0 where
+  pub wrote : Gives ends before.out after.out (answers bits (session_of bytes) lines)
+  pub array : IsAfter bits bytes lines after.array
 
 -- a write failed in the answer to one of the lines, or in finishing behind the last: so many lines were obeyed, of whose
 -- answers a front was written, with all answers but the last in it
-pub record IsBroken (bits : ℕ) (bytes : List ℕ) (lines : List (List ℕ)) (out_old out_new : SinkState) (now : ArrayView) : Type 0 where
+pub record IsBroken (bits : ℕ) (bytes : List ℕ) (lines : List (List ℕ)) (before after : Ends) : Type 0 where
   pub count : ℕ
   pub within : count ≤ length lines
   pub some : count ≡ 0 → lines ≡ []
   pub gained : ℕ
-  pub before : length (answers bits (session_of bytes) (take (count - 1) lines)) ≤ gained
-  pub wrote : TakesFirst gained out_old out_new
-      (answers bits (session_of bytes) (take count lines))
-  pub array : IsAfter bits bytes (take count lines) now
+  pub enough : length (answers bits (session_of bytes) (take (count - 1) lines)) ≤ gained
+  pub wrote : TakesFirst gained before.out after.out (answers bits (session_of bytes) (take count lines))
+  pub array : IsAfter bits bytes (take count lines) after.array
 
 -- the scene part of some bytes is a scene's that an array with pixels of so many bits can draw
 abbrev pub Admits : (bits : ℕ) → (bytes : List ℕ) → Type 0
 Admits bits bytes = (outcome : Outcome) → admitted (scene_part_of bytes) bits outcome ≡ outcome
 
 -- a write failed behind a scene part that is a scene's that the array can draw
-pub record IsBrokenOff (bits : ℕ) (taken : List ℕ) (out_old out_new : SinkState) (now : ArrayView) : Type 0 where
+pub record IsBrokenOff (bits : ℕ) (taken : List ℕ) (before after : Ends) : Type 0 where
   pub admits : Admits bits taken
-  pub broken : IsBroken bits taken (until_quit (all_commands taken)) out_old out_new now
+  pub broken : IsBroken bits taken (until_quit (all_commands taken)) before after
 
 -- a read failed behind a whole scene part: it is a scene's that the array can draw, no whole command is a quit, and all are answered
-pub record IsCutOff (bits : ℕ) (taken : List ℕ) (out_old out_new : SinkState) (now : ArrayView) : Type 0 where
+pub record IsCutOff (bits : ℕ) (taken : List ℕ) (before after : Ends) : Type 0 where
   pub admits : Admits bits taken
   pub quiet : has_quit (whole_commands taken) ≡ false
-  pub answered : IsAnswered bits taken (whole_commands taken) out_old out_new now
+  pub answered : IsAnswered false bits taken (whole_commands taken) before after
 
 -- and where the scene part was not whole, nothing is done
-pub record LeavesAtReadFault (bits : ℕ) (taken : List ℕ) (out_old out_new : SinkState) (before now : ArrayView) : Type 0 where
-  pub whole : has_part taken ≡ true → IsCutOff bits taken out_old out_new now
-  pub other : has_part taken ≡ false → IsUntouched out_old out_new before now
+pub record LeavesAtReadFault (bits : ℕ) (taken : List ℕ) (before after : Ends) : Type 0 where
+  pub whole : has_part taken ≡ true → IsCutOff bits taken before after
+  pub other : has_part taken ≡ false → IsUntouched before after
 
 -- at a limit: that of the text behind a scene part, or another
-abbrev pub LeavesAtLimit : Outcome → (bits : ℕ) → (bytes : List ℕ) → (out_old out_new : SinkState) → (before now : ArrayView) → Type 0
-LeavesAtLimit (cut text reason) bits bytes out_old out_new before now =
-    IsAnswered bits bytes (whole_commands bytes) out_old out_new now
-LeavesAtLimit outcome bits bytes out_old out_new before now =
-    IsUntouched out_old out_new before now
+abbrev pub LeavesAtLimit : Outcome → (bits : ℕ) → (bytes : List ℕ) → (before after : Ends) → Type 0
+LeavesAtLimit (cut text reason) bits bytes before after = IsAnswered false bits bytes (whole_commands bytes) before after
+LeavesAtLimit outcome bits bytes before after = IsUntouched before after
 
 -- for want of memory the array is as before, or none is open, or it is opened for the scene
 abbrev pub IsKeptOrOpened : (bits : ℕ) → SceneView → (before now : ArrayView) → Type 0
@@ -138,17 +130,14 @@ abbrev pub LeavesAtMemory : (bits : ℕ) → (taken : List ℕ) → (before now 
 LeavesAtMemory bits taken before now =
     (now ≡ before) ⊎ ((text_refusal (scene_part_of taken) ≡ None) × IsKeptOrOpened bits (part_scene taken) before now)
 
--- what is written, and what is left of the array, where these are the bytes of the input, and of them those taken
-abbrev pub LeavesSession : (found : Status) → (bits : ℕ) → (bytes taken : List ℕ) → (out_old out_new : SinkState) → (before now : ArrayView) → Type 0
-LeavesSession status.Done bits bytes taken out_old out_new before now =
-    IsOver bits bytes (until_quit (all_commands bytes)) out_old out_new now
-LeavesSession status.Limit bits bytes taken out_old out_new before now =
-    LeavesAtLimit (debugged bytes bits) bits bytes out_old out_new before now
-LeavesSession status.ReadFault bits bytes taken out_old out_new before now =
-    LeavesAtReadFault bits taken out_old out_new before now
-LeavesSession status.WriteFault bits bytes taken out_old out_new before now =
-    IsBrokenOff bits taken out_old out_new now
-LeavesSession status.Memory bits bytes taken out_old out_new before now =
-    Keeps out_old.written out_new.written × (out_new.finished ≡ out_old.finished) × LeavesAtMemory bits taken before now
-LeavesSession found bits bytes taken out_old out_new before now =
-    IsUntouched out_old out_new before now
+-- what is written, and what is left of the array
+abbrev pub LeavesSession : Result (Unit {0}) Stop → (bits : ℕ) → Input → (before after : Ends) → Type 0
+LeavesSession (Ok u) bits input before after =
+    IsAnswered true bits input.bytes (until_quit (all_commands input.bytes)) before after
+LeavesSession (Err (s.Refused (r.Limit line kind found))) bits input before after =
+    LeavesAtLimit (debugged input.bytes bits) bits input.bytes before after
+LeavesSession (Err s.ReadFault) bits input before after = LeavesAtReadFault bits input.taken before after
+LeavesSession (Err s.WriteFault) bits input before after = IsBrokenOff bits input.taken before after
+LeavesSession (Err s.Memory) bits input before after =
+    TakesNone before.out after.out × LeavesAtMemory bits input.taken before.array after.array
+LeavesSession (Err stop) bits input before after = IsUntouched before after

@@ -11,12 +11,14 @@ pub mod Arrays
 pub mod Askings
 pub mod Countings
 pub mod Debugs
+pub mod Ends
 pub mod ListedScenes
 pub mod Listings
 pub mod Notes
 pub mod Outcomes
 pub mod Refining
 pub mod Refusals
+pub mod Results
 pub mod RenderLaw
 pub mod Runs
 pub mod Samples
@@ -25,5 +27,4 @@ pub mod Statuses
 pub mod Sittings
 pub mod Stops
 pub mod Tiling
-pub mod Untouched
 pub mod Works

@@ -1,15 +1,16 @@
 -- The lines that the notes tell. Clauses of public calls stand on them.
-use Rattle.std.specs.Prelude.{ℕ, ℤ, List, [], ◌++◌, Option, Some, None, codes, decimal}
+use Rattle.std.specs.Prelude.{◌⊎◌, ℕ, ℤ, List, ◌++◌, Result, Ok, Err, codes, decimal}
 use Rattle.std.specs.Fmt.{signed_decimal}
+use Rattle.px_io.specs.Counts.{Still}
+use Rattle.px_io.specs.Told.{FinishesWith, SinkState, TakesFront, TakesNone}
 use Rattle.px_show.specs.declared.fault.Cause.{Cause}
 use Rattle.px_words.specs.Words.{cause_word, list_word, scene_word}
 use Rattle.px_draw.specs.declared.refusal.Kind.{Kind}
 use Rattle.px_draw.specs.declared.refusal.Kind.TheVariants as kinds
 use Rattle.px_draw.specs.declared.refusal.Refusal.{Refusal}
 use Rattle.px_draw.specs.declared.refusal.Refusal.TheVariants as r
-use Rattle.px_draw.specs.declared.status.Status.{Status}
-use Rattle.px_draw.specs.declared.status.Status.TheVariants as status
-use Rattle.px_draw.specs.Outcomes.{Outcome, refusal}
+use Rattle.px_draw.specs.declared.stop.Stop.{Stop}
+use Rattle.px_draw.specs.declared.stop.Stop.TheVariants as s
 
 abbrev pub kind_word : Kind → List ℕ
 kind_word (kinds.Scene kind) = scene_word kind
@@ -39,16 +40,20 @@ abbrev pub refusal_line : Refusal → List ℕ
 refusal_line (r.Malformed line cause) = malformed_line line cause
 refusal_line (r.Limit line kind found) = limit_line line kind found
 
-abbrev pub reason_line : Option Refusal → List ℕ
-reason_line None = []
-reason_line (Some reason) = refusal_line reason
+-- the line of a stop
+abbrev pub note_of : Stop → List ℕ
+note_of s.Usage = usage_line
+note_of (s.Refused reason) = refusal_line reason
+note_of s.ReadFault = read_fault_line
+note_of s.WriteFault = write_fault_line
+note_of s.Memory = memory_line
 
--- the line that a status tells of an outcome
-abbrev pub note : Status → Outcome → List ℕ
-note status.Done o = []
-note status.Usage o = usage_line
-note status.Malformed o = reason_line (refusal o)
-note status.Limit o = reason_line (refusal o)
-note status.ReadFault o = read_fault_line
-note status.WriteFault o = write_fault_line
-note status.Memory o = memory_line
+-- a line was written whole and the notes finished where they had no fault, and else so or a front of it that is not finished
+pub record IsTold (line : List ℕ) (before after : SinkState) : Type 0 where
+  pub whole : Still before.faults after.faults → FinishesWith before after line
+  pub front : FinishesWith before after line ⊎ TakesFront before after line
+
+-- a stop tells its line; where there is none the notes are as before
+abbrev pub IsNoted : Result (Unit {0}) Stop → (before after : SinkState) → Type 0
+IsNoted (Ok u) before after = TakesNone before after
+IsNoted (Err stop) before after = IsTold (note_of stop) before after

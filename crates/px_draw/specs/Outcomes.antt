@@ -1,5 +1,5 @@
 -- What a run is to answer, and the limits that a scene meets on its way to an array. Clauses of public calls stand on it.
-use Rattle.std.specs.Prelude.{ℕ, List, [], nat_lt, if◌then◌else◌, Option, Some, None}
+use Rattle.std.specs.Prelude.{ℕ, List, [], Bool, true, false, nat_lt, if◌then◌else◌, Option, Some, None}
 use Rattle.px_prune.specs.Kept.{crowd_of}
 use Rattle.px_scene.specs.Scenes.{SceneView}
 use Rattle.px_sched.specs.Layouts.{layout_of, need_of}
@@ -26,6 +26,13 @@ refusal usage = None
 refusal (refused reason) = Some reason
 refusal (cut bytes reason) = Some reason
 refusal (done bytes) = None
+
+-- whether there is an output to write
+abbrev pub has_output : Outcome → Bool
+has_output usage = false
+has_output (refused reason) = false
+has_output (cut bytes reason) = true
+has_output (done bytes) = true
 
 -- the refusal, where there is one
 abbrev pub unless_refused : Option Refusal → Outcome → Outcome

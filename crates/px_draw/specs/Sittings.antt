@@ -7,8 +7,8 @@ use Rattle.px_scene.specs.Scenes.{SceneView}
 use Rattle.px_lines.specs.Parts.{part_end}
 use Rattle.px_lines.specs.Readings.{TookNoPart}
 use Rattle.px_lines.specs.declared.reading.Opening.{Opening}
+use Rattle.px_session.specs.Prompts.{Moment}
 use Rattle.px_session.specs.Servings.{Serves}
-use Rattle.px_session.specs.Sessions.{Stand}
 use Rattle.px_session.specs.declared.serving.Ending.{Ending}
 use Rattle.px_session.specs.declared.serving.Ending.TheVariants as e
 use Rattle.px_draw.specs.declared.refusal.TheConstants.{READ_LIMIT}
@@ -64,14 +64,13 @@ result_of e.ReadFault = Err s.ReadFault
 result_of e.WriteFault = Err s.WriteFault
 
 -- command lines were answered
-pub record Sits (answer : Result (Unit {0}) Stop) (bits : ℕ) (read : List ℕ) (more : ℕ) (from now : Stand)
-    (rest_old rest_new : Option (List ℕ)) (out_old out_new : SinkState) : Type 0 where
+pub record Sits (answer : Result (Unit {0}) Stop) (bits : ℕ) (read : List ℕ) (more : ℕ) (before after : Moment) : Type 0 where
   pub ending : Ending
   pub result : answer ≡ result_of ending
-  pub serves : Serves ending bits read more from now rest_old rest_new out_old out_new
+  pub serves : Serves ending bits read more before after
 
 -- the output was finished, or a write failed in it
-abbrev pub Finishes : Result (Unit {0}) Stop → (out_old out_new : SinkState) → Type 0
-Finishes (Ok u) out_old out_new = Tells out_new.finished true
-Finishes (Err s.WriteFault) out_old out_new = out_new.finished ≡ out_old.finished
-Finishes (Err stop) out_old out_new = ⊥
+abbrev pub Finishes : Result (Unit {0}) Stop → (before after : SinkState) → Type 0
+Finishes (Ok u) before after = Tells after.finished true
+Finishes (Err s.WriteFault) before after = after.finished ≡ before.finished
+Finishes (Err stop) before after = ⊥

@@ -6,16 +6,18 @@ ghost use Rattle.px_array.specs.Slots.{array_view};
 ghost use Rattle.px_debug.specs.Moves.{Fits};
 ghost use Rattle.px_lines.specs.Listenings.{ListenedTo, Listens};
 ghost use Rattle.px_lines.specs.Parts.{part_end};
-ghost use Rattle.px_session.specs.Prompts.{Prompts};
-ghost use Rattle.px_session.specs.Sessions.{session_opened, stand};
+ghost use Rattle.px_session.specs.Prompts.{moment};
+ghost use Rattle.px_session.specs.Sessions.{session_opened};
 ghost use Rattle.px_command.specs.declared.command.Command.{Command};
 ghost use Rattle.px_draw.specs.declared.stop.Stop.{Stop};
 ghost use Rattle.px_draw.specs.Askings.{AnswersInTime};
 ghost use Rattle.px_draw.specs.Debugs.{command_text, within_limit};
 ghost use Rattle.px_draw.specs.Outcomes.{Outcome, drawable};
-ghost use Rattle.px_draw.specs.Runs.{Took};
+ghost use Rattle.px_draw.specs.Ends.{ends};
+ghost use Rattle.px_draw.specs.Results.{HasCauses, status_in, status_of};
+ghost use Rattle.px_draw.specs.Runs.{Performs, Took};
 ghost use Rattle.px_draw.specs.Sittings.{Finishes, IsOpenStop, IsPartStop, LeavesClosed, Opens, OpensOn, Sits};
-ghost use Rattle.px_draw.specs.Stops.{HasStopCauses, IsReadStop, Performs, StopsAt, status_in, status_of};
+ghost use Rattle.px_draw.specs.Stops.{IsReadStop, StopsAt};
 
 use crate::make::{open_job, scene_in};
 use crate::refusal::{READ_LIMIT, too_long};
@@ -40,10 +42,11 @@ pub(crate) fn debug<S: Asks<O>, O: Sink, A: Operating>(
 ) -> Result<(), Stop>
     requires bits { A.BITS ≤ 256 }
     ensures performs { Performs result (Some Command.Debug) A.BITS
-        (S.rest input.old) (S.rest input.new) (O.state out.old) (O.state out.new)
-        (array_view (A.device array.old) (A.slots array.old) (A.work array.old))
-        (array_view (A.device array.new) (A.slots array.new) (A.work array.new)) }
-    ensures causes { HasStopCauses result (S.faults input.old) (S.faults input.new) (O.state out.old).faults
+        (ends (S.rest input.old) (S.faults input.old) (O.state out.old)
+        (A.device array.old) (A.slots array.old) (A.work array.old))
+        (ends (S.rest input.new) (S.faults input.new) (O.state out.new)
+        (A.device array.new) (A.slots array.new) (A.work array.new)) }
+    ensures causes { HasCauses result (S.faults input.old) (S.faults input.new) (O.state out.old).faults
         (O.state out.new).faults }
     ensures took { Took (Some Command.Debug) (status_in result) (S.rest input.old)
         (S.rest input.new) }
@@ -154,12 +157,10 @@ fn sit<S: Asks<O>, O: Sink, A: Operating>(
     ensures fits { Fits A.BITS session.new (A.device array.new) (A.slots array.new) }
     ensures worded { result ≢ Err Stop.Usage }
     ensures sits { Sits result A.BITS read.now more
-        (stand session.old (A.work array.old)) (stand session.new (A.work array.new))
-        (S.rest input.old) (S.rest input.new) (O.state out.old) (O.state out.new) }
-    ensures causes { HasStopCauses result (S.faults input.old) (S.faults input.new) (O.state out.old).faults
-        (O.state out.new).faults }
-    ensures prompt { Prompts A.BITS session.old read.now more (S.asks input.old) (S.asks input.new)
-        (S.rest input.old) (S.rest input.new) (O.state out.old).written }
+        (moment session.old (A.work array.old) (O.state out.old)
+        (S.asks input.old) (S.rest input.old) (S.faults input.old))
+        (moment session.new (A.work array.new) (O.state out.new)
+        (S.asks input.new) (S.rest input.new) (S.faults input.new)) }
 {
     match serve(session, array, read, input, more, out) {
         Ending::Quit | Ending::End => Ok(()),
@@ -173,7 +174,7 @@ fn sit<S: Asks<O>, O: Sink, A: Operating>(
 fn finish<O: Sink>(out: &mut O) -> Result<(), Stop>
     ensures bytes { Keeps (O.state out.old).written (O.state out.new).written }
     ensures end { Finishes result (O.state out.old) (O.state out.new) }
-    ensures causes { (n : ℕ) → HasStopCauses result n n (O.state out.old).faults (O.state out.new).faults }
+    ensures causes { (n : ℕ) → HasCauses result n n (O.state out.old).faults (O.state out.new).faults }
 {
     match out.finish() {
         Ok(()) => Ok(()),

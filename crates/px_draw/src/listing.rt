@@ -15,8 +15,10 @@ ghost use Rattle.px_command.specs.declared.command.Command.{Command};
 ghost use Rattle.px_draw.specs.declared.stop.Stop.{Stop};
 ghost use Rattle.px_draw.specs.Listings.{Plays, list_refusal, listed, listing_written};
 ghost use Rattle.px_draw.specs.Outcomes.{done};
-ghost use Rattle.px_draw.specs.Runs.{Took};
-ghost use Rattle.px_draw.specs.Stops.{HasStopCauses, IsListStop, Performs, DoesWork, status_in};
+ghost use Rattle.px_draw.specs.Ends.{ends};
+ghost use Rattle.px_draw.specs.Results.{HasCauses, status_in};
+ghost use Rattle.px_draw.specs.Runs.{Performs, Took};
+ghost use Rattle.px_draw.specs.Stops.{DoesWork, IsListStop};
 
 use crate::make::{drawing_of, read_text};
 use crate::refusal::{READ_LIMIT, too_long};
@@ -77,10 +79,11 @@ pub(crate) fn play_input<S: Source, O: Sink, A: Operating>(
 ) -> Result<(), Stop>
     requires bits { A.BITS ≤ 256 }
     ensures performs { Performs result (Some Command.Play) A.BITS
-        (S.rest input.old) (S.rest input.new) (O.state out.old) (O.state out.new)
-        (array_view (A.device array.old) (A.slots array.old) (A.work array.old))
-        (array_view (A.device array.new) (A.slots array.new) (A.work array.new)) }
-    ensures causes { HasStopCauses result (S.faults input.old) (S.faults input.new) (O.state out.old).faults
+        (ends (S.rest input.old) (S.faults input.old) (O.state out.old)
+        (A.device array.old) (A.slots array.old) (A.work array.old))
+        (ends (S.rest input.new) (S.faults input.new) (O.state out.new)
+        (A.device array.new) (A.slots array.new) (A.work array.new)) }
+    ensures causes { HasCauses result (S.faults input.old) (S.faults input.new) (O.state out.old).faults
         (O.state out.new).faults }
     ensures took { Took (Some Command.Play) (status_in result)
         (S.rest input.old) (S.rest input.new) }

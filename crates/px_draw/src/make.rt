@@ -16,9 +16,10 @@ ghost use Rattle.px_draw.specs.declared.stop.Stop.{Stop};
 ghost use Rattle.px_draw.specs.Arrays.{Draws, LeavesArray};
 ghost use Rattle.px_draw.specs.Outcomes.{Outcome, done, drawable, within_products};
 ghost use Rattle.px_draw.specs.Refusals.{text_refusal};
-ghost use Rattle.px_draw.specs.Runs.{IsRestBehind, Took};
-ghost use Rattle.px_draw.specs.Stops.{HasStopCauses, IsReadStop, IsTextStop, Performs, DoesWork, StopsAt};
-ghost use Rattle.px_draw.specs.Stops.{status_in, status_of};
+ghost use Rattle.px_draw.specs.Ends.{ends};
+ghost use Rattle.px_draw.specs.Results.{HasCauses, status_in, status_of};
+ghost use Rattle.px_draw.specs.Runs.{IsRestBehind, Performs, Took};
+ghost use Rattle.px_draw.specs.Stops.{DoesWork, IsReadStop, IsTextStop, StopsAt};
 ghost use Rattle.px_deliver.specs.Images.{images};
 ghost use Rattle.px_draw.specs.Works.{made, planned, tidied};
 
@@ -53,10 +54,11 @@ pub(crate) fn make_of_input<S: Source, O: Sink, A: Operating>(
     requires bits { A.BITS ≤ 256 }
     requires size { HasSize work }
     ensures performs { Performs result (Some (Command.Make work)) A.BITS
-        (S.rest input.old) (S.rest input.new) (O.state out.old) (O.state out.new)
-        (array_view (A.device array.old) (A.slots array.old) (A.work array.old))
-        (array_view (A.device array.new) (A.slots array.new) (A.work array.new)) }
-    ensures causes { HasStopCauses result (S.faults input.old) (S.faults input.new) (O.state out.old).faults
+        (ends (S.rest input.old) (S.faults input.old) (O.state out.old)
+        (A.device array.old) (A.slots array.old) (A.work array.old))
+        (ends (S.rest input.new) (S.faults input.new) (O.state out.new)
+        (A.device array.new) (A.slots array.new) (A.work array.new)) }
+    ensures causes { HasCauses result (S.faults input.old) (S.faults input.new) (O.state out.old).faults
         (O.state out.new).faults }
     ensures took { Took (Some (Command.Make work)) (status_in result)
         (S.rest input.old) (S.rest input.new) }

@@ -1,8 +1,6 @@
 //! The line that tells why a run did not do its work.
 ghost use Rattle.std.specs.Prelude.{◌≡◌, ◌≤◌, length};
-ghost use Rattle.px_draw.specs.Notes.{kind_word, limit_line, malformed_line};
-ghost use Rattle.px_draw.specs.Runs.{IsTold};
-ghost use Rattle.px_draw.specs.Stops.{note_of};
+ghost use Rattle.px_draw.specs.Notes.{IsTold, kind_word, limit_line, malformed_line, note_of};
 
 use crate::refusal::{Kind, Refusal};
 use crate::stop::Stop;

@@ -13,7 +13,8 @@ ghost use Rattle.px_draw.specs.Arrays.{Draws};
 ghost use Rattle.px_draw.specs.Outcomes.{done, drawable, unless_refused};
 ghost use Rattle.px_command.specs.Commands.{doublings};
 ghost use Rattle.px_draw.specs.Refining.{fine_refusal, refined};
-ghost use Rattle.px_draw.specs.Stops.{DoesWork, StopsAt, status_in};
+ghost use Rattle.px_draw.specs.Results.{status_in};
+ghost use Rattle.px_draw.specs.Stops.{DoesWork, StopsAt};
 
 use crate::make::open_job;
 use crate::stop::Stop;

@@ -1,14 +1,13 @@
 //! The program as a function of its words, its input and its outputs.
-ghost use Rattle.std.specs.Prelude.{◌≡◌, ◌↔◌, ◌≤◌, List, ℕ, Err, map, string_bytes, None, Some};
-ghost use Rattle.std.specs.Io.KnownBytes.{Consumes};
-ghost use Rattle.px_array.specs.Slots.{array_view};
+ghost use Rattle.std.specs.Prelude.{◌≡◌, ◌↔◌, ◌≤◌, Err, map, string_bytes, None, Some};
 ghost use Rattle.px_draw.specs.declared.stop.Stop.{Stop};
 ghost use Rattle.px_draw.specs.declared.status.Status.{Status};
 ghost use Rattle.px_command.specs.Commands.{command_of};
 ghost use Rattle.px_command.specs.declared.command.Command.{Command};
 ghost use Rattle.px_draw.specs.Askings.{AnswersInTime};
-ghost use Rattle.px_draw.specs.Runs.{HasRisen, IsInput, IsRunOf, Took};
-ghost use Rattle.px_draw.specs.Stops.{HasStopCauses, Performs, status_in};
+ghost use Rattle.px_draw.specs.Ends.{ends, with_notes};
+ghost use Rattle.px_draw.specs.Results.{HasCauses, status_in};
+ghost use Rattle.px_draw.specs.Runs.{IsRunOf, Performs, Took};
 
 use crate::debug::debug;
 use crate::listing::play_input;
@@ -48,16 +47,12 @@ pub fn run<S: Asks<O>, O: Sink, E: Sink, A: Operating>(
 ) -> Status
     requires some_bits { 1 ≤ A.BITS }
     requires bits { A.BITS ≤ 256 }
-    ensures answer { (bytes taken : List ℕ) × IsInput (S.rest input.old) bytes
-        × Consumes (S.rest input.old) (S.rest input.new) taken
-        × IsRunOf (map string_bytes words.now) bytes taken A.BITS result
-        (O.state out.old) (O.state out.new)
-        (E.state notes.old) (E.state notes.new)
-        (array_view (A.device array.old) (A.slots array.old) (A.work array.old))
-        (array_view (A.device array.new) (A.slots array.new) (A.work array.new)) }
+    ensures answer { IsRunOf (map string_bytes words.now) A.BITS result
+        (with_notes (ends (S.rest input.old) (S.faults input.old) (O.state out.old)
+        (A.device array.old) (A.slots array.old) (A.work array.old)) (E.state notes.old))
+        (with_notes (ends (S.rest input.new) (S.faults input.new) (O.state out.new)
+        (A.device array.new) (A.slots array.new) (A.work array.new)) (E.state notes.new)) }
     ensures usage { (result ≡ Status.Usage) ↔ (command_of (map string_bytes words.now) ≡ None) }
-    ensures faults { HasRisen result (S.faults input.old) (S.faults input.new) (O.state out.old).faults
-        (O.state out.new).faults }
     ensures took { Took (command_of (map string_bytes words.now)) result
         (S.rest input.old) (S.rest input.new) }
     ensures in_time { command_of (map string_bytes words.now) ≡ Some Command.Debug →
@@ -83,10 +78,11 @@ fn perform<S: Asks<O>, O: Sink, A: Operating>(
 ) -> Result<(), Stop>
     requires bits { A.BITS ≤ 256 }
     ensures performs { Performs result (command_of (map string_bytes words.now)) A.BITS
-        (S.rest input.old) (S.rest input.new) (O.state out.old) (O.state out.new)
-        (array_view (A.device array.old) (A.slots array.old) (A.work array.old))
-        (array_view (A.device array.new) (A.slots array.new) (A.work array.new)) }
-    ensures causes { HasStopCauses result (S.faults input.old) (S.faults input.new) (O.state out.old).faults
+        (ends (S.rest input.old) (S.faults input.old) (O.state out.old)
+        (A.device array.old) (A.slots array.old) (A.work array.old))
+        (ends (S.rest input.new) (S.faults input.new) (O.state out.new)
+        (A.device array.new) (A.slots array.new) (A.work array.new)) }
+    ensures causes { HasCauses result (S.faults input.old) (S.faults input.new) (O.state out.old).faults
         (O.state out.new).faults }
     ensures took { Took (command_of (map string_bytes words.now)) (status_in result)
         (S.rest input.old) (S.rest input.new) }

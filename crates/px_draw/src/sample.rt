@@ -15,7 +15,8 @@ ghost use Rattle.px_draw.specs.Arrays.{Draws};
 ghost use Rattle.px_draw.specs.Countings.{IsShownAtMost, none_shown, shown_at, shown_within, shown_in_row, shown_together};
 ghost use Rattle.px_draw.specs.Outcomes.{drawable};
 ghost use Rattle.px_draw.specs.Samples.{measured, measures, sample_scene, sampled, text_measured, where_shown};
-ghost use Rattle.px_draw.specs.Stops.{DoesWork, StopsAt, status_in};
+ghost use Rattle.px_draw.specs.Results.{status_in};
+ghost use Rattle.px_draw.specs.Stops.{DoesWork, StopsAt};
 
 use crate::make::{drawing_of, open_job, scene_in, write_finished};
 use crate::stop::Stop;

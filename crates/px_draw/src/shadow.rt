@@ -17,7 +17,9 @@ ghost use Rattle.px_command.specs.declared.command.Command.{Command};
 ghost use Rattle.px_draw.specs.declared.stop.Stop.{Stop};
 ghost use Rattle.px_draw.specs.Arrays.{Draws};
 ghost use Rattle.px_draw.specs.Outcomes.{Outcome, unless_refused};
-ghost use Rattle.px_draw.specs.Runs.{Took};
+ghost use Rattle.px_draw.specs.Ends.{ends};
+ghost use Rattle.px_draw.specs.Results.{HasCauses, status_in, status_of};
+ghost use Rattle.px_draw.specs.Runs.{Performs, Took};
 ghost use Rattle.px_draw.specs.Shadows.{
   Shades,
   ShadesBy,
@@ -31,7 +33,7 @@ ghost use Rattle.px_draw.specs.Shadows.{
   parts_lit,
   shadowed,
 };
-ghost use Rattle.px_draw.specs.Stops.{HasStopCauses, Performs, DoesWork, StopsAt, status_in, status_of};
+ghost use Rattle.px_draw.specs.Stops.{DoesWork, StopsAt};
 
 use crate::debug::behind;
 use crate::make::{open_job, read_text, scene_in};
@@ -61,10 +63,11 @@ pub(crate) fn shadow<S: Source, O: Sink, A: Operating>(
 ) -> Result<(), Stop>
     requires bits { A.BITS ≤ 256 }
     ensures performs { Performs result (Some Command.Shadow) A.BITS
-        (S.rest input.old) (S.rest input.new) (O.state out.old) (O.state out.new)
-        (array_view (A.device array.old) (A.slots array.old) (A.work array.old))
-        (array_view (A.device array.new) (A.slots array.new) (A.work array.new)) }
-    ensures causes { HasStopCauses result (S.faults input.old) (S.faults input.new) (O.state out.old).faults
+        (ends (S.rest input.old) (S.faults input.old) (O.state out.old)
+        (A.device array.old) (A.slots array.old) (A.work array.old))
+        (ends (S.rest input.new) (S.faults input.new) (O.state out.new)
+        (A.device array.new) (A.slots array.new) (A.work array.new)) }
+    ensures causes { HasCauses result (S.faults input.old) (S.faults input.new) (O.state out.old).faults
         (O.state out.new).faults }
     ensures took { Took (Some Command.Shadow) (status_in result)
         (S.rest input.old) (S.rest input.new) }

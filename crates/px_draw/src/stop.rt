@@ -4,7 +4,8 @@ ghost use Rattle.px_control.specs.declared.fault.JobFault.{JobFault};
 ghost use Rattle.px_normal.specs.declared.fault.NormalFault.{NormalFault};
 ghost use Rattle.px_draw.specs.declared.stop.Stop.{Stop};
 ghost use Rattle.px_draw.specs.Refining.{scene_limit};
-ghost use Rattle.px_draw.specs.Stops.{job_stop, products_stop, status_of};
+ghost use Rattle.px_draw.specs.Results.{status_of};
+ghost use Rattle.px_draw.specs.Stops.{job_stop, products_stop};
 
 use crate::refusal::{Kind, Refusal, short_of_bits, too_many};
 use crate::status::Status;

@@ -8,7 +8,8 @@ ghost use Rattle.px_tile.specs.Found.{IsFound};
 ghost use Rattle.px_tile.specs.Pictures.{IsLastDrawn};
 ghost use Rattle.px_tile.specs.Tilings.{IsWideSize};
 ghost use Rattle.px_draw.specs.Outcomes.{unless_refused};
-ghost use Rattle.px_draw.specs.Stops.{DoesWork, StopsAt, status_in, status_of, stop_at};
+ghost use Rattle.px_draw.specs.Results.{status_in, status_of};
+ghost use Rattle.px_draw.specs.Stops.{DoesWork, StopsAt, stop_at};
 ghost use Rattle.px_draw.specs.Tiling.{
   DrawsTiles,
   tiled,

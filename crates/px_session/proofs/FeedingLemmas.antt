@@ -1,8 +1,9 @@
 -- Bytes in pieces, and lines one after another.
-use Rattle.std.proofs.Common.{◌≡◌, ℕ, ◌+◌, ◌<◌, ◌≤◌, Bool, true, false, ◌||◌, ◌==◌, List, [], ◌∷◌, ◌++◌}
+use Rattle.std.proofs.Common.{◌≡◌, ℕ, ◌+◌, ◌-◌, ◌<◌, ◌≤◌, Bool, true, false, ◌||◌, ◌==◌, List, [], ◌∷◌, ◌++◌}
 use Rattle.std.proofs.Common.{length, take, drop, get_or, Result, Ok, Err, IfOk, OnErr, OnOk}
-use Rattle.std.proofs.Common.{refl, sym, ap, ◌∙◌, append_assoc, append-nil, add_assoc, length-append, arith}
+use Rattle.std.proofs.Common.{refl, sym, ap, ◌∙◌, append_assoc, append-nil, length-append, arith}
 use Rattle.std.proofs.Common.{if◌then◌else◌}
+use Prim.Native.Nat.{zero, suc}
 use Rattle.std.proofs.Math.Seq.{take-append-add}
 use Rattle.std.proofs.lemmas.List.{take_more, take-append-drop, take-append-le as take_within}
 use Rattle.px_num.proofs.TruthLaws.{neither_left, neither_right}
@@ -14,8 +15,7 @@ use Rattle.px_debug.specs.Moves.{SessionView, going, most_clocks, moved}
 use Rattle.px_debug.specs.declared.session.Going.{Going}
 use Rattle.px_debug.specs.declared.session.Going.TheVariants as g
 use Rattle.px_session.specs.Buffers.{held_with, short_ended, short_left}
-use Rattle.px_session.specs.Servings.{Answered}
-use Rattle.px_session.specs.Turns.{Broke}
+use Rattle.px_session.specs.Servings.{Answered, Broken}
 use Rattle.px_session.specs.Sessions.{Obeyed, Stand, after, after_line, answer_line, answers, clocks_over, has_quit}
 use Rattle.px_session.specs.Sessions.{is_last, is_quit, line_clocks, stand, until_quit}
 
@@ -126,99 +126,112 @@ obeyed_both s t u ls ms first second = record {
   );
 }
 
-pub answered_none : (bits : ℕ) (s : Stand) (a : SinkState) → Answered bits s s a a []
-answered_none bits s a = record {
-  state = obeyed_none s;
-  wrote = takes_none a;
-}
+pub answered_none : (bits : ℕ) (s : Stand) → Answered false bits s s []
+answered_none bits s = record { state = obeyed_none s; wrote = takes_none s.out }
 
 -- first these lines, and then those
-pub answered_both : (bits : ℕ) (s t u : Stand) (a b c : SinkState)
-    (ls ms : List (List ℕ))
-    → Answered bits s t a b ls → Answered bits t u b c ms → Answered bits s u a c (ls ++ ms)
-answered_both bits s t u a b c ls ms first second = record {
+pub answered_both : (bits : ℕ) (s t u : Stand) (ls ms : List (List ℕ))
+    → Answered false bits s t ls → Answered false bits t u ms → Answered false bits s u (ls ++ ms)
+answered_both bits s t u ls ms first second = record {
   state = obeyed_both s t u ls ms first.state second.state;
   wrote = rw (answers-append bits s.session ls ms, ← first.state.session)
-      (takes_both a b c (answers bits s.session ls) (answers bits t.session ms) first.wrote second.wrote);
+      (takes_both s.out t.out u.out (answers bits s.session ls) (answers bits t.session ms) first.wrote second.wrote);
 }
 
-pub answered_until : (bits : ℕ) (s t u : Stand) (a b c : SinkState)
-    (ls ms : List (List ℕ))
-    → Answered bits s t a b ls → has_quit ls ≡ false → Answered bits t u b c (until_quit ms)
-    → Answered bits s u a c (until_quit (ls ++ ms))
-answered_until bits s t u a b c ls ms first quiet second =
-    rw (until_then ls ms quiet) (answered_both bits s t u a b c ls (until_quit ms) first second)
+pub answered_until : (bits : ℕ) (s t u : Stand) (ls ms : List (List ℕ))
+    → Answered false bits s t ls → has_quit ls ≡ false → Answered false bits t u (until_quit ms)
+    → Answered false bits s u (until_quit (ls ++ ms))
+answered_until bits s t u ls ms first quiet second =
+    rw (until_then ls ms quiet) (answered_both bits s t u ls (until_quit ms) first second)
 
-pub broke_both : (bits : ℕ) (s t u : Stand) (a b c : SinkState)
-    (ls ms : List (List ℕ))
-    → Answered bits s t a b ls → Broke bits t u b c ms → Broke bits s u a c (ls ++ ms)
-broke_both bits s t u a b c ls ms first second =
-    let k = second.whole in
-    let t0 : take (length ls + k) (ls ++ ms) ≡ ls ++ take k ms = take-append-add ls ms k in
-    let t1 : take (length ls + k + 1) (ls ++ ms) ≡ ls ++ take (k + 1) ms =
-    rw add_assoc (take-append-add ls ms (k + 1)) in
-    let e0 = answers-append bits s.session ls (take k ms) in
-    let e1 = answers-append bits s.session ls (take (k + 1) ms) in
+-- a write failed in an answer, and not in finishing
+some_line : (n : ℕ) (ls : List (List ℕ)) → (n ≡ 0 → (false ≡ true) × (ls ≡ [])) → 0 < n
+some_line zero ls some = absurd (let two = (some refl).0 in cc)
+some_line (suc n) ls some = omega arith
+
+pub broke_both : (bits : ℕ) (s t u : Stand) (ls ms : List (List ℕ))
+    → Answered false bits s t ls → Broken false bits t u ms → Broken false bits s u (ls ++ ms)
+broke_both bits s t u ls ms first second =
+    let n = second.count in
+    let some : 0 < n = some_line n ms second.some in
+    let last : length ls + n - 1 ≡ length ls + (n - 1) = omega (arith, some) in
+    let t0 : take (length ls + n - 1) (ls ++ ms) ≡ ls ++ take (n - 1) ms = rw last (take-append-add ls ms (n - 1)) in
+    let t1 : take (length ls + n) (ls ++ ms) ≡ ls ++ take n ms = take-append-add ls ms n in
+    let e0 = answers-append bits s.session ls (take (n - 1) ms) in
+    let e1 = answers-append bits s.session ls (take n ms) in
     record {
-      whole = length ls + k;
+      count = length ls + n;
       within = omega (arith, length-append ls ms, second.within);
-      state = rw t1 (obeyed_both s t u ls (take (k + 1) ms) first.state second.state);
-      count = length (answers bits s.session ls) + second.count;
-      enough = rw (t0, e0, ← first.state.session)
-          (omega (arith, length-append (answers bits s.session ls) (answers bits t.session (take k ms)), second.enough));
+      some = λ none. absurd (omega (arith, some, none));
+      state = rw t1 (obeyed_both s t u ls (take n ms) first.state second.state);
+      gained = length (answers bits s.session ls) + second.gained;
+      before = rw (t0, e0, ← first.state.session)
+          (omega (arith, length-append (answers bits s.session ls) (answers bits t.session (take (n - 1) ms)), second.before));
       wrote = rw (t1, e1, ← first.state.session)
-          (first_after a b c (answers bits s.session ls) (answers bits t.session (take (k + 1) ms)) second.count first.wrote
-          second.wrote);
+          (first_after s.out t.out u.out (answers bits s.session ls) (answers bits t.session (take n ms)) second.gained
+          first.wrote second.wrote);
     }
 
-pub broke_more : (bits : ℕ) (s t : Stand) (a b : SinkState) (ls ms : List (List ℕ))
-    → Broke bits s t a b ls → Broke bits s t a b (ls ++ ms)
-broke_more bits s t a b ls ms broke =
-    let k = broke.whole in
-    let t0 : take k (ls ++ ms) ≡ take k ls = take_within k ls ms (omega (arith, broke.within)) in
-    let t1 : take (k + 1) (ls ++ ms) ≡ take (k + 1) ls = take_within (k + 1) ls ms (omega (arith, broke.within)) in
+pub broke_more : (bits : ℕ) (s t : Stand) (ls ms : List (List ℕ))
+    → Broken false bits s t ls → Broken false bits s t (ls ++ ms)
+broke_more bits s t ls ms broke =
+    let n = broke.count in
+    let t0 : take (n - 1) (ls ++ ms) ≡ take (n - 1) ls = take_within (n - 1) ls ms (omega (arith, broke.within)) in
+    let t1 : take n (ls ++ ms) ≡ take n ls = take_within n ls ms broke.within in
     record {
-      whole = k;
+      count = n;
       within = omega (arith, length-append ls ms, broke.within);
+      some = λ none. absurd (omega (arith, some_line n ls broke.some, none));
       state = rw t1 broke.state;
-      count = broke.count;
-      enough = rw t0 broke.enough;
+      gained = broke.gained;
+      before = rw t0 broke.before;
       wrote = rw t1 broke.wrote;
     }
 
-pub broke_until : (bits : ℕ) (s t u : Stand) (a b c : SinkState)
-    (ls ms : List (List ℕ))
-    → Answered bits s t a b ls → has_quit ls ≡ false → Broke bits t u b c (until_quit ms)
-    → Broke bits s u a c (until_quit (ls ++ ms))
-broke_until bits s t u a b c ls ms first quiet second =
-    rw (until_then ls ms quiet) (broke_both bits s t u a b c ls (until_quit ms) first second)
+pub broke_until : (bits : ℕ) (s t u : Stand) (ls ms : List (List ℕ))
+    → Answered false bits s t ls → has_quit ls ≡ false → Broken false bits t u (until_quit ms)
+    → Broken false bits s u (until_quit (ls ++ ms))
+broke_until bits s t u ls ms first quiet second =
+    rw (until_then ls ms quiet) (broke_both bits s t u ls (until_quit ms) first second)
 
-pub broke_until_more : (bits : ℕ) (s t : Stand) (a b : SinkState)
-    (ls ms : List (List ℕ))
-    → Broke bits s t a b (until_quit ls) → Broke bits s t a b (until_quit (ls ++ ms))
-broke_until_more bits s t a b ls ms broke =
-    rw (until-append ls ms) (broke_more bits s t a b (until_quit ls)
+pub broke_until_more : (bits : ℕ) (s t : Stand) (ls ms : List (List ℕ))
+    → Broken false bits s t (until_quit ls) → Broken false bits s t (until_quit (ls ++ ms))
+broke_until_more bits s t ls ms broke =
+    rw (until-append ls ms) (broke_more bits s t (until_quit ls)
     (if has_quit ls then [] else until_quit ms) broke)
 
+-- what is so of a write that failed in an answer is so of one in an answer or in finishing
+pub broke_ending : (bits : ℕ) (s t : Stand) (ls : List (List ℕ)) → Broken false bits s t ls → Broken true bits s t ls
+broke_ending bits s t ls broke = record {
+  count = broke.count;
+  within = broke.within;
+  some = λ none. absurd (omega (arith, some_line broke.count ls broke.some, none));
+  state = broke.state;
+  gained = broke.gained;
+  before = broke.before;
+  wrote = broke.wrote;
+}
+
 -- one line, answered or not
-pub answered_line : (bits : ℕ) (s t : Stand) (a b : SinkState) (l : List ℕ)
+pub answered_line : (bits : ℕ) (s t : Stand) (l : List ℕ)
     → t.session ≡ after_line s.session l → t.work ≤ s.work + line_clocks s.session l
-    → TakesAll a b (answer_line bits s.session l) → Answered bits s t a b (until_quit (l ∷ []))
-answered_line bits s t a b l is few wrote =
+    → TakesAll s.out t.out (answer_line bits s.session l) → Answered false bits s t (until_quit (l ∷ []))
+answered_line bits s t l is few wrote =
     rw (until_one l) (record {
       state = obeyed_one s t l is few;
       wrote = rw (append-nil (answer_line bits s.session l)) wrote;
     })
 
-pub broke_line : (bits : ℕ) (s t : Stand) (a b : SinkState) (l : List ℕ)
+pub broke_line : (bits : ℕ) (s t : Stand) (l : List ℕ)
     → t.session ≡ after_line s.session l → t.work ≤ s.work + line_clocks s.session l
-    → TakesFront a b (answer_line bits s.session l) → Broke bits s t a b (until_quit (l ∷ []))
-broke_line bits s t a b l is few (n, wrote) = rw (until_one l) (record {
-  whole = 0;
+    → TakesFront s.out t.out (answer_line bits s.session l) → Broken false bits s t (until_quit (l ∷ []))
+broke_line bits s t l is few (n, wrote) = rw (until_one l) (record {
+  count = 1;
   within = omega arith;
+  some = λ none. absurd (omega (arith, none));
   state = obeyed_one s t l is few;
-  count = n;
-  enough = omega arith;
+  gained = n;
+  before = omega arith;
   wrote = rw (append-nil (answer_line bits s.session l)) wrote;
 })
 
@@ -267,18 +280,18 @@ pub given_answered : (bits : ℕ) (s t : SessionView) (m n : ℕ) (a b : SinkSta
     → t ≡ record { scene = s.scene; now = moved s.scene s.now (line_command l); lines = s.lines + 1 }
     → n ≤ m + most_clocks s.scene s.now (line_command l)
     → TakesAll a b (answer bits t.scene t.now t.lines (line_command l))
-    → Answered bits (stand s m) (stand t n) a b (until_quit (l ∷ []))
+    → Answered false bits (stand s m a) (stand t n b) (until_quit (l ∷ []))
 given_answered bits s t m n a b l is few wrote =
-    answered_line bits (stand s m) (stand t n) a b l (state_is s t l is) (clocks_are s l m n few)
+    answered_line bits (stand s m a) (stand t n b) l (state_is s t l is) (clocks_are s l m n few)
     (rw (answer_is bits s t l is) at wrote)
 
 pub given_broke : (bits : ℕ) (s t : SessionView) (m n : ℕ) (a b : SinkState) (l : List ℕ)
     → t ≡ record { scene = s.scene; now = moved s.scene s.now (line_command l); lines = s.lines + 1 }
     → n ≤ m + most_clocks s.scene s.now (line_command l)
     → TakesFront a b (answer bits t.scene t.now t.lines (line_command l))
-    → Broke bits (stand s m) (stand t n) a b (until_quit (l ∷ []))
+    → Broken false bits (stand s m a) (stand t n b) (until_quit (l ∷ []))
 given_broke bits s t m n a b l is few wrote =
-    broke_line bits (stand s m) (stand t n) a b l (state_is s t l is) (clocks_are s l m n few)
+    broke_line bits (stand s m a) (stand t n b) l (state_is s t l is) (clocks_are s l m n few)
     (rw (answer_is bits s t l is) at wrote)
 
 -- what follows from what holds of an answer

@@ -1,5 +1,5 @@
 -- A line's first 256 bytes say what the line says.
-use Rattle.std.proofs.Common.{◌≡◌, ℕ, ◌+◌, true, false, ◌==◌, List, [], ◌∷◌, ◌++◌, length}
+use Rattle.std.proofs.Common.{◌≡◌, ℕ, ◌+◌, ◌-◌, true, false, ◌==◌, List, [], ◌∷◌, ◌++◌, length}
 use Rattle.std.proofs.Common.{take, map, refl, sym, ap, ◌∙◌, inl, inr, length-append, length-take, arith}
 use Rattle.std.proofs.Common.{if◌then◌else◌}
 use Rattle.std.proofs.lemmas.Bool.{cases_lt}
@@ -7,11 +7,11 @@ use Rattle.std.proofs.lemmas.List.{length-map, take_all, take-append-le, take-ma
 use Rattle.px_num.proofs.TruthLaws.{lt_true}
 use Rattle.px_debug.specs.Commands.{line_command}
 use Rattle.px_debug.specs.Moves.{SessionView}
-use Rattle.px_io.specs.Told.{SinkState}
 use Rattle.px_lines.specs.Lines.{ended, last_of, left}
 use Rattle.px_session.specs.Buffers.{held_with, short_ended, short_left}
-use Rattle.px_session.specs.Servings.{Answered}
-use Rattle.px_session.specs.Turns.{Broke}
+use Rattle.px_session.specs.Servings.{Answered, Broken, HasServed, Lines}
+use Rattle.px_session.specs.declared.serving.Ending.{Ending}
+use Rattle.px_session.specs.declared.serving.Ending.TheVariants as e
 use Rattle.px_session.specs.Sessions.{Obeyed, Stand, after, after_line, answer_line, answers, clocks_over, has_quit}
 use Rattle.px_session.specs.Sessions.{is_quit, line_clocks, until_quit}
 
@@ -105,26 +105,46 @@ obeyed_short s t ls obeyed = record {
   work = omega (arith, obeyed.work, over_short s.session ls);
 }
 
-pub answered_short : (bits : ℕ) (s t : Stand) (a b : SinkState) (ls : List (List ℕ))
-    → Answered bits s t a b (map short ls) → Answered bits s t a b ls
-answered_short bits s t a b ls answered = record {
+pub answered_short : (bits : ℕ) (s t : Stand) (ls : List (List ℕ))
+    → Answered false bits s t (map short ls) → Answered false bits s t ls
+answered_short bits s t ls answered = record {
   state = obeyed_short s t ls answered.state;
   wrote = rw (← answers_short bits s.session ls) answered.wrote;
 }
 
-pub broke_short : (bits : ℕ) (s t : Stand) (a b : SinkState) (ls : List (List ℕ))
-    → Broke bits s t a b (map short ls) → Broke bits s t a b ls
-broke_short bits s t a b ls broke =
-    let k = broke.whole in
-    let first : answers bits s.session (take k (map short ls)) ≡ answers bits s.session (take k ls) =
-    ap (λ ks. answers bits s.session ks) (take-map short k ls) ∙ answers_short bits s.session (take k ls) in
-    let more : answers bits s.session (take (k + 1) (map short ls)) ≡ answers bits s.session (take (k + 1) ls) =
-    ap (λ ks. answers bits s.session ks) (take-map short (k + 1) ls) ∙ answers_short bits s.session (take (k + 1) ls) in
+pub broke_short : (bits : ℕ) (s t : Stand) (ls : List (List ℕ))
+    → Broken false bits s t (map short ls) → Broken false bits s t ls
+broke_short bits s t ls broke =
+    let n = broke.count in
+    let first : answers bits s.session (take (n - 1) (map short ls)) ≡ answers bits s.session (take (n - 1) ls) =
+    ap (λ ks. answers bits s.session ks) (take-map short (n - 1) ls) ∙ answers_short bits s.session (take (n - 1) ls) in
+    let more : answers bits s.session (take n (map short ls)) ≡ answers bits s.session (take n ls) =
+    ap (λ ks. answers bits s.session ks) (take-map short n ls) ∙ answers_short bits s.session (take n ls) in
     record {
-      whole = k;
+      count = n;
       within = omega (arith, broke.within, length-map ls short);
-      state = obeyed_short s t (take (k + 1) ls) (rw (take-map short (k + 1) ls) at broke.state);
-      count = broke.count;
-      enough = rw first at broke.enough;
+      some = λ none. absurd (let two = (broke.some none).0 in cc);
+      state = obeyed_short s t (take n ls) (rw (take-map short n ls) at broke.state);
+      gained = broke.gained;
+      before = rw first at broke.before;
       wrote = rw more at broke.wrote;
     }
+
+-- what came of lines as a buffer has them comes of the lines
+pub served_short : (ending : Ending) (bits : ℕ) (s t : Stand) (lines : Lines)
+    → HasServed ending false bits s t (record { whole = map short lines.whole; all = map short lines.all })
+    → HasServed ending false bits s t lines
+served_short e.Quit bits s t lines served = (
+  answered_short bits s t (until_quit lines.whole) (rw (until_short lines.whole) at served.0),
+  sym (quits_short lines.whole) ∙ served.1,
+)
+served_short e.End bits s t lines served = (
+  answered_short bits s t (until_quit lines.all) (rw (until_short lines.all) at served.0),
+  sym (quits_short lines.whole) ∙ served.1,
+)
+served_short e.Long bits s t lines served =
+    (answered_short bits s t lines.whole served.0, sym (quits_short lines.whole) ∙ served.1)
+served_short e.ReadFault bits s t lines served =
+    (answered_short bits s t lines.whole served.0, sym (quits_short lines.whole) ∙ served.1)
+served_short e.WriteFault bits s t lines served =
+    broke_short bits s t (until_quit lines.all) (rw (until_short lines.all) at served)

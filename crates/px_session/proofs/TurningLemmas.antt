@@ -1,16 +1,16 @@
 -- One turn after another.
 use Rattle.std.proofs.Common.{◌≡◌, ℕ, ◌+◌, ◌-◌, ◌<◌, ◌≤◌, true, false, List, [], ◌++◌, length, take, Option}
-use Rattle.std.proofs.Common.{refl, sym, ◌∙◌, min, append_assoc, length-append, arith}
+use Rattle.std.proofs.Common.{refl, sym, subst, ◌∙◌, min, append_assoc, length-append, arith}
 use Rattle.std.specs.Io.KnownBytes.{Consumes, Keeps}
 use Rattle.std.proofs.Math.Seq.{take-append-add}
 use Rattle.std.proofs.lemmas.List.{take_all, take_min, length-take, take-take, take-append-le as take_within}
 use Rattle.px_io.proofs.ToldLaws.{consumes_both, consumes_kept, consumes_none}
-use Rattle.px_io.specs.Told.{SinkState}
 use Rattle.px_lines.specs.Lines.{last_of}
 use Rattle.px_session.specs.Buffers.{short_ended, short_left}
-use Rattle.px_session.specs.Servings.{Answered, seen}
+use Rattle.px_session.specs.Prompts.{Moment}
+use Rattle.px_session.specs.Servings.{Answered, Broken, HasRead, HasServed, Lines, seen}
 use Rattle.px_session.specs.Sessions.{Stand, has_quit, until_quit}
-use Rattle.px_session.specs.Turns.{Broke, Ended, HasAnswered, Went, lines_at_end, seen_left, seen_lines}
+use Rattle.px_session.specs.Turns.{Ended, Place, Went, lines_seen, seen_left, seen_lines}
 use Rattle.px_session.specs.declared.serving.Ending.{Ending}
 use Rattle.px_session.specs.declared.serving.Ending.TheVariants as e
 use Rattle.px_session.proofs.FeedingLemmas.{answered_both, answered_none, answered_until, broke_until, broke_until_more}
@@ -27,15 +27,14 @@ seen_all limit xs some = take_all (limit - 1) xs (omega arith)
 pub seen_none : (limit : ℕ) → seen limit [] ≡ []
 seen_none limit = take_all (limit - 1) [] (omega arith)
 
-pub went_none : (limit bits : ℕ) (held : List ℕ) (s : Stand) (rest : Option (List ℕ)) (a : SinkState)
-    → Went limit 0 bits held held s s rest rest a a
-went_none limit bits held s rest a =
+pub went_none : (limit bits : ℕ) (p : Place) → Went limit 0 bits p p
+went_none limit bits p =
     let none = seen_none limit in
     record {
       bytes = [];
       size = refl;
-      taken = consumes_none rest;
-      answered = rw none (answered_none bits s a);
+      taken = consumes_none p.moment.rest;
+      answered = rw none (answered_none bits p.moment.at);
       quiet = rw none refl;
       kept = rw none refl;
     }
@@ -53,87 +52,71 @@ left_both : (limit m : ℕ) (held held' xs ys : List ℕ) → length xs < limit 
 left_both limit m held held' xs ys some left kept =
     rw (seen_both limit xs ys some, left-append, kept, seen_all limit xs some, left) refl
 
-pub went_both : (limit n k c m bits : ℕ) (h h' h'' : List ℕ) (s t u : Stand) (x y z : Option (List ℕ)) (a b c' : SinkState)
-    → n < limit → c ≡ n + k → m ≡ limit - n
-    → Went limit n bits h h' s t x y a b → Went m k bits h' h'' t u y z b c'
-    → Went limit c bits h h'' s u x z a c'
-went_both limit n k c m bits h h' h'' s t u x y z a b c' less is left first second =
+pub went_both : (limit n k c m bits : ℕ) (p q r : Place) → n < limit → c ≡ n + k → m ≡ limit - n
+    → Went limit n bits p q → Went m k bits q r → Went limit c bits p r
+went_both limit n k c m bits p q r less is left first second =
     let some : length first.bytes < limit = omega (arith, first.size) in
     let behind : m ≡ limit - length first.bytes = omega (arith, first.size) in
-    let lines = lines_both limit m h h' first.bytes second.bytes some behind first.kept in
-    let kept = left_both limit m h h' first.bytes second.bytes some behind first.kept in
+    let lines = lines_both limit m p.held q.held first.bytes second.bytes some behind first.kept in
+    let kept = left_both limit m p.held q.held first.bytes second.bytes some behind first.kept in
     record {
       bytes = first.bytes ++ second.bytes;
       size = omega (arith, length-append first.bytes second.bytes, first.size, second.size);
-      taken = consumes_both x y z first.bytes second.bytes first.taken second.taken;
-      answered = rw lines (answered_both bits s t u a b c' _ _ first.answered second.answered);
+      taken = consumes_both p.moment.rest q.moment.rest r.moment.rest first.bytes second.bytes first.taken second.taken;
+      answered = rw lines (answered_both bits p.moment.at q.moment.at r.moment.at _ _ first.answered second.answered);
       quiet = rw lines (quits_then _ _ false first.quiet second.quiet);
       kept = rw kept second.kept;
     }
 
--- the lines of bytes that were read and of those of a last turn
-record Lines (limit m : ℕ) (h h' xs ys : List ℕ) : Type 0 where
-  pub whole : seen_lines limit h (xs ++ ys) ≡ seen_lines limit h xs ++ seen_lines m h' ys
-  pub all : lines_at_end limit h (xs ++ ys) ≡ seen_lines limit h xs ++ lines_at_end m h' ys
+-- lines behind others
+abbrev pub behind : List (List ℕ) → Lines → Lines
+behind front lines = record { whole = front ++ lines.whole; all = front ++ lines.all }
 
+-- what came of lines comes of them behind others, none of which is a quit
+pub served_behind : (ending : Ending) (bits : ℕ) (s t u : Stand) (front : List (List ℕ)) (lines : Lines)
+    → Answered false bits s t front → has_quit front ≡ false → HasServed ending false bits t u lines
+    → HasServed ending false bits s u (behind front lines)
+served_behind e.Quit bits s t u front lines first quiet second =
+    (answered_until bits s t u front lines.whole first quiet second.0, quits_then front lines.whole true quiet second.1)
+served_behind e.End bits s t u front lines first quiet second =
+    (answered_until bits s t u front lines.all first quiet second.0, quits_then front lines.whole false quiet second.1)
+served_behind e.Long bits s t u front lines first quiet second =
+    (answered_both bits s t u front lines.whole first second.0, quits_then front lines.whole false quiet second.1)
+served_behind e.ReadFault bits s t u front lines first quiet second =
+    (answered_both bits s t u front lines.whole first second.0, quits_then front lines.whole false quiet second.1)
+served_behind e.WriteFault bits s t u front lines first quiet second =
+    broke_until bits s t u front lines.all first quiet second
+
+-- the lines of bytes that were read and of those of a last turn
 lines_of : (limit m : ℕ) (h h' xs ys : List ℕ) → length xs < limit → m ≡ limit - length xs → h' ≡ seen_left limit h xs
-    → Lines limit m h h' xs ys
+    → behind (seen_lines limit h xs) (lines_seen m h' ys) ≡ lines_seen limit h (xs ++ ys)
 lines_of limit m h h' xs ys some left kept =
     let whole = lines_both limit m h h' xs ys some left kept in
-    record {
-      whole = whole;
-      all = rw (whole, left_both limit m h h' xs ys some left kept)
-          (append_assoc (seen_lines limit h xs) (seen_lines m h' ys) (last_of (seen_left m h' ys)));
-    }
+    let last = left_both limit m h h' xs ys some left kept in
+    rw (whole, last, append_assoc (seen_lines limit h xs) (seen_lines m h' ys) (last_of (seen_left m h' ys))) refl
 
-abbrev Both : Ending → Type 0
-Both ending =
-    (limit m bits : ℕ) (h h' xs ys : List ℕ) (s t u : Stand) (rest : Option (List ℕ)) (a b c : SinkState)
-    → length xs < limit → m ≡ limit - length xs → h' ≡ seen_left limit h xs
-    → Answered bits s t a b (seen_lines limit h xs) → has_quit (seen_lines limit h xs) ≡ false
-    → HasAnswered ending m bits h' ys t u rest b c → HasAnswered ending limit bits h (xs ++ ys) s u rest a c
+read_both : (ending : Ending) (limit m : ℕ) (xs ys : List ℕ) (rest : Option (List ℕ)) → length xs < limit
+    → m ≡ limit - length xs → HasRead ending ys m rest → HasRead ending (xs ++ ys) limit rest
+read_both e.Quit limit m xs ys rest some left read = tt
+read_both e.End limit m xs ys rest some left read = (omega (arith, length-append xs ys, read.0), read.1)
+read_both e.Long limit m xs ys rest some left read = omega (arith, length-append xs ys, read)
+read_both e.ReadFault limit m xs ys rest some left read = tt
+read_both e.WriteFault limit m xs ys rest some left read = tt
 
-both_answered : (ending : Ending) → Both ending
-both_answered e.ReadFault limit m bits h h' xs ys s t u rest a b c some left kept first quiet second =
-    let lines = lines_of limit m h h' xs ys some left kept in (
-      rw lines.whole (answered_both bits s t u a b c _ _ first second.0),
-      rw lines.whole (quits_then _ _ false quiet second.1),
-    )
-both_answered e.Quit limit m bits h h' xs ys s t u rest a b c some left kept first quiet second =
-    let lines = lines_of limit m h h' xs ys some left kept in (
-      rw lines.whole (answered_until bits s t u a b c _ _ first quiet second.0),
-      rw lines.whole (quits_then _ _ true quiet second.1),
-    )
-both_answered e.Long limit m bits h h' xs ys s t u rest a b c some left kept first quiet second =
-    let lines = lines_of limit m h h' xs ys some left kept in (
-      rw lines.whole (answered_both bits s t u a b c _ _ first second.0),
-      rw lines.whole (quits_then _ _ false quiet second.1),
-      omega (arith, length-append xs ys, second.2),
-    )
-both_answered e.End limit m bits h h' xs ys s t u rest a b c some left kept first quiet second =
-    let lines = lines_of limit m h h' xs ys some left kept in (
-      rw lines.all (answered_until bits s t u a b c _ _ first quiet second.0),
-      rw lines.whole (quits_then _ _ false quiet second.1),
-      omega (arith, length-append xs ys, second.2),
-      second.3,
-    )
-both_answered e.WriteFault limit m bits h h' xs ys s t u rest a b c some left kept first quiet second =
-    let lines = lines_of limit m h h' xs ys some left kept in
-    rw lines.all (broke_until bits s t u a b c _ _ first quiet second)
-
-pub ended_both : (ending : Ending) (limit n m bits : ℕ) (h h' : List ℕ) (s t u : Stand)
-    (x y z : Option (List ℕ)) (a b c : SinkState)
-    → n < limit → m ≡ limit - n → Went limit n bits h h' s t x y a b → Ended ending m bits h' t u y z b c
-    → Ended ending limit bits h s u x z a c
-ended_both ending limit n m bits h h' s t u x y z a b c less left first last =
+pub ended_both : (ending : Ending) (limit n m bits : ℕ) (p q : Place) (r : Moment) → n < limit → m ≡ limit - n
+    → Went limit n bits p q → Ended ending m bits q r → Ended ending limit bits p r
+ended_both ending limit n m bits p q r less left first last =
     let some : length first.bytes < limit = omega (arith, first.size) in
-    let behind : m ≡ limit - length first.bytes = omega (arith, first.size) in
+    let rest : m ≡ limit - length first.bytes = omega (arith, first.size) in
     record {
       bytes = first.bytes ++ last.bytes;
       few = omega (arith, length-append first.bytes last.bytes, first.size, last.few);
-      taken = consumes_both x y z first.bytes last.bytes first.taken last.taken;
-      answered = both_answered ending limit m bits h h' first.bytes last.bytes s t u z a b c some behind
-          first.kept first.answered first.quiet last.answered;
+      taken = consumes_both p.moment.rest q.moment.rest r.rest first.bytes last.bytes first.taken last.taken;
+      ended = read_both ending limit m first.bytes last.bytes r.rest some rest last.ended;
+      served = subst (λ lines. HasServed ending false bits p.moment.at r.at lines)
+          (lines_of limit m p.held q.held first.bytes last.bytes some rest first.kept)
+          (served_behind ending bits p.moment.at q.moment.at r.at (seen_lines limit p.held first.bytes)
+          (lines_seen m q.held last.bytes) first.answered first.quiet last.served);
     }
 
 -- what a read gave, of which the last byte that may be read is not seen
@@ -146,60 +129,61 @@ seen_read limit n k buf ys within is =
     let whole : take k t ≡ take (limit - 1) t = rw m at (take_min (limit - 1) t) in
     take_within k buf ys (omega arith) ∙ sym (take-take k n buf (omega arith)) ∙ whole
 
-pub ended_broke : (limit bits : ℕ) (h bytes fed : List ℕ) (s t : Stand) (x y : Option (List ℕ)) (a b : SinkState)
-    → length bytes ≤ limit → Consumes x y bytes → fed ≡ seen limit bytes
-    → Broke bits s t a b (until_quit (short_ended h fed)) → Ended e.WriteFault limit bits h s t x y a b
-ended_broke limit bits h bytes fed s t x y a b few taken is broke = record {
+pub ended_broke : (limit bits : ℕ) (bytes fed : List ℕ) (p : Place) (q : Moment) → length bytes ≤ limit
+    → Consumes p.moment.rest q.rest bytes → fed ≡ seen limit bytes
+    → Broken false bits p.moment.at q.at (until_quit (short_ended p.held fed)) → Ended e.WriteFault limit bits p q
+ended_broke limit bits bytes fed p q few taken is broke = record {
   bytes = bytes;
   few = few;
   taken = taken;
-  answered = broke_until_more bits s t a b (seen_lines limit h bytes) (last_of (seen_left limit h bytes))
+  ended = tt;
+  served = broke_until_more bits p.moment.at q.at (seen_lines limit p.held bytes) (last_of (seen_left limit p.held bytes))
       (rw is at broke);
 }
 
 -- a read failed
-pub ended_fault : (limit bits : ℕ) (h : List ℕ) (s : Stand) (x y : Option (List ℕ)) (a : SinkState)
-    → Keeps x y
-    → Ended e.ReadFault limit bits h s s x y a a
-ended_fault limit bits h s x y a kept =
+pub ended_fault : (limit bits : ℕ) (p : Place) (q : Moment) → q.at ≡ p.moment.at → Keeps p.moment.rest q.rest
+    → Ended e.ReadFault limit bits p q
+ended_fault limit bits p q same kept =
     let none = seen_none limit in
     record {
       bytes = [];
       few = omega arith;
-      taken = consumes_kept x x y [] (consumes_none x) kept;
-      answered = (rw none (answered_none bits s a), rw none refl);
+      taken = consumes_kept p.moment.rest p.moment.rest q.rest [] (consumes_none p.moment.rest) kept;
+      ended = tt;
+      served = rw same (rw none (answered_none bits p.moment.at), rw none refl);
     }
 
 -- bytes were read and fed
-pub went_fed : (limit n bits : ℕ) (h h' buf fed : List ℕ) (s t : Stand) (x y : Option (List ℕ)) (a b : SinkState)
-    → n ≤ length buf → Consumes x y (take n buf) → fed ≡ seen limit (take n buf)
-    → Answered bits s t a b (until_quit (short_ended h fed)) → has_quit (short_ended h fed) ≡ false
-    → h' ≡ short_left h fed
-    → Went limit n bits h h' s t x y a b
-went_fed limit n bits h h' buf fed s t x y a b within taken is answered quiet kept = record {
+pub went_fed : (limit n bits : ℕ) (buf fed : List ℕ) (p q : Place) → n ≤ length buf
+    → Consumes p.moment.rest q.moment.rest (take n buf) → fed ≡ seen limit (take n buf)
+    → Answered false bits p.moment.at q.moment.at (until_quit (short_ended p.held fed))
+    → has_quit (short_ended p.held fed) ≡ false → q.held ≡ short_left p.held fed → Went limit n bits p q
+went_fed limit n bits buf fed p q within taken is answered quiet kept = record {
   bytes = take n buf;
   size = omega (arith, length-take n buf);
   taken = taken;
-  answered = rw (← is) (rw (until_quiet (short_ended h fed) quiet) at answered);
+  answered = rw (← is) (rw (until_quiet (short_ended p.held fed) quiet) at answered);
   quiet = rw (← is) quiet;
   kept = rw (← is) kept;
 }
 
-pub ended_quit : (limit n bits : ℕ) (h buf fed : List ℕ) (s t : Stand) (x y : Option (List ℕ)) (a b : SinkState)
-    → n ≤ length buf → n ≤ limit → Consumes x y (take n buf) → fed ≡ seen limit (take n buf)
-    → Answered bits s t a b (until_quit (short_ended h fed)) → has_quit (short_ended h fed) ≡ true
-    → Ended e.Quit limit bits h s t x y a b
-ended_quit limit n bits h buf fed s t x y a b within few taken is answered quits = record {
+pub ended_quit : (limit n bits : ℕ) (buf fed : List ℕ) (p : Place) (q : Moment) → n ≤ length buf → n ≤ limit
+    → Consumes p.moment.rest q.rest (take n buf) → fed ≡ seen limit (take n buf)
+    → Answered false bits p.moment.at q.at (until_quit (short_ended p.held fed))
+    → has_quit (short_ended p.held fed) ≡ true → Ended e.Quit limit bits p q
+ended_quit limit n bits buf fed p q within few taken is answered quits = record {
   bytes = take n buf;
   few = omega (arith, length-take n buf);
   taken = taken;
-  answered = (rw (← is) answered, rw (← is) quits);
+  ended = tt;
+  served = (rw (← is) answered, rw (← is) quits);
 }
 
 -- a write failed in the answer to the last piece, at the end of the input
-pub ended_last : (limit bits count : ℕ) (h buf : List ℕ) (s t : Stand) (x y : Option (List ℕ)) (a b : SinkState)
-    → count ≡ 0 → Consumes x y (take count buf) → Broke bits s t a b (until_quit (last_of h))
-    → Ended e.WriteFault limit bits h s t x y a b
-ended_last limit bits count h buf s t x y a b none taken broke =
+pub ended_last : (limit bits count : ℕ) (buf : List ℕ) (p : Place) (q : Moment) → count ≡ 0
+    → Consumes p.moment.rest q.rest (take count buf) → Broken false bits p.moment.at q.at (until_quit (last_of p.held))
+    → Ended e.WriteFault limit bits p q
+ended_last limit bits count buf p q none taken broke =
     let nothing = seen_none limit in
-    record { bytes = []; few = omega arith; taken = rw none at taken; answered = rw nothing broke }
+    record { bytes = []; few = omega arith; taken = rw none at taken; ended = tt; served = rw nothing broke }

@@ -1,5 +1,6 @@
 -- A session over lines, one after another. Clauses of public calls stand on it.
 use Rattle.std.specs.Prelude.{◌≡◌, ℕ, ◌+◌, ◌≤◌, List, [], ◌∷◌, ◌++◌, Bool, true, false, ◌||◌, if◌then◌else◌}
+use Rattle.px_io.specs.Told.{SinkState}
 use Rattle.px_model.specs.Scenes.{SceneView}
 use Rattle.px_debug.specs.Answers.{answer}
 use Rattle.px_debug.specs.Commands.{line_command}
@@ -56,13 +57,14 @@ abbrev pub clocks_over : SessionView → List (List ℕ) → ℕ
 clocks_over s [] = 0
 clocks_over s (line ∷ lines) = line_clocks s line + clocks_over (after_line s line) lines
 
--- a session, and the work of the array that it is lent
+-- a session, the work of the array that it is lent, and its output
 pub record Stand : Type 0 where
   pub session : SessionView
   pub work : ℕ
+  pub out : SinkState
 
-abbrev pub stand : SessionView → (work : ℕ) → Stand
-stand session work = record { session = session; work = work }
+abbrev pub stand : SessionView → (work : ℕ) → (out : SinkState) → Stand
+stand session work out = record { session = session; work = work; out = out }
 
 -- all of the lines were obeyed, and the work grew by at most the clocks that they make
 pub record Obeyed (from now : Stand) (lines : List (List ℕ)) : Type 0 where

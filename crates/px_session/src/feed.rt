@@ -4,9 +4,8 @@ ghost use Rattle.px_io.specs.Counts.{HasCause};
 ghost use Rattle.px_debug.specs.Moves.{Fits};
 ghost use Rattle.px_lines.specs.Lines.{last_of};
 ghost use Rattle.px_session.specs.Buffers.{held_with, short_ended, short_left};
-ghost use Rattle.px_session.specs.Servings.{Answered};
+ghost use Rattle.px_session.specs.Servings.{Answered, Broken};
 ghost use Rattle.px_session.specs.Sessions.{has_quit, is_last, stand, until_quit};
-ghost use Rattle.px_session.specs.Turns.{Broke};
 
 use arrayvec::ArrayVec;
 use px_asm::Operating;
@@ -35,14 +34,14 @@ fn give<A: Operating, O: Sink>(
     requires fits { Fits A.BITS session.old (A.device array.old) (A.slots array.old) }
     requires counted { session.old.lines < 2 ^ 64 - 1 }
     ensures fits { Fits A.BITS session.new (A.device array.new) (A.slots array.new) }
-    ensures ok { OnOk result (Answered A.BITS
-        (stand session.old (A.work array.old)) (stand session.new (A.work array.new))
-        (O.state out.old) (O.state out.new)
+    ensures ok { OnOk result (Answered false A.BITS
+        (stand session.old (A.work array.old) (O.state out.old))
+        (stand session.new (A.work array.new) (O.state out.new))
         (until_quit (line.now ∷ []))) }
     ensures going { IfOk result (λ on. is_last on ≡ has_quit (line.now ∷ [])) }
-    ensures err { OnErr result (Broke A.BITS
-        (stand session.old (A.work array.old)) (stand session.new (A.work array.new))
-        (O.state out.old) (O.state out.new)
+    ensures err { OnErr result (Broken false A.BITS
+        (stand session.old (A.work array.old) (O.state out.old))
+        (stand session.new (A.work array.new) (O.state out.new))
         (until_quit (line.now ∷ []))) }
     ensures count { session.new.lines ≡ session.old.lines + 1 }
     ensures cause { HasCause (O.state out.old).faults (O.state out.new).faults result }
@@ -61,16 +60,16 @@ fn take_byte<A: Operating, O: Sink>(
     requires fits { Fits A.BITS session.old (A.device array.old) (A.slots array.old) }
     requires counted { session.old.lines < 2 ^ 64 - 1 }
     ensures fits { Fits A.BITS session.new (A.device array.new) (A.slots array.new) }
-    ensures ok { OnOk result (Answered A.BITS
-        (stand session.old (A.work array.old)) (stand session.new (A.work array.new))
-        (O.state out.old) (O.state out.new)
+    ensures ok { OnOk result (Answered false A.BITS
+        (stand session.old (A.work array.old) (O.state out.old))
+        (stand session.new (A.work array.new) (O.state out.new))
         (until_quit (short_ended held.old.items (byte ∷ [])))) }
     ensures going { IfOk result (λ on.
         is_last on ≡ has_quit (short_ended held.old.items (byte ∷ []))) }
     ensures held { OnOk result (held.new.items ≡ short_left held.old.items (byte ∷ [])) }
-    ensures err { OnErr result (Broke A.BITS
-        (stand session.old (A.work array.old)) (stand session.new (A.work array.new))
-        (O.state out.old) (O.state out.new)
+    ensures err { OnErr result (Broken false A.BITS
+        (stand session.old (A.work array.old) (O.state out.old))
+        (stand session.new (A.work array.new) (O.state out.new))
         (until_quit (short_ended held.old.items (byte ∷ [])))) }
     ensures count { session.new.lines ≤ session.old.lines + 1 }
     ensures cause { HasCause (O.state out.old).faults (O.state out.new).faults result }
@@ -96,16 +95,16 @@ pub(crate) fn feed<A: Operating, O: Sink>(
     requires fits { Fits A.BITS session.old (A.device array.old) (A.slots array.old) }
     requires counted { session.old.lines + length bytes.now < 2 ^ 64 - 1 }
     ensures fits { Fits A.BITS session.new (A.device array.new) (A.slots array.new) }
-    ensures ok { OnOk result (Answered A.BITS
-        (stand session.old (A.work array.old)) (stand session.new (A.work array.new))
-        (O.state out.old) (O.state out.new)
+    ensures ok { OnOk result (Answered false A.BITS
+        (stand session.old (A.work array.old) (O.state out.old))
+        (stand session.new (A.work array.new) (O.state out.new))
         (until_quit (short_ended held.old.items bytes.now))) }
     ensures going { IfOk result (λ on. is_last on ≡ has_quit (short_ended held.old.items bytes.now)) }
     ensures held { IfOk result (λ on. on ≡ Going.More →
         held.new.items ≡ short_left held.old.items bytes.now) }
-    ensures err { OnErr result (Broke A.BITS
-        (stand session.old (A.work array.old)) (stand session.new (A.work array.new))
-        (O.state out.old) (O.state out.new)
+    ensures err { OnErr result (Broken false A.BITS
+        (stand session.old (A.work array.old) (O.state out.old))
+        (stand session.new (A.work array.new) (O.state out.new))
         (until_quit (short_ended held.old.items bytes.now))) }
     ensures count { session.new.lines ≤ session.old.lines + length bytes.now }
     ensures cause { HasCause (O.state out.old).faults (O.state out.new).faults result }
@@ -129,13 +128,13 @@ pub(crate) fn finish_line<A: Operating, O: Sink>(
     requires fits { Fits A.BITS session.old (A.device array.old) (A.slots array.old) }
     requires counted { session.old.lines < 2 ^ 64 - 1 }
     ensures fits { Fits A.BITS session.new (A.device array.new) (A.slots array.new) }
-    ensures ok { OnOk result (Answered A.BITS
-        (stand session.old (A.work array.old)) (stand session.new (A.work array.new))
-        (O.state out.old) (O.state out.new)
+    ensures ok { OnOk result (Answered false A.BITS
+        (stand session.old (A.work array.old) (O.state out.old))
+        (stand session.new (A.work array.new) (O.state out.new))
         (until_quit (last_of held.now.items))) }
-    ensures err { OnErr result (Broke A.BITS
-        (stand session.old (A.work array.old)) (stand session.new (A.work array.new))
-        (O.state out.old) (O.state out.new)
+    ensures err { OnErr result (Broken false A.BITS
+        (stand session.old (A.work array.old) (O.state out.old))
+        (stand session.new (A.work array.new) (O.state out.new))
         (until_quit (last_of held.now.items))) }
     ensures cause { HasCause (O.state out.old).faults (O.state out.new).faults result }
 {

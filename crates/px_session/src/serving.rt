@@ -4,11 +4,10 @@ ghost use Rattle.std.specs.Io.KnownBytes.{Keeps};
 ghost use Rattle.px_io.specs.Counts.{Rose};
 ghost use Rattle.px_io.specs.Told.{Tells};
 ghost use Rattle.px_debug.specs.Moves.{Fits};
-ghost use Rattle.px_session.specs.Catching.{Begun, Caught, PromptsFrom};
-ghost use Rattle.px_session.specs.Prompts.{Prompts};
+ghost use Rattle.px_session.specs.Catching.{Begun, Caught};
+ghost use Rattle.px_session.specs.Prompts.{Prompts, moment};
 ghost use Rattle.px_session.specs.Servings.{HasCauses, Serves};
-ghost use Rattle.px_session.specs.Sessions.{stand};
-ghost use Rattle.px_session.specs.Turns.{Ended, Stopped, Went};
+ghost use Rattle.px_session.specs.Turns.{Ended, Stopped, Went, place};
 
 use crate::feed::{Line, feed, finish_line};
 use arrayvec::ArrayVec;
@@ -50,13 +49,10 @@ pub fn serve<S: Asks<O>, O: Sink, A: Operating>(
     requires counted { session.old.lines + length read.now + more < 2 ^ 64 - 1 }
     ensures fits { Fits A.BITS session.new (A.device array.new) (A.slots array.new) }
     ensures serves { Serves result A.BITS read.now more
-        (stand session.old (A.work array.old)) (stand session.new (A.work array.new))
-        (S.rest input.old) (S.rest input.new) (O.state out.old) (O.state out.new) }
-    ensures causes { HasCauses result (S.faults input.old) (S.faults input.new)
-        (O.state out.old).faults (O.state out.new).faults }
-    ensures prompt { Prompts A.BITS session.old read.now more
-        (S.asks input.old) (S.asks input.new)
-        (S.rest input.old) (S.rest input.new) (O.state out.old).written }
+        (moment session.old (A.work array.old) (O.state out.old)
+        (S.asks input.old) (S.rest input.old) (S.faults input.old))
+        (moment session.new (A.work array.new) (O.state out.new)
+        (S.asks input.new) (S.rest input.new) (S.faults input.new)) }
 {
     match answer_all(session, array, read, input, more, out) {
         Ending::Quit => finish(out, Ending::Quit),
@@ -91,13 +87,20 @@ fn answer_all<S: Asks<O>, O: Sink, A: Operating>(
     requires counted { session.old.lines + length read.now + more < 2 ^ 64 - 1 }
     ensures fits { Fits A.BITS session.new (A.device array.new) (A.slots array.new) }
     ensures stopped { Stopped result A.BITS read.now more
-        (stand session.old (A.work array.old)) (stand session.new (A.work array.new))
-        (S.rest input.old) (S.rest input.new) (O.state out.old) (O.state out.new) }
-    ensures causes { HasCauses result (S.faults input.old) (S.faults input.new)
-        (O.state out.old).faults (O.state out.new).faults }
-    ensures prompt { Prompts A.BITS session.old read.now more
-        (S.asks input.old) (S.asks input.new)
-        (S.rest input.old) (S.rest input.new) (O.state out.old).written }
+        (moment session.old (A.work array.old) (O.state out.old)
+        (S.asks input.old) (S.rest input.old) (S.faults input.old))
+        (moment session.new (A.work array.new) (O.state out.new)
+        (S.asks input.new) (S.rest input.new) (S.faults input.new)) }
+    ensures causes { HasCauses result
+        (moment session.old (A.work array.old) (O.state out.old)
+        (S.asks input.old) (S.rest input.old) (S.faults input.old))
+        (moment session.new (A.work array.new) (O.state out.new)
+        (S.asks input.new) (S.rest input.new) (S.faults input.new)) }
+    ensures prompt { Prompts A.BITS read.now more
+        (moment session.old (A.work array.old) (O.state out.old)
+        (S.asks input.old) (S.rest input.old) (S.faults input.old))
+        (moment session.new (A.work array.new) (O.state out.new)
+        (S.asks input.new) (S.rest input.new) (S.faults input.new)) }
 {
     let mut held = ArrayVec::new();
     match feed(session, &mut held, array, read, out) {
@@ -119,15 +122,22 @@ fn read_on<S: Asks<O>, O: Sink, A: Operating>(
     requires fits { Fits A.BITS session.old (A.device array.old) (A.slots array.old) }
     requires counted { session.old.lines + limit < 2 ^ 64 - 1 }
     ensures fits { Fits A.BITS session.new (A.device array.new) (A.slots array.new) }
-    ensures ended { Ended result limit A.BITS held.old.items
-        (stand session.old (A.work array.old)) (stand session.new (A.work array.new))
-        (S.rest input.old) (S.rest input.new) (O.state out.old) (O.state out.new) }
-    ensures causes { HasCauses result (S.faults input.old) (S.faults input.new)
-        (O.state out.old).faults (O.state out.new).faults }
-    ensures prompt { (b : Begun) → Caught A.BITS b limit
-        (stand session.old (A.work array.old)) held.old.items (S.asks input.old) (S.rest input.old)
-        (O.state out.old)
-        → PromptsFrom A.BITS b (S.asks input.new) (S.rest input.new) }
+    ensures ended { Ended result limit A.BITS (place held.old.items
+        (moment session.old (A.work array.old) (O.state out.old)
+        (S.asks input.old) (S.rest input.old) (S.faults input.old)))
+        (moment session.new (A.work array.new) (O.state out.new)
+        (S.asks input.new) (S.rest input.new) (S.faults input.new)) }
+    ensures causes { HasCauses result
+        (moment session.old (A.work array.old) (O.state out.old)
+        (S.asks input.old) (S.rest input.old) (S.faults input.old))
+        (moment session.new (A.work array.new) (O.state out.new)
+        (S.asks input.new) (S.rest input.new) (S.faults input.new)) }
+    ensures prompt { (b : Begun) → Caught A.BITS b limit (place held.old.items
+        (moment session.old (A.work array.old) (O.state out.old)
+        (S.asks input.old) (S.rest input.old) (S.faults input.old)))
+        → Prompts A.BITS b.read b.more b.was
+        (moment session.new (A.work array.new) (O.state out.new)
+        (S.asks input.new) (S.rest input.new) (S.faults input.new)) }
 {
     let mut piece = [0; 4096];
     let mut more = limit;
@@ -155,30 +165,37 @@ fn turn<S: Asks<O>, O: Sink, A: Operating>(
     requires room { 0 < length piece.old }
     requires counted { session.old.lines + limit < 2 ^ 64 - 1 }
     ensures fits { Fits A.BITS session.new (A.device array.new) (A.slots array.new) }
-    ensures on { IfOk result (λ count. Went limit count A.BITS held.old.items held.new.items
-        (stand session.old (A.work array.old)) (stand session.new (A.work array.new))
-        (S.rest input.old) (S.rest input.new)
-        (O.state out.old) (O.state out.new)) }
+    ensures on { IfOk result (λ count. Went limit count A.BITS
+        (place held.old.items (moment session.old (A.work array.old) (O.state out.old)
+        (S.asks input.old) (S.rest input.old) (S.faults input.old)))
+        (place held.new.items (moment session.new (A.work array.new) (O.state out.new)
+        (S.asks input.new) (S.rest input.new) (S.faults input.new)))) }
     ensures count { IfOk result (λ count. (0 < count) × (count ≤ limit)
         × (session.new.lines + (limit - count) < 2 ^ 64 - 1)) }
     ensures calm { OnOk result ((S.faults input.new ≡ S.faults input.old)
         × ((O.state out.new).faults ≡ (O.state out.old).faults)) }
-    ensures off { IfErr result (λ ending. Ended ending limit A.BITS held.old.items
-        (stand session.old (A.work array.old)) (stand session.new (A.work array.new))
-        (S.rest input.old) (S.rest input.new)
-        (O.state out.old) (O.state out.new)) }
+    ensures off { IfErr result (λ ending. Ended ending limit A.BITS
+        (place held.old.items (moment session.old (A.work array.old) (O.state out.old)
+        (S.asks input.old) (S.rest input.old) (S.faults input.old)))
+        (moment session.new (A.work array.new) (O.state out.new)
+        (S.asks input.new) (S.rest input.new) (S.faults input.new))) }
     ensures causes { IfErr result (λ ending. HasCauses ending
-        (S.faults input.old) (S.faults input.new) (O.state out.old).faults (O.state out.new).faults) }
-    ensures prompt { (b : Begun) → Caught A.BITS b limit
-        (stand session.old (A.work array.old)) held.old.items (S.asks input.old) (S.rest input.old)
-        (O.state out.old)
-        → PromptsFrom A.BITS b (S.asks input.new) (S.rest input.new) }
-    ensures caught { IfOk result (λ count. (b : Begun) → Caught A.BITS b limit
-        (stand session.old (A.work array.old)) held.old.items (S.asks input.old) (S.rest input.old)
-        (O.state out.old)
-        → count < limit → Caught A.BITS b (limit - count)
-        (stand session.new (A.work array.new)) held.new.items (S.asks input.new) (S.rest input.new)
-        (O.state out.new)) }
+        (moment session.old (A.work array.old) (O.state out.old)
+        (S.asks input.old) (S.rest input.old) (S.faults input.old))
+        (moment session.new (A.work array.new) (O.state out.new)
+        (S.asks input.new) (S.rest input.new) (S.faults input.new))) }
+    ensures prompt { (b : Begun) → Caught A.BITS b limit (place held.old.items
+        (moment session.old (A.work array.old) (O.state out.old)
+        (S.asks input.old) (S.rest input.old) (S.faults input.old)))
+        → Prompts A.BITS b.read b.more b.was
+        (moment session.new (A.work array.new) (O.state out.new)
+        (S.asks input.new) (S.rest input.new) (S.faults input.new)) }
+    ensures caught { IfOk result (λ count. (b : Begun) → Caught A.BITS b limit (place held.old.items
+        (moment session.old (A.work array.old) (O.state out.old)
+        (S.asks input.old) (S.rest input.old) (S.faults input.old)))
+        → count < limit → Caught A.BITS b (limit - count) (place held.new.items
+        (moment session.new (A.work array.new) (O.state out.new)
+        (S.asks input.new) (S.rest input.new) (S.faults input.new)))) }
 {
     let room = piece.len().min(limit);
     let Ok(count) = input.ask(out, &mut piece[..room]) else {

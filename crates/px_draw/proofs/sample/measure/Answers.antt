@@ -1,8 +1,8 @@
 use Rattle.std.proofs.Common.{◌≡◌, Err, rules}
 use Rattle.px_draw.specs.Outcomes.{done}
 use Rattle.px_draw.specs.Samples.{measures}
-use Rattle.px_draw.proofs.SampleLemmas.{serves_done, stop_array}
-use Rattle.px_draw.proofs.WorkLemmas.{serves_front}
+use Rattle.px_draw.proofs.SampleLemmas.{stop_array}
+use Rattle.px_draw.proofs.WorkLemmas.{serves_front, serves_whole}
 use Rattle.px_draw.proofs.sample.measure.Goals as goal
 
 pub returns-in_err-products-clause-array : goal.returns-in_err-products-clause-array
@@ -19,5 +19,5 @@ returns-clause-serves g c =
 pub returns-in-Ok-clause-serves : goal.returns-in-Ok-clause-serves
 returns-in-Ok-clause-serves g c =
     let bytes = measures c.args.scene.now in
-    serves_done _ bytes _ _ (c.in_ok-job.ensures.fits (done bytes)) c.in-Ok.ensures.ok c.in-Ok.ensures.end
+    serves_whole _ bytes _ _ _ (c.in_ok-job.ensures.fits (done bytes)) c.in-Ok.ensures.ok c.in-Ok.ensures.end
     c.in-Ok.ensures.cause.calm

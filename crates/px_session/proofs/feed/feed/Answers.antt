@@ -13,9 +13,9 @@ returns-in_err-take_byte-clause-err g c =
     let bs = c.args.bytes.now in
     let k = c.loop-byte.byte-index in
     let more = ended_more h bs c.loop-byte.held.items k c.loop-byte-test.true i.held in
-    let here = broke_until _ _ _ _ _ _ _ _ _ i.answered i.quiet c.in_err-take_byte.ensures.err in
+    let here = broke_until _ _ _ _ _ _ i.answered i.quiet c.in_err-take_byte.ensures.err in
     let first = rw (← more) at here in
-    rw (ended_rest h bs (k + 1)) (on_err _ _ (broke_until_more _ _ _ _ _ (short_ended h (take (k + 1) bs)) _ first))
+    rw (ended_rest h bs (k + 1)) (on_err _ _ (broke_until_more _ _ _ (short_ended h (take (k + 1) bs)) _ first))
 
 pub returns-in-Quit-clause-ok : goal.returns-in-Quit-clause-ok
 returns-in-Quit-clause-ok g c =
@@ -26,7 +26,7 @@ returns-in-Quit-clause-ok g c =
     let more = ended_more h bs c.loop-byte.held.items k c.loop-byte-test.true i.held in
     let quits = last_quit _ (short_ended c.loop-byte.held.items (get_or bs k 0 ∷ [])) c.in-Quit.is
     c.in_ok-take_byte.ensures.going in
-    let all = answered_until _ _ _ _ _ _ _ _ _ i.answered i.quiet c.in_ok-take_byte.ensures.ok in
+    let all = answered_until _ _ _ _ _ _ i.answered i.quiet c.in_ok-take_byte.ensures.ok in
     let ends = quits_then (short_ended h (take k bs)) (short_ended c.loop-byte.held.items (get_or bs k 0 ∷ [])) true
     i.quiet quits in
     rw (ended_rest h bs (k + 1), until_more _ _ (rw (← more) at ends)) (rw (← more) at all)
@@ -55,7 +55,7 @@ loop-byte-preserved g c =
     let quiet = last_more _ one c.in-More.is c.in_ok-take_byte.ensures.going in
     record {
       fits = c.take_byte.ensures.fits;
-      answered = rw more (answered_both _ _ _ _ _ _ _ _ one i.answered
+      answered = rw more (answered_both _ _ _ _ _ one i.answered
           (rw (until_quiet one quiet) at c.in_ok-take_byte.ensures.ok));
       quiet = rw more (quits_then _ _ false i.quiet quiet);
       held = rw (left_more h bs c.loop-byte.held.items k c.loop-byte-test.true i.held) c.in_ok-take_byte.ensures.held;

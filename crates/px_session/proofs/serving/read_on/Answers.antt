@@ -10,7 +10,7 @@ loop-more-preserved g c =
     record {
       fits = c.turn.ensures.fits;
       within = omega arith;
-      went = went_both _ _ _ _ _ _ _ _ _ _ _ _ _ _ _ _ _ _ less (omega (arith, c.in-Ok.ensures.count))
+      went = went_both _ _ _ _ _ _ _ _ _ less (omega (arith, c.in-Ok.ensures.count))
           (omega arith) i.went c.in-Ok.ensures.on;
       few = omega (arith, c.in-Ok.ensures.count);
       prompt = λ b caught. c.turn.ensures.prompt b (i.caught b caught (omega (arith, c.loop-more-test.true)));
@@ -23,7 +23,7 @@ pub returns-in-Err-clause-ended : goal.returns-in-Err-clause-ended
 returns-in-Err-clause-ended g c =
     let i = c.loop-more.invariant in
     let less : c.args.limit - c.loop-more.more < c.args.limit = omega arith in
-    ended_both _ _ _ _ _ _ _ _ _ _ _ _ _ _ _ _ less (omega arith) i.went c.in-Err.ensures.off
+    ended_both _ _ _ _ _ _ _ _ less (omega arith) i.went c.in-Err.ensures.off
 
 pub loop-more-init : goal.loop-more-init
 loop-more-init g c =
@@ -31,9 +31,9 @@ loop-more-init g c =
     record {
       fits = c.requires.fits;
       within = omega arith;
-      went = rw none (went_none _ _ _ _ _ _);
+      went = rw none (went_none _ _ _);
       few = c.requires.counted;
-      prompt = λ b caught. prompts_caught _ _ _ _ _ _ _ _ caught;
+      prompt = λ b caught. prompts_caught _ b _ _ caught;
       caught = λ b caught some. caught;
       calm_in = refl;
       calm_out = refl;
