@@ -7,6 +7,7 @@ pub mod NodeTableLemmas
 pub mod OutputLemmas
 pub mod SetBitLemmas
 pub mod ShelfLemmas
+pub mod StepLemmas
 pub mod StoredLemmas
 pub mod TreeLemmas
 pub mod WeaveLemmas
