@@ -1,10 +1,11 @@
 -- The values at the pixels of a block of eight words, from the one at its first.
-use Rattle.std.proofs.Common.{◌≡◌, ◌∙◌, ℕ, ◌+◌, ◌-◌, ◌*◌, ◌/◌, ◌%◌, ◌^◌, ◌≤◌, ◌+ℤ◌, ap, arith}
+use Rattle.std.proofs.Common.{◌≡◌, ◌∙◌, ℕ, ◌+◌, ◌-◌, ◌*◌, ◌/◌, ◌%◌, ◌^◌, ◌≤◌, ℤ, ◌+ℤ◌, ap, arith}
 use Rattle.std.proofs.Math.Nat.{one-le-pow}
+use Rattle.std.proofs.lemmas.Int.{ints}
 use Rattle.std.proofs.lemmas.Nat.{pow-add}
 use Rattle.px_num.specs.Forms.{value_at}
 use Rattle.px_num.specs.declared.linear.Linear.{Linear}
-use Rattle.px_lanes.specs.Lanes.{block_value, offset}
+use Rattle.px_lanes.specs.Lanes.{offset}
 use Rattle.px_lanes.proofs.OffsetLemmas.{Splits, splits_above, sum_of_values}
 
 -- a block begins at the head of a column
@@ -18,12 +19,24 @@ block_splits ny block j low =
     mul_assoc : (a b c : ℕ) → a * b * c ≡ a * (b * c)
     mul_assoc a b c = omega arith
 
-pub value_in_block : (form : Linear) (ny block j : ℕ) → ny ≤ 9
+value_in_block : (form : Linear) (ny block j : ℕ) → ny ≤ 9
     → value_at form ((512 * block + j) / 2 ^ ny) ((512 * block + j) % 2 ^ ny)
-    ≡ offset form ny j +ℤ block_value form ny block
+    ≡ offset form ny j +ℤ value_at form (512 * block / 2 ^ ny) (512 * block % 2 ^ ny)
 value_in_block form ny block j low =
     let s = block_splits ny block j low in
     let turn : 512 * block + j ≡ j + 512 * block = omega arith in
     sum_of_values form.a form.b form.c (j / 2 ^ ny) (j % 2 ^ ny) (512 * block / 2 ^ ny) (512 * block % 2 ^ ny)
     ((512 * block + j) / 2 ^ ny) ((512 * block + j) % 2 ^ ny) (ap (λ n. n / 2 ^ ny) turn ∙ s.column)
     (ap (λ n. n % 2 ^ ny) turn ∙ s.row)
+
+-- a value and that of the block behind
+pub value_behind : (form : Linear) (ny block j : ℕ) → ny ≤ 9
+    → value_at form ((512 * (block + 1) + j) / 2 ^ ny) ((512 * (block + 1) + j) % 2 ^ ny)
+    ≡ value_at form ((512 * block + j) / 2 ^ ny) ((512 * block + j) % 2 ^ ny) +ℤ offset form ny 512
+value_behind form ny block j low =
+    let next : 512 * (block + 1) ≡ 512 * block + 512 = omega arith in
+    let head = ap (λ n. value_at form (n / 2 ^ ny) (n % 2 ^ ny)) next ∙ value_in_block form ny block 512 low in
+    turned _ _ _ _ _ _ (value_in_block form ny (block + 1) j low) head (value_in_block form ny block j low)
+  where
+    turned : (v w o s b c : ℤ) → v ≡ o +ℤ c → c ≡ s +ℤ b → w ≡ o +ℤ b → v ≡ w +ℤ s
+    turned v w o s b c is head before = omega (arith, ints, is, head, before)

@@ -1,5 +1,5 @@
 -- Numbers in lanes. Clauses of public calls stand on it.
-use Rattle.std.specs.Prelude.{◌≡◌, ℕ, ◌*◌, ◌/◌, ◌%◌, ◌^◌, ◌<◌, false, ℤ, pos, ◌+ℤ◌, ◌*ℤ◌, List, [], length, slice_index, slice_index_or}
+use Rattle.std.specs.Prelude.{◌≡◌, ℕ, ◌+◌, ◌*◌, ◌/◌, ◌%◌, ◌^◌, ◌<◌, false, ℤ, pos, ◌+ℤ◌, ◌*ℤ◌, List, [], length, slice_index, slice_index_or}
 use Rattle.px_num.specs.Bits.{bit_of, carry_from, nat_bit}
 use Rattle.px_lanes.specs.declared.sums.Carries.{Carries}
 use Rattle.px_num.specs.Forms.{value_at}
@@ -18,10 +18,7 @@ pub record HasCarries (carries : Carries) (j : ℕ) (u v n : ℤ) (t : ℕ) : Ty
   pub first : nat_bit carries.first j ≡ carry_from false u v t
   pub second : nat_bit carries.second j ≡ carry_from false (u +ℤ v) n t
 
--- the value at the first pixel of a block of eight words
-abbrev pub block_value : Linear → (ny block : ℕ) → ℤ
-block_value form ny block = value_at form (512 * block / 2 ^ ny) (512 * block % 2 ^ ny)
-
--- bit t of the offsets of the pixels of a block of eight words stands in the eight words t
-pub record AreBlockOffsets (form : Linear) (ny bits : ℕ) (words : List (List ℕ)) : Type 0 where
-  pub each : (t p : ℕ) → t < bits → p < 512 → nat_bit (slice_index (slice_index_or words t []) (p / 64)) (p % 64) ≡ bit_of (offset form ny p) t
+-- bit t of the values at the pixels of a block of eight words stands in the eight words t
+pub record AreBlockValues (form : Linear) (ny block bits : ℕ) (words : List (List ℕ)) : Type 0 where
+  pub each : (t p : ℕ) → t < bits → p < 512 → nat_bit (slice_index (slice_index_or words t []) (p / 64)) (p % 64)
+      ≡ bit_of (value_at form ((512 * block + p) / 2 ^ ny) ((512 * block + p) % 2 ^ ny)) t

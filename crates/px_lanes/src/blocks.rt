@@ -1,34 +1,42 @@
 //! The values of a form at the 512 pixels of a block of eight words.
 ghost use Rattle.std.specs.Prelude.{◌≡◌, ◌≢◌, ◌<◌, ◌≤◌, ◌+◌, ◌*◌, ◌/◌, ◌%◌, ◌^◌, ℕ, [], length};
 ghost use Rattle.std.specs.Prelude.{slice_index, slice_index_or};
-ghost use Rattle.px_num.specs.Bits.{bit_of, nat_bit};
 ghost use Rattle.px_num.specs.Forms.{IsInTreeRange, value_at};
 ghost use Rattle.px_lanes.specs.Blocks.{IsPut};
-ghost use Rattle.px_lanes.specs.Lanes.{AreBlockOffsets, HasValue, block_value, offset};
+ghost use Rattle.px_lanes.specs.Lanes.{AreBlockValues, HasValue, offset};
 
-use crate::lanes::{all_of, word_bit, word_of};
-use crate::values::{base_of, offsets, word_values};
+use crate::values::{offsets, word_values};
 use px_num::Linear;
 
 /// The words of a block. It has whole columns, whatever the height of the grid.
 pub const BLOCK: usize = 8;
 
-/// Makes words the offsets of the 512 pixels of a block from its first, in so many bits: a bit has
-/// eight words.
-pub fn block_offsets(form: &Linear, ny: u32, words: &mut [[u64; 8]])
+/// Makes words the values at the 512 pixels of the first block, in so many bits: a bit has eight
+/// words.
+pub fn block_values(form: &Linear, ny: u32, words: &mut [[u64; 8]])
     requires range { IsInTreeRange form.now }
     requires rows { ny ≤ 9 }
     requires few { length words.old ≤ 40 }
     ensures words { length words.new ≡ length words.old }
-    ensures value { AreBlockOffsets form.now ny (length words.old) words.new }
+    ensures value { AreBlockValues form.now ny 0 (length words.old) words.new }
 {
-    let steps = Linear { c: 0, ..*form };
     let mut room = [0; 40];
     let lanes = &mut room[..words.len()];
     offsets(form, ny, lanes);
     for k in 0..BLOCK {
-        put_word_values(&steps, ny, k, lanes, words);
+        put_word_values(form, ny, k, lanes, words);
     }
+}
+
+/// How much greater a value is at a pixel than at that of the block before.
+pub fn block_step(form: &Linear, ny: u32) -> i64
+    requires range { IsInTreeRange form.now }
+    requires rows { ny ≤ 9 }
+    ensures { result ≡ offset form.now ny 512 }
+{
+    let steps = Linear { c: 0, ..*form };
+    let height = 1 << ny;
+    steps.value(512 / height, 512 % height)
 }
 
 /// Makes word `k` of each bit the values of a form at the pixels of word `k`.
@@ -61,32 +69,5 @@ fn put_words(k: usize, values: &[u64], words: &mut [[u64; 8]])
 {
     for t in 0..words.len() {
         words[t][k] = values[t];
-    }
-}
-
-/// Makes words the values at the first pixels of blocks, from this one on.
-pub fn block_bases(form: &Linear, ny: u32, block: usize, words: &mut [u64])
-    requires range { IsInTreeRange form.now }
-    requires rows { ny ≤ 9 }
-    requires blocks { 512 * (block + length words.old) ≤ 2 ^ (9 + ny) }
-    ensures words { length words.new ≡ length words.old }
-    ensures bits { (k t : ℕ) → k < length words.old → t < 64 → nat_bit (slice_index words.new k) t
-        ≡ bit_of (block_value form.now ny (block + k)) t }
-{
-    for k in 0..words.len() {
-        words[k] = word_of(base_of(form, ny, BLOCK * (block + k)));
-    }
-}
-
-/// Makes each of some words bit `t` of another, in every lane.
-pub fn spread_bits(words: &[u64], t: usize, bits: &mut [u64])
-    requires bit { t < 64 }
-    requires long { length words.now ≡ length bits.old }
-    ensures words { length bits.new ≡ length bits.old }
-    ensures bits { (k j : ℕ) → k < length bits.old → j < 64 → nat_bit (slice_index bits.new k) j
-        ≡ nat_bit (slice_index words.now k) t }
-{
-    for k in 0..bits.len() {
-        bits[k] = all_of(word_bit(words[k], t));
     }
 }

@@ -6,7 +6,7 @@ mod lanes;
 mod sums;
 mod values;
 
-pub use blocks::{BLOCK, block_bases, block_offsets, spread_bits};
+pub use blocks::{BLOCK, block_step, block_values};
 pub use lanes::{add_constant, all_of, chosen_word, constant_words, majority_word, signs, turned};
 pub use sums::{Carries, added_bit, bit_of_all};
 pub use values::{BITS, add_base, base_of, offset_of, offsets, span, word_values};

@@ -24,9 +24,9 @@ use Rattle.px_rows.specs.Rows.{words_for}
 use Rattle.px_rows.specs.Rows.{row_bit}
 use Rattle.px_planes.specs.declared.planes.Planes.{Planes}
 use Rattle.px_tree.specs.Nodes.{TreeState, leaf_output}
-use Rattle.px_planes.proofs.LevelLemmas.{power_of, power_some}
+use Rattle.px_plane_tree.proofs.LevelLemmas.{power_of, power_some}
 use Rattle.px_planes.proofs.StoredLemmas.{bit_of_rows}
-use Rattle.px_planes.proofs.TreeLemmas.{zero_bit}
+use Rattle.px_plane_tree.proofs.TreeLemmas.{zero_bit}
 
 -- inside the grid an act is that of the table
 acted_inside : (act : Act) (t : Bool) (p : PixelState) → acted_at true act t p ≡ after_act act t p

@@ -1,15 +1,8 @@
 pub mod AloneLemmas
-pub mod FedWordLemmas
 pub mod GridLemmas
-pub mod HeapLemmas
-pub mod LevelLemmas
-pub mod NodeTableLemmas
-pub mod OutputLemmas
-pub mod SetBitLemmas
 pub mod ShelfLemmas
+pub mod StepLemmas
 pub mod StoredLemmas
-pub mod TreeLemmas
-pub mod WeaveLemmas
 pub mod WorkLemmas
 pub mod OperatedLemmas
 pub mod OperationLemmas

@@ -1,10 +1,6 @@
 pub use Rattle.px_rows.specs.Rows
 pub mod ArraysLaw
-pub mod Heap
-pub mod Lanes
-pub mod Lent
 pub mod OpenPlanes
 pub mod Operations
 pub mod Pixels
 pub mod Shelves
-pub mod Trees

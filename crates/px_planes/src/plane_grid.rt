@@ -16,7 +16,6 @@ ghost use Rattle.px_tree.specs.Nodes.{IsGrid, leaf_bit, node_at};
 
 use crate::acts::act_planes;
 use crate::operating::{is_made_by_words, operate_planes};
-use crate::plane_tree::PlaneTree;
 use crate::planes::Planes;
 use crate::reach::{Reach, is_crowd, whole};
 use px_array::{Micro, Registers, TreeOp};
@@ -24,6 +23,7 @@ use px_asm::cycles;
 use px_macro::Macro;
 use px_num::{Memory, power};
 use px_pixel::Act;
+use px_plane_tree::PlaneTree;
 use px_tree::{Tree, leaf_index};
 use std::alloc::Global;
 use std::marker::Model;

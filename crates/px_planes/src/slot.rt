@@ -8,11 +8,11 @@ ghost use Rattle.px_planes.specs.Shelves.{AreShelved, IsShelved, SlotView};
 ghost use Rattle.px_tree.specs.Nodes.{IsGrid};
 
 use crate::plane_grid::PlaneGrid;
-use crate::plane_tree::PlaneTree;
 use crate::planes::Planes;
 use crate::reach::whole;
 use crate::shelf::Shelf;
 use px_num::{Memory, power};
+use px_plane_tree::PlaneTree;
 use px_rows::Row;
 use std::alloc::Global;
 use std::marker::Model;

@@ -1,8 +1,10 @@
 -- Blocks of eight words that are read and written.
-use Rattle.std.proofs.Common.{◌≡◌, ℕ, ◌+◌, ◌-◌, ◌*◌, ◌<◌, ◌≤◌, List, length, get_or, ap, ◌∙◌, arith, inl, inr}
+use Rattle.std.proofs.Common.{◌≡◌, ℕ, ◌+◌, ◌-◌, ◌*◌, ◌/◌, ◌%◌, ◌<◌, ◌≤◌, Bool, List, length, get_or, ap, ◌∙◌, arith, inl, inr}
 use Rattle.std.proofs.lemmas.Bool.{cases_lt}
 use Rattle.std.specs.Simd.Lanes.{put_chunk}
 use Rattle.std.proofs.lemmas.Simd.{get_or-put_chunk_at, get_or-put_chunk_below, get_or-put_chunk_above}
+use Rattle.px_num.specs.Bits.{nat_bit}
+use Rattle.px_rows.specs.Rows.{row_bit}
 use Rattle.px_rows.specs.Words.{IsBlock, IsWritten}
 
 pub written_law : (at : ℕ) (row words : List ℕ) → at + 8 ≤ length row → length words ≡ 8
@@ -38,3 +40,20 @@ pub blocks_rest : (P : ℕ → ℕ → Type 0) (block : ℕ) (start old new : Li
     → ((k : ℕ) → 8 * block ≤ k → get_or old k 0 ≡ get_or start k 0)
     → (k : ℕ) → 8 * (block + 1) ≤ k → get_or new k 0 ≡ get_or start k 0
 blocks_rest P block start old new w rest k high = w.after k (omega arith) ∙ rest k (omega arith)
+
+-- the same of bits
+pub bits_more : (P : ℕ → ℕ → Type 0) (F : ℕ → Bool) (block : ℕ) (old new : List ℕ) → IsWritten P (8 * block) old new
+    → ((p : ℕ) → p < 512 * block → row_bit old p ≡ F p)
+    → ((k : ℕ) → 8 * block ≤ k → k < 8 * block + 8 → P k (get_or new k 0) → (j : ℕ) → j < 64 → nat_bit (get_or new k 0) j ≡ F (64 * k + j))
+    → (p : ℕ) → p < 512 * (block + 1) → row_bit new p ≡ F p
+bits_more P F block old new w done now p low = elim (cases_lt p (512 * block)) [
+  | inl before ↦
+      let word : p / 64 < 8 * block = omega arith in
+      rw (w.before (p / 64) word) (done p before)
+  | inr past ↦
+      let from : 8 * block ≤ p / 64 = omega arith in
+      let to : p / 64 < 8 * block + 8 = omega arith in
+      let bit : p % 64 < 64 = omega arith in
+      let whole : 64 * (p / 64) + p % 64 ≡ p = omega arith in
+      rw whole at (now (p / 64) from to (w.inside (p / 64) from to) (p % 64) bit)
+]

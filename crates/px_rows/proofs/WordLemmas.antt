@@ -6,7 +6,7 @@ use Rattle.std.proofs.lemmas.Simd.{get_or-replicate, get_or-zip2, length-replica
 use Rattle.std.specs.Simd.Lanes.{zip2}
 use Rattle.px_num.specs.Bits.{majority, nat_bit, xor}
 use Rattle.px_rows.specs.Rows.{HasAll}
-use Rattle.px_rows.specs.Words.{IsAdded, IsAddedTo, IsCarried, IsCarriedOn, IsChosen, IsKeptWord, IsMajority, IsSummed}
+use Rattle.px_rows.specs.Words.{IsAdded, IsCarried, IsChosen, IsKeptWord, IsMajority, IsSummed}
 use Rattle.px_rows.proofs.BitLaws.{bit-and, bit-xor, bit_of_zero}
 
 pub all_ones : HasAll (2 ^ 64 - 1) true
@@ -112,19 +112,6 @@ carried_law target carry value = record {
 
 pub summed_law : (a b c : ℕ) → IsSummed (bit_xor a (bit_xor b c)) a b c
 summed_law a b c = record { each = λ i in_word. bit-xor a (bit_xor b c) i ∙ ap (xor (nat_bit a i)) (bit-xor b c i) }
-
--- what is added, and carried, where the value is a sum of three
-pub added_to : (result target carry value a b c mask : ℕ) → IsAdded result target carry value mask → IsSummed value a b c
-    → IsAddedTo result target carry a b c mask
-added_to result target carry value a b c mask added sum = record {
-  each = λ i in_word. rw (← sum.each i in_word) (added.each i in_word);
-}
-
-pub carried_on : (result target carry value a b c : ℕ) → IsCarried result target carry value → IsSummed value a b c
-    → IsCarriedOn result target carry a b c
-carried_on result target carry value a b c carried sum = record {
-  each = λ i in_word. rw (← sum.each i in_word) (carried.each i in_word);
-}
 
 -- ---- vectors of n lanes
 

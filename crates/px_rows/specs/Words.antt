@@ -22,14 +22,6 @@ pub record IsCarried (result target carry value : ℕ) : Type 0 where
 pub record IsSummed (result a b c : ℕ) : Type 0 where
   pub each : (i : ℕ) → i < 64 → nat_bit result i ≡ xor (nat_bit a i) (xor (nat_bit b i) (nat_bit c i))
 
--- the sum of target and carry and of three bits more where the mask is 1, and else the target
-pub record IsAddedTo (result target carry a b c mask : ℕ) : Type 0 where
-  pub each : (i : ℕ) → i < 64 → nat_bit result i ≡ cond (nat_bit mask i) (xor (xor (nat_bit a i) (xor (nat_bit b i) (nat_bit c i))) (xor (nat_bit target i) (nat_bit carry i))) (nat_bit target i)
-
--- at least two of target, carry and the sum of three bits
-pub record IsCarriedOn (result target carry a b c : ℕ) : Type 0 where
-  pub each : (i : ℕ) → i < 64 → nat_bit result i ≡ majority (xor (nat_bit a i) (xor (nat_bit b i) (nat_bit c i))) (nat_bit target i) (nat_bit carry i)
-
 -- the eight words of a row from `at` on
 pub record IsBlock (at : ℕ) (row words : List ℕ) : Type 0 where
   pub each : (i : ℕ) → i < 8 → slice_index words i ≡ slice_index row (at + i)

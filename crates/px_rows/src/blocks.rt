@@ -1,7 +1,6 @@
 //! What the calls on rows do to eight words at once, on the lanes of a vector.
 ghost use Rattle.std.specs.Prelude.{◌≡◌, ◌<◌, ◌≤◌, ◌+◌, ◌-◌, ℕ, length, slice_index};
-ghost use Rattle.px_rows.specs.Words.{IsAdded, IsAddedTo, IsCarried, IsCarriedOn, IsChosen, IsKeptWord};
-ghost use Rattle.px_rows.specs.Words.{IsMajority, IsSummed};
+ghost use Rattle.px_rows.specs.Words.{IsAdded, IsCarried, IsChosen, IsKeptWord, IsMajority, IsSummed};
 ghost use Rattle.px_rows.specs.Words.{IsBlock, IsWritten};
 
 use std::simd::prelude::*;
@@ -67,40 +66,38 @@ pub fn add_block(target: &mut [u64], carry: &mut [u64], value: &[u64], mask: &[u
     write(carry, at, carried_lanes(old, held, added));
 }
 
-/// Adds to the target's words from `at` on the sum of eight others and of a word that is added to
-/// each; `first` has what is carried of these two, and `second` of their sum and the target.
+/// Adds a value of eight words to the target's from `at` on.
 #[inline(always)]
-pub fn add_both_block(
-    target: &mut [u64],
-    first: &mut [u64],
-    second: &mut [u64],
-    others: &[u64; 8],
-    word: u64,
-    mask: &[u64],
-    at: usize,
-)
+pub fn add_value_block(target: &mut [u64], carry: &mut [u64], value: u64x8, mask: &[u64], at: usize)
     requires target { at + 8 ≤ length target.old }
-    requires first { at + 8 ≤ length first.old }
-    requires second { at + 8 ≤ length second.old }
+    requires carry { at + 8 ≤ length carry.old }
     requires mask { at + 8 ≤ length mask.now }
-    ensures target { IsWritten (λ k result. IsAddedTo result (slice_index target.old k)
-        (slice_index second.old k) (slice_index others.now (k - at)) word
-        (slice_index first.old k) (slice_index mask.now k)) at target.old target.new }
-    ensures first { IsWritten (λ k result. IsCarried result word (slice_index first.old k)
-        (slice_index others.now (k - at))) at first.old first.new }
-    ensures second { IsWritten (λ k result. IsCarriedOn result (slice_index target.old k)
-        (slice_index second.old k) (slice_index others.now (k - at)) word
-        (slice_index first.old k)) at second.old second.new }
+    ensures added { IsWritten (λ k word. IsAdded word (slice_index target.old k)
+        (slice_index carry.old k) (slice_index value (k - at))
+        (slice_index mask.now k)) at target.old target.new }
+    ensures carried { IsWritten (λ k word. IsCarried word (slice_index target.old k)
+        (slice_index carry.old k) (slice_index value (k - at))) at carry.old carry.new }
 {
-    let added = u64x8::from_array(*others);
-    let same = u64x8::splat(word);
-    let held = read(first, at);
-    let sum = summed_lanes(added, same, held);
-    write(first, at, carried_lanes(same, held, added));
     let old = read(target, at);
-    let more = read(second, at);
-    write(target, at, added_lanes(old, more, sum, read(mask, at)));
-    write(second, at, carried_lanes(old, more, sum));
+    let held = read(carry, at);
+    write(target, at, added_lanes(old, held, value, read(mask, at)));
+    write(carry, at, carried_lanes(old, held, value));
+}
+
+/// The value and a step, which is the same in each word; what is carried comes from the words from
+/// `at` on.
+#[inline(always)]
+pub fn step_block(carry: &mut [u64], value: u64x8, step: u64, at: usize) -> u64x8
+    requires { at + 8 ≤ length carry.old }
+    ensures stepped { (i : ℕ) → i < 8 → IsSummed (slice_index result i) (slice_index value i) step
+        (slice_index carry.old (at + i)) }
+    ensures carried { IsWritten (λ k word. IsCarried word step (slice_index carry.old k)
+        (slice_index value (k - at))) at carry.old carry.new }
+{
+    let same = u64x8::splat(step);
+    let held = read(carry, at);
+    write(carry, at, carried_lanes(same, held, value));
+    summed_lanes(value, same, held)
 }
 
 #[inline(always)]

@@ -12,4 +12,4 @@ mod words;
 pub use bits::{bit_of_row, part, zero_row};
 pub use row::Row;
 pub use rows::{add_row, choose_row, keep_row, majority_row};
-pub use sums::add_both_row;
+pub use sums::add_steps_row;

@@ -4,12 +4,12 @@ ghost use Rattle.std.specs.Prelude.{IfOk, length, replicate, slice_index, slice_
 ghost use Rattle.std.specs.Bool.{beq};
 ghost use Rattle.px_num.specs.Bits.{majority, nat_bit, xor};
 ghost use Rattle.px_rows.specs.Rows.{EachBit, row_bit};
-ghost use Rattle.px_rows.specs.Sums.{sum_at};
+ghost use Rattle.px_rows.specs.Sums.{value_in, value_on};
 
 use crate::bits::{bit_of_row, zero_row};
 use crate::rows::{add_row, choose_row, keep_row, majority_row};
 use crate::strokes::{flip_row, paint_row};
-use crate::sums::add_both_part;
+use crate::sums::add_steps_part;
 use px_num::Memory;
 use std::alloc::Global;
 use std::marker::Model;
@@ -118,37 +118,38 @@ impl Row {
         add_row(&mut self.words, &mut carry.words, value, mask);
     }
 
-    /// Adds two others to the words from `at` on, as many as the carries have; `a` is the same in
-    /// each block of eight words, and `b` has a word for each block (`add_both_row`).
-    pub fn add_both(
+    /// Adds a value that grows by steps to the words from `at` on, as many as the carries have
+    /// (`add_steps_row`).
+    pub fn add_steps(
         &mut self,
         at: usize,
         first: &mut [u64],
         second: &mut [u64],
-        a: &[u64; 8],
-        b: &[u64],
+        value: &mut [u64; 8],
+        step: bool,
         mask: &[u64],
     )
-        requires first { length first.old ≡ 8 * length b.now }
-        requires second { length second.old ≡ 8 * length b.now }
+        requires blocks { length first.old % 8 ≡ 0 }
+        requires second { length second.old ≡ length first.old }
         requires room { at + length first.old ≤ length self.old }
         requires mask { length mask.now ≡ length self.old }
         ensures inside { (p : ℕ) → p < 64 * length first.old → row_bit self.new (64 * at + p)
-            ≡ cond (row_bit mask.now (64 * at + p)) (xor (sum_at a.now b.now first.old p)
+            ≡ cond (row_bit mask.now (64 * at + p)) (xor (value_on value.old step first.old p)
             (xor (row_bit self.old (64 * at + p)) (row_bit second.old p)))
             (row_bit self.old (64 * at + p)) }
         ensures outside { (p : ℕ) → (p / 64 < at) ⊎ (at + length first.old ≤ p / 64)
             → row_bit self.new p ≡ row_bit self.old p }
-        ensures first { EachBit first.new (λ p. majority
-            (nat_bit (slice_index a.now (p / 64 % 8)) (p % 64))
-            (nat_bit (slice_index b.now (p / 512)) (p % 64)) (row_bit first.old p)) }
-        ensures second { EachBit second.new (λ p. majority (sum_at a.now b.now first.old p)
+        ensures value { (i : ℕ) → i < 512 → nat_bit (slice_index value.new (i / 64)) (i % 64)
+            ≡ value_in value.old step first.old (length first.old / 8) i }
+        ensures first { EachBit first.new (λ p. majority (value_on value.old step first.old p) step
+            (row_bit first.old p)) }
+        ensures second { EachBit second.new (λ p. majority (value_on value.old step first.old p)
             (row_bit self.old (64 * at + p)) (row_bit second.old p)) }
         ensures words { length self.new ≡ length self.old }
         ensures first_words { length first.new ≡ length first.old }
         ensures second_words { length second.new ≡ length second.old }
     {
-        add_both_part(&mut self.words, at, first, second, a, b, mask);
+        add_steps_part(&mut self.words, at, first, second, value, step, mask);
     }
 
     /// The bits where the mask's are 1 become `v`.

@@ -1,72 +1,116 @@
-//! Two rows added to a third at once, in which one is the same in each eight words, and the other is
-//! one word for each eight.
+//! A value that is added to a row, and grows by a step from each block of eight words to the next.
 ghost use Rattle.std.specs.Prelude.{◌≡◌, ◌<◌, ◌≤◌, ◌+◌, ◌*◌, ◌/◌, ◌%◌, ◌⊎◌, ℕ, cond, length, slice_index};
 ghost use Rattle.px_num.specs.Bits.{majority, nat_bit, xor};
 ghost use Rattle.px_rows.specs.Rows.{EachBit, row_bit};
-ghost use Rattle.px_rows.specs.Sums.{sum_at};
+ghost use Rattle.px_rows.specs.Sums.{value_in, value_on};
 
-use crate::blocks::{LANES, add_both_block};
+use crate::blocks::{LANES, add_value_block, step_block};
+use crate::words::all_of;
+use std::simd::prelude::*;
 
-/// `target = a + b + target` in one bit of each number, in the bits where the mask is 1: `a` is the
-/// same in each block of eight words, and `b` has a word for each block.
+/// `target = target + value` in one bit of each number, in the bits where the mask is 1, where
+/// `value = value + step` from each block of eight words to the next.
 ///
-/// `first` has what is carried of `a` and `b`, and `second` what is carried of their sum and the
+/// `value` goes in as that of the first block, and comes out as that of the block behind the last.
+/// `first` has what is carried of value and step, and `second` what is carried of the value and the
 /// target before; both go on in every bit.
-pub fn add_both_row(
+pub fn add_steps_row(
     target: &mut [u64],
     first: &mut [u64],
     second: &mut [u64],
-    a: &[u64; 8],
-    b: &[u64],
+    value: &mut [u64; 8],
+    step: bool,
     mask: &[u64],
 )
-    requires target { length target.old ≡ 8 * length b.now }
-    requires first { length first.old ≡ 8 * length b.now }
-    requires second { length second.old ≡ 8 * length b.now }
-    requires mask { length mask.now ≡ 8 * length b.now }
+    requires blocks { length target.old % 8 ≡ 0 }
+    requires first { length first.old ≡ length target.old }
+    requires second { length second.old ≡ length target.old }
+    requires mask { length mask.now ≡ length target.old }
     ensures target { EachBit target.new (λ p. cond (row_bit mask.now p)
-        (xor (sum_at a.now b.now first.old p) (xor (row_bit target.old p) (row_bit second.old p)))
+        (xor (value_on value.old step first.old p) (xor (row_bit target.old p) (row_bit second.old p)))
         (row_bit target.old p)) }
-    ensures first { EachBit first.new (λ p. majority (nat_bit (slice_index a.now (p / 64 % 8)) (p % 64))
-        (nat_bit (slice_index b.now (p / 512)) (p % 64)) (row_bit first.old p)) }
-    ensures second { EachBit second.new (λ p. majority (sum_at a.now b.now first.old p)
+    ensures value { (i : ℕ) → i < 512 → nat_bit (slice_index value.new (i / 64)) (i % 64)
+        ≡ value_in value.old step first.old (length target.old / 8) i }
+    ensures first { EachBit first.new (λ p. majority (value_on value.old step first.old p) step
+        (row_bit first.old p)) }
+    ensures second { EachBit second.new (λ p. majority (value_on value.old step first.old p)
         (row_bit target.old p) (row_bit second.old p)) }
     ensures words { length target.new ≡ length target.old }
     ensures first_words { length first.new ≡ length first.old }
     ensures second_words { length second.new ≡ length second.old }
 {
-    for block in 0..b.len() {
-        add_both_block(target, first, second, a, b[block], mask, LANES * block);
+    // Each bit of a step has a loop of its own, which does less since it knows the bit.
+    if step {
+        add_blocks(target, first, second, value, true, mask);
+    } else {
+        add_blocks(target, first, second, value, false, mask);
     }
 }
 
+#[inline(always)]
+fn add_blocks(
+    target: &mut [u64],
+    first: &mut [u64],
+    second: &mut [u64],
+    value: &mut [u64; 8],
+    step: bool,
+    mask: &[u64],
+)
+    requires blocks { length target.old % 8 ≡ 0 }
+    requires first { length first.old ≡ length target.old }
+    requires second { length second.old ≡ length target.old }
+    requires mask { length mask.now ≡ length target.old }
+    ensures target { EachBit target.new (λ p. cond (row_bit mask.now p)
+        (xor (value_on value.old step first.old p) (xor (row_bit target.old p) (row_bit second.old p)))
+        (row_bit target.old p)) }
+    ensures value { (i : ℕ) → i < 512 → nat_bit (slice_index value.new (i / 64)) (i % 64)
+        ≡ value_in value.old step first.old (length target.old / 8) i }
+    ensures first { EachBit first.new (λ p. majority (value_on value.old step first.old p) step
+        (row_bit first.old p)) }
+    ensures second { EachBit second.new (λ p. majority (value_on value.old step first.old p)
+        (row_bit target.old p) (row_bit second.old p)) }
+    ensures words { length target.new ≡ length target.old }
+    ensures first_words { length first.new ≡ length first.old }
+    ensures second_words { length second.new ≡ length second.old }
+{
+    let word = all_of(step);
+    let mut lanes = u64x8::from_array(*value);
+    for block in 0..target.len() / LANES {
+        add_value_block(target, second, lanes, mask, LANES * block);
+        lanes = step_block(first, lanes, word, LANES * block);
+    }
+    *value = lanes.to_array();
+}
+
 /// The same in the words of a row from `at` on, as many as the carries have.
-pub fn add_both_part(
+pub fn add_steps_part(
     row: &mut [u64],
     at: usize,
     first: &mut [u64],
     second: &mut [u64],
-    a: &[u64; 8],
-    b: &[u64],
+    value: &mut [u64; 8],
+    step: bool,
     mask: &[u64],
 )
-    requires first { length first.old ≡ 8 * length b.now }
-    requires second { length second.old ≡ 8 * length b.now }
+    requires blocks { length first.old % 8 ≡ 0 }
+    requires second { length second.old ≡ length first.old }
     requires room { at + length first.old ≤ length row.old }
     requires mask { length mask.now ≡ length row.old }
     ensures inside { (p : ℕ) → p < 64 * length first.old → row_bit row.new (64 * at + p)
-        ≡ cond (row_bit mask.now (64 * at + p)) (xor (sum_at a.now b.now first.old p)
+        ≡ cond (row_bit mask.now (64 * at + p)) (xor (value_on value.old step first.old p)
         (xor (row_bit row.old (64 * at + p)) (row_bit second.old p))) (row_bit row.old (64 * at + p)) }
     ensures outside { (p : ℕ) → (p / 64 < at) ⊎ (at + length first.old ≤ p / 64)
         → row_bit row.new p ≡ row_bit row.old p }
-    ensures first { EachBit first.new (λ p. majority (nat_bit (slice_index a.now (p / 64 % 8)) (p % 64))
-        (nat_bit (slice_index b.now (p / 512)) (p % 64)) (row_bit first.old p)) }
-    ensures second { EachBit second.new (λ p. majority (sum_at a.now b.now first.old p)
+    ensures value { (i : ℕ) → i < 512 → nat_bit (slice_index value.new (i / 64)) (i % 64)
+        ≡ value_in value.old step first.old (length first.old / 8) i }
+    ensures first { EachBit first.new (λ p. majority (value_on value.old step first.old p) step
+        (row_bit first.old p)) }
+    ensures second { EachBit second.new (λ p. majority (value_on value.old step first.old p)
         (row_bit row.old (64 * at + p)) (row_bit second.old p)) }
     ensures words { length row.new ≡ length row.old }
     ensures first_words { length first.new ≡ length first.old }
     ensures second_words { length second.new ≡ length second.old }
 {
     let to = at + first.len();
-    add_both_row(&mut row[at..to], first, second, a, b, &mask[at..to]);
+    add_steps_row(&mut row[at..to], first, second, value, step, &mask[at..to]);
 }

@@ -3,7 +3,7 @@ use Rattle.std.proofs.lemmas.Bool.{cases_lt}
 use Rattle.std.proofs.lemmas.List.{get_or_default}
 use Rattle.px_num.specs.Bits.{bit_at, xor}
 use Rattle.px_rows.specs.Rows.{row_bit}
-use Rattle.px_rows.specs.Sums.{sum_at}
+use Rattle.px_rows.specs.Sums.{value_on}
 use Rattle.px_planes.specs.Pixels.{pixel_in}
 use Rattle.px_planes.proofs.StoredLemmas.{bit_of_rows}
 use Rattle.px_planes.proofs.WorkLemmas.{put_row_law}
@@ -14,23 +14,22 @@ returns-clause-worked c =
     let planes = c.args.planes.now in
     let at = c.args.at in
     let strip = c.args.strip in
-    let a = c.args.offsets.now in
-    let b = c.args.bases.now in
+    let value = value_on c.args.value.now c.args.step c.args.first.now in
     let first = c.args.first.now in
     let second = c.args.second.now in
     let target : c.index_mut.result.now ≡ get_or planes.memory.items at [] = c.index_mut.ensures.value
     ∙ get_or_default planes.memory.items at c.index_mut.result.now [] c.requires.place in
-    put_row_law 32768 strip at planes c.add_both.new.self
-    (λ p. xor (sum_at a b first (p % 32768)) (xor (bit_at (pixel_in planes p).memory at) (row_bit second (p % 32768))))
+    put_row_law 32768 strip at planes c.add_steps.new.self
+    (λ p. xor (value (p % 32768)) (xor (bit_at (pixel_in planes p).memory at) (row_bit second (p % 32768))))
     c.requires.words c.requires.place
-    (c.add_both.ensures.words ∙ (ap length target ∙ c.requires.words.memory at c.requires.place))
+    (c.add_steps.ensures.words ∙ (ap length target ∙ c.requires.words.memory at c.requires.place))
     (λ p within is.
     let whole : 64 * (512 * strip) + p % 32768 ≡ p = omega arith in
     let low : p % 32768 < 64 * length first = omega (arith, c.requires.first) in
     rw (bit_of_rows planes.memory.items at p c.requires.place)
-    (rw (whole, c.words-mask.ensures, target) at (c.add_both.ensures.inside (p % 32768) low)))
+    (rw (whole, c.words-mask.ensures, target) at (c.add_steps.ensures.inside (p % 32768) low)))
     (λ p within other.
-    rw target at (c.add_both.ensures.outside p (elim (cases_lt (p / 64) (512 * strip)) [
+    rw target at (c.add_steps.ensures.outside p (elim (cases_lt (p / 64) (512 * strip)) [
       | inl before ↦ inl before
       | inr past ↦ let beyond : 512 * strip + length first ≤ p / 64 = omega (arith, c.requires.first) in inr beyond
     ])))
@@ -43,7 +42,12 @@ returns-clause-second c p within is =
     let target : c.index_mut.result.now ≡ get_or planes.memory.items at [] = c.index_mut.ensures.value
     ∙ get_or_default planes.memory.items at c.index_mut.result.now [] c.requires.place in
     let whole : 64 * (512 * strip) + p % 32768 ≡ p = omega arith in
-    let low : p % 32768 < 64 * length c.add_both.new.second =
-    omega (arith, c.requires.second, c.add_both.ensures.second_words) in
+    let low : p % 32768 < 64 * length c.add_steps.new.second =
+    omega (arith, c.requires.second, c.add_steps.ensures.second_words) in
     rw (bit_of_rows planes.memory.items at p c.requires.place)
-    (rw (whole, target) at (c.add_both.ensures.second (p % 32768) low))
+    (rw (whole, target) at (c.add_steps.ensures.second (p % 32768) low))
+
+pub returns-clause-value : goal.returns-clause-value
+returns-clause-value c i small =
+    let blocks : length c.args.first.now / 8 ≡ 64 = omega (arith, c.requires.first) in
+    rw blocks at (c.add_steps.ensures.value i small)

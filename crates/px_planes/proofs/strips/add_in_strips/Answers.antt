@@ -16,7 +16,7 @@ loop-strip-preserved c =
     let ny = c.args.ny in
     let op = AddLinear c.args.form.now c.args.field.now in
     let long : length c.loop-strip.planes.enable ≡ n = i.like.words.enable in
-    let work = rw long at c.add_to_strip.ensures in
+    let work = rw long at c.add_to_strip.ensures.done in
     record {
       done = λ p within before. elim (cases_lt (p / 32768) strip) [
         | inl done ↦
@@ -31,4 +31,6 @@ loop-strip-preserved c =
           let other : p / 32768 ≢ strip = omega arith in
           work.others p within other ∙ i.rest p within (omega arith);
       like = like_then n planes c.loop-strip.planes c.add_to_strip.new.planes i.like work.like;
+      values = c.add_to_strip.ensures.values;
+      long = c.add_to_strip.ensures.long ∙ i.long;
     }

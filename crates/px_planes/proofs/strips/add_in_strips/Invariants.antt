@@ -1,5 +1,6 @@
 use Rattle.std.proofs.Common.{◌≡◌, ℕ, ◌*◌, ◌/◌, ◌%◌, ◌^◌, ◌<◌, ◌≤◌, length}
 use Rattle.px_asm.specs.Microprograms.{bits_of}
+use Rattle.px_lanes.specs.Lanes.{AreBlockValues}
 use Rattle.px_macro.specs.Macros.{after_macro}
 use Rattle.px_macro.specs.declared.operation.Macro.TheVariants.{AddLinear}
 use Rattle.px_planes.specs.Operations.{IsLike}
@@ -14,4 +15,6 @@ invariant-loop-strip l =
           → bits_of (pixel_in l.planes p) ≡ after_macro (AddLinear l.form l.field) (p / 2 ^ l.ny) (p % 2 ^ l.ny) (bits_of (pixel_in l.fn.planes p));
       rest : (p : ℕ) → p < 64 * n → l.strip ≤ p / 32768 → pixel_in l.planes p ≡ pixel_in l.fn.planes p;
       like : IsLike n l.fn.planes l.planes;
+      values : AreBlockValues l.form l.ny (64 * l.strip) l.field.len l.values;
+      long : length l.values ≡ l.field.len;
     }

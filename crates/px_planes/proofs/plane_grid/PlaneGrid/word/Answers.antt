@@ -1,4 +1,4 @@
-use Rattle.std.proofs.Common.{◌≡◌, ◌∙◌, ◌+◌, ◌*◌, ◌/◌, ◌%◌, ◌^◌, ◌<◌, ℕ, List, [], get_or, length, ap, sym, arith}
+use Rattle.std.proofs.Common.{◌≡◌, ◌∙◌, ◌+◌, ◌*◌, ◌/◌, ◌%◌, ◌^◌, ◌<◌, ℕ, List, [], get_or, length, ap, arith}
 use Rattle.std.proofs.lemmas.List.{get_or_default}
 use Rattle.px_num.specs.Bits.{nat_bit}
 use Rattle.px_rows.specs.Rows.{row_bit}

@@ -1,0 +1,62 @@
+-- The rows of outputs that are lent.
+use Rattle.std.proofs.Common.{◌≡◌, ℕ, ◌+◌, ◌-◌, ◌*◌, ◌/◌, ◌%◌, ◌^◌, ◌<◌, ◌≤◌, false, cond, nat_lt, List, length}
+use Rattle.std.proofs.Common.{get_or, refl, sym, ap, ◌∙◌, arith, inl, inr}
+use Rattle.std.proofs.lemmas.Bool.{cases_lt, le-ltb, lt-ltb}
+use Rattle.std.proofs.lemmas.Nat.{pow-add}
+use Rattle.std.proofs.Math.Nat.{one-le-pow, pow-le-pow_right}
+use Rattle.px_num.specs.Bits.{nat_bit}
+use Rattle.px_tree.specs.Nodes.{node_at}
+use Rattle.px_rows.specs.Rows.{row_bit}
+use Rattle.px_plane_tree.specs.Trees.{seen_tree, AreSmallLevels}
+use Rattle.px_plane_tree.proofs.TreeLemmas.{bit_seen, small_power}
+
+power_at : (level : ℕ) → 6 ≤ level → 2 ^ level ≡ 64 * 2 ^ (level - 6)
+power_at level h = let e : 6 + (level - 6) ≡ level = omega arith in ap (λ m. 2 ^ m) (sym e) ∙ pow-add 2 6 (level - 6)
+
+power_below : (level levels : ℕ) → level ≤ levels → 2 * 2 ^ level ≤ 2 ^ (levels + 1)
+power_below level levels h =
+    let le : level + 1 ≤ levels + 1 = omega arith in
+    omega (arith, pow-add 2 level 1, pow-le-pow_right {n = 2} (omega arith) le)
+
+pub large_fits : (level nx ny at n : ℕ) → 6 ≤ level → level ≤ nx + ny → at ≡ 2 ^ (level - 6) → 2 ^ (nx + ny + 1) ≤ 64
+    * n → 2 * at ≤ n
+large_fits level nx ny at n h le e enough = omega (arith, power_at level h, power_below level (nx + ny) le)
+
+pub large_words : (level at : ℕ) → 6 ≤ level → at ≡ 2 ^ (level - 6) → 2 * at - at ≡ (2 ^ level + 63) / 64
+large_words level at h e = omega (arith, power_at level h)
+
+pub large_bits : (level nx ny at : ℕ) (outputs carries part : List ℕ) → 6 ≤ level → level ≤ nx + ny
+    → at ≡ 2 ^ (level - 6) → length part ≡ 2 * at - at
+    → ((p : ℕ) → p < 64 * (2 * at - at) → row_bit part p ≡ row_bit outputs (64 * at + p))
+    → (p : ℕ) → p < 64 * length part → row_bit part p ≡ cond (nat_lt p (2 ^ level))
+    (node_at (seen_tree nx ny outputs carries) level p).output false
+large_bits level nx ny at outputs carries part h le e long bits p lt =
+    let w : 2 ^ level ≡ 64 * at = omega (arith, power_at level h) in
+    let here : p < 2 ^ level = omega arith in
+    let place : 64 * at + p ≡ 2 ^ level + p = omega arith in
+    rw (lt-ltb p (2 ^ level) here) (bits p (omega arith) ∙ bit_seen (2 ^ (nx + ny + 1)) outputs carries (64 * at + p)
+    (2 ^ level + p) place (omega (arith, power_below level (nx + ny) le)))
+
+pub small_words : (level : ℕ) → level < 6 → level + 1 - level ≡ (2 ^ level + 63) / 64
+small_words level h = omega (arith, small_power level h, one-le-pow level 2 (omega arith))
+
+pub small_bits : (level nx ny : ℕ) (outputs carries small part : List ℕ) → 1 ≤ level → level < 6 → level ≤ nx + ny
+    → AreSmallLevels outputs small → length part ≡ level + 1 - level
+    → ((p : ℕ) → p < 64 * (level + 1 - level) → row_bit part p ≡ row_bit small (64 * level + p))
+    → (p : ℕ) → p < 64 * length part → row_bit part p ≡ cond (nat_lt p (2 ^ level))
+    (node_at (seen_tree nx ny outputs carries) level p).output false
+small_bits level nx ny outputs carries small part one h le s long bits p lt =
+    let here : p < 64 = omega arith in
+    let word : (64 * level + p) / 64 ≡ level = omega arith in
+    let place : (64 * level + p) % 64 ≡ p = omega arith in
+    let first : row_bit small (64 * level + p) ≡ cond (nat_lt p (2 ^ level))
+    (nat_bit (get_or outputs 0 0) (2 ^ level + p)) false = rw (word, place) (s.each level p one h here) in
+    bits p (omega arith) ∙ (first ∙ elim (cases_lt p (2 ^ level)) [
+      | inl l ↦
+          let zero_word : (2 ^ level + p) / 64 ≡ 0 = omega (arith, small_power level h) in
+          let same : (2 ^ level + p) % 64 ≡ 2 ^ level + p = omega (arith, small_power level h) in
+          let seen = bit_seen (2 ^ (nx + ny + 1)) outputs carries (2 ^ level + p) (2 ^ level + p) refl
+          (omega (arith, power_below level (nx + ny) le)) in
+          rw (lt-ltb p (2 ^ level) l) (rw (zero_word, same) at seen)
+      | inr g ↦ rw (le-ltb p (2 ^ level) g) refl
+    ])

@@ -1,0 +1,58 @@
+use Rattle.std.proofs.Common.{◌≡◌, ◌-◌, length, subst, ◌∙◌, arith}
+use Rattle.px_num.proofs.TruthLaws.{power_grows}
+use Rattle.px_plane_tree.proofs.LevelLemmas.{IsFedDown, are_still, at_next, fed_heap, fed_more, next_fits, next_odd}
+use Rattle.px_plane_tree.proofs.LevelLemmas.{next_rest}
+use Rattle.px_plane_tree.proofs.heap.feed_heap.Goals as goal
+
+pub feed_level-requires-clause-from : goal.feed_level-requires-clause-from
+feed_level-requires-clause-from c =
+    omega (arith, c.power.ensures, power_grows 1 (c.loop-u.u - 1) (omega arith))
+
+pub feed_level-requires-clause-outputs : goal.feed_level-requires-clause-outputs
+feed_level-requires-clause-outputs c =
+    rw c.power.ensures (next_fits (c.loop-u.u - 1) (length c.args.still.now) (length c.loop-u.outputs) (omega arith)
+    (c.loop-u.auto.outputs ∙ c.requires.levels))
+
+pub feed_level-requires-clause-carries : goal.feed_level-requires-clause-carries
+feed_level-requires-clause-carries c =
+    rw c.power.ensures (next_fits (c.loop-u.u - 1) (length c.args.still.now) (length c.loop-u.carries) (omega arith)
+    (c.loop-u.auto.carries ∙ (c.requires.heap.same ∙ c.requires.levels)))
+
+pub feed_level-requires-clause-odd : goal.feed_level-requires-clause-odd
+feed_level-requires-clause-odd c =
+    rw c.power.ensures (next_odd c.args.nx c.args.now (c.loop-u.u - 1) _ _ _ _ _ _ (omega arith) c.requires.levels
+    c.requires.heap (at_next _ _ _ _ _ _ _ _ _ (omega arith) c.loop-u.invariant.down))
+
+pub feed_level-requires-clause-rest : goal.feed_level-requires-clause-rest
+feed_level-requires-clause-rest c = λ may here.
+    rw (c.power.ensures, c.line_of-line.ensures)
+    (next_rest c.args.nx c.args.last c.args.now (c.loop-u.u - 1) _ _ _ _ _ _ (omega arith) (omega arith)
+    (at_next _ _ _ _ _ _ _ _ _ (omega arith) c.loop-u.invariant.down) c.requires.still
+    (c.may_rest-may_rest.ensures.line may) (c.may_rest-may_rest.ensures.above may) here)
+
+pub loop-u-preserved : goal.loop-u-preserved
+loop-u-preserved c = record {
+  low = omega arith;
+  down = fed_more c.args.nx c.args.now (c.loop-u.u - 1) _ _ _ _ _ c.loop-u.still _ _ c.feed_level.result (omega arith)
+      (omega arith) c.loop-u.auto.still (at_next _ _ _ _ _ _ _ _ _ (omega arith) c.loop-u.invariant.down)
+      (rw (c.power.ensures, c.line_of-line.ensures) at c.feed_level.ensures.fed) c.feed_level.ensures.outputs
+      c.feed_level.ensures.carries;
+}
+
+pub returns-clause-fed : goal.returns-clause-fed
+returns-clause-fed c =
+    let one : c.loop-u.u ≡ 1 = omega arith in
+    let before = subst (λ n. IsFedDown c.args.nx c.args.now n c.args.outputs.now c.args.carries.now c.args.still.now
+    c.loop-u.outputs c.loop-u.carries c.loop-u.still) one c.loop-u.invariant.down in
+    fed_heap c.args.nx c.args.now c.args.heads.now _ _ _ _ _ _ _ _ c.feed_head.result c.requires.heap
+    c.requires.levels c.requires.some c.loop-u.auto.still c.requires.heads before c.feed_head.ensures.fed
+    (c.feed_head.auto.outputs ∙ c.loop-u.auto.outputs) (c.feed_head.auto.carries ∙ c.loop-u.auto.carries)
+
+pub returns-clause-still : goal.returns-clause-still
+returns-clause-still c =
+    let one : c.loop-u.u ≡ 1 = omega arith in
+    let before = subst (λ n. IsFedDown c.args.nx c.args.now n c.args.outputs.now c.args.carries.now c.args.still.now
+    c.loop-u.outputs c.loop-u.carries c.loop-u.still) one c.loop-u.invariant.down in
+    are_still c.args.nx c.args.now c.args.heads.now _ _ _ _ _ _ _ _ c.feed_head.result c.requires.heap
+    c.requires.levels c.requires.some c.loop-u.auto.still c.requires.heads before c.feed_head.ensures.fed
+    c.feed_head.ensures.second c.feed_head.ensures.third

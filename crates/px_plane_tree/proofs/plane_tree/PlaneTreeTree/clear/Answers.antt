@@ -1,0 +1,30 @@
+use Rattle.std.proofs.Common.{◌≡◌, ◌∙◌, true, length, replicate, ap}
+use Rattle.std.proofs.lemmas.List.{length-replicate}
+use Rattle.px_tree.specs.Nodes.{TreeState, cleared}
+use Rattle.px_plane_tree.proofs.TreeLemmas.{cleared_seen, cleared_tree}
+use Rattle.px_plane_tree.proofs.plane_tree.PlaneTreeTree.clear.Goals as goal
+
+pub invariant_of-self : goal.invariant_of-self
+invariant_of-self c =
+    let inside = c.self.inside in
+    let outputs : c.fill.new.self.items ≡ replicate (length inside.outputs.items) 0 =
+    c.fill.ensures.items (λ y e. e) ∙ ap (λ n. replicate n 0) inside.outputs.ok.0 in
+    let carries : c.fill-2.new.self.items ≡ replicate (length inside.carries.items) 0 =
+    c.fill-2.ensures.items (λ y e. e) ∙ ap (λ n. replicate n 0) inside.carries.ok.0 in
+    let small : c.fill-3.new.self.items ≡ replicate (length inside.small.items) 0 =
+    c.fill-3.ensures.items (λ y e. e) ∙ ap (λ n. replicate n 0) inside.small.ok.0 in
+    let still : length c.fill-4.new.self.items ≡ length inside.still.items =
+    ap length (c.fill-4.ensures.items (λ y e. e)) ∙ (length-replicate inside.still.len true ∙ inside.still.ok.0) in
+    record {
+      tree = rw (outputs, carries, small, c.no_lines-self-inside.ensures)
+          (cleared_tree inside.nx inside.ny inside.outputs.items inside.carries.items inside.small.items
+          inside.still.items c.fill-4.new.self.items inside.last c.self.invariant.tree still);
+      first_b = c.self.invariant.first_b;
+      heads = c.self.invariant.heads;
+    }
+
+pub returns : goal.returns
+returns c =
+    rw (c.fill.ensures.items (λ y e. e), c.fill-2.ensures.items (λ y e. e))
+    (cleared_seen c.self.inside.nx c.self.inside.ny c.self.inside.outputs.len c.self.inside.carries.len)
+    ∙ ap (λ (t : TreeState). cleared t.nx t.ny) c.self.view_is

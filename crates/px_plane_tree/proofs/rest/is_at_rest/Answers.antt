@@ -1,0 +1,12 @@
+use Rattle.std.proofs.Common.{◌-◌, arith}
+use Rattle.px_plane_tree.proofs.HeapLemmas.{span_law}
+use Rattle.px_plane_tree.proofs.rest.is_at_rest.Goals as goal
+
+pub loop-h-preserved : goal.loop-h-preserved
+loop-h-preserved c = record {
+  from = omega arith;
+  to = omega arith;
+  even = omega arith;
+  rest = span_law c.args.line (c.loop-h.h - 2) c.loop-h.h c.args.to _ _ _ _ _ _ (omega arith) (omega arith)
+      (omega arith) (omega arith) c.loop-h.invariant.rest (c.is_pair_at_rest.ensures c.if-not-is_pair_at_rest.false);
+}

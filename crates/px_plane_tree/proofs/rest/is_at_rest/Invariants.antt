@@ -1,0 +1,14 @@
+use Rattle.std.proofs.Common.{◌-◌, ◌*◌, ◌≡◌, ◌≤◌, ◌%◌}
+use Rattle.px_plane_tree.specs.Heap.{IsAtRest}
+use Rattle.px_plane_tree.proofs.rest.is_at_rest.Given as goal
+
+abbrev pub invariant-loop-h : goal.invariant-loop-h
+invariant-loop-h l = record {
+  from : l.from ≤ l.h;
+  to : l.h ≤ l.to;
+  even : l.h % 2 ≡ 0;
+  rest : IsAtRest l.line (2 * l.h) (2 * l.to) l.outputs l.carries;
+}
+
+abbrev pub decreases-loop-h : goal.decreases-loop-h
+decreases-loop-h l = l.h - l.from

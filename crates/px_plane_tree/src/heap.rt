@@ -1,0 +1,146 @@
+//! One feed of a whole heap of nodes.
+ghost use Rattle.std.specs.Prelude.{◌≡◌, ℕ, ◌<◌, ◌≤◌, ◌+◌, ◌-◌, ◌*◌, ◌^◌, ◌%◌, IsTrue, true, false};
+ghost use Rattle.std.specs.Prelude.{length, slice_index, slice_index_or};
+ghost use Rattle.px_num.specs.Bits.{nat_bit};
+ghost use Rattle.px_plane_tree.specs.Heap.{AreStill, HasLines, HasOdd, IsAtRest, IsFed, IsFedHeap};
+ghost use Rattle.px_plane_tree.specs.Heap.{IsFedFirst, IsHeap, level_line, line_bit};
+
+use crate::feed::{feed_first, feed_parents};
+use crate::rest::is_at_rest;
+use px_num::power;
+use px_tree::Lines;
+
+/// Feeds every node by the lines `now`, from the latches before the call.
+///
+/// `still` says which of the levels from 7 on did not move in the feed before, whose lines were
+/// `last`; after the call it says so of this one. `heads` has the lines of the nodes in the first
+/// four words.
+pub fn feed_heap(
+    outputs: &mut [u64],
+    carries: &mut [u64],
+    still: &mut [bool],
+    heads: &[u64],
+    nx: u32,
+    last: Lines,
+    now: Lines,
+)
+    requires heap { IsHeap outputs.old carries.old }
+    requires levels { length outputs.old ≡ 2 ^ (length still.old + 1) }
+    requires some { 1 ≤ length still.old }
+    requires few { length still.old ≤ 12 }
+    requires columns { nx ≤ 9 }
+    requires room { 4 ≤ length heads.now }
+    requires heads { HasLines now.a now.b (2 ^ (nx + 1)) heads.now }
+    requires still { AreStill nx last still.old outputs.old carries.old }
+    ensures fed { IsFedHeap now.a now.b now.c (2 ^
+        (nx + 1)) outputs.old carries.old outputs.new carries.new }
+    ensures still { AreStill nx now still.new outputs.new carries.new }
+{
+    // From the leaves upwards, so that each level is written before its parents.
+    for u in (1..still.len()).rev() {
+        let may_rest = may_rest(still, nx, last, now, u);
+        let line = line_of(nx, now, u);
+        still[u] = feed_level(outputs, carries, power(u as u32), line, may_rest, still[u]);
+    }
+    still[0] = feed_head(outputs, carries, heads, now.c);
+}
+
+/// Whether the parents of level `u + 7` did not move in the last feed, and its line is the same.
+#[inline(always)]
+fn may_rest(still: &[bool], nx: u32, last: Lines, now: Lines, u: usize) -> bool
+    requires some { 1 ≤ u }
+    requires level { u < length still.now }
+    requires few { length still.now ≤ 12 }
+    ensures above { IsTrue result → slice_index_or still.now (u - 1) false ≡ true }
+    ensures line { IsTrue result → level_line nx now u ≡ level_line nx last u }
+{
+    still[u - 1] && line_of(nx, now, u) == line_of(nx, last, u)
+}
+
+/// The line of level `u + 7`.
+#[inline(always)]
+fn line_of(nx: u32, lines: Lines, u: usize) -> bool
+    requires { u ≤ 12 }
+    ensures { result ≡ level_line nx lines u }
+{
+    if (nx as usize) < u + 7 {
+        lines.b
+    } else {
+        lines.a
+    }
+}
+
+/// Feeds the level whose parents are the words from `half` on and below `2 * half`, and answers
+/// whether it stayed as it was.
+///
+/// Where `may_rest` and `rested` are 1 the level is known to be at rest. Where only `may_rest` is,
+/// it looks whether it is.
+#[inline(always)]
+fn feed_level(
+    outputs: &mut [u64],
+    carries: &mut [u64],
+    half: usize,
+    line: bool,
+    may_rest: bool,
+    rested: bool,
+) -> bool
+    requires from { 2 ≤ half }
+    requires even { half % 2 ≡ 0 }
+    requires outputs { 4 * half ≤ length outputs.old }
+    requires carries { 4 * half ≤ length carries.old }
+    requires odd { HasOdd (2 * half) (4 * half) carries.old }
+    requires rest { IsTrue may_rest → IsTrue rested →
+        IsAtRest line (2 * half) (4 * half) outputs.old carries.old }
+    ensures fed { IsFed line (2 * half) (4 * half) outputs.old carries.old outputs.new carries.new }
+    ensures outputs { IsTrue result → outputs.new ≡ outputs.old }
+    ensures carries { IsTrue result → carries.new ≡ carries.old }
+{
+    if may_rest && (rested || is_at_rest(outputs, carries, half, 2 * half, line)) {
+        return true;
+    }
+    feed_parents(outputs, carries, half, 2 * half, line);
+    false
+}
+
+/// Feeds the first four words, and answers whether the outputs of level 7 stayed as they were.
+#[inline(always)]
+fn feed_head(outputs: &mut [u64], carries: &mut [u64], heads: &[u64], c: bool) -> bool
+    requires outputs { 4 ≤ length outputs.old }
+    requires carries { 4 ≤ length carries.old }
+    requires heads { 4 ≤ length heads.now }
+    requires odd { HasOdd 0 4 carries.old }
+    requires odd_heads { HasOdd 0 4 heads.now }
+    ensures fed { IsFedFirst heads.now c outputs.old carries.old outputs.new carries.new }
+    ensures second { IsTrue result → slice_index outputs.new 2 ≡ slice_index outputs.old 2 }
+    ensures third { IsTrue result → slice_index outputs.new 3 ≡ slice_index outputs.old 3 }
+{
+    let second = outputs[2];
+    let third = outputs[3];
+    feed_first(outputs, carries, heads, c);
+    outputs[2] == second && outputs[3] == third
+}
+
+/// The line of the node at a place, or 0 where it is even.
+fn line_here(first_b: usize, place: usize, a: bool, b: bool) -> bool
+    ensures { result ≡ line_bit a b first_b place }
+{
+    if place < 2 {
+        false
+    } else {
+        place % 2 == 1 && (if place < first_b { a } else { b })
+    }
+}
+
+/// The lines of the odd nodes in word w.
+pub fn line_word(first_b: usize, w: usize, a: bool, b: bool) -> u64
+    requires { w < 4 }
+    ensures { (j : ℕ) → j < 64 → nat_bit result j ≡ line_bit a b first_b (64 * w + j) }
+{
+    let mut word = 0;
+    for j in 0..64 {
+        if line_here(first_b, 64 * w + j, a, b) {
+            word |= 1 << j;
+        }
+    }
+    word
+}
