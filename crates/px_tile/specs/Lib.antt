@@ -9,8 +9,8 @@ pub mod Drawn
 pub mod Found
 pub mod Parts
 pub mod Pictures
+pub mod PutRows
 pub mod Refusals
-pub mod Stored
 pub mod Tiles
 pub mod TilesLaw
 pub mod Tilings
