@@ -7,6 +7,7 @@ pub use Rattle.px_model.specs.Cells
 pub use Rattle.px_model.specs.Scenes
 pub mod Drawn
 pub mod Found
+pub mod Operators
 pub mod Parts
 pub mod Pictures
 pub mod PutRows
