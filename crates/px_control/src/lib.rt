@@ -9,6 +9,7 @@ mod law;
 mod literal;
 mod place;
 mod program;
+mod rates;
 mod total;
 mod whole;
 
