@@ -3,7 +3,7 @@ use Rattle.std.proofs.Common.{◌≡◌, ◌≢◌, ℕ, suc, zero, ◌+◌, ◌
 use Rattle.std.proofs.Common.{◌∷◌, ◌++◌, All, length, map, get_or, take, refl, ap, sym, subst, ◌∙◌, arith}
 use Rattle.std.specs.List.{flat_map, range_with_len, sum_by}
 use Rattle.std.proofs.lemmas.Bool.Decides.{nat_tests}
-use Rattle.std.proofs.lemmas.List.{length-map, map-append}
+use Rattle.std.proofs.lemmas.List.{length-append, length-map, map-append}
 use Rattle.std.proofs.Math.Seq.{take-length}
 use Rattle.std.proofs.lemmas.List.Concat.{length-flat_map}
 use Rattle.std.proofs.lemmas.List.FromFn.{length-range_with_len}
@@ -13,9 +13,10 @@ use Rattle.px_num.specs.declared.linear.Linear.{Linear}
 use Rattle.px_num.specs.Forms.{plus}
 use Rattle.px_num.proofs.ListLaws.{length-tabulate}
 use Rattle.px_asm.specs.Micros.{all_micros, cycles, micro_at, micros}
+use Rattle.px_expr.proofs.LeafLaws.{some_solid}
 use Rattle.px_face.specs.EdgeLaws.{EdgesAreCounted}
 use Rattle.px_face.specs.Edges.{edges}
-use Rattle.px_face.specs.Faces.{face_count, face_number, face_plane}
+use Rattle.px_face.specs.Faces.{face_count, face_number, face_plane, level}
 use Rattle.px_macro.specs.declared.operation.Macro.{Macro}
 use Rattle.px_macro.specs.declared.operation.Macro.TheVariants as m
 use Rattle.px_model.specs.Cells.{depths_of, end_of}
@@ -30,10 +31,10 @@ use Rattle.px_sched.specs.Layouts.{LayoutView, deep_part, fraction_part, layout_
 use Rattle.px_sched.specs.Passes.{candidate_faces, confirm, judge, keep_covered, literal_at, literal_steps, no_literal}
 use Rattle.px_sched.specs.Passes.{operations, solid_of, where_fraction, where_passed}
 use Rattle.px_sched.specs.PassesFacts.{LayoutsAreLawful, StepsAreLawful}
-use Rattle.px_sched.specs.Steps.{IsStep, IsThere}
+use Rattle.px_sched.specs.Steps.{IsFace, IsStep, IsThere}
 use Rattle.px_sched.proofs.MemberLaws.{by_places}
 use Rattle.px_control.specs.declared.costs.Costs.{Costs}
-use Rattle.px_control.specs.Costs.{AreCostsAtMost, cost_of, costs_plus, step_cost, steps_cost, times}
+use Rattle.px_control.specs.Costs.{AreCostsAtMost, cost_of, costs_less, costs_plus, edge_cost, edges_of, step_cost, steps_cost, times}
 use Rattle.px_control.specs.Program.{columns_of, cycles_in, rows_of}
 
 -- sums
@@ -200,6 +201,111 @@ module _ (count : EdgesAreCounted) (scene : SceneView) where
     close = λ other plain. refl;
   }
 
+  -- the edges of a face
+  abbrev edge_clocks : ℕ
+  edge_clocks = (edge_cost scene).clocks
+
+  one_edge : (f : Linear) → taken (m.KeepSign f) ≡ edge_clocks
+  one_edge f =
+      let first = m.KeepSign (level 0) in
+      let whole : edge_clocks ≡ sum_by taken (first ∷ []) = clocked scene (first ∷ []) in
+      let alone : sum_by taken (first ∷ []) ≡ taken first + 0 = sum_by-cons taken first [] in
+      omega (arith, whole, alone)
+
+  edges_clocks : (fs : List Linear) → sum_by taken (map m.KeepSign fs) ≡ length fs * edge_clocks
+  edges_clocks [] = omega arith
+  edges_clocks (f ∷ fs) =
+      let more : taken (m.KeepSign f) + sum_by taken (map m.KeepSign fs) ≡ suc (length fs) * edge_clocks =
+      omega (arith, one_edge f, edges_clocks fs) in
+      sum_by-cons taken (m.KeepSign f) (map m.KeepSign fs) ∙ more
+
+  -- operations around those of a face's edges
+  faced : (solid : ℕ) (head tail : List Macro) → cost_of scene (head ++ (keep_covered end (solid_of scene solid) 0 ++ tail))
+      ≡ costs_plus (cost_of scene (head ++ tail)) (times (edges_of scene solid) (edge_cost scene))
+  faced solid head tail =
+      let s = solid_of scene solid in
+      let kept = keep_covered end s 0 in
+      let many : length (edges s end 0) ≡ edges_of scene solid = count s end 0 (omega arith) in
+      let operations : length (head ++ (kept ++ tail)) ≡ length (head ++ tail) + edges_of scene solid * 1 =
+      omega (
+        arith,
+        length-append head (kept ++ tail),
+        length-append kept tail,
+        length-append head tail,
+        length-map (edges s end 0) m.KeepSign,
+        many,
+      ) in
+      let around : sum_by taken (head ++ (kept ++ tail)) ≡ sum_by taken (head ++ tail) + sum_by taken kept =
+      omega (
+        arith,
+        sum_by-append taken head (kept ++ tail),
+        sum_by-append taken kept tail,
+        sum_by-append taken head tail,
+      ) in
+      let kept_clocks : sum_by taken kept ≡ edges_of scene solid * edge_clocks = rw many at (edges_clocks (edges s end 0)) in
+      same_costs _ _ operations
+      (clocked scene (head ++ (kept ++ tail)) ∙ around
+      ∙ ap (λ n. n + sum_by taken kept) (sym (clocked scene (head ++ tail)))
+      ∙ ap (λ n. (cost_of scene (head ++ tail)).clocks + n) kept_clocks)
+
+  back : (a b : Costs) → costs_less (costs_plus a b) b ≡ a
+  back a b = same_costs (costs_less (costs_plus a b) b) a (omega arith) (omega arith)
+
+  -- by what the step of the first solid's face costs without its edges, that of each one's costs
+  rate : (head : List Macro) (tail : ℕ → List Macro) → ((solid : ℕ) → map taken (tail solid) ≡ map taken (tail 0))
+      → (face : Costs)
+      → face ≡ costs_less (cost_of scene (head ++ (keep_covered end (solid_of scene 0) 0 ++ tail 0)))
+      (times (edges_of scene 0) (edge_cost scene))
+      → (solid : ℕ) → costs_plus face (times (edges_of scene solid) (edge_cost scene))
+      ≡ cost_of scene (head ++ (keep_covered end (solid_of scene solid) 0 ++ tail solid))
+  rate head tail same face is solid =
+      let bare = cost_of scene (head ++ tail 0) in
+      let first : face ≡ bare =
+      is ∙ ap (λ costs. costs_less costs (times (edges_of scene 0) (edge_cost scene))) (faced 0 head (tail 0))
+      ∙ back bare (times (edges_of scene 0) (edge_cost scene)) in
+      let alike : cost_of scene (head ++ tail solid) ≡ bare =
+      as_long scene (head ++ tail solid) (head ++ tail 0)
+      (map-append taken head (tail solid) ∙ ap (λ xs. map taken head ++ xs) (same solid)
+      ∙ sym (map-append taken head (tail 0))) in
+      ap (λ costs. costs_plus costs (times (edges_of scene solid) (edge_cost scene))) (first ∙ sym alike)
+      ∙ sym (faced solid head (tail solid))
+
+  abbrev passing : List Macro
+  passing = m.All ∷ m.KeepBit l.alive true ∷ []
+
+  pub candidate_rate : (face : Costs)
+      → face ≡ costs_less (step_cost scene (Candidate 0 0)) (times (edges_of scene 0) (edge_cost scene)) → (solid : ℕ)
+      → costs_plus face (times (edges_of scene solid) (edge_cost scene)) ≡ step_cost scene (Candidate solid 0)
+  candidate_rate =
+      let load : ℕ → Macro =
+      λ solid. m.LoadLinear (plus (plane solid 0) (2 ^ scene.fraction_bits - 1)) (deep_part l l.key_t) in
+      let clear = where_fraction (depths_of scene) (m.LoadConst (fraction_part l l.key_t) 0 ∷ []) in
+      let last : ℕ → List Macro =
+      λ solid. m.LoadConst (number_part l l.key_t) (face_number (solid_of scene solid) 0) ∷ m.SetBit l.alive true ∷ [] in
+      rate (m.All ∷ []) (λ solid. load solid ∷ clear ++ last solid)
+      (λ solid. map-append taken (load solid ∷ clear) (last solid) ∙ sym (map-append taken (load 0 ∷ clear) (last 0)))
+
+  pub drop_rate : (face : Costs)
+      → face ≡ costs_less (step_cost scene (Drop 0 0)) (times (edges_of scene 0) (edge_cost scene)) → (solid : ℕ)
+      → costs_plus face (times (edges_of scene solid) (edge_cost scene)) ≡ step_cost scene (Drop solid 0)
+  drop_rate =
+      rate passing (λ solid. m.KeepAtMost (plane solid 0) (deep_part l l.key_t) ∷ m.SetBit l.alive false ∷ [])
+      (λ solid. refl)
+
+  pub front_rate : (face : Costs)
+      → face ≡ costs_less (step_cost scene (Front 0 0)) (times (edges_of scene 0) (edge_cost scene)) → (solid : ℕ)
+      → costs_plus face (times (edges_of scene solid) (edge_cost scene)) ≡ step_cost scene (Front solid 0)
+  front_rate =
+      rate passing
+      (λ solid. m.KeepAtMost (plus (plane solid 0) (2 ^ scene.fraction_bits)) (deep_part l l.key_t) ∷ m.Toggle l.par ∷ [])
+      (λ solid. refl)
+
+  pub turn_rate : (face : Costs)
+      → face ≡ costs_less (step_cost scene (Turn 0 0 0)) (times (edges_of scene 0) (edge_cost scene)) → (solid : ℕ)
+      → costs_plus face (times (edges_of scene solid) (edge_cost scene)) ≡ step_cost scene (Turn 0 solid 0)
+  turn_rate =
+      rate passing (λ solid. m.KeepAtMost (plane solid 0) (deep_part l l.key_t) ∷ m.Toggle l.par ∷ []) (λ solid. refl)
+
 pub part_alike : {A B : Type 0} (scene : SceneView) (part : A → B) (v : Step → A) → IsAlike scene v
     → IsAlike scene (λ step. part (v step))
 part_alike scene part v h = record {
@@ -323,10 +429,24 @@ plus_at_most n k a b first second = record {
   clocks = omega (arith, first.clocks, second.clocks);
 }
 
+pub less_at_most : (n : ℕ) (a b : Costs) → AreCostsAtMost n a → AreCostsAtMost n (costs_less a b)
+less_at_most n a b each = record {
+  operations = omega (arith, each.operations);
+  clocks = omega (arith, each.clocks);
+}
+
 pub at_most_more : (n k : ℕ) (costs : Costs) → n ≤ k → AreCostsAtMost n costs → AreCostsAtMost k costs
 at_most_more n k costs more each = record {
   operations = omega (arith, each.operations);
   clocks = omega (arith, each.clocks);
+}
+
+-- a face of the first solid
+pub first_face : (scene : SceneView) → IsLawfulScene scene → IsFace scene 0 0
+first_face scene lawful = record {
+  known = some_solid scene.show (length scene.solids) lawful.shown;
+  there = omega arith;
+  few = omega arith;
 }
 
 pub not_none : (n : ℕ) → n ≢ 0 → (n == 0) ≡ false
@@ -367,8 +487,9 @@ module _ (count : EdgesAreCounted) (scene : SceneView) where
   clocks_alike = part_alike scene (λ (costs : Costs). costs.clocks) (step_cost scene) (costs_alike count scene)
 
   pub own_costs : (q : Literal) (n : ℕ) → n ≡ length (candidate_faces (solid_of scene q.solid) q.plain) →
-      costs_plus (costs_plus (costs_plus (step_cost scene Open) (times n (step_cost scene (Candidate q.solid 0))))
-      (steps_cost scene (where_fraction (depths_of scene) (confirm scene q)))) (step_cost scene Merge)
+      costs_plus (costs_plus (costs_plus (step_cost scene Open) (step_cost scene Merge))
+      (times n (step_cost scene (Candidate q.solid 0))))
+      (steps_cost scene (where_fraction (depths_of scene) (confirm scene q)))
       ≡ steps_cost scene (literal_steps scene q [])
   own_costs q n same =
       let sure = where_fraction (depths_of scene) (confirm scene q) in
@@ -377,8 +498,8 @@ module _ (count : EdgesAreCounted) (scene : SceneView) where
       (rw same (omega (arith, own_sum scene (clocks_in scene) clocks_alike q, clocks_of_steps scene sure)))
 
   pub judge_costs : (r : Literal) (n : ℕ) → n ≡ face_count (solid_of scene r.solid) →
-      costs_plus (costs_plus (step_cost scene (Begin 0)) (times n (step_cost scene (Turn 0 r.solid 0))))
-      (step_cost scene (Close 0 r.plain)) ≡ steps_cost scene (judge scene (r ∷ []) 0)
+      costs_plus (costs_plus (step_cost scene (Begin 0)) (step_cost scene (Close 0 r.plain)))
+      (times n (step_cost scene (Turn 0 r.solid 0))) ≡ steps_cost scene (judge scene (r ∷ []) 0)
   judge_costs r n same =
       cost_is scene _ (judge scene (r ∷ []) 0)
       (rw same (omega (arith, judge_sum scene (operations_in scene) ops_alike (r ∷ []) 0)))
@@ -401,11 +522,12 @@ module _ (count : EdgesAreCounted) (scene : SceneView) where
 
   pub barred_confirm : (q : Literal) (n : ℕ) → (scene.fraction_bits == 0) ≡ false → q.plain ≡ false
       → n ≡ length (solid_of scene q.solid).fronts + 1
-      → costs_plus (costs_plus (step_cost scene Clear) (times n (step_cost scene (Front q.solid 0))))
-      (step_cost scene Confirm)
+      → costs_plus (costs_plus (step_cost scene Clear) (step_cost scene Confirm))
+      (times n (step_cost scene (Front q.solid 0)))
       ≡ steps_cost scene (where_fraction (depths_of scene) (confirm scene q))
   barred_confirm q n some barred same =
       let faces = range_with_len 0 (length (solid_of scene q.solid).fronts + 1) in
+      let turned : (a b c : ℕ) → a + c + b ≡ a + b + c = λ a b c. omega arith in
       rw (some, barred) (cost_is scene _ (Clear ∷ map (Front q.solid) faces ++ Confirm ∷ [])
-      (rw same (sym (fronts_sum scene (operations_in scene) ops_alike q.solid)))
-      (rw same (sym (fronts_sum scene (clocks_in scene) clocks_alike q.solid))))
+      (rw same (turned _ _ _ ∙ sym (fronts_sum scene (operations_in scene) ops_alike q.solid)))
+      (rw same (turned _ _ _ ∙ sym (fronts_sum scene (clocks_in scene) clocks_alike q.solid))))

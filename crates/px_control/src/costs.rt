@@ -2,7 +2,7 @@
 ghost use Rattle.std.specs.Prelude.{◌≡◌, ◌^◌, ◌≤◌};
 ghost use Rattle.px_sched.specs.Layouts.{layout_of};
 ghost use Rattle.px_sched.specs.Steps.{IsStep};
-ghost use Rattle.px_control.specs.Costs.{AreCostsAtMost, costs_plus, step_cost, times};
+ghost use Rattle.px_control.specs.Costs.{AreCostsAtMost, costs_less, costs_plus, step_cost, times};
 
 use px_asm::cycles;
 use px_macro::laws_of_operations;
@@ -29,10 +29,20 @@ impl Costs {
         }
     }
 
+    /// The first but for the second, and none where that is more.
+    pub(crate) fn less(&self, other: &Costs) -> Costs
+        ensures { result ≡ costs_less self.now other.now }
+    {
+        Costs {
+            operations: self.operations.saturating_sub(other.operations),
+            clocks: self.clocks.saturating_sub(other.clocks),
+        }
+    }
+
     /// So many times.
     pub(crate) fn times(&self, count: u64) -> Costs
         requires few { count ≤ 511 }
-        requires costs { AreCostsAtMost (2 ^ 20) self.now }
+        requires costs { AreCostsAtMost (2 ^ 21) self.now }
         ensures { result ≡ times count self.now }
     {
         Costs {

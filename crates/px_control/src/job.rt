@@ -18,8 +18,9 @@ ghost use Rattle.px_control.specs.Program.{
 ghost use Rattle.px_control.specs.Standing.{JobView, LeavesOnRefusal, StandsFor};
 ghost use Rattle.px_control.specs.declared.fault.JobFault.{JobFault};
 
+use crate::drawing::memory_bits;
 use crate::fault::JobFault;
-use crate::law::{MAX_LAYOUT_BITS, law_of_needs, law_of_pictures};
+use crate::law::law_of_pictures;
 use crate::place::Place;
 use crate::program::Program;
 use px_array::{Array, Micro};
@@ -231,13 +232,4 @@ impl<'s> Job<'s> {
     {
         self.place = place;
     }
-}
-
-/// How many bits of memory a pixel of an array has, as far as a scene can need them.
-fn memory_bits<A: Array>(scene: &Scene) -> u32
-    ensures within { result ≤ A.BITS }
-    ensures enough { need_of (layout_of scene.now) ≤ A.BITS → need_of (layout_of scene.now) ≤ result }
-{
-    law_of_needs(scene);
-    A::BITS.min(MAX_LAYOUT_BITS) as u32
 }

@@ -1,7 +1,6 @@
 //! What a literal adds to the passes of its product.
 ghost use Rattle.std.specs.Prelude.{◌≡◌, ◌^◌, ◌<◌, ◌≤◌, [], ◌∷◌, length};
 ghost use Rattle.px_model.specs.Cells.{depths_of};
-ghost use Rattle.px_sched.specs.Layouts.{layout_of};
 ghost use Rattle.px_sched.specs.Passes.{
   candidate_faces,
   confirm,
@@ -10,36 +9,44 @@ ghost use Rattle.px_sched.specs.Passes.{
   solid_of,
   where_fraction,
 };
-ghost use Rattle.px_control.specs.Costs.{AreCostsAtMost, share, steps_cost};
+ghost use Rattle.px_control.specs.Costs.{AreCostsAtMost, AreLow, AreRates, share, steps_cost};
 
-use crate::costs::{Costs, step_cost};
-use px_face::{face_count, laws_of_edges};
+use crate::costs::Costs;
+use crate::rates::Rates;
+use px_face::{edge_count, face_count, laws_of_edges};
 use px_model::{Scene, Solid};
-use px_sched::{Layout, Literal, Step};
+use px_sched::Literal;
 
 /// What a literal adds to its product: its own steps, and those against it of each of the others.
-pub(crate) fn share(scene: &Scene, layout: &Layout, q: Literal, others: u64) -> Costs
-    requires layout { layout.now ≡ layout_of scene.now }
+pub(crate) fn share(scene: &Scene, rates: &Rates, q: Literal, others: u64) -> Costs
+    requires rates { AreRates scene.now rates.now }
+    requires low { AreLow rates.now }
     requires known { q.solid < length scene.now.solids }
     requires others { others ≤ 511 }
     ensures cost { result ≡ share scene.now q others }
-    ensures few { AreCostsAtMost (2 ^ 29) result }
+    ensures few { AreCostsAtMost (2 ^ 30) result }
 {
-    own_cost(scene, layout, q).plus(&judge_cost(scene, layout, q).times(others))
+    own_cost(scene, rates, q).plus(&judge_cost(scene, rates, q).times(others))
 }
 
 /// The steps of a literal but for those of others: each of its faces costs as much as the first.
-fn own_cost(scene: &Scene, layout: &Layout, q: Literal) -> Costs
-    requires layout { layout.now ≡ layout_of scene.now }
+fn own_cost(scene: &Scene, rates: &Rates, q: Literal) -> Costs
+    requires rates { AreRates scene.now rates.now }
+    requires low { AreLow rates.now }
     requires known { q.solid < length scene.now.solids }
     ensures cost { result ≡ steps_cost scene.now (literal_steps scene.now q []) }
-    ensures few { AreCostsAtMost (2 ^ 20) result }
+    ensures few { AreCostsAtMost (2 ^ 21) result }
 {
     laws_of_edges();
-    step_cost(scene, layout, Step::Open)
-        .plus(&step_cost(scene, layout, Step::Candidate(q.solid, 0)).times(candidates(scene, q)))
-        .plus(&confirm_cost(scene, layout, q))
-        .plus(&step_cost(scene, layout, Step::Merge))
+    let edges = edge_count(solid_at(scene, q.solid)) as u64;
+    rates
+        .own
+        .plus(
+            &rates
+                .with_edges(&rates.candidate, edges)
+                .times(candidates(scene, q)),
+        )
+        .plus(&confirm_cost(scene, rates, q))
 }
 
 /// How many faces become the candidate.
@@ -57,46 +64,50 @@ fn candidates(scene: &Scene, q: Literal) -> u64
 }
 
 /// What confirms a candidate, where a depth has a fraction.
-fn confirm_cost(scene: &Scene, layout: &Layout, q: Literal) -> Costs
-    requires layout { layout.now ≡ layout_of scene.now }
+fn confirm_cost(scene: &Scene, rates: &Rates, q: Literal) -> Costs
+    requires rates { AreRates scene.now rates.now }
+    requires low { AreLow rates.now }
     requires known { q.solid < length scene.now.solids }
     ensures cost { result ≡ steps_cost scene.now
         (where_fraction (depths_of scene.now) (confirm scene.now q)) }
-    ensures few { AreCostsAtMost 300000 result }
+    ensures few { AreCostsAtMost 842000 result }
 {
     laws_of_edges();
     let solid = solid_at(scene, q.solid);
+    let edges = edge_count(solid) as u64;
     if scene.fraction_bits() == 0 {
         Costs {
             operations: 0,
             clocks: 0,
         }
     } else if q.plain {
-        step_cost(scene, layout, Step::Drop(q.solid, 0)).times(solid.backs().len() as u64 + 1)
+        rates
+            .with_edges(&rates.drop, edges)
+            .times(solid.backs().len() as u64 + 1)
     } else {
-        step_cost(scene, layout, Step::Clear)
-            .plus(&step_cost(scene, layout, Step::Front(q.solid, 0)).times(
-                solid.fronts().len() as u64 + 1,
-            ))
-            .plus(&step_cost(scene, layout, Step::Confirm))
+        rates.confirm.plus(
+            &rates
+                .with_edges(&rates.front, edges)
+                .times(solid.fronts().len() as u64 + 1),
+        )
     }
 }
 
 /// The steps in which a literal judges a candidate of another one.
-fn judge_cost(scene: &Scene, layout: &Layout, r: Literal) -> Costs
-    requires layout { layout.now ≡ layout_of scene.now }
+fn judge_cost(scene: &Scene, rates: &Rates, r: Literal) -> Costs
+    requires rates { AreRates scene.now rates.now }
+    requires low { AreLow rates.now }
     requires known { r.solid < length scene.now.solids }
     ensures cost { result ≡ steps_cost scene.now (judge scene.now (r ∷ []) 0) }
-    ensures few { AreCostsAtMost 570000 result }
+    ensures few { AreCostsAtMost 1700000 result }
 {
     laws_of_edges();
-    let faces = face_count(solid_at(scene, r.solid)) as u64;
-    step_cost(scene, layout, Step::Begin(0))
-        .plus(&step_cost(scene, layout, Step::Turn(0, r.solid, 0)).times(faces))
-        .plus(&step_cost(scene, layout, Step::Close(0, r.plain)))
+    let solid = solid_at(scene, r.solid);
+    let turn = rates.with_edges(&rates.turn, edge_count(solid) as u64);
+    rates.judge.plus(&turn.times(face_count(solid) as u64))
 }
 
-fn solid_at(scene: &Scene, solid: u8) -> &Solid
+pub(crate) fn solid_at(scene: &Scene, solid: u8) -> &Solid
     requires { solid < length scene.now.solids }
     ensures { result.now ≡ solid_of scene.now solid }
 {

@@ -14,6 +14,7 @@ ghost use Rattle.px_control.specs.ProgramLaws.{IsGoodProgram};
 ghost use Rattle.px_control.specs.Standing.{StandsFor};
 ghost use Rattle.px_control.specs.declared.fault.JobFault.{JobFault};
 
+use crate::drawing::drawing_of;
 use crate::fault::JobFault;
 use crate::law::law_of_program;
 use crate::place::Place;
@@ -21,10 +22,10 @@ use crate::total::cost;
 use px_array::{Array, Micro, TreeOp};
 use px_asm::{cycles, make_micros, micro_at};
 use px_macro::Macro;
-use px_model::{Scene, laws_of_scenes};
+use px_model::Scene;
 use px_pixel::Act;
-use px_prune::{Plan, plan_of};
-use px_sched::{Cursor, Layout, NeedBits};
+use px_prune::Plan;
+use px_sched::{Cursor, Layout};
 use std::alloc::Global;
 use std::marker::Model;
 
@@ -69,12 +70,7 @@ impl<'s> Program<'s> {
         ensures memory { need_of (layout_of scene.now) ≤ bits → crowd_of scene.now ≡ None →
             IfErr result (λ fault. fault ≡ JobFault.Memory) }
     {
-        laws_of_scenes(scene);
-        let layout = match Layout::of(scene, bits) {
-            Ok(layout) => layout,
-            Err(NeedBits { need }) => return Err(JobFault::PixelMemory { need }),
-        };
-        let plan = plan_of(alloc, scene)?;
+        let (layout, plan) = drawing_of(alloc, scene, bits)?;
         let (columns, rows) = scene.grid();
         Ok(Program {
             scene,

@@ -12,7 +12,7 @@ pub record HasNumbers (bits : ℕ) (device : Device) (field : Field) (width y : 
   pub wide : width ≤ MAX_PICTURE_SIZE
   pub row : y < 2 ^ device.state.tree.ny
   pub room : field.at + field.len ≤ bits
-  pub low : field.at ≤ 48
+  pub low : field.at ≤ 256
   pub few : field.len ≤ 24
 
 -- the number of the pixel in column x and row y, which the eight rows have

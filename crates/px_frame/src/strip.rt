@@ -89,7 +89,7 @@ fn numbers_of_rows<A: Array>(
 fn eight_numbers<A: Array>(array: &A, field: Field, place: usize) -> [u32; 8]
     requires is_open { IsOpen (A.device array.now) }
     requires room { field.at + field.len ≤ A.BITS }
-    requires low { field.at ≤ 48 }
+    requires low { field.at ≤ 256 }
     requires few { field.len ≤ 24 }
     requires place { place < 2 ^ levels_of (A.device array.now).state.tree }
     ensures numbers { (j : ℕ) → j < 8 → place % 64 + j < 64 → get_or result j 0

@@ -4,6 +4,7 @@ pub mod FewLemmas
 pub mod FitLemmas
 pub mod LightLemmas
 pub mod LineLemmas
+pub mod MaskLemmas
 pub mod SayingLemmas
 pub mod SightLemmas
 pub mod SolidLemmas

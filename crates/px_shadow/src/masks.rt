@@ -1,25 +1,25 @@
 //! The image of the lights, as an array stores them.
-ghost use Rattle.std.specs.Prelude.{◌≡◌, ◌+◌, ◌^◌, ◌<◌, ◌≤◌, OnErr, OnOk};
+ghost use Rattle.std.specs.Prelude.{◌≡◌, ◌+◌, ◌*◌, ◌^◌, ◌<◌, ◌≤◌, ℕ, OnErr, OnOk, length};
 ghost use Rattle.px_io.specs.Counts.{HasCause};
 ghost use Rattle.px_io.specs.Told.{TakesAll, TakesFront};
-ghost use Rattle.px_array.specs.Arrays.{HasPixel, IsOpen};
+ghost use Rattle.px_array.specs.Arrays.{IsOpen};
 ghost use Rattle.px_frame.specs.Rows.{row_bytes};
 ghost use Rattle.px_frame.specs.Stored.{HasColumns, HasRows};
+ghost use Rattle.px_frame.specs.Strips.{strip_number};
 ghost use Rattle.px_shadow.specs.declared.passes.TheConstants.{MAX_LIGHTS};
 ghost use Rattle.px_shadow.specs.ShadowPasses.{need_with};
-ghost use Rattle.px_shadow.specs.Stored.{lights_field, stored_masks, stored_number};
+ghost use Rattle.px_shadow.specs.Stored.{lights_field, stored_masks};
 
 use arrayvec::ArrayVec;
 use px_array::Array;
-use px_asm::number_in;
-use px_frame::{header, three_bytes};
+use px_frame::{Strip, header, three_bytes};
 use px_io::{Failed, Sink, write_whole};
 use px_macro::Field;
-use px_model::Scene;
+use px_model::{MAX_PICTURE_SIZE, Scene};
 use px_sched::Layout;
 
-/// Three bytes a pixel, for the 512 pixels of the widest picture.
-const ROW_BYTES: usize = 1536;
+/// Three bytes a pixel, for the widest picture.
+const ROW_BYTES: usize = 3 * MAX_PICTURE_SIZE as usize;
 
 /// Appends the image of the lights that the array stores to the sink, or a front of it where a
 /// write fails (docs/SHADOWS.md, "Image"). The sink is not finished.
@@ -46,8 +46,10 @@ pub fn write_masks<A: Array, O: Sink>(
     let field = lights_field(layout, lights);
     let header = header(scene.width(), scene.height());
     write_whole(out, header.as_str().as_bytes())?;
+    let mut strip = Strip::new();
     for y in 0..scene.height() {
-        let row = mask_row(array, &field, scene, y);
+        strip.enter_row(array, field, scene.width(), y);
+        let row = mask_row(&strip, scene, y);
         write_whole(out, row.as_slice())?;
     }
     Ok(())
@@ -59,6 +61,7 @@ fn lights_field(layout: &Layout, lights: usize) -> Field
     ensures field { result ≡ lights_field layout.now lights }
     ensures room { result.at + result.len ≡ need_with layout.now lights }
     ensures low { result.at ≤ 256 }
+    ensures few { result.len ≤ 24 }
 {
     Field {
         at: layout.par + 1,
@@ -67,33 +70,15 @@ fn lights_field(layout: &Layout, lights: usize) -> Field
 }
 
 /// The pixels of row `y`, from the left.
-fn mask_row<A: Array>(array: &A, field: &Field, scene: &Scene, y: u32) -> ArrayVec<u8, ROW_BYTES>
-    requires open { IsOpen (A.device array.now) }
-    requires columns { HasColumns scene.now (A.device array.now).state }
-    requires rows { HasRows scene.now (A.device array.now).state }
-    requires room { field.now.at + field.now.len ≤ A.BITS }
-    requires low { field.now.at ≤ 256 }
-    requires few { field.now.len ≤ MAX_LIGHTS }
-    requires y { y < scene.now.height }
-    ensures { result.items ≡ row_bytes scene.now.width
-        (stored_number field.now (A.device array.now).state) y }
+fn mask_row(strip: &Strip, scene: &Scene, y: u32) -> ArrayVec<u8, ROW_BYTES>
+    requires columns { length strip.now ≡ 8 * scene.now.width }
+    requires small { (x : ℕ) → x < scene.now.width → strip_number strip.now x y < 2 ^ 24 }
+    ensures { result.items ≡ row_bytes scene.now.width (strip_number strip.now) y }
 {
     let mut bytes = ArrayVec::new();
     for x in 0..scene.width() {
-        let pixel = three_bytes(mask_at(array, *field, x, y));
+        let pixel = three_bytes(strip.at(x, y));
         bytes.try_extend_from_slice(&pixel).unwrap();
     }
     bytes
-}
-
-/// The number of the lights that the pixel (x, y) stores.
-fn mask_at<A: Array>(array: &A, field: Field, x: u32, y: u32) -> u32
-    requires pixel { HasPixel (A.device array.now) x y }
-    requires room { field.at + field.len ≤ A.BITS }
-    requires low { field.at ≤ 256 }
-    requires few { field.len ≤ MAX_LIGHTS }
-    ensures number { result ≡ stored_number field (A.device array.now).state x y }
-    ensures small { result < 2 ^ 24 }
-{
-    number_in(array, field, x, y) as u32
 }

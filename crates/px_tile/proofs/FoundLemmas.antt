@@ -11,7 +11,7 @@ use Rattle.px_array.specs.Arrays.{State, pixel_of}
 use Rattle.px_frame.specs.Strips.{HoldsRow}
 use Rattle.px_sched.specs.Layouts.{LayoutView, depth_part, number_part}
 use Rattle.px_sched.specs.PassesLaw.{ShowsThePicture}
-use Rattle.px_tile.specs.Stored.{HoldSights, PutsRow, PutsRows}
+use Rattle.px_tile.specs.PutRows.{HoldSights, PutsRow, PutsRows}
 
 -- the number of what is stored
 pub number_shown : (depth face n : ℕ) (sight : Sight) → n ≡ sight_number (record { depth = depth; face = face })

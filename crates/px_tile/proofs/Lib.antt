@@ -1,3 +1,4 @@
+pub mod CrowdLemmas
 pub mod DrawLemmas
 pub mod FirstLemmas
 pub mod FoundLemmas

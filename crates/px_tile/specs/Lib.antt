@@ -7,10 +7,11 @@ pub use Rattle.px_model.specs.Cells
 pub use Rattle.px_model.specs.Scenes
 pub mod Drawn
 pub mod Found
+pub mod Operators
 pub mod Parts
 pub mod Pictures
+pub mod PutRows
 pub mod Refusals
-pub mod Stored
 pub mod Tiles
 pub mod TilesLaw
 pub mod Tilings

@@ -1,8 +1,7 @@
 //! Drawing a wide picture tile by tile on one array.
-ghost use Rattle.std.specs.Prelude.{◌≡◌, ◌*◌, ◌^◌, ◌<◌, ◌≤◌, ◌⊎◌, ℕ, nat_lt, Err, IfErr, IfOk, None, OnErr, OnOk, Some, length, vec_len};
+ghost use Rattle.std.specs.Prelude.{◌≡◌, ◌*◌, ◌^◌, ◌<◌, ◌≤◌, ◌⊎◌, ℕ, Err, IfErr, IfOk, None, OnErr, OnOk, Some, length, vec_len};
 ghost use Rattle.std.specs.Option.{option_map};
 ghost use Rattle.px_array.specs.Slots.{array_view, none_open};
-ghost use Rattle.px_sched.specs.Layouts.{layout_of, need_of};
 ghost use Rattle.px_model.specs.Planes.{first_past};
 ghost use Rattle.px_tile.specs.Found.{IsFound, PutsTile};
 ghost use Rattle.px_tile.specs.Pictures.{IsLastDrawn, IsTileDrawn, LeavesOnWideRefusal};
@@ -16,18 +15,18 @@ ghost use Rattle.px_tile.specs.Tilings.{
   tile_count,
 };
 
+use crate::crowd::is_never_crowded;
 use crate::fault::WideFault;
 use crate::law::laws_of_tiles;
 use crate::render::render_tile;
 use crate::tile::moved_scene;
 use crate::tiling::{tile_at, tile_count};
-use px_array::Array;
 use px_asm::Operating;
-use px_control::MAX_LAYOUT_BITS;
+use px_control::memory_bits;
 use px_model::{Pixels, Scene, laws_of_scenes};
 use px_num::Memory;
 use px_prune::plan_of;
-use px_sched::{Layout, NeedBits, laws_of_passes};
+use px_sched::{Layout, NeedBits};
 use std::alloc::Global;
 
 /// A picture that is drawn has at most so many tiles.
@@ -94,6 +93,8 @@ fn coefficient_of_tile(scene: &Scene, width: u32, height: u32, tile: u32) -> Opt
 }
 
 /// Whether no tile has a wanted list of products past the limit, or the length of the first one.
+///
+/// Where none can have one, whatever the boxes of its solids are, no tile is planned before it is drawn.
 fn check_products(alloc: Global, scene: &Scene, width: u32, height: u32) -> Result<(), WideFault>
     requires size { IsWideSize width height }
     requires within { first_coefficient scene.now width height ≡ None }
@@ -103,6 +104,9 @@ fn check_products(alloc: Global, scene: &Scene, width: u32, height: u32) -> Resu
         ⊎ (fault ≡ WideFault.Memory)) }
     ensures small { (count : ℕ) → result ≡ Err (WideFault.Products count) → count ≤ 2 ^ 21 }
 {
+    if is_never_crowded(scene.show()) {
+        return Ok(());
+    }
     for tile in 0..tile_count(scene, width, height) {
         if let Err(fault) = check_products_of_tile(alloc, scene, width, height, tile) {
             return Err(fault);
@@ -248,14 +252,4 @@ fn draw_tile<A: Operating>(
         Ok(()) => Ok(()),
         Err(_) => Err(Memory),
     }
-}
-
-/// How many bits of memory a pixel of an array has, as far as a scene can need them.
-fn memory_bits<A: Array>(scene: &Scene) -> u32
-    ensures { nat_lt result (need_of (layout_of scene.now))
-        ≡ nat_lt A.BITS (need_of (layout_of scene.now)) }
-{
-    laws_of_scenes(scene);
-    laws_of_passes();
-    A::BITS.min(MAX_LAYOUT_BITS) as u32
 }

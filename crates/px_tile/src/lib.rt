@@ -1,6 +1,7 @@
 //! Pictures wider than the array: a scene's tiles, and the wide picture that they make up.
 #![tactic(auto)]
 
+mod crowd;
 mod draw;
 mod fault;
 mod image;

@@ -10,7 +10,7 @@ ghost use Rattle.px_sched.specs.Layouts.{layout_of, need_of};
 ghost use Rattle.px_sched.specs.PassesLaw.{ShowsThePicture};
 ghost use Rattle.px_tile.specs.Found.{PutsTile, sight_number};
 ghost use Rattle.px_tile.specs.Refusals.{tile_refusal};
-ghost use Rattle.px_tile.specs.Stored.{HoldSights, PutsRow};
+ghost use Rattle.px_tile.specs.PutRows.{HoldSights, PutsRow};
 
 use px_array::Array;
 use px_asm::Operating;

@@ -1,12 +1,18 @@
-use Rattle.std.proofs.Common.{◌∙◌, ap, arith, length}
+use Rattle.std.proofs.Common.{◌≡◌, ◌∙◌, ap, arith, length}
+use Rattle.px_face.specs.Edges.{edge_count}
 use Rattle.px_model.specs.Scenes.{SolidView}
 use Rattle.px_control.proofs.CostLemmas.{barred_confirm, not_none, plain_confirm}
+use Rattle.px_control.specs.Costs.{edges_of, with_edges}
 use Rattle.px_control.proofs.literal.confirm_cost.Goals as goal
 
 pub returns-then-q-clause-cost : goal.returns-then-q-clause-cost
 returns-then-q-clause-cost c =
+    let rates = c.args.rates.now in
+    let many : c.edge_count-edges.result ≡ edges_of c.args.scene.now c.args.q.solid =
+    c.edge_count-edges.ensures.count ∙ ap edge_count c.solid_at-solid.ensures in
+    let one = c.with_edges.ensures.cost ∙ ap (with_edges rates rates.drop) many ∙ c.requires.rates.drop c.args.q.solid in
     c.times.ensures
-    ∙ rw c.step_cost.ensures.cost
+    ∙ rw one
     (plain_confirm c.laws_of_edges.ensures.count c.args.scene.now c.args.q _
     (not_none c.args.scene.now.fraction_bits
     (λ e. omega (arith, c.if-fraction_bits-eq0.false, c.fraction_bits.ensures.value, e)))
@@ -15,14 +21,13 @@ returns-then-q-clause-cost c =
 
 pub returns-else-q-clause-cost : goal.returns-else-q-clause-cost
 returns-else-q-clause-cost c =
-    c.plus-else-q.ensures
-    ∙ rw (
-      c.plus.ensures,
-      c.times-else-q.ensures,
-      c.step_cost-else-q.ensures.cost,
-      c.step_cost-else-q-2.ensures.cost,
-      c.step_cost-else-q-3.ensures.cost,
-    )
+    let rates = c.args.rates.now in
+    let many : c.edge_count-edges.result ≡ edges_of c.args.scene.now c.args.q.solid =
+    c.edge_count-edges.ensures.count ∙ ap edge_count c.solid_at-solid.ensures in
+    let one = c.with_edges-else-q.ensures.cost ∙ ap (with_edges rates rates.front) many
+    ∙ c.requires.rates.front c.args.q.solid in
+    c.plus.ensures
+    ∙ rw (c.times-else-q.ensures, one, c.requires.rates.confirm)
     (barred_confirm c.laws_of_edges.ensures.count c.args.scene.now c.args.q _
     (not_none c.args.scene.now.fraction_bits
     (λ e. omega (arith, c.if-fraction_bits-eq0.false, c.fraction_bits.ensures.value, e)))

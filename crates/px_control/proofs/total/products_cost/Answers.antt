@@ -23,8 +23,8 @@ loop-product-preserved c =
           (steps_more c.args.scene.now (take i products) (get_or products i no_product));
       few =
           rw c.plus-costs.ensures
-          (at_most_more (8364 + i * 2 ^ 38 + 2 ^ 38) _ _ (omega arith)
-          (plus_at_most (8364 + i * 2 ^ 38) (2 ^ 38) _ _ c.loop-product.invariant.few c.product_cost.ensures.few));
+          (at_most_more (8364 + i * 2 ^ 39 + 2 ^ 39) _ _ (omega arith)
+          (plus_at_most (8364 + i * 2 ^ 39) (2 ^ 39) _ _ c.loop-product.invariant.few c.product_cost.ensures.few));
     }
 
 pub product_cost-requires-clause-known : goal.product_cost-requires-clause-known

@@ -9,7 +9,7 @@ use Rattle.px_control.proofs.total.products_cost.Given as goal
 -- the cost of the background and of the first products
 pub record AreCounted (costs : Costs) (scene : SceneView) (products : List Product) (count : ℕ) : Type 0 where
   pub counted : costs ≡ steps_cost scene (steps_with scene (take count products))
-  pub few : AreCostsAtMost (8364 + count * 2 ^ 38) costs
+  pub few : AreCostsAtMost (8364 + count * 2 ^ 39) costs
 
 abbrev pub invariant-loop-product : goal.invariant-loop-product
 invariant-loop-product l = AreCounted l.costs l.scene l.products l.product-index

@@ -7,7 +7,7 @@ use Rattle.px_control.proofs.total.shares.Given as goal
 -- what the first solids add
 pub record AreAdded (costs : Costs) (share_of : ℕ → Costs) (solids : List ℕ) (count : ℕ) : Type 0 where
   pub added : costs ≡ sum_of share_of (take count solids)
-  pub few : AreCostsAtMost (count * 2 ^ 29) costs
+  pub few : AreCostsAtMost (count * 2 ^ 30) costs
 
 abbrev pub invariant-loop-solid : goal.invariant-loop-solid
 invariant-loop-solid l =

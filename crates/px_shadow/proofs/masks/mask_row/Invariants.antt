@@ -1,11 +1,11 @@
 use Rattle.std.proofs.Common.{◌≡◌, ◌*◌}
 use Rattle.arrayvec.specs.ArrayVec.{array_vec_len}
 use Rattle.px_frame.specs.Rows.{row_bytes}
-use Rattle.px_shadow.specs.Stored.{stored_number}
+use Rattle.px_frame.specs.Strips.{strip_number}
 use Rattle.px_shadow.proofs.masks.mask_row.Given as goal
 
 abbrev pub invariant-loop-x : goal.invariant-loop-x
-invariant-loop-x g l = record {
-  filled : l.bytes.items ≡ row_bytes l.x (stored_number l.field (g.A.Array.device l.array).state) l.y;
+invariant-loop-x l = record {
+  filled : l.bytes.items ≡ row_bytes l.x (strip_number l.strip) l.y;
   size : array_vec_len l.bytes ≡ 3 * l.x;
 }

@@ -1,4 +1,4 @@
-use Rattle.px_tile.specs.Stored.{PutsRow}
+use Rattle.px_tile.specs.PutRows.{PutsRow}
 use Rattle.px_tile.proofs.render.put_row.Given as goal
 
 abbrev pub invariant-loop-x : goal.invariant-loop-x

@@ -1,6 +1,6 @@
 use Rattle.std.proofs.Common.{◌≢◌, ◌%◌}
 use Rattle.px_frame.specs.Strips.{HoldsRow}
-use Rattle.px_tile.specs.Stored.{PutsRows}
+use Rattle.px_tile.specs.PutRows.{PutsRows}
 use Rattle.px_tile.proofs.render.put_tile.Given as goal
 
 abbrev pub invariant-loop-y : goal.invariant-loop-y
