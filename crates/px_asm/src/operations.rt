@@ -82,7 +82,7 @@ fn first_left(operations: &[Macro]) -> usize
 }
 
 /// The index, if that operation begins a part anew, and else the one before.
-fn latest(renews: bool, index: usize, before: Option<usize>) -> Option<usize>
+pub fn latest<T: Copy>(renews: bool, index: T, before: Option<T>) -> Option<T>
     ensures { result ≡ if renews then Some index else before }
 {
     if renews { Some(index) } else { before }

@@ -1,5 +1,5 @@
 //! The way through a program, on which operations are made at once as long as that shows nowhere.
-ghost use Rattle.std.specs.Prelude.{◌≡◌, ◌⊎◌, ◌+◌, ◌-◌, ◌^◌, ◌<◌, ◌≤◌, ℕ, if◌then◌else◌, Some, None, IfSome, IsSome, length, slice_get};
+ghost use Rattle.std.specs.Prelude.{◌≡◌, ◌⊎◌, ◌+◌, ◌-◌, ◌^◌, ◌<◌, ◌≤◌, ℕ, Some, None, IfSome, IsSome, length, slice_get};
 ghost use Rattle.px_array.specs.Slots.{worked};
 ghost use Rattle.px_sched.specs.Layouts.{layout_of, need_of};
 ghost use Rattle.px_sched.specs.Passes.{passes};
@@ -10,7 +10,7 @@ ghost use Rattle.px_control.specs.Whole.{AllRenewed, BeginsIn, IsFresh, IsNear, 
 use crate::place::Place;
 use crate::program::Program;
 use px_array::Array;
-use px_asm::{Operating, law_of_renewal, make_micros, renewal_of};
+use px_asm::{Operating, latest, law_of_renewal, make_micros, renewal_of};
 use px_macro::Macro;
 
 /// Operations that begin tree, carry and latch anew.
@@ -246,13 +246,6 @@ impl<'s> Program<'s> {
             None => *place,
         }
     }
-}
-
-/// The index, if that operation begins a part anew, and else the one before.
-fn latest(renews: bool, index: u64, before: Option<u64>) -> Option<u64>
-    ensures { result ≡ if renews then Some index else before }
-{
-    if renews { Some(index) } else { before }
 }
 
 /// The least of three, if all are there.
