@@ -20,13 +20,12 @@ use crate::packing::packed;
 use crate::room::judge_stretch;
 use crate::state::Course;
 use px_asm::{cycles, micro_at};
-use px_control::{JobFault, cost, law_of_clocks};
+use px_control::{cost, law_of_clocks};
 use px_listing::Listing;
 use px_macro::{Macro, laws_of_operations};
 use px_model::{Scene, laws_of_scenes};
-use px_normal::NormalFault;
-use px_prune::{Plan, plan_of};
-use px_sched::{Cursor, Layout, NeedBits, laws_of_passes};
+use px_prune::Plan;
+use px_sched::{Cursor, Layout, laws_of_passes};
 use std::alloc::Global;
 
 /// Writes the micros of a listing from a clock on.
@@ -106,14 +105,9 @@ fn drawing_of(alloc: Global, scene: &Scene, bits: u32) -> Result<(Layout, Plan),
     ensures err { IfErr result (λ fault. IsRefusedBy fault (job_refusal bits scene.now)) }
     ensures small { IfErr result HasSmallCount }
 {
-    let layout = match Layout::of(scene, bits) {
-        Ok(layout) => layout,
-        Err(NeedBits { need }) => return Err(StateFault::Job(JobFault::PixelMemory { need })),
-    };
-    match plan_of(alloc, scene) {
-        Ok(plan) => Ok((layout, plan)),
-        Err(NormalFault::TooMany { count }) => Err(StateFault::Job(JobFault::Products { count })),
-        Err(NormalFault::Memory) => Err(StateFault::Memory),
+    match px_control::drawing_of(alloc, scene, bits) {
+        Ok(found) => Ok(found),
+        Err(fault) => Err(StateFault::from(fault)),
     }
 }
 
