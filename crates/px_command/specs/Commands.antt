@@ -1,9 +1,9 @@
 -- The words of the command line. Clauses of public calls stand on it.
-use Rattle.std.specs.Prelude.{ℕ, ◌+◌, ◌-◌, ◌*◌, ◌≤◌, ◌==◌, List, [], ◌∷◌, Bool, false, true, ◌&&◌, not, nat_le, ⊤}
+use Rattle.std.specs.Prelude.{ℕ, ℤ, pos, ◌≤◌, ◌==◌, List, [], ◌∷◌, Bool, false, true, ◌&&◌, ⊤}
 use Rattle.std.specs.Prelude.{Option, Some, None, if◌then◌else◌, codes}
-use Rattle.std.specs.List.{list_all}
+use lib.Signed.{le_z, mag}
 use Rattle.std.specs.Str.{bytes_eq}
-use Rattle.px_text.specs.Text.{is_digit}
+use Rattle.px_text.specs.Text.{number_of}
 use Rattle.px_command.specs.declared.command.Command.{Command}
 use Rattle.px_command.specs.declared.command.Command.TheVariants as c
 use Rattle.px_command.specs.declared.command.Fineness.{Fineness}
@@ -25,25 +25,20 @@ of_one word =
     else if bytes_eq word (codes "play") then Some c.Play
     else None
 
--- digits, of which the first is not 0
-abbrev pub is_count : List ℕ → Bool
-is_count [] = false
-is_count (b ∷ bs) = not (b == 48) && list_all is_digit (b ∷ bs)
-
--- the number that one to four digits write
-abbrev pub count_in : (digits : List ℕ) → Option ℕ
+-- a number that does not begin with 0
+abbrev pub count_in : List ℕ → Option ℤ
 count_in [] = None
-count_in (one ∷ []) = Some (one - 48)
-count_in (ten ∷ one ∷ []) = Some (10 * (ten - 48) + (one - 48))
-count_in (hundred ∷ ten ∷ one ∷ []) = Some (100 * (hundred - 48) + 10 * (ten - 48) + (one - 48))
-count_in (thousand ∷ hundred ∷ ten ∷ one ∷ []) =
-    Some (1000 * (thousand - 48) + 100 * (hundred - 48) + 10 * (ten - 48) + (one - 48))
-count_in (first ∷ thousand ∷ hundred ∷ ten ∷ one ∷ more) = None
+count_in (b ∷ bs) = if b == 48 then None else number_of (b ∷ bs)
+
+-- a number from 1 to a greatest one
+abbrev pub count_to : (greatest : ℕ) → Option ℤ → Option ℕ
+count_to greatest None = None
+count_to greatest (Some z) = if le_z (pos 1) z && le_z z (pos greatest) then Some (mag z) else None
 
 -- a sample has at least one block, and as many as MAX_BLOCKS at most
-abbrev pub sample_of : Option ℕ → Option Command
-sample_of None = None
-sample_of (Some n) = if nat_le 1 n && nat_le n MAX_BLOCKS then Some (c.Sample n) else None
+abbrev pub sampling : Option ℕ → Option Command
+sampling None = None
+sampling (Some n) = Some (c.Sample n)
 
 -- how often the pixels on each side are doubled
 abbrev pub doublings : Fineness → ℕ
@@ -64,17 +59,13 @@ refining None = None
 -- a command and its argument
 abbrev pub of_two : (word argument : List ℕ) → Option Command
 of_two word argument =
-    if bytes_eq word (codes "sample") && is_count argument then sample_of (count_in argument)
+    if bytes_eq word (codes "sample") then sampling (count_to MAX_BLOCKS (count_in argument))
     else if bytes_eq word (codes "refine") then refining (fineness_of argument)
     else None
 
 -- a side of a wide picture has at least one pixel, and as many as MAX_WIDE_PICTURE_SIZE at most
-abbrev pub side_within : Option ℕ → Option ℕ
-side_within None = None
-side_within (Some n) = if nat_le 1 n && nat_le n MAX_WIDE_PICTURE_SIZE then Some n else None
-
 abbrev pub side_in : List ℕ → Option ℕ
-side_in word = if is_count word then side_within (count_in word) else None
+side_in word = count_to MAX_WIDE_PICTURE_SIZE (count_in word)
 
 -- the tiling of a picture so wide and high
 abbrev pub tiling : (width height : Option ℕ) → Option Command

@@ -1,28 +1,26 @@
 //! The words of the command line.
-ghost use Rattle.std.specs.Prelude.{◌≡◌, ◌-◌, ◌≤◌, IfSome, map, string_bytes};
-ghost use Rattle.std.specs.List.{list_all};
+ghost use Rattle.std.specs.Prelude.{◌≡◌, ◌≤◌, IfSome, map, string_bytes};
+ghost use Rattle.px_model.specs.declared.limits.TheConstants.{MAX_BLOCKS};
 ghost use Rattle.px_command.specs.Commands.{
   HasLawfulNumbers,
   IsSide,
   command_of,
   count_in,
+  count_to,
   fineness_of,
-  is_count,
   needs_wide_pixels,
   of_one,
   of_three,
   of_two,
   refining,
-  sample_of,
+  sampling,
   side_in,
-  side_within,
   tiling,
 };
-ghost use Rattle.px_text.specs.Text.{is_digit};
 
 use crate::command::{Command, Fineness, Size, Work};
 use px_model::{MAX_BLOCKS, MAX_WIDE_PICTURE_SIZE};
-use px_text::is_digit;
+use px_text::number_of;
 
 /// Whether what the words ask wants pixels of 80 bits; else 72 are wanted (docs/SHADOWS.md,
 /// "Memory").
@@ -82,8 +80,8 @@ fn of_two(word: &[u8], argument: &[u8]) -> Option<Command>
     ensures command { result ≡ of_two word.now argument.now }
     ensures blocks { IfSome result HasLawfulNumbers }
 {
-    if word == b"sample".as_slice() && is_count(argument) {
-        sample_of(count_in(argument))
+    if word == b"sample".as_slice() {
+        sampling(count_to(MAX_BLOCKS, count_in(argument)))
     } else if word == b"refine".as_slice() {
         refining(fineness_of(argument))
     } else {
@@ -102,53 +100,36 @@ fn of_three(word: &[u8], first: &[u8], second: &[u8]) -> Option<Command>
     }
 }
 
-/// Whether a word is of digits, of which the first is not 0.
-fn is_count(word: &[u8]) -> bool
-    ensures { result ≡ is_count word.now }
+/// The number that a word writes, where it does not begin with 0.
+fn count_in(word: &[u8]) -> Option<i64>
+    ensures { result ≡ count_in word.now }
 {
     match word {
-        [] => false,
-        [first, ..] => *first != b'0' && are_digits(word),
+        [] | [b'0', ..] => None,
+        [_, ..] => number_of(word),
     }
 }
 
-fn are_digits(word: &[u8]) -> bool
-    ensures { result ≡ list_all is_digit word.now }
-{
-    word.iter().all(|b| is_digit(*b))
-}
-
-/// The number that one to four digits write.
-fn count_in(digits: &[u8]) -> Option<u32>
-    ensures { result ≡ count_in digits.now }
-{
-    match digits {
-        [] => None,
-        [one] => Some(digit(*one)),
-        [ten, one] => Some(10 * digit(*ten) + digit(*one)),
-        [hundred, ten, one] => Some(100 * digit(*hundred) + 10 * digit(*ten) + digit(*one)),
-        [thousand, hundred, ten, one] => Some(
-            1000 * digit(*thousand) + 100 * digit(*hundred) + 10 * digit(*ten) + digit(*one),
-        ),
-        [_, _, _, _, _, ..] => None,
-    }
-}
-
-fn digit(b: u8) -> u32
-    ensures value { result ≡ b - 48 }
-    ensures small { result ≤ 255 }
-{
-    u32::from(b.saturating_sub(b'0'))
-}
-
-/// The sample of so many blocks, where there is one.
-fn sample_of(number: Option<u32>) -> Option<Command>
-    ensures command { result ≡ sample_of number }
-    ensures blocks { IfSome result HasLawfulNumbers }
+/// A number from 1 to a greatest one.
+fn count_to(greatest: u32, number: Option<i64>) -> Option<u32>
+    ensures count { result ≡ count_to greatest number }
+    ensures within { IfSome result (λ n. (1 ≤ n) × (n ≤ greatest)) }
 {
     match number {
-        Some(n) if 1 <= n && n <= MAX_BLOCKS => Some(Command::Sample(n)),
+        Some(n) if 1 <= n && n <= i64::from(greatest) => Some(n as u32),
         _ => None,
+    }
+}
+
+/// The sample of so many blocks.
+fn sampling(blocks: Option<u32>) -> Option<Command>
+    requires { IfSome blocks (λ n. (1 ≤ n) × (n ≤ MAX_BLOCKS)) }
+    ensures command { result ≡ sampling blocks }
+    ensures blocks { IfSome result HasLawfulNumbers }
+{
+    match blocks {
+        Some(n) => Some(Command::Sample(n)),
+        None => None,
     }
 }
 
@@ -157,21 +138,7 @@ fn side_in(word: &[u8]) -> Option<u32>
     ensures side { result ≡ side_in word.now }
     ensures some { IfSome result IsSide }
 {
-    if is_count(word) {
-        side_of(count_in(word))
-    } else {
-        None
-    }
-}
-
-fn side_of(number: Option<u32>) -> Option<u32>
-    ensures side { result ≡ side_within number }
-    ensures some { IfSome result IsSide }
-{
-    match number {
-        Some(n) if 1 <= n && n <= MAX_WIDE_PICTURE_SIZE => Some(n),
-        _ => None,
-    }
+    count_to(MAX_WIDE_PICTURE_SIZE, count_in(word))
 }
 
 /// The tiling of a picture so wide and high, where there is one.

@@ -10,8 +10,10 @@ use Rattle.px_face.specs.Seen.{PicturesShowFirstCells}
 use Rattle.px_frame.specs.Picture.{depth_image, face_image}
 use Rattle.px_prune.specs.Kept.{crowd_of}
 use Rattle.px_text.specs.declared.text.TheConstants.{MAX_TEXT_BYTES}
+use Rattle.px_show.specs.Judged.{first_bad}
 use Rattle.px_text.specs.Text.{lines_of, worded}
-use Rattle.px_scene.specs.Reading.{due_behind, first_bad, is_nothing, refusal_of, refused, scene_of}
+use Rattle.px_scene.specs.Drafts.{draft_of}
+use Rattle.px_scene.specs.Reading.{fault_behind, is_nothing, refusal_of, refused, scene_of}
 use Rattle.px_scene.specs.AcceptedLaw.{AcceptedIsLawful}
 use Rattle.px_sched.specs.Layouts.{layout_of, need_of}
 use Rattle.px_show.specs.declared.fault.LimitKind.TheVariants as kind
@@ -72,9 +74,11 @@ never_memory text = by_length (nat_lt MAX_TEXT_BYTES (length text)) where
 
   by_length : (long : Bool)
       → (if long then Some (s.Limit 0 kind.Text (pos (MAX_TEXT_BYTES + 1)))
-      else refused (first_bad [] (worded text)) (is_nothing (due_behind (worded text))) (length (lines_of text))) ≡ Some s.Memory → ⊥
+      else refused (first_bad fault_behind [] (worded text)) (is_nothing (draft_of (worded text)).due) (length (lines_of text)))
+      ≡ Some s.Memory → ⊥
   by_length true e = absurd cc
-  by_length false e = by_fault (first_bad [] (worded text)) (is_nothing (due_behind (worded text))) (length (lines_of text)) e
+  by_length false e =
+      by_fault (first_bad fault_behind [] (worded text)) (is_nothing (draft_of (worded text)).due) (length (lines_of text)) e
 
 pub rendered_is_accepted : RenderedIsAccepted
 rendered_is_accepted text bits maps e = by_refusal (refusal_of text) refl e where

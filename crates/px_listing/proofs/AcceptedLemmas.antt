@@ -14,7 +14,9 @@ use Rattle.px_macro.specs.Macros.{AreApart, AreOfOneLength, IsField, IsLawful}
 use Rattle.px_macro.specs.declared.operation.Macro.{Macro}
 use Rattle.px_macro.specs.declared.operation.Macro.TheVariants as m
 use Rattle.px_show.specs.declared.fault.Cause.{Cause}
+use Rattle.px_show.specs.Judged.{first_bad}
 use Rattle.px_text.specs.Text.{Words, worded}
+use Rattle.px_show.proofs.JudgedLaws.{none_here}
 use Rattle.px_scene.specs.Lines.{numbers_of, plane_of, size_of}
 use Rattle.px_listing.specs.AcceptedLaw.{AcceptedIsLawful, MemoryIsNoRefusal}
 use Rattle.px_listing.specs.Keywords.{keyword_of}
@@ -23,7 +25,7 @@ use Rattle.px_listing.specs.Limits.{end_past, field_past, fields_past, form_past
 use Rattle.px_listing.specs.Limits.{value_past}
 use Rattle.px_listing.specs.Lines.{cause_of}
 use Rattle.px_listing.specs.Operations.{field_of, operation_of, operation_with}
-use Rattle.px_listing.specs.Reading.{at_line, due_behind, fault_of, first_bad, line_judged, operation_in, refused}
+use Rattle.px_listing.specs.Reading.{due_behind, fault_behind, fault_of, line_judged, operation_in, refused}
 use Rattle.px_listing.specs.declared.keyword.Due.{Due}
 use Rattle.px_listing.specs.declared.keyword.Keyword.{Keyword}
 use Rattle.px_listing.specs.declared.keyword.Keyword.TheVariants as k
@@ -113,79 +115,39 @@ copies bits at len to e =
     (none_second (fields_past bits at len to) _ e) in
     (of_one_length bits at len to fields, apart)
 
--- the operation that numbers write which pass no limit
+linear_is : (bits : ℕ) (a b c at len : ℤ) → option_or (form_past a b c) (field_past bits at len) ≡ None
+    → IsInTreeRange (plane_of a b c) × IsField (field_of at len) bits
+linear_is bits a b c at len none = (
+  form_in_range a b c (none_first _ (field_past bits at len) none),
+  field_is bits at len (none_second (form_past a b c) _ none),
+)
+
+bit_is : (bits : ℕ) (at v : ℤ) → option_or (end_past bits at (pos 1)) (past kind.Value (pos 0) (pos 1) v) ≡ None
+    → size_of at < bits
+bit_is bits at v none = place_is bits at (none_first _ (past kind.Value (pos 0) (pos 1) v) none)
+
+constant_is : (bits : ℕ) (at len number : ℤ) → option_or (field_past bits at len) (value_past len number) ≡ None
+    → IsField (field_of at len) bits × (size_of number < 2 ^ size_of len)
+constant_is bits at len number none = (
+  field_is bits at len (none_first _ (value_past len number) none),
+  number_fits len number (none_second (field_past bits at len) _ none),
+)
+
+-- the operation that numbers write which pass no limit; another count of numbers writes none
 kind_lawful : (bits : ℕ) (kind : Kind) (zs : List ℤ) → shape_past bits (shape_of kind) zs ≡ None
     → IfSome (operation_with kind zs) (λ op. IsLawful op bits)
 kind_lawful bits n.All [] none = tt
-kind_lawful bits n.All (z ∷ zs) none = tt
-kind_lawful bits n.KeepSign [] none = tt
-kind_lawful bits n.KeepSign (a ∷ []) none = tt
-kind_lawful bits n.KeepSign (a ∷ b ∷ []) none = tt
 kind_lawful bits n.KeepSign (a ∷ b ∷ c ∷ []) none = form_in_range a b c none
-kind_lawful bits n.KeepSign (a ∷ b ∷ c ∷ z ∷ zs) none = tt
-kind_lawful bits n.KeepBit [] none = tt
-kind_lawful bits n.KeepBit (at ∷ []) none = tt
-kind_lawful bits n.KeepBit (at ∷ v ∷ []) none = place_is bits at (none_first _ (past kind.Value (pos 0) (pos 1) v) none)
-kind_lawful bits n.KeepBit (at ∷ v ∷ z ∷ zs) none = tt
-kind_lawful bits n.LoadLinear [] none = tt
-kind_lawful bits n.LoadLinear (a ∷ []) none = tt
-kind_lawful bits n.LoadLinear (a ∷ b ∷ []) none = tt
-kind_lawful bits n.LoadLinear (a ∷ b ∷ c ∷ []) none = tt
-kind_lawful bits n.LoadLinear (a ∷ b ∷ c ∷ at ∷ []) none = tt
-kind_lawful bits n.LoadLinear (a ∷ b ∷ c ∷ at ∷ len ∷ []) none = (
-  form_in_range a b c (none_first _ (field_past bits at len) none),
-  field_is bits at len
-      (none_second (form_past a b c) _ none),
-)
-kind_lawful bits n.LoadLinear (a ∷ b ∷ c ∷ at ∷ len ∷ z ∷ zs) none = tt
-kind_lawful bits n.KeepAtMost [] none = tt
-kind_lawful bits n.KeepAtMost (a ∷ []) none = tt
-kind_lawful bits n.KeepAtMost (a ∷ b ∷ []) none = tt
-kind_lawful bits n.KeepAtMost (a ∷ b ∷ c ∷ []) none = tt
-kind_lawful bits n.KeepAtMost (a ∷ b ∷ c ∷ at ∷ []) none = tt
-kind_lawful bits n.KeepAtMost (a ∷ b ∷ c ∷ at ∷ len ∷ []) none = (
-  form_in_range a b c (none_first _ (field_past bits at len) none),
-  field_is bits at len
-      (none_second (form_past a b c) _ none),
-)
-kind_lawful bits n.KeepAtMost (a ∷ b ∷ c ∷ at ∷ len ∷ z ∷ zs) none = tt
-kind_lawful bits n.AddLinear [] none = tt
-kind_lawful bits n.AddLinear (a ∷ []) none = tt
-kind_lawful bits n.AddLinear (a ∷ b ∷ []) none = tt
-kind_lawful bits n.AddLinear (a ∷ b ∷ c ∷ []) none = tt
-kind_lawful bits n.AddLinear (a ∷ b ∷ c ∷ at ∷ []) none = tt
-kind_lawful bits n.AddLinear (a ∷ b ∷ c ∷ at ∷ len ∷ []) none = (
-  form_in_range a b c (none_first _ (field_past bits at len) none),
-  field_is bits at len
-      (none_second (form_past a b c) _ none),
-)
-kind_lawful bits n.AddLinear (a ∷ b ∷ c ∷ at ∷ len ∷ z ∷ zs) none = tt
-kind_lawful bits n.LoadConst [] none = tt
-kind_lawful bits n.LoadConst (at ∷ []) none = tt
-kind_lawful bits n.LoadConst (at ∷ len ∷ []) none = tt
-kind_lawful bits n.LoadConst (at ∷ len ∷ number ∷ []) none = (
-  field_is bits at len (none_first _ (value_past len number) none),
-  number_fits len number
-      (none_second (field_past bits at len) _ none),
-)
-kind_lawful bits n.LoadConst (at ∷ len ∷ number ∷ z ∷ zs) none = tt
-kind_lawful bits n.SetBit [] none = tt
-kind_lawful bits n.SetBit (at ∷ []) none = tt
-kind_lawful bits n.SetBit (at ∷ v ∷ []) none = place_is bits at (none_first _ (past kind.Value (pos 0) (pos 1) v) none)
-kind_lawful bits n.SetBit (at ∷ v ∷ z ∷ zs) none = tt
-kind_lawful bits n.Toggle [] none = tt
+kind_lawful bits n.KeepBit (at ∷ v ∷ []) none = bit_is bits at v none
+kind_lawful bits n.SetBit (at ∷ v ∷ []) none = bit_is bits at v none
 kind_lawful bits n.Toggle (at ∷ []) none = place_is bits at none
-kind_lawful bits n.Toggle (at ∷ z ∷ zs) none = tt
-kind_lawful bits n.Copy [] none = tt
-kind_lawful bits n.Copy (at ∷ []) none = tt
-kind_lawful bits n.Copy (at ∷ len ∷ []) none = tt
+kind_lawful bits n.LoadLinear (a ∷ b ∷ c ∷ at ∷ len ∷ []) none = linear_is bits a b c at len none
+kind_lawful bits n.KeepAtMost (a ∷ b ∷ c ∷ at ∷ len ∷ []) none = linear_is bits a b c at len none
+kind_lawful bits n.AddLinear (a ∷ b ∷ c ∷ at ∷ len ∷ []) none = linear_is bits a b c at len none
+kind_lawful bits n.LoadConst (at ∷ len ∷ number ∷ []) none = constant_is bits at len number none
 kind_lawful bits n.Copy (at ∷ len ∷ to ∷ []) none = copies bits at len to none
-kind_lawful bits n.Copy (at ∷ len ∷ to ∷ z ∷ zs) none = tt
-kind_lawful bits n.KeepLess [] none = tt
-kind_lawful bits n.KeepLess (at ∷ []) none = tt
-kind_lawful bits n.KeepLess (at ∷ len ∷ []) none = tt
 kind_lawful bits n.KeepLess (at ∷ len ∷ to ∷ []) none = of_one_length bits at len to none
-kind_lawful bits n.KeepLess (at ∷ len ∷ to ∷ z ∷ zs) none = tt
+kind_lawful bits kind zs none = tt
 
 -- the operation of a line that passes no limit
 op_lawful : (bits : ℕ) (keyword : Keyword) (zs : List ℤ) → limit_of bits keyword zs ≡ None
@@ -212,17 +174,12 @@ listed : (bits : ℕ) (o : Option Macro) (ops : List Macro) → IfSome o (λ op.
 listed bits None ops one all = all
 listed bits (Some op) ops one all = All-cons (λ q. IsLawful q bits) op ops one all
 
-none_here : (n : ℕ) (fault : Option LineFault) (later : Option (ℕ × LineFault)) → at_line n fault later ≡ None
-    → (fault ≡ None) × (later ≡ None)
-none_here n None later none = (refl, none)
-none_here n (Some fault) later none = cc
-
-lines_lawful : (bits : ℕ) (before ls : List Words) → first_bad bits before ls ≡ None
+lines_lawful : (bits : ℕ) (before ls : List Words) → first_bad (fault_behind bits) before ls ≡ None
     → All (λ op. IsLawful op bits) (filter_map operation_in ls)
 lines_lawful bits before [] none = All-nil (λ op. IsLawful op bits)
 lines_lawful bits before (l ∷ ls) none =
-    let each = none_here (length before + 1) (fault_of bits (due_behind before) l)
-    (first_bad bits (before ++ l ∷ []) ls) none in
+    let each = none_here (length before + 1) (fault_behind bits before l)
+    (first_bad (fault_behind bits) (before ++ l ∷ []) ls) none in
     listed bits (operation_in l) (filter_map operation_in ls) (line_lawful bits (due_behind before) l each.0)
     (lines_lawful bits (before ++ l ∷ []) ls each.1)
 
@@ -232,7 +189,7 @@ no_bad (Some bad) ended count none = cc
 
 pub accepted_is_lawful : AcceptedIsLawful
 accepted_is_lawful bits text none =
-    lines_lawful bits [] (worded text) (no_bad (first_bad bits [] (worded text)) _ _ none)
+    lines_lawful bits [] (worded text) (no_bad (first_bad (fault_behind bits) [] (worded text)) _ _ none)
 
 not_memory : (bad : Option (ℕ × LineFault)) (ended : Bool) (count : ℕ) → refused bad ended count ≢ Some fault.Memory
 not_memory (Some (line, f.Malformed cause)) ended count e = cc
@@ -241,4 +198,4 @@ not_memory None true count e = cc
 not_memory None false count e = cc
 
 pub memory_is_no_refusal : MemoryIsNoRefusal
-memory_is_no_refusal bits text = not_memory (first_bad bits [] (worded text)) _ _
+memory_is_no_refusal bits text = not_memory (first_bad (fault_behind bits) [] (worded text)) _ _

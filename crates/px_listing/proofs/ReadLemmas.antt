@@ -1,18 +1,20 @@
 -- Lines read one after another, until one is bad.
-use Rattle.std.proofs.Common.{◌≡◌, ℕ, ℤ, pos, ◌+◌, ◌<◌, ◌≤◌, All, List, [], ◌∷◌, ◌++◌, length, take, drop, get_or}
+use Rattle.std.proofs.Common.{◌≡◌, ℕ, ℤ, pos, ◌+◌, ◌<◌, ◌≤◌, All, List, [], ◌∷◌, ◌++◌, length, take, get_or}
 use Rattle.std.proofs.Common.{Option, Some, None, IfSome, Bool, true, false, if◌then◌else◌, ◌&&◌}
-use Rattle.std.proofs.Common.{codes, refl, ap, sym, subst, ◌∙◌, arith, length-take, length-append}
+use Rattle.std.proofs.Common.{codes, refl, ap, sym, subst, ◌∙◌, arith, length-append}
 use lib.IntN.{negsuc}
 use Rattle.std.specs.Str.{bytes_eq}
 use Rattle.std.proofs.lemmas.Int.{ints}
-use Rattle.std.proofs.lemmas.List.{take_more, drop_more, drop_all, take_all, append-nil}
+use Rattle.std.proofs.lemmas.List.{take_all, append-nil}
 use Rattle.std.proofs.lemmas.List.Elements.{All-push, filter_map-append}
 use Rattle.std.specs.List.{filter_map, cons_option}
 use Rattle.px_num.proofs.TruthLaws.{none_first, none_second}
 use Rattle.px_macro.specs.Macros.{IsLawful}
 use Rattle.px_macro.specs.declared.operation.Macro.{Macro}
 use Rattle.px_show.specs.declared.fault.Cause.TheVariants as cause
+use Rattle.px_show.specs.Judged.{first_bad}
 use Rattle.px_text.specs.Text.{Words, lines_of, worded}
+use Rattle.px_show.proofs.JudgedLaws.{AreGood, all_good, first_is, good_next, one_more}
 use Rattle.px_tree.specs.Nodes.{IsGrid}
 use Rattle.px_listing.specs.Listings.{ListingView}
 use Rattle.px_scene.specs.Lines.{numbers_of, size_of}
@@ -22,8 +24,8 @@ use Rattle.px_listing.specs.Keywords.{due_after, is_header, is_one, keyword_of}
 use Rattle.px_listing.specs.Limits.{grid_past, limit_of, past}
 use Rattle.px_listing.specs.Lines.{cause_of}
 use Rattle.px_listing.specs.Operations.{operation_of}
-use Rattle.px_listing.specs.Reading.{Exponents, at_line, due_behind, due_behind_line, exponents_of, fault_of}
-use Rattle.px_listing.specs.Reading.{first_bad, grid_in, is_nothing, last_or, least_grid, listing_of}
+use Rattle.px_listing.specs.Reading.{Exponents, due_behind, due_behind_line, exponents_of, fault_behind, fault_of}
+use Rattle.px_listing.specs.Reading.{grid_in, is_nothing, last_or, least_grid, listing_of}
 use Rattle.px_listing.specs.Reading.{operation_in, refusal_of}
 use Rattle.px_listing.specs.declared.keyword.Due.{Due}
 use Rattle.px_listing.specs.declared.keyword.Due.TheVariants as d
@@ -173,7 +175,7 @@ kept_more bits count draft new w ws keyword zs word figures cause limit lawful i
 pub record IsReadTo (bits : ℕ) (draft : DraftView) (lines : List Words) (i : ℕ) : Type 0 where
   pub says : draft ≡ draft_of (take i lines)
   pub keeps : IsDraft bits i draft
-  pub judged : first_bad bits [] lines ≡ first_bad bits (take i lines) (drop i lines)
+  pub judged : AreGood (fault_behind bits) lines i
 
 pub read_start : (bits : ℕ) (draft : DraftView) (lines : List Words)
     → draft ≡ record { due = d.Header; grid = least_grid; macros = [] } → IsReadTo bits draft lines 0
@@ -188,52 +190,34 @@ read_start bits draft lines e = rw e (record {
   judged = refl;
 })
 
--- the line that is read next
-here : (bits : ℕ) (lines : List Words) (i : ℕ) (l : Words) → i < length lines → get_or lines i [] ≡ l
-    → first_bad bits (take i lines) (drop i lines)
-    ≡ at_line (length (take i lines) + 1) (fault_of bits (due_behind (take i lines)) l)
-    (first_bad bits (take i lines ++ l ∷ []) (drop (i + 1) lines))
-here bits lines i l lt is =
-    ap (first_bad bits (take i lines)) (drop_more lines i [] lt ∙ ap (λ x. x ∷ drop (i + 1) lines) is)
-
-told : (bits : ℕ) (draft : DraftView) (lines : List Words) (i : ℕ) (l : Words) → draft ≡ draft_of (take i lines)
-    → fault_of bits (due_behind (take i lines)) l ≡ fault_of bits draft.due l
-told bits draft lines i l says = ap (λ (v : DraftView). fault_of bits v.due l) (sym says)
+told : (bits : ℕ) (draft : DraftView) (before : List Words) (l : Words) → draft ≡ draft_of before
+    → fault_behind bits before l ≡ fault_of bits draft.due l
+told bits draft before l says = ap (λ (v : DraftView). fault_of bits v.due l) (sym says)
 
 pub read_next : (bits : ℕ) (draft new : DraftView) (lines : List Words) (i : ℕ) (l : Words)
     → IsReadTo bits draft lines i → i < length lines → get_or lines i [] ≡ l
     → fault_of bits draft.due l ≡ None → new ≡ taken draft l → IsDraft bits (i + 1) new
     → IsReadTo bits new lines (i + 1)
-read_next bits draft new lines i l so lt is good e keeps =
-    let more : take (i + 1) lines ≡ take i lines ++ l ∷ [] =
-    take_more lines i [] lt ∙ ap (λ x. take i lines ++ x ∷ []) is in
-    let none = told bits draft lines i l so.says ∙ good in
-    record {
-      says = e ∙ (ap (λ v. taken v l) so.says ∙ (sym (draft_more (take i lines) l) ∙ ap draft_of (sym more)));
-      keeps = keeps;
-      judged = so.judged ∙ (here bits lines i l lt is
-          ∙ (ap (λ f. at_line (length (take i lines) + 1) f (first_bad bits (take i lines ++ l ∷ [])
-          (drop (i + 1) lines))) none
-          ∙ ap (λ b. first_bad bits b (drop (i + 1) lines)) (sym more)));
-    }
+read_next bits draft new lines i l so lt is good e keeps = record {
+  says = e ∙ (ap (λ v. taken v l) so.says ∙ (sym (draft_more (take i lines) l)
+      ∙ ap draft_of (sym (one_more lines i l lt is))));
+  keeps = keeps;
+  judged = good_next (fault_behind bits) lines i l so.judged lt is (told bits draft (take i lines) l so.says ∙ good);
+}
 
 pub read_bad : (bits : ℕ) (draft : DraftView) (lines : List Words) (i : ℕ) (l : Words) (f : LineFault)
     → IsReadTo bits draft lines i → i < length lines → get_or lines i [] ≡ l
-    → fault_of bits draft.due l ≡ Some f → first_bad bits [] lines ≡ Some (i + 1, f)
+    → fault_of bits draft.due l ≡ Some f → first_bad (fault_behind bits) [] lines ≡ Some (i + 1, f)
 read_bad bits draft lines i l f so lt is bad =
-    so.judged ∙ (here bits lines i l lt is
-    ∙ (ap (λ g. at_line (length (take i lines) + 1) g (first_bad bits (take i lines ++ l ∷ []) (drop (i + 1) lines)))
-    (told bits draft lines i l so.says ∙ bad)
-    ∙ ap (λ n. Some (n, f)) (omega (arith, length-take i lines))))
+    first_is (fault_behind bits) lines i l f so.judged lt is (told bits draft (take i lines) l so.says ∙ bad)
 
 pub read_all : (bits : ℕ) (draft : DraftView) (lines : List Words) (i : ℕ) → IsReadTo bits draft lines i
     → length lines ≤ i → i ≤ length lines → IsDraftOf bits draft lines
 read_all bits draft lines i so past within =
-    let whole : take i lines ≡ lines = take_all i lines past in
     let count : i ≡ length lines = omega arith in
     record {
-      good = so.judged ∙ ap (first_bad bits (take i lines)) (drop_all i lines past);
-      says = rw whole at so.says;
+      good = all_good (fault_behind bits) lines i so.judged past;
+      says = so.says ∙ ap draft_of (take_all i lines past);
       keeps = subst (λ n. IsDraft bits n draft) count so.keeps;
     }
 

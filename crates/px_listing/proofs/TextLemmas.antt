@@ -8,6 +8,7 @@ use Rattle.std.specs.Fmt.{signed_decimal}
 use Rattle.std.specs.List.{cons_option, filter_map, flat_map, list_all}
 use Rattle.px_macro.specs.Macros.{IsLawful}
 use Rattle.px_macro.specs.declared.operation.Macro.{Macro}
+use Rattle.px_show.specs.Judged.{at_line, first_bad}
 use Rattle.px_text.specs.Text.{Words, lines_of, words_of, worded}
 use Rattle.px_text.specs.Written.{are_plain, fed, is_no_feed, is_plain, spaced}
 use Rattle.px_tree.specs.Nodes.{IsGrid}
@@ -15,7 +16,7 @@ use Rattle.px_listing.specs.Lines.{number_line}
 use Rattle.px_listing.specs.Listings.{ListingView, canonical_text, end_line, header_line, macro_line}
 use Rattle.px_listing.specs.Kinds.{kind_of, word_of}
 use Rattle.px_listing.specs.Operations.{operands_of}
-use Rattle.px_listing.specs.Reading.{Exponents, at_line, due_behind, due_behind_line, fault_of, first_bad, grid_in}
+use Rattle.px_listing.specs.Reading.{Exponents, due_behind, due_behind_line, fault_behind, fault_of, grid_in}
 use Rattle.px_listing.specs.Reading.{last_or, least_grid, listing_of, operation_in}
 use Rattle.px_listing.specs.RoundTrip.{TextsAreReadBack}
 use Rattle.px_listing.specs.declared.keyword.Due.{Due}
@@ -103,7 +104,7 @@ read_from law words bits most (op ∷ ops) lawful =
 -- no line is bad
 good_from : NumbersAreRead → (bits : ℕ) → bits ≤ 256 → (before : List Words) (ops : List Macro) → due_behind before
     ≡ d.Operation → AreLawful bits ops
-    → first_bad bits before (words_from ops) ≡ None
+    → first_bad (fault_behind bits) before (words_from ops) ≡ None
 good_from law bits most before [] due lawful =
     ap (λ due. at_line (length before + 1) (fault_of bits due (codes "end" ∷ [])) None) due
 good_from law bits most before (op ∷ ops) due lawful =
@@ -111,8 +112,8 @@ good_from law bits most before (op ∷ ops) due lawful =
     let next : due_behind (before ++ op_words op ∷ []) ≡ d.Operation =
     said_more d.Header due_behind_line before (op_words op) ∙ ap (λ o. or_else o (due_behind before)) is.due in
     ap (λ due. at_line (length before + 1) (fault_of bits due (op_words op))
-    (first_bad bits (before ++ op_words op ∷ []) (words_from ops))) due
-    ∙ (ap (λ f. at_line (length before + 1) f (first_bad bits (before ++ op_words op ∷ []) (words_from ops))) is.good
+    (first_bad (fault_behind bits) (before ++ op_words op ∷ []) (words_from ops))) due
+    ∙ (ap (λ f. at_line (length before + 1) f (first_bad (fault_behind bits) (before ++ op_words op ∷ []) (words_from ops))) is.good
     ∙ good_from law bits most (before ++ op_words op ∷ []) ops next (rest_of bits op ops lawful))
 
 -- the last line is the end
@@ -183,8 +184,8 @@ pub read_back : NumbersAreRead → WordsAreRead → LinesAreRead → TextsAreRea
 read_back law words lines bits l most grid lawful =
     let text = worded_text law words lines bits l most grid lawful in
     let of_grid = grid_read law bits l.nx l.ny grid in
-    let good : first_bad bits [] (all_words l) ≡ None =
-    ap (λ f. at_line 2 f (first_bad bits (header_words ∷ grid_words l.nx l.ny ∷ []) (words_from l.macros))) of_grid.good
+    let good : first_bad (fault_behind bits) [] (all_words l) ≡ None =
+    ap (λ f. at_line 2 f (first_bad (fault_behind bits) (header_words ∷ grid_words l.nx l.ny ∷ []) (words_from l.macros))) of_grid.good
     ∙ good_from law bits most (header_words ∷ grid_words l.nx l.ny ∷ []) l.macros refl lawful in
     let ended : due_behind (all_words l) ≡ d.Nothing = ended_from law bits most d.Operation l.macros lawful in
     record {

@@ -1,24 +1,43 @@
 -- The words of a line, and the numbers that they write.
 use Prim.Native.Nat.{zero, suc}
-use Rattle.std.proofs.Common.{All, ◌-◌, true, false, min, ◌==◌, if◌then◌else◌, ◌≡◌, ℕ, ℤ, pos, ◌+◌, ◌<◌, ◌^◌, ◌∷◌, []}
+use Rattle.std.proofs.Common.{All, ◌-◌, true, false, sym, min, ◌==◌, if◌then◌else◌, ◌≡◌, ℕ, ℤ, pos, ◌+◌, ◌<◌, ◌^◌, ◌∷◌, []}
 use Rattle.std.proofs.Common.{◌++◌, ◌&&◌, List, Bool, Option, Some, None, length, map, take, get_or, is_some}
-use Rattle.std.proofs.Common.{unwrap_or, refl, ap, ◌∙◌, arith, Bor}
+use Rattle.std.proofs.Common.{unwrap_or, refl, ap, subst, ◌∙◌, arith, codes, ◌≤◌, Bor}
 use Rattle.std.specs.Int.Digits.{number_from_digits}
 use Rattle.std.specs.List.{list_all}
+use Rattle.std.proofs.lemmas.List.Folds.{list_all_at, list_all_more}
 use Rattle.std.proofs.lemmas.Int.{ints}
-use Rattle.std.proofs.lemmas.List.{get_or-map, length-map, take_more}
+use Rattle.std.proofs.lemmas.List.{get_or-map, length-map, take_all, take_more}
 use Rattle.px_num.specs.Forms.{IsWithin}
 use Rattle.px_text.specs.Text.{Words, is_some_byte, is_digit, negative, number_of, positive, size_of_digits}
 use Rattle.px_text.specs.LentWords.{now_of}
 use Rattle.px_scene.specs.Lines.{are_numbers, numbers_of}
+use Rattle.px_num.proofs.TruthLaws.{and_left, and_right}
+use Rattle.std.proofs.lemmas.Slice.Eq.{bytes_eq-Decides}
+use Rattle.std.specs.Option.{option_or}
+use Rattle.std.specs.Str.{bytes_eq}
+use Rattle.px_show.specs.declared.fault.Cause.{Cause}
+use Rattle.px_show.specs.declared.fault.Cause.TheVariants as c
+use Rattle.px_listing.specs.Keywords.{is_due, is_header, is_one, keyword_of}
+use Rattle.px_listing.specs.Lines.{cause_of, form_of}
+use Rattle.px_listing.specs.Untimely.{untimely}
+use Rattle.px_listing.specs.declared.keyword.Due.{Due}
+use Rattle.px_listing.specs.declared.keyword.Due.TheVariants as d
 
-list_all-map : {X Y : Type 0} (p : Y → Bool) (f : X → Y) (xs : List X) → list_all p (map f xs)
-    ≡ list_all (λ x. p (f x)) xs
-list_all-map p f [] = refl
-list_all-map p f (x ∷ xs) = ap (λ b. p (f x) && b) (list_all-map p f xs)
+-- whether one more word is a number
+pub numeric_more : (words : List (Bor (List ℕ))) (i : ℕ) (w : Bor (List ℕ)) → i < length words
+    → are_numbers (take (i + 1) (now_of words))
+    ≡ (are_numbers (take i (now_of words)) && is_some (number_of (get_or words i w).now))
+numeric_more words i w lt =
+    list_all_more (λ v. is_some (number_of v)) (now_of words) i [] (omega (arith, length-map words (λ v. v.now)))
+    ∙ ap (λ v. are_numbers (take i (now_of words)) && is_some (number_of v)) (get_or-map (λ v. v.now) words i w [] lt)
 
-pub all_of_mapped : (ws : List (Bor (List ℕ))) → are_numbers (now_of ws) ≡ list_all (λ w. is_some (number_of w.now)) ws
-all_of_mapped ws = list_all-map (λ w. is_some (number_of w)) (λ w. w.now) ws
+-- a word that is no number
+pub numeric_not : (words : List (Bor (List ℕ))) (i : ℕ) (w : Bor (List ℕ)) → i < length words
+    → number_of (get_or words i w).now ≡ None → are_numbers (now_of words) ≡ false
+numeric_not words i w lt none =
+    list_all_at (λ v. is_some (number_of v)) (now_of words) i [] (omega (arith, length-map words (λ v. v.now)))
+    (ap (λ v. is_some (number_of v)) (get_or-map (λ v. v.now) words i w [] lt) ∙ ap is_some none)
 
 -- the number of one more word
 pub one_more : (words : List (Bor (List ℕ))) (i : ℕ) (w : Bor (List ℕ)) → i < length words
@@ -33,7 +52,7 @@ one_more words i w lt =
     ∙ ap (λ z. take i (numbers_of (now_of words)) ++ z ∷ []) there
 
 -- no number is greater than 10 ^ 18 in size
-abbrev IsSmall : ℤ → Type 0
+abbrev pub IsSmall : ℤ → Type 0
 IsSmall z = IsWithin (10 ^ 18) z
 
 of_digits : (test : Bool) (n : ℕ) → IsSmall (unwrap_or (positive (if test then Some (min n (10 ^ 18)) else None))
@@ -58,7 +77,65 @@ is_small (b ∷ bs) = by_sign (b == 45) (negative (size_of_digits bs)) (positive
     (of_digits (is_some_byte (b ∷ bs) && list_all is_digit (b ∷ bs))
     (number_from_digits 10 (map (λ b. b - 48) (b ∷ bs))))
 
+small_of : (w : List ℕ) (z : ℤ) → number_of w ≡ Some z → IsSmall z
+small_of w z is = subst (λ o. IsSmall (unwrap_or o (pos 0))) is (is_small w)
+
 pub are_small : (ws : Words) → All IsSmall (numbers_of ws)
 are_small [] k d low = absurd (omega arith)
 are_small (w ∷ ws) zero d low = is_small w
 are_small (w ∷ ws) (suc k) d low = are_small ws k d (omega arith)
+
+-- the numbers of so many words
+pub record AreReadTo (words : List (Bor (List ℕ))) (numbers : List ℤ) (i : ℕ) : Type 0 where
+  pub each : are_numbers (take i (now_of words)) ≡ true
+  pub value : numbers ≡ take i (numbers_of (now_of words))
+
+pub read_more : (words : List (Bor (List ℕ))) (numbers new : List ℤ) (i : ℕ) (w : Bor (List ℕ)) (z y : ℤ)
+    → AreReadTo words numbers i → i < length words → number_of (get_or words i w).now ≡ Some z
+    → (IsSmall z → y ≡ z) → new ≡ numbers ++ y ∷ [] → AreReadTo words new (i + 1)
+read_more words numbers new i w z y so lt is kept pushed = record {
+  each = numeric_more words i w lt ∙ ap (λ b. b && is_some (number_of (get_or words i w).now)) so.each ∙ ap is_some is;
+  value = pushed ∙ ap (λ n. numbers ++ n ∷ []) (kept (small_of (get_or words i w).now z is))
+      ∙ ap (λ ns. ns ++ z ∷ []) so.value
+      ∙ ap (λ o. take i (numbers_of (now_of words)) ++ unwrap_or o (pos 0) ∷ []) (sym is)
+      ∙ sym (one_more words i w lt);
+}
+
+pub read_whole : (words : List (Bor (List ℕ))) (numbers : List ℤ) (i : ℕ) → AreReadTo words numbers i
+    → length words ≤ i → (are_numbers (now_of words) ≡ true) × (numbers ≡ numbers_of (now_of words))
+read_whole words numbers i so past = (
+  ap are_numbers (sym (take_all i (now_of words) (omega (arith, length-map words (λ v. v.now))))) ∙ so.each,
+  so.value ∙ take_all i (numbers_of (now_of words)) (omega (
+    arith,
+    length-map (now_of words) (λ v. unwrap_or (number_of v) (pos 0)),
+    length-map words (λ v. v.now),
+  )),
+)
+
+-- the words of a line are bad by the first, or else by those behind it
+cause_by : (test : Bool) (first : Cause) (form : Option Cause)
+    → (if test then form else Some first) ≡ option_or (if test then None else Some first) form
+cause_by true first form = refl
+cause_by false first form = refl
+
+one_word : (ws : Words) → is_one ws ≡ true → ws ≡ codes "1" ∷ []
+one_word [] e = cc
+one_word (w ∷ []) e = ap (λ v. v ∷ []) ((bytes_eq-Decides w (codes "1")).0 e)
+one_word (w ∷ v ∷ ws) e = cc
+
+header_form : (w : List ℕ) (ws : Words) → is_header w ws ≡ true → form_of (keyword_of w) ws ≡ None
+header_form w ws e =
+    let word = (bytes_eq-Decides w (codes "pxlist")).0 (and_left (bytes_eq w (codes "pxlist")) (is_one ws) e) in
+    rw (word, one_word ws (and_right (bytes_eq w (codes "pxlist")) (is_one ws) e)) refl
+
+header_by : (test : Bool) (form : Option Cause) → (test ≡ true → form ≡ None)
+    → (if test then None else Some c.NotHeader) ≡ option_or (if test then None else Some c.NotHeader) form
+header_by true form is = sym (is refl)
+header_by false form is = refl
+
+pub cause_is : (due : Due) (w : List ℕ) (ws : Words)
+    → cause_of due w ws ≡ option_or (untimely due w ws) (form_of (keyword_of w) ws)
+cause_is d.Header w ws = header_by (is_header w ws) (form_of (keyword_of w) ws) (header_form w ws)
+cause_is d.Nothing w ws = refl
+cause_is d.Grid w ws = cause_by (is_due d.Grid (keyword_of w)) c.Unexpected (form_of (keyword_of w) ws)
+cause_is d.Operation w ws = cause_by (is_due d.Operation (keyword_of w)) c.Unexpected (form_of (keyword_of w) ws)

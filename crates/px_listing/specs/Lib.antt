@@ -23,3 +23,4 @@ pub mod Pieces
 pub mod Played
 pub mod Reading
 pub mod RoundTrip
+pub mod Untimely

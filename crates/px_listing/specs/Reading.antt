@@ -5,6 +5,7 @@ use Rattle.std.specs.List.{filter_map}
 use Rattle.px_macro.specs.declared.operation.Macro.{Macro}
 use Rattle.px_show.specs.declared.fault.Cause.{Cause}
 use Rattle.px_show.specs.declared.fault.Cause.TheVariants as c
+use Rattle.px_show.specs.Judged.{first_bad}
 use Rattle.px_text.specs.Text.{Words, lines_of, worded}
 use Rattle.px_listing.specs.Keywords.{due_after, keyword_of}
 use Rattle.px_scene.specs.Lines.{numbers_of, size_of}
@@ -44,14 +45,9 @@ abbrev pub fault_of : (bits : ℕ) → Due → Words → Option LineFault
 fault_of bits due [] = None
 fault_of bits due (w ∷ ws) = line_judged (cause_of due w ws) (limit_of bits (keyword_of w) (numbers_of ws))
 
-abbrev pub at_line : ℕ → Option LineFault → Option (ℕ × LineFault) → Option (ℕ × LineFault)
-at_line number (Some fault) later = Some (number, fault)
-at_line number None later = later
-
--- the first bad line, counted from 1, and why it is bad
-abbrev pub first_bad : (bits : ℕ) → List Words → List Words → Option (ℕ × LineFault)
-first_bad bits before [] = None
-first_bad bits before (l ∷ ls) = at_line (length before + 1) (fault_of bits (due_behind before) l) (first_bad bits (before ++ l ∷ []) ls)
+-- why a line is bad behind others
+abbrev pub fault_behind : (bits : ℕ) → (before : List Words) → Words → Option LineFault
+fault_behind bits before line = fault_of bits (due_behind before) line
 
 -- the exponents of a grid's columns and rows
 pub record Exponents : Type 0 where
@@ -104,4 +100,4 @@ refused None false count = Some (fault.Malformed count c.MissingEnd)
 
 -- why a text is no listing for pixels of so many memory bits, where it is none
 abbrev pub refusal_of : (bits : ℕ) → List ℕ → Option ListFault
-refusal_of bits text = refused (first_bad bits [] (worded text)) (is_nothing (due_behind (worded text))) (length (lines_of text))
+refusal_of bits text = refused (first_bad (fault_behind bits) [] (worded text)) (is_nothing (due_behind (worded text))) (length (lines_of text))

@@ -13,7 +13,7 @@ ghost use Rattle.px_text.specs.declared.text.TheConstants.{MAX_TEXT_BYTES};
 ghost use Rattle.px_text.specs.Text.{words_of};
 ghost use Rattle.px_text.specs.LentWords.{now_of};
 
-use crate::judge::{cause_of, numbers_of};
+use crate::judge::numbers_in;
 use crate::keyword::{Due, Keyword, due_after, keyword_of};
 use crate::limit::{LineError, LineFault, limit_of};
 use crate::listing::Listing;
@@ -80,10 +80,10 @@ impl Draft {
             OnOk result (IsDraft bits (count + 1) (view_of self.new)) }
     {
         let keyword = keyword_of(word);
-        if let Some(cause) = cause_of(self.due, keyword, word, arguments) {
-            return Err(LineError::Bad(LineFault::Malformed(cause)));
-        }
-        let numbers = numbers_of(arguments);
+        let numbers = match numbers_in(self.due, keyword, word, arguments) {
+            Ok(numbers) => numbers,
+            Err(cause) => return Err(LineError::Bad(LineFault::Malformed(cause))),
+        };
         if let Some(fault) = limit_of(bits, keyword, numbers.as_slice()) {
             return Err(LineError::Bad(fault));
         }

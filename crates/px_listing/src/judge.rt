@@ -1,10 +1,9 @@
-//! Why the words of a line are bad, and the numbers that they write.
-ghost use Rattle.std.specs.Prelude.{◌≡◌, ◌≤◌, ◌^◌, All, is_some, length, pos, unwrap_or};
-ghost use Rattle.std.specs.List.{list_all};
+//! Why the words of a line are bad, or else the numbers that they write.
+ghost use Rattle.std.specs.Prelude.{◌≡◌, ◌≤◌, ◌^◌, All, IfErr, IfNone, IfOk, IfSome, None, Some, false, length, true};
 ghost use Rattle.px_num.specs.Forms.{IsWithin};
 ghost use Rattle.px_text.specs.LentWords.{now_of};
-ghost use Rattle.px_text.specs.Text.{number_of};
 ghost use Rattle.px_listing.specs.Keywords.{keyword_of};
+ghost use Rattle.px_listing.specs.Untimely.{untimely};
 ghost use Rattle.px_scene.specs.Lines.{are_numbers, numbers_of};
 ghost use Rattle.px_listing.specs.Lines.{cause_of, form_of};
 
@@ -14,15 +13,30 @@ use arrayvec::ArrayVec;
 use px_scene::Cause;
 use px_text::number_of;
 
-/// Why the words of a line are bad, where they are (docs/LISTINGS.md, "Causes").
-pub(crate) fn cause_of(
+/// The numbers behind the first word of a line, or why the words of the line are bad
+/// (docs/LISTINGS.md, "Causes").
+pub(crate) fn numbers_in(
     due: Due,
     keyword: Keyword,
     word: &[u8],
     arguments: &[&[u8]],
-) -> Option<Cause>
+) -> Result<Numbers, Cause>
     requires keyword { keyword ≡ keyword_of word.now }
-    ensures { result ≡ cause_of due word.now (now_of arguments.now) }
+    ensures good { IfOk result (λ numbers. cause_of due word.now (now_of arguments.now) ≡ None) }
+    ensures value { IfOk result (λ numbers. numbers.items ≡ numbers_of (now_of arguments.now)) }
+    ensures small { IfOk result (λ numbers. All (IsWithin (10 ^ 18)) numbers.items) }
+    ensures bad { IfErr result (λ cause. cause_of due word.now (now_of arguments.now) ≡ Some cause) }
+{
+    match untimely(due, keyword, word, arguments) {
+        Some(cause) => Err(cause),
+        None => numbers_behind(keyword, arguments),
+    }
+}
+
+/// Why a line is bad whatever stands behind its first word, a header's version apart.
+fn untimely(due: Due, keyword: Keyword, word: &[u8], arguments: &[&[u8]]) -> Option<Cause>
+    requires keyword { keyword ≡ keyword_of word.now }
+    ensures { result ≡ untimely due word.now (now_of arguments.now) }
 {
     match due {
         Due::Header => {
@@ -35,7 +49,7 @@ pub(crate) fn cause_of(
         Due::Nothing => Some(Cause::AfterEnd),
         Due::Grid | Due::Operation => {
             if is_due(due, keyword) {
-                form_of(keyword, arguments)
+                None
             } else {
                 Some(Cause::Unexpected)
             }
@@ -43,52 +57,36 @@ pub(crate) fn cause_of(
     }
 }
 
-fn form_of(keyword: Keyword, arguments: &[&[u8]]) -> Option<Cause>
-    ensures { result ≡ form_of keyword (now_of arguments.now) }
+/// As many numbers as belong behind a first word, or why there are not.
+fn numbers_behind(keyword: Keyword, arguments: &[&[u8]]) -> Result<Numbers, Cause>
+    ensures good { IfOk result (λ numbers. form_of keyword (now_of arguments.now) ≡ None) }
+    ensures value { IfOk result (λ numbers. numbers.items ≡ numbers_of (now_of arguments.now)) }
+    ensures small { IfOk result (λ numbers. All (IsWithin (10 ^ 18)) numbers.items) }
+    ensures bad { IfErr result (λ cause. form_of keyword (now_of arguments.now) ≡ Some cause) }
 {
     if arguments.len() != count_of(keyword) {
-        Some(Cause::WordCount)
-    } else if are_numbers(arguments) {
-        None
-    } else {
-        Some(Cause::NotNumber)
+        return Err(Cause::WordCount);
+    }
+    match numbers_of(arguments) {
+        Some(numbers) => Ok(numbers),
+        None => Err(Cause::NotNumber),
     }
 }
 
-#[tactic(auto, using(crate::proofs::WordLemmas::all_of_mapped))]
-fn are_numbers(words: &[&[u8]]) -> bool
-    ensures { result ≡ are_numbers (now_of words.now) }
-{
-    are_all_numbers(words)
-}
-
-fn are_all_numbers(words: &[&[u8]]) -> bool
-    ensures { result ≡ list_all (λ w. is_some (number_of w.now)) words.now }
-{
-    words.iter().all(|word| is_number(word))
-}
-
-fn is_number(word: &[u8]) -> bool
-    ensures { result ≡ is_some (number_of word.now) }
-{
-    number_of(word).is_some()
-}
-
-/// The numbers that the words write, in order.
-pub(crate) fn numbers_of(words: &[&[u8]]) -> Numbers
+/// The numbers that the words write, in order, where each writes one.
+fn numbers_of(words: &[&[u8]]) -> Option<Numbers>
     requires few { length words.now ≤ 5 }
-    ensures value { result.items ≡ numbers_of (now_of words.now) }
-    ensures small { All (IsWithin (10 ^ 18)) result.items }
+    ensures each { IfSome result (λ numbers. are_numbers (now_of words.now) ≡ true) }
+    ensures value { IfSome result (λ numbers. numbers.items ≡ numbers_of (now_of words.now)) }
+    ensures small { IfSome result (λ numbers. All (IsWithin (10 ^ 18)) numbers.items) }
+    ensures none { IfNone result (are_numbers (now_of words.now) ≡ false) }
 {
     let mut numbers = ArrayVec::new();
     for word in words {
-        numbers.push(number_or_zero(word));
+        match number_of(word) {
+            Some(number) => numbers.push(number),
+            None => return None,
+        }
     }
-    numbers
-}
-
-fn number_or_zero(word: &[u8]) -> i64
-    ensures { result ≡ unwrap_or (number_of word.now) (pos 0) }
-{
-    number_of(word).unwrap_or(0)
+    Some(numbers)
 }

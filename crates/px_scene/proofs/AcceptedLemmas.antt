@@ -1,13 +1,15 @@
 -- The scene of a text that is accepted: line by line its draft is lawful.
 use Rattle.std.proofs.Common.{◌≡◌, ℕ, ℤ, ◌+◌, ◌-◌, ◌≤◌, List, [], ◌∷◌, ◌++◌, length, Bool, true, false, Option, Some, None}
-use Rattle.std.proofs.Common.{All, IsSomeAnd, refl, ap, subst, ◌∙◌, arith, nat_lt, unwrap_or, append_assoc, append-nil}
+use Rattle.std.proofs.Common.{All, IsSomeAnd, refl, subst, sym, arith, nat_lt, unwrap_or, append_assoc, append-nil}
 use Rattle.std.proofs.Common.{if◌then◌else◌, slice_get}
 use Rattle.std.specs.Option.{option_or}
 use Rattle.px_num.proofs.TruthLaws.{none_first, none_second}
 use Rattle.px_expr.specs.Tree.{HasLeavesBelow, Tree, leaf}
 use Rattle.px_model.specs.Scenes.{IsLawfulScene, IsLawfulSolid, names_of}
 use Rattle.px_model.proofs.SolidLemmas.{All-push}
+use Rattle.px_show.specs.Judged.{first_bad}
 use Rattle.px_text.specs.Text.{Words, lines_of, worded}
+use Rattle.px_show.proofs.JudgedLaws.{none_here}
 use Rattle.px_show.specs.declared.fault.LineFault.{LineFault}
 use Rattle.px_show.specs.declared.fault.LimitKind.TheVariants as kind
 use Rattle.px_show.specs.declared.fault.SceneFault.{SceneFault}
@@ -19,16 +21,16 @@ use Rattle.px_scene.specs.declared.line.Keyword.{Keyword}
 use Rattle.px_scene.specs.declared.line.Keyword.TheVariants as k
 use Rattle.px_scene.specs.declared.line.Tally.{Tally}
 use Rattle.px_scene.specs.AcceptedLaw.{AcceptedIsLawful, IsWhollyLawful}
-use Rattle.px_scene.specs.Drafts.{DraftView, IsGoodForm, IsLawfulDraft, drawn, fault_in, is_ended, fresh_solid, tally_of}
+use Rattle.px_scene.specs.Drafts.{DraftView, blank, draft_of, drawn, fault_in, first_word, fresh_solid, tally_of}
 use Rattle.px_scene.specs.Drafts.{taken, with_line, with_picture}
+use Rattle.px_scene.specs.LawfulDrafts.{IsGoodForm, IsLawfulDraft, is_ended}
 use Rattle.px_scene.specs.Lines.{cause_of, face_past, figures, keyword_of, limit_of, limit_on, most, numbers_of, three_past}
-use Rattle.px_scene.specs.Reading.{at_line, due_behind, fault_behind, first_bad, first_word, is_nothing, refused}
-use Rattle.px_scene.specs.Tells.{DraftTells}
+use Rattle.px_scene.specs.Reading.{fault_behind, is_nothing, refused}
+use Rattle.px_scene.proofs.DraftLemmas.{draft_more}
 use Rattle.px_scene.proofs.LawfulLemmas.{can_be_taken, lawful_line}
-use Rattle.px_scene.proofs.ReadLemmas.{drawn_is, lawful_blank}
+use Rattle.px_scene.proofs.ReadLemmas.{lawful_blank}
 use Rattle.px_scene.proofs.SolidLemmas.{head_lawful, last_back, last_front, last_side, lawful_last}
 use Rattle.px_scene.proofs.TakenLemmas.{at_most, begun_back, begun_front, face_room, line_form_good, new_name}
-use Rattle.px_scene.proofs.TellsLemmas.{blank, fault_told, tells_start, tells_taken}
 
 -- a line of numbers within its limits passes none of them; the expression's are its own
 limit_none : (version : Version) (keyword : Keyword) (t : Tally) (ws : Words) → limit_on version keyword t ws ≡ None
@@ -86,20 +88,14 @@ solids_line draft k.Show ws is all good e = all
 solids_line draft k.End ws is all good e = all
 solids_line draft k.Other ws is all good e = all
 
--- a draft that tells some lines, lawful in all its parts
-record IsKept (draft : DraftView) (before : List Words) : Type 0 where
-  tells : DraftTells draft before
+-- a draft that is lawful in all its parts
+record IsKept (draft : DraftView) : Type 0 where
   lawful : IsLawfulDraft draft
   solids : All IsLawfulSolid draft.solids
 
-kept_line : (draft : DraftView) (before : List Words) (l : Words) → IsKept draft before → fault_in draft l ≡ None
-    → IsKept (taken draft l) (before ++ l ∷ [])
-kept_line draft before [] kept good = record {
-  tells = tells_taken draft before [] kept.tells kept.lawful good;
-  lawful = kept.lawful;
-  solids = kept.solids;
-}
-kept_line draft before (w ∷ ws) kept good =
+kept_line : (draft : DraftView) (l : Words) → IsKept draft → fault_in draft l ≡ None → IsKept (taken draft l)
+kept_line draft [] kept good = kept
+kept_line draft (w ∷ ws) kept good =
     let names = names_of draft.solids in
     let formed = good_form (cause_of draft.version draft.due names w ws)
     (limit_on draft.version (keyword_of w) (tally_of draft) ws) good in
@@ -108,24 +104,17 @@ kept_line draft before (w ∷ ws) kept good =
     (within_limits (cause_of draft.version draft.due names w ws)
     (limit_on draft.version (keyword_of w) (tally_of draft) ws) good) in
     record {
-      tells = tells_taken draft before (w ∷ ws) kept.tells kept.lawful good;
       lawful = lawful_line draft (keyword_of w) ws kept.lawful form limit;
       solids = solids_line draft (keyword_of w) ws kept.lawful kept.solids form limit;
     }
 
-at_none : (n : ℕ) (found : Option LineFault) (later : Option (ℕ × LineFault)) → at_line n found later ≡ None
-    → (found ≡ None) × (later ≡ None)
-at_none n None later e = (refl, e)
-at_none n (Some fault) later e = cc
-
-kept_all : (draft : DraftView) (before rest : List Words) → IsKept draft before → first_bad before rest ≡ None
-    → (now : DraftView) × IsKept now (before ++ rest)
-kept_all draft before [] kept none = (draft, rw (append-nil before) kept)
-kept_all draft before (l ∷ ls) kept none =
-    let here = at_none (length before + 1) (fault_behind before l) (first_bad (before ++ l ∷ []) ls) none in
-    let good = fault_told draft before l kept.tells ∙ here.0 in
-    let more = kept_all (taken draft l) (before ++ l ∷ []) ls (kept_line draft before l kept good) here.1 in
-    (more.0, rw (append_assoc before (l ∷ []) ls) at more.1)
+kept_all : (before rest : List Words) → IsKept (draft_of before) → first_bad fault_behind before rest ≡ None
+    → IsKept (draft_of (before ++ rest))
+kept_all before [] kept none = subst (λ ls. IsKept (draft_of ls)) (sym (append-nil before)) kept
+kept_all before (l ∷ ls) kept none =
+    let here = none_here (length before + 1) (fault_behind before l) (first_bad fault_behind (before ++ l ∷ []) ls) none in
+    let one = subst IsKept (sym (draft_more before l)) (kept_line (draft_of before) l kept here.0) in
+    subst (λ ls. IsKept (draft_of ls)) (append_assoc before (l ∷ []) ls) (kept_all (before ++ l ∷ []) ls one here.1)
 
 ended_nothing : (due : Due) → is_nothing due ≡ true → is_ended due ≡ true
 ended_nothing d.Nothing e = refl
@@ -166,15 +155,10 @@ past_limit false why later e = e
 pub accepted_lawful : AcceptedIsLawful
 accepted_lawful text none =
     let lines = worded text in
-    let later = past_limit (nat_lt 1048576 (length text)) _ (refused (first_bad [] lines) (is_nothing (due_behind lines))
-    (length (lines_of text))) none in
-    let good = not_refused (first_bad [] lines) (is_nothing (due_behind lines)) (length (lines_of text)) later in
-    let start : IsKept blank [] =
-    record { tells = tells_start blank refl; lawful = lawful_blank; solids = λ i e lt. absurd (omega arith) } in
-    let all = kept_all blank [] lines start good.0 in
-    let ended : is_nothing all.0.due ≡ true = ap is_nothing all.1.tells.due ∙ good.1 in
-    let same = drawn_is all.0 lines all.1.tells in
-    subst IsWhollyLawful same (record {
-      scene_is = drawn_lawful all.0 all.1.lawful ended;
-      solids = all.1.solids;
-    })
+    let later = past_limit (nat_lt 1048576 (length text)) _
+    (refused (first_bad fault_behind [] lines) (is_nothing (draft_of lines).due) (length (lines_of text))) none in
+    let good = not_refused (first_bad fault_behind [] lines) (is_nothing (draft_of lines).due) (length (lines_of text))
+    later in
+    let start : IsKept blank = record { lawful = lawful_blank; solids = λ i e lt. absurd (omega arith) } in
+    let all = kept_all [] lines start good.0 in
+    record { scene_is = drawn_lawful (draft_of lines) all.lawful good.1; solids = all.solids }

@@ -26,10 +26,12 @@ use Rattle.px_scene.specs.Lines.{numeric, numbers_of, limit_of, figures, two_pas
 use Rattle.px_scene.specs.Lines.{most, due_after}
 use Rattle.px_scene.specs.Lines.{size_of, face_of, side_of}
 use Rattle.px_model.specs.Scenes.{SolidView, faces_in, names_of, IsNumberedFrom, faces_of}
-use Rattle.px_scene.specs.Drafts.{DraftView, IsLawfulDraft, with_last, with_front, with_back, with_side, and_side}
-use Rattle.px_scene.specs.Drafts.{with_line, with_picture, with_depth, fresh_solid, is_begun, is_ended, tally_of}
-use Rattle.px_scene.specs.Drafts.{IsGoodForm, CanBeTaken}
-use Rattle.px_scene.specs.Reading.{first_word}
+use Rattle.px_scene.specs.Drafts.{DraftView, with_last, with_front, with_back, with_side, and_side}
+use Rattle.px_scene.specs.LawfulDrafts.{IsLawfulDraft}
+use Rattle.px_scene.specs.Drafts.{with_line, with_picture, with_depth, fresh_solid, tally_of}
+use Rattle.px_scene.specs.LawfulDrafts.{is_begun, is_ended}
+use Rattle.px_scene.specs.LawfulDrafts.{IsGoodForm, CanBeTaken}
+use Rattle.px_scene.specs.Drafts.{first_word}
 use Rattle.px_scene.proofs.NumberLemmas.{numbered_front, numbered_back, numbered_push}
 use Rattle.px_scene.proofs.TakenLemmas.{numbered_last, faces_of-with_last, names_with_last, names_push, IsNewName}
 use Rattle.px_scene.proofs.TakenLemmas.{SolidRoom, size_within, fraction_within}

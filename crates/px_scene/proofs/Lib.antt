@@ -10,7 +10,6 @@ pub mod LineLemmas
 pub mod NumberLemmas
 pub mod ParseLemmas
 pub mod ReadLemmas
-pub mod ReadingLemmas
 pub mod RoundLemmas
 pub mod SampleLemmas
 pub mod SampleSolidLemmas
@@ -19,9 +18,7 @@ pub mod SampleTreeLemmas
 pub mod SampleWalkLemmas
 pub mod SceneWalkLemmas
 pub mod SolidLemmas
-pub mod SolidsLemmas
 pub mod TakenLemmas
-pub mod TellsLemmas
 pub mod TextWalkLemmas
 pub mod WalkLemmas
 pub mod WriteLemmas

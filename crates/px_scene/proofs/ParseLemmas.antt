@@ -18,7 +18,8 @@ use Rattle.px_show.specs.declared.scene_version.Version.TheVariants as v
 use Rattle.px_show.specs.Expressions.{judged, show_cause, show_limit, show_tree}
 use Rattle.px_show.specs.Versions.{version_word, version_or_first}
 use Rattle.px_show.proofs.FaultLaws.{good_form, within_limits}
-use Rattle.px_scene.specs.Drafts.{DraftView, IsLawfulDraft, with_line, tally_of, taken, fault_in, new_solid}
+use Rattle.px_scene.specs.Drafts.{DraftView, with_line, tally_of, taken, fault_in, new_solid}
+use Rattle.px_scene.specs.LawfulDrafts.{IsLawfulDraft}
 use Rattle.px_scene.specs.Parsed.{IsLine, ParsesTo, IsParsed, Keeps, keyword_in, kept_words, numbers_in, second_name}
 use Rattle.px_scene.specs.Parsed.{cause_left, fault_left, fault_shown}
 use Rattle.px_scene.proofs.TakenLemmas.{line_form_good}

@@ -30,7 +30,8 @@ use Rattle.px_scene.specs.Drafts.{fresh_solid, new_solid}
 use Rattle.px_scene.specs.Canonical.{depth_words, plane_words, colour_words}
 use Rattle.px_text.proofs.DecimalLaws.{number_read, signed_read}
 use Rattle.px_text.proofs.LineLaws.{small_size}
-use Rattle.px_scene.proofs.TellsLemmas.{blank, in_last-push}
+use Rattle.px_scene.specs.Drafts.{blank}
+use Rattle.px_scene.proofs.DraftLemmas.{in_last-push}
 use Rattle.px_scene.proofs.DraftLemmas.{with_last-append}
 use Rattle.px_scene.proofs.WalkLemmas.{Walk, walk_both}
 

@@ -30,7 +30,7 @@ use Rattle.px_scene.proofs.SampleSolidLemmas.{yellow_is}
 use Rattle.px_scene.proofs.SampleTreeLemmas.{sample_tree}
 use Rattle.px_scene.proofs.SampleWalkLemmas.{sample_draft, sample_first, sample_is, sample_last, sample_middle}
 use Rattle.px_scene.proofs.SampleWalkLemmas.{sample_shown, sample_walk}
-use Rattle.px_scene.proofs.TellsLemmas.{blank}
+use Rattle.px_scene.specs.Drafts.{blank}
 use Rattle.px_scene.proofs.TextWalkLemmas.{colour_plain, plane_plain, read_both, shown_fed, shown_read, side_plain}
 use Rattle.px_scene.proofs.WalkLemmas.{Walk, read_by_walk}
 

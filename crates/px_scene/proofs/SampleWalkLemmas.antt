@@ -43,7 +43,7 @@ use Rattle.px_scene.proofs.SampleSolidLemmas.{yellow_is}
 use Rattle.px_scene.proofs.SampleTreeLemmas.{BeginsWithBlocks, IsSampleTree, sample_tree, sample_tree_is}
 use Rattle.px_scene.proofs.SceneWalkLemmas.{stands}
 use Rattle.px_scene.proofs.TakenLemmas.{AreNames, names_push}
-use Rattle.px_scene.proofs.TellsLemmas.{blank}
+use Rattle.px_scene.specs.Drafts.{blank}
 use Rattle.px_scene.proofs.WalkLemmas.{Walk, walk_both}
 
 -- the solids, one after another

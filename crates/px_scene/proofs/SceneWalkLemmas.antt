@@ -24,7 +24,7 @@ use Rattle.px_show.specs.Versions.{has_difference, version_word, has_differ}
 use Rattle.px_show.specs.declared.scene_version.Version.TheVariants as v
 use Rattle.px_scene.specs.Canonical.{version_for, depth_words, plane_words, colour_words}
 use Rattle.px_scene.proofs.CutLemmas.{none_below, all_below}
-use Rattle.px_scene.proofs.TellsLemmas.{blank}
+use Rattle.px_scene.specs.Drafts.{blank}
 use Rattle.px_show.proofs.PrintedLaws.{signs_of}
 use Rattle.px_scene.proofs.WalkLemmas.{Walk, walk_both}
 use Rattle.px_scene.proofs.RoundLemmas.{CanWrite, opened, open_solid, written_so_far, standing, shown_draft}

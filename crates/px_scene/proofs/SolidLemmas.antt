@@ -13,10 +13,10 @@ use Rattle.px_model.specs.declared.solid.Face.{Face}
 use Rattle.px_model.specs.Scenes.{AreFaces, IsColour, IsLawfulSolid, IsPlane, SolidView}
 use Rattle.px_model.proofs.SolidLemmas.{All-push, faces_pushed}
 use Rattle.px_show.specs.declared.fault.LimitKind.TheVariants as kind
-use Rattle.px_scene.specs.Drafts.{CanTakeFace, fresh_solid, with_back, with_front, with_last, with_side}
+use Rattle.px_scene.specs.Drafts.{fresh_solid, with_back, with_front, with_last, with_side}
+use Rattle.px_scene.specs.LawfulDrafts.{CanTakeFace}
 use Rattle.px_scene.specs.Lines.{colour_of, colour_past, face_past, past, plane_of, plane_past, size_of, size_past, three_past}
-use Rattle.px_scene.specs.Reading.{head_colour}
-use Rattle.px_scene.proofs.TakenLemmas.{past_none}
+use Rattle.px_scene.proofs.TakenLemmas.{head_colour, past_none}
 
 part_within : (z : ℤ) → past kind.Colour (pos 0) (pos 255) z ≡ None → size_of z < 256
 part_within (pos n) e =

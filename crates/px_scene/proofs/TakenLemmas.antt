@@ -21,13 +21,14 @@ use Rattle.px_scene.specs.Lines.{past, most, fraction_past, face_past, face_limi
 use Rattle.px_scene.specs.Lines.{keyword_of, cause_of, solid_form, are_numbers, numbers_of, figures}
 use Rattle.px_show.specs.Expressions.{is_among}
 use Rattle.px_scene.specs.Lines.{colour_of, size_of}
-use Rattle.px_scene.specs.Reading.{head_colour, first_word}
+use Rattle.px_scene.specs.Drafts.{first_word}
 use lib.IntN.{negsuc}
 use Rattle.px_model.specs.declared.solid.Colour.{Colour}
 use Rattle.std.specs.Str.{bytes_eq}
 use Rattle.std.specs.Cmp.Lexicographic.{other_text}
-use Rattle.px_model.specs.Scenes.{SolidView, faces_in, names_of, IsNumberedFrom, AreNumberedFrom, faces_of}
-use Rattle.px_scene.specs.Drafts.{CanTakeFace, is_begun, is_ended, new_solid, fresh_solid, with_last, IsGoodForm}
+use Rattle.px_model.specs.Scenes.{SolidView, black, faces_in, names_of, IsNumberedFrom, AreNumberedFrom, faces_of}
+use Rattle.px_scene.specs.Drafts.{new_solid, fresh_solid, with_last}
+use Rattle.px_scene.specs.LawfulDrafts.{CanTakeFace, is_begun, is_ended, IsGoodForm}
 use Rattle.std.proofs.lemmas.List.Elements.{All-push}
 use Rattle.std.proofs.lemmas.List.Quantifiers.{all_pairs_push}
 use Rattle.px_num.proofs.TruthLaws.{and_left, none_first, none_second}
@@ -130,6 +131,11 @@ ended_end due e = cc
 pub begun_end : (due : Due) → is_due due k.End ≡ true → is_begun due ≡ true
 begun_end d.End e = refl
 begun_end due e = cc
+
+-- the colour of a solid's line
+abbrev pub head_colour : List ℤ → Colour
+head_colour (red ∷ green ∷ blue ∷ []) = colour_of red green blue
+head_colour zs = black
 
 -- what a good line of a solid says
 pub record IsNewName (names : Words) (ws : Words) : Type 0 where

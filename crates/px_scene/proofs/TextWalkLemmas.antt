@@ -27,7 +27,7 @@ use Rattle.px_text.proofs.SpacedLaws.{lines_read}
 use Rattle.px_show.proofs.PrintedLaws.{names_lawful}
 use Rattle.px_scene.proofs.LengthLemmas.{canonical_short}
 use Rattle.px_scene.proofs.WalkLemmas.{Walk, read_by_walk}
-use Rattle.px_scene.proofs.TellsLemmas.{blank}
+use Rattle.px_scene.specs.Drafts.{blank}
 use Rattle.px_show.specs.Printed.{named_by, printed}
 use Rattle.px_show.specs.Expressions.{Named, has_names}
 use Rattle.px_expr.specs.Tree.{HasLeavesBelow, IsLawfulTree}

@@ -1,28 +1,26 @@
--- What the lines of a scene text have said so far. Only proofs and private functions stand on it.
-use Rattle.std.specs.Prelude.{◌≡◌, ◌≢◌, ℕ, ℤ, ◌+◌, ◌-◌, ◌<◌, ◌≤◌, List, [], ◌∷◌, ◌++◌, Bool, true, false, Option, Some, None, length, All, AllPairs, slice_get, IfSome, IsSomeAnd, unwrap_or}
-use Rattle.std.specs.List.{AllPass}
+-- What the lines of a scene text have said so far, line by line. Clauses of public calls stand on it.
+use Rattle.std.specs.Prelude.{ℕ, ℤ, ◌+◌, ◌-◌, List, [], ◌∷◌, ◌++◌, Option, Some, None, fold, length, slice_get, unwrap_or}
 use Rattle.std.specs.Option.{option_map_or}
 use Rattle.px_num.specs.declared.linear.Linear.{Linear}
-use Rattle.px_model.specs.declared.limits.TheConstants.{MAX_DEPTH_BITS, MAX_FACES, MAX_FRACTION_BITS}
-use Rattle.px_model.specs.declared.limits.TheConstants.{MAX_PICTURE_SIZE, MAX_SOLIDS}
 use Rattle.px_model.specs.declared.solid.Colour.{Colour}
 use Rattle.px_model.specs.declared.solid.Face.{Face}
 use Rattle.px_scene.specs.declared.line.Due.{Due}
 use Rattle.px_scene.specs.declared.line.Due.TheVariants as d
 use Rattle.px_scene.specs.declared.line.Tally.{Tally}
 use Rattle.px_show.specs.declared.fault.LineFault.{LineFault}
-use Rattle.px_text.specs.Text.{Words, is_name}
-use Rattle.px_expr.specs.Tree.{Tree, leaf, HasLeavesBelow}
+use Rattle.px_text.specs.Text.{Words}
+use Rattle.px_expr.specs.Tree.{Tree, leaf}
 use Rattle.px_show.specs.Expressions.{show_tree}
 use Rattle.px_show.specs.Versions.{version_or_first}
-use Rattle.px_scene.specs.Reading.{first_word}
 use Rattle.px_show.specs.declared.scene_version.Version.{Version}
-use Rattle.px_model.specs.Scenes.{SolidView, names_of, SceneView, AreNumberedFrom, faces_of}
+use Rattle.px_show.specs.declared.scene_version.Version.TheVariants as v
+use Rattle.px_model.specs.Scenes.{SolidView, names_of, SceneView}
 use Rattle.px_scene.specs.Lines.{size_of, depth_of, fraction_of, colour_of, face_of, side_of}
-use Rattle.px_scene.specs.Lines.{keyword_of, due_after, numbers_of, figures, is_due, form_of, fault_of}
+use Rattle.px_scene.specs.Lines.{keyword_of, due_after, numbers_of, figures, fault_of}
 use Rattle.px_scene.specs.declared.line.Keyword.{Keyword}
 use Rattle.px_scene.specs.declared.line.Keyword.TheVariants as k
 
+-- what lines have said: the version, what is due, how many faces have numbers, and the parts of the scene
 pub record DraftView : Type 0 where
   pub version : Version
   pub due : Due
@@ -34,12 +32,26 @@ pub record DraftView : Type 0 where
   pub solids : List SolidView
   pub show : Option Tree
 
--- a number above those of all faces so far
-pub record CanTakeFace (number : ℕ) (s : SolidView) : Type 0 where
-  pub near : s.near_number < number
-  pub fronts : All (λ f. f.number < number) s.fronts
-  pub backs : All (λ f. f.number < number) s.backs
+-- what stands before the first line
+abbrev pub blank : DraftView
+blank = record {
+  version = v.One;
+  due = d.Header;
+  numbered = 0;
+  width = 1;
+  height = 1;
+  depth_bits = 1;
+  fraction_bits = 0;
+  solids = [];
+  show = None;
+}
 
+-- the first word of a line
+abbrev pub first_word : Words → List ℕ
+first_word [] = []
+first_word (w ∷ ws) = w
+
+-- a solid with one plane more
 abbrev pub and_front : SolidView → Option Face → SolidView
 and_front s None = s
 and_front s (Some f) = record s { fronts = s.fronts ++ f ∷ [] }
@@ -86,10 +98,12 @@ tally_of draft = record {
 abbrev pub fault_in : DraftView → Words → Option LineFault
 fault_in draft line = fault_of draft.version draft.due (names_of draft.solids) (tally_of draft) line
 
+-- the size of the picture
 abbrev pub with_picture : DraftView → List ℤ → DraftView
 with_picture draft (width ∷ height ∷ []) = record draft { width = size_of width; height = size_of height }
 with_picture draft zs = draft
 
+-- the bits of the depth
 abbrev pub with_depth : DraftView → List ℤ → DraftView
 with_depth draft zs = record draft { depth_bits = depth_of zs; fraction_bits = fraction_of zs }
 
@@ -97,6 +111,7 @@ with_depth draft zs = record draft { depth_bits = depth_of zs; fraction_bits = f
 abbrev pub fresh_solid : List ℕ → ℕ → Colour → SolidView
 fresh_solid name number colour = record { name = name; colour = colour; near_number = number; fronts = []; backs = []; sides = [] }
 
+-- the solid of a line, which takes this number for its near face
 abbrev pub new_solid : List ℕ → ℕ → List ℤ → List SolidView
 new_solid name number (red ∷ green ∷ blue ∷ []) = fresh_solid name number (colour_of red green blue) ∷ []
 new_solid name number zs = []
@@ -119,52 +134,17 @@ abbrev pub taken : DraftView → Words → DraftView
 taken draft [] = draft
 taken draft (w ∷ ws) = record (with_line (keyword_of w) draft ws (numbers_of (figures (keyword_of w) ws))) { due = due_after (keyword_of w) }
 
--- lines of planes come after the line of a solid
-abbrev pub is_begun : Due → Bool
-is_begun d.Header = false
-is_begun d.Picture = false
-is_begun d.Depth = false
-is_begun d.Solid = false
-is_begun d.Plane = true
-is_begun d.End = true
-is_begun d.Nothing = true
-
--- and the end comes after the line of the expression
-abbrev pub is_ended : Due → Bool
-is_ended d.Header = false
-is_ended d.Picture = false
-is_ended d.Depth = false
-is_ended d.Solid = false
-is_ended d.Plane = false
-is_ended d.End = true
-is_ended d.Nothing = true
-
-pub record IsLawfulDraft (draft : DraftView) : Type 0 where
-  pub some_width : 1 ≤ draft.width
-  pub width_limit : draft.width ≤ MAX_PICTURE_SIZE
-  pub some_height : 1 ≤ draft.height
-  pub height_limit : draft.height ≤ MAX_PICTURE_SIZE
-  pub some_depth : 1 ≤ draft.depth_bits
-  pub depth_limit : draft.depth_bits + draft.fraction_bits ≤ MAX_DEPTH_BITS
-  pub fraction_limit : draft.fraction_bits ≤ MAX_FRACTION_BITS
-  pub few : length draft.solids ≤ MAX_SOLIDS
-  pub names : AllPass is_name (names_of draft.solids)
-  pub different : AllPairs (λ m n. m ≢ n) (names_of draft.solids)
-  pub numbers : AreNumberedFrom 1 draft.solids
-  pub count : draft.numbered ≡ faces_of draft.solids
-  pub faces : draft.numbered ≤ MAX_FACES
-  pub shown : is_ended draft.due ≡ true → IsSomeAnd draft.show (HasLeavesBelow (length draft.solids))
-  pub begun : is_begun draft.due ≡ true → 0 < length draft.solids
-
--- the next number is above those of the last solid's faces
-abbrev pub CanBeTaken : ℕ → List SolidView → Type 0
-CanBeTaken numbered solids = IfSome (slice_get solids (length solids - 1)) (CanTakeFace (numbered + 1))
-
--- what a good line's words say
-pub record IsGoodForm (version : Version) (due : Due) (names : Words) (k : Keyword) (ws : Words) : Type 0 where
-  pub comes : is_due due k ≡ true
-  pub formed : form_of version k names ws ≡ None
+-- what lines say, one after another
+abbrev pub draft_of : List Words → DraftView
+draft_of lines = fold taken blank lines
 
 -- the scene that a draft is of
 abbrev pub drawn : DraftView → SceneView
-drawn draft = record { width = draft.width; height = draft.height; depth_bits = draft.depth_bits; fraction_bits = draft.fraction_bits; solids = draft.solids; show = unwrap_or draft.show (leaf 0) }
+drawn draft = record {
+  width = draft.width;
+  height = draft.height;
+  depth_bits = draft.depth_bits;
+  fraction_bits = draft.fraction_bits;
+  solids = draft.solids;
+  show = unwrap_or draft.show (leaf 0);
+}

@@ -6,10 +6,10 @@ pub mod AcceptedLaw
 pub mod Canonical
 pub mod DraftViews
 pub mod Drafts
+pub mod LawfulDrafts
 pub mod Lines
 pub mod Parsed
 pub mod Reading
 pub mod Sample
 pub mod SampleLaw
-pub mod Tells
 pub mod Writable

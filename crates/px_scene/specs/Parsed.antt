@@ -7,7 +7,7 @@ use Rattle.px_show.specs.Versions.{version_word, version_of}
 use Rattle.px_show.specs.Expressions.{judged, is_among, show_cause, show_fault}
 use Rattle.px_scene.specs.Lines.{keyword_of, is_due, numeric, numbers_of, figures, form_of, cause_of, limit_of}
 use Rattle.px_scene.specs.Drafts.{DraftView, tally_of}
-use Rattle.px_scene.specs.Reading.{first_word}
+use Rattle.px_scene.specs.Drafts.{first_word}
 use Rattle.px_model.specs.Scenes.{names_of}
 use Rattle.px_show.specs.declared.scene_version.Version.{Version}
 use Rattle.px_show.specs.declared.fault.Cause.{Cause}

@@ -2,9 +2,8 @@
 ghost use Rattle.std.specs.Prelude.{◌≡◌, ◌⊎◌, ◌+◌, ◌<◌, ◌≤◌, ◌^◌, [], ◌∷◌, map, length, OnOk, IfOk, IfErr, IsErrOf, None, Some, ℕ};
 ghost use Rattle.px_text.specs.Text.{lines_of, words_of, worded};
 ghost use Rattle.px_scene.specs.AcceptedLaw.{AcceptedIsLawful};
-ghost use Rattle.px_scene.specs.Reading.{first_bad, scene_of, due_behind, refusal_of, fault_at, is_nothing};
-ghost use Rattle.px_scene.specs.Tells.{IsFirstBad, IsDraftOf};
-ghost use Rattle.px_scene.specs.DraftViews.{view_of};
+ghost use Rattle.px_scene.specs.DraftViews.{IsDraftOf, IsFirstBad, view_of};
+ghost use Rattle.px_scene.specs.Reading.{fault_at, refusal_of, scene_of};
 
 use crate::draft::Draft;
 use px_model::Scene;

@@ -1,6 +1,7 @@
 pub mod ExpressionLemmas
 pub mod FaultLaws
 pub mod GapLemmas
+pub mod JudgedLaws
 pub mod PrintedLaws
 pub mod ShowLaws
 pub mod SignLaws

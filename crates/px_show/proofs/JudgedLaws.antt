@@ -1,0 +1,49 @@
+-- Lines that are judged one after another, until one is bad.
+use Rattle.std.proofs.Common.{◌≡◌, ℕ, ◌+◌, ◌<◌, ◌≤◌, List, [], ◌∷◌, ◌++◌, length, take, drop, get_or, Option, Some, None}
+use Rattle.std.proofs.Common.{refl, ap, sym, ◌∙◌, arith, length-take}
+use Rattle.std.proofs.lemmas.List.{take_more, drop_more, drop_all}
+use Rattle.px_show.specs.Judged.{at_line, first_bad}
+use Rattle.px_text.specs.Text.{Words}
+
+-- none of the lines before this one is bad
+abbrev pub AreGood : {F : Type 0} → (List Words → Words → Option F) → List Words → (i : ℕ) → Type 0
+AreGood judge lines i = first_bad judge [] lines ≡ first_bad judge (take i lines) (drop i lines)
+
+-- the line that is judged next
+here : {F : Type 0} (judge : List Words → Words → Option F) (lines : List Words) (i : ℕ) (l : Words) → i < length lines
+    → get_or lines i [] ≡ l
+    → first_bad judge (take i lines) (drop i lines)
+    ≡ at_line (length (take i lines) + 1) (judge (take i lines) l)
+    (first_bad judge (take i lines ++ l ∷ []) (drop (i + 1) lines))
+here judge lines i l lt is =
+    ap (first_bad judge (take i lines)) (drop_more lines i [] lt ∙ ap (λ x. x ∷ drop (i + 1) lines) is)
+
+pub one_more : (lines : List Words) (i : ℕ) (l : Words) → i < length lines → get_or lines i [] ≡ l
+    → take (i + 1) lines ≡ take i lines ++ l ∷ []
+one_more lines i l lt is = take_more lines i [] lt ∙ ap (λ x. take i lines ++ x ∷ []) is
+
+pub good_next : {F : Type 0} (judge : List Words → Words → Option F) (lines : List Words) (i : ℕ) (l : Words)
+    → AreGood judge lines i → i < length lines → get_or lines i [] ≡ l → judge (take i lines) l ≡ None
+    → AreGood judge lines (i + 1)
+good_next judge lines i l so lt is none =
+    so ∙ here judge lines i l lt is
+    ∙ ap (λ f. at_line (length (take i lines) + 1) f (first_bad judge (take i lines ++ l ∷ []) (drop (i + 1) lines))) none
+    ∙ ap (λ b. first_bad judge b (drop (i + 1) lines)) (sym (one_more lines i l lt is))
+
+pub first_is : {F : Type 0} (judge : List Words → Words → Option F) (lines : List Words) (i : ℕ) (l : Words) (fault : F)
+    → AreGood judge lines i → i < length lines → get_or lines i [] ≡ l → judge (take i lines) l ≡ Some fault
+    → first_bad judge [] lines ≡ Some (i + 1, fault)
+first_is judge lines i l fault so lt is bad =
+    so ∙ here judge lines i l lt is
+    ∙ ap (λ g. at_line (length (take i lines) + 1) g (first_bad judge (take i lines ++ l ∷ []) (drop (i + 1) lines))) bad
+    ∙ ap (λ n. Some (n, fault)) (omega (arith, length-take i lines))
+
+pub all_good : {F : Type 0} (judge : List Words → Words → Option F) (lines : List Words) (i : ℕ)
+    → AreGood judge lines i → length lines ≤ i → first_bad judge [] lines ≡ None
+all_good judge lines i so past = so ∙ ap (first_bad judge (take i lines)) (drop_all i lines past)
+
+-- where none is bad, neither this one is nor a later one
+pub none_here : {F : Type 0} (n : ℕ) (fault : Option F) (later : Option (ℕ × F)) → at_line n fault later ≡ None
+    → (fault ≡ None) × (later ≡ None)
+none_here n None later e = (refl, e)
+none_here n (Some fault) later e = cc
