@@ -25,7 +25,7 @@ ghost use Rattle.px_draw.specs.Works.{made, planned, tidied};
 
 use crate::listing::make_list;
 use crate::refine::make_refined;
-use crate::refusal::{READ_LIMIT, short_of_bits};
+use crate::refusal::READ_LIMIT;
 use crate::stop::{Stop, job_stop, products_stop};
 use crate::tile::make_tiled;
 use arrayvec::ArrayString;
@@ -40,7 +40,7 @@ use px_io::{Failed, Sink, Source, read_whole, write_whole};
 use px_normal::{MAX_PRODUCTS, count_products};
 use px_prune::{Plan, plan_of};
 use px_scene::{Scene, read_scene, write_scene};
-use px_sched::{Layout, NeedBits};
+use px_sched::Layout;
 use std::alloc::Global;
 
 /// Reads the input to its end, and makes of its scene what is wanted.
@@ -218,12 +218,10 @@ pub(crate) fn drawing_of(alloc: Global, scene: &Scene, bits: u32) -> Result<(Lay
     ensures fits { OnOk result ((o : Outcome) → drawable bits scene.now o ≡ o) }
     ensures err { IfErr result (λ stop. StopsAt (drawable bits scene.now) stop) }
 {
-    let layout = match Layout::of(scene, bits) {
-        Ok(layout) => layout,
-        Err(NeedBits { need }) => return Err(Stop::Refused(short_of_bits(need))),
-    };
-    let plan = kept_of(alloc, scene)?;
-    Ok((layout, plan))
+    match px_control::drawing_of(alloc, scene, bits) {
+        Ok(found) => Ok(found),
+        Err(fault) => Err(job_stop(fault)),
+    }
 }
 
 /// The products that can show anything, where no wanted list is past the limit.
