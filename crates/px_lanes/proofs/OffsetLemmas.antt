@@ -160,11 +160,3 @@ value_in_word form ny w j small =
     sum_of_values form.a form.b form.c (j / 2 ^ ny) (j % 2 ^ ny) (64 * w / 2 ^ ny) (64 * w % 2 ^ ny)
     ((64 * w + j) / 2 ^ ny) ((64 * w + j) % 2 ^ ny) (ap (λ n. n / 2 ^ ny) turn ∙ s.column)
     (ap (λ n. n % 2 ^ ny) turn ∙ s.row)
-
--- a form without its constant has the offset of a pixel as its value
-pub value_of_steps : (form : Linear) (a b : ℤ) (ny p : ℕ) → a ≡ form.a → b ≡ form.b
-    → value_at (record { a = a; b = b; c = pos 0 }) (p / 2 ^ ny) (p % 2 ^ ny) ≡ offset form ny p
-value_of_steps form a b ny p first second = rw (first, second) (nothing_more (offset form ny p))
-  where
-    nothing_more : (z : ℤ) → z +ℤ pos 0 ≡ z
-    nothing_more z = omega (arith, ints)

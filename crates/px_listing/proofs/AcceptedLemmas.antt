@@ -20,11 +20,10 @@ use Rattle.px_show.proofs.JudgedLaws.{none_here}
 use Rattle.px_scene.specs.Lines.{numbers_of, plane_of, size_of}
 use Rattle.px_listing.specs.AcceptedLaw.{AcceptedIsLawful, MemoryIsNoRefusal}
 use Rattle.px_listing.specs.Keywords.{keyword_of}
-use Rattle.px_listing.specs.Kinds.{shape_of}
+use Rattle.px_listing.specs.Kinds.{field_of, operation_of, operation_with, shape_of}
 use Rattle.px_listing.specs.Limits.{end_past, field_past, fields_past, form_past, limit_of, overlap, past, shape_past, size_past}
 use Rattle.px_listing.specs.Limits.{value_past}
 use Rattle.px_listing.specs.Lines.{cause_of}
-use Rattle.px_listing.specs.Operations.{field_of, operation_of, operation_with}
 use Rattle.px_listing.specs.Reading.{due_behind, fault_behind, fault_of, line_judged, operation_in, refused}
 use Rattle.px_listing.specs.declared.keyword.Due.{Due}
 use Rattle.px_listing.specs.declared.keyword.Keyword.{Keyword}

@@ -23,7 +23,7 @@ use Rattle.px_listing.specs.Drafts.{with_line, with_operation}
 use Rattle.px_listing.specs.Keywords.{due_after, is_header, is_one, keyword_of}
 use Rattle.px_listing.specs.Limits.{grid_past, limit_of, past}
 use Rattle.px_listing.specs.Lines.{cause_of}
-use Rattle.px_listing.specs.Operations.{operation_of}
+use Rattle.px_listing.specs.Kinds.{operation_of}
 use Rattle.px_listing.specs.Reading.{Exponents, due_behind, due_behind_line, exponents_of, fault_behind, fault_of}
 use Rattle.px_listing.specs.Reading.{grid_in, is_nothing, last_or, least_grid, listing_of}
 use Rattle.px_listing.specs.Reading.{operation_in, refusal_of}

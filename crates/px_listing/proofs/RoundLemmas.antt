@@ -20,10 +20,9 @@ use Rattle.px_text.specs.Text.{Words, number_of}
 use Rattle.px_text.specs.Written.{are_plain, is_plain}
 use Rattle.px_text.proofs.LineLaws.{small_size}
 use Rattle.px_listing.specs.Keywords.{due_after, is_due, keyword_of}
-use Rattle.px_listing.specs.Kinds.{kind_of, number_count, shape_of, word_of}
+use Rattle.px_listing.specs.Kinds.{bit_number, is_set, kind_of, number_count, operands_of, operation_of, operation_with, shape_of, word_of}
 use Rattle.px_listing.specs.Limits.{end_past, field_past, form_past, limit_of, overlap, past, shape_past}
 use Rattle.px_listing.specs.Lines.{form_of}
-use Rattle.px_listing.specs.Operations.{bit_number, is_set, operands_of, operation_of, operation_with}
 use Rattle.px_listing.specs.Reading.{due_behind_line, exponents_of, fault_of, grid_in, line_judged, operation_in}
 use Rattle.px_listing.specs.declared.keyword.Keyword.{Keyword}
 use Rattle.px_listing.specs.declared.keyword.Keyword.TheVariants as k

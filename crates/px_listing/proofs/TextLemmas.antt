@@ -14,8 +14,7 @@ use Rattle.px_text.specs.Written.{are_plain, fed, is_no_feed, is_plain, spaced}
 use Rattle.px_tree.specs.Nodes.{IsGrid}
 use Rattle.px_listing.specs.Lines.{number_line}
 use Rattle.px_listing.specs.Listings.{ListingView, canonical_text, end_line, header_line, macro_line}
-use Rattle.px_listing.specs.Kinds.{kind_of, word_of}
-use Rattle.px_listing.specs.Operations.{operands_of}
+use Rattle.px_listing.specs.Kinds.{kind_of, operands_of, word_of}
 use Rattle.px_listing.specs.Reading.{Exponents, due_behind, due_behind_line, fault_behind, fault_of, grid_in}
 use Rattle.px_listing.specs.Reading.{last_or, least_grid, listing_of, operation_in}
 use Rattle.px_listing.specs.RoundTrip.{TextsAreReadBack}

@@ -17,7 +17,6 @@ pub mod Limits
 pub mod Lines
 pub mod Listings
 pub mod Memories
-pub mod Operations
 pub mod PassesText
 pub mod Pieces
 pub mod Played

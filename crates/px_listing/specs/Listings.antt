@@ -6,8 +6,7 @@ use Rattle.px_macro.specs.declared.operation.Macro.{Macro}
 use Rattle.px_tree.specs.Nodes.{IsGrid}
 use Rattle.px_listing.specs.declared.listing.TheConstants.{MAX_OPERATIONS}
 use Rattle.px_listing.specs.Lines.{number_line}
-use Rattle.px_listing.specs.Kinds.{kind_of, word_of}
-use Rattle.px_listing.specs.Operations.{operands_of}
+use Rattle.px_listing.specs.Kinds.{kind_of, operands_of, word_of}
 
 -- a grid of 2^nx by 2^ny pixels, and the operations that are broadcast to them
 pub record ListingView : Type 0 where

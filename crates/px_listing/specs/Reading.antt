@@ -12,7 +12,7 @@ use Rattle.px_scene.specs.Lines.{numbers_of, size_of}
 use Rattle.px_listing.specs.Limits.{limit_of}
 use Rattle.px_listing.specs.Lines.{cause_of}
 use Rattle.px_listing.specs.Listings.{ListingView}
-use Rattle.px_listing.specs.Operations.{operation_of}
+use Rattle.px_listing.specs.Kinds.{operation_of}
 use Rattle.px_listing.specs.declared.keyword.Keyword.{Keyword}
 use Rattle.px_listing.specs.declared.keyword.Keyword.TheVariants as k
 use Rattle.px_listing.specs.declared.keyword.Due.{Due}

@@ -2,7 +2,7 @@
 ghost use Rattle.std.specs.Prelude.{◌≡◌, ◌∷◌, [], ◌+◌, ◌≤◌, ℕ, All, IsErrOf, None, OnOk, Some, length, IfSome, is_some};
 ghost use Rattle.px_listing.specs.Drafts.{IsDraft, head_of, or_else, taken, view_of, with_line, with_operation};
 ghost use Rattle.px_listing.specs.Limits.{grid_past, limit_of};
-ghost use Rattle.px_listing.specs.Operations.{operation_of};
+ghost use Rattle.px_listing.specs.Kinds.{operation_of};
 ghost use Rattle.px_listing.specs.Reading.{exponents_of, fault_of, is_nothing, least_grid};
 ghost use Rattle.px_listing.specs.declared.keyword.Due.TheVariants as Due;
 ghost use Rattle.px_listing.specs.declared.keyword.Keyword.TheVariants as Keyword;
@@ -17,7 +17,7 @@ use crate::judge::numbers_in;
 use crate::keyword::{Due, Keyword, due_after, keyword_of};
 use crate::limit::{LineError, LineFault, limit_of};
 use crate::listing::Listing;
-use crate::operation::operation_of;
+use crate::numbers::operation_of;
 use px_macro::Macro;
 use px_num::Memory;
 use px_text::words_of;

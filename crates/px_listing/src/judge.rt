@@ -8,7 +8,7 @@ ghost use Rattle.px_scene.specs.Lines.{are_numbers, numbers_of};
 ghost use Rattle.px_listing.specs.Lines.{cause_of, form_of};
 
 use crate::keyword::{Due, Keyword, count_of, is_due, is_header};
-use crate::operation::Numbers;
+use crate::numbers::Numbers;
 use arrayvec::ArrayVec;
 use px_scene::Cause;
 use px_text::number_of;

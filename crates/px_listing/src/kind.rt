@@ -1,9 +1,16 @@
-//! The operations by their lines: the word of each, and what its numbers write. One that is added has
-//! a line in each table here; all else of a line follows from them, but for its numbers (operation.rt).
-ghost use Rattle.std.specs.Prelude.{◌≡◌, ◌≤◌, length};
+//! The operations by their lines: the word of each, its numbers, and what they write. One that is added
+//! has a line in each table here; all else of a line follows from them.
+ghost use Rattle.std.specs.Prelude.{◌≡◌, ◌≤◌, IfSome, None, length};
 ghost use Rattle.std.specs.Str.{bytes_eq};
-ghost use Rattle.px_listing.specs.Kinds.{kind_named, kind_of, number_count, shape_of, word_of};
+ghost use Rattle.px_macro.specs.Macros.{IsLawful};
+ghost use Rattle.px_listing.specs.Kinds.{kind_named, kind_of, number_count, operands_of, operation_with};
+ghost use Rattle.px_listing.specs.Kinds.{shape_of, word_of};
+ghost use Rattle.px_listing.specs.Limits.{shape_past};
 
+use crate::numbers::{
+    Numbers, behind_field, bit_number, bit_of, constant_of, field_of, gathered, place_of, plane_of,
+    with_field,
+};
 use px_macro::Macro;
 
 /// An operation, whatever its numbers are.
@@ -151,5 +158,65 @@ impl Shape {
             Shape::Form | Shape::Constant | Shape::FieldsApart | Shape::Fields => 3,
             Shape::FormAndField => 5,
         }
+    }
+}
+
+/// The numbers of an operation, in the order of its line (docs/LISTINGS.md, "Operations").
+pub(crate) fn operands_of(m: &Macro) -> Numbers
+    requires lawful { IsLawful m.now 256 }
+    ensures { result.items ≡ operands_of m.now }
+{
+    match m {
+        Macro::All => gathered(&[]),
+        Macro::KeepSign(form) => gathered(&[form.a, form.b, form.c]),
+        Macro::KeepBit(at, v) | Macro::SetBit(at, v) => gathered(&[i64::from(*at), bit_number(*v)]),
+        Macro::LoadLinear(form, field)
+        | Macro::KeepAtMost(form, field)
+        | Macro::AddLinear(form, field) => with_field(form, field),
+        Macro::LoadConst(field, number) => behind_field(field, *number as i64),
+        Macro::Toggle(at) => gathered(&[i64::from(*at)]),
+        Macro::Copy(from, to) => behind_field(from, i64::from(to.at)),
+        Macro::KeepLess(first, second) => behind_field(first, i64::from(second.at)),
+    }
+}
+
+/// The operation of a line whose numbers pass no limit.
+pub(crate) fn operation_with(bits: u32, kind: Kind, numbers: &[i64]) -> Option<Macro>
+    requires bits { bits ≤ 256 }
+    requires good { shape_past bits (shape_of kind) numbers.now ≡ None }
+    ensures value { result ≡ operation_with kind numbers.now }
+    ensures lawful { IfSome result (λ m. IsLawful m bits) }
+{
+    match (kind, numbers) {
+        (Kind::All, []) => Some(Macro::All),
+        (Kind::KeepSign, [a, b, c]) => Some(Macro::KeepSign(plane_of(a, b, c))),
+        (Kind::KeepBit, [at, v]) => Some(Macro::KeepBit(place_of(bits, at), bit_of(v))),
+        (Kind::LoadLinear, [a, b, c, at, len]) => Some(Macro::LoadLinear(
+            plane_of(a, b, c),
+            field_of(bits, at, len),
+        )),
+        (Kind::KeepAtMost, [a, b, c, at, len]) => Some(Macro::KeepAtMost(
+            plane_of(a, b, c),
+            field_of(bits, at, len),
+        )),
+        (Kind::AddLinear, [a, b, c, at, len]) => Some(Macro::AddLinear(
+            plane_of(a, b, c),
+            field_of(bits, at, len),
+        )),
+        (Kind::LoadConst, [at, len, number]) => Some(Macro::LoadConst(
+            field_of(bits, at, len),
+            constant_of(len, number),
+        )),
+        (Kind::SetBit, [at, v]) => Some(Macro::SetBit(place_of(bits, at), bit_of(v))),
+        (Kind::Toggle, [at]) => Some(Macro::Toggle(place_of(bits, at))),
+        (Kind::Copy, [at, len, to]) => Some(Macro::Copy(
+            field_of(bits, at, len),
+            field_of(bits, to, len),
+        )),
+        (Kind::KeepLess, [at, len, to]) => Some(Macro::KeepLess(
+            field_of(bits, at, len),
+            field_of(bits, to, len),
+        )),
+        _ => None,
     }
 }

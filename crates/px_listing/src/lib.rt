@@ -10,7 +10,7 @@ mod limit;
 mod line;
 mod listing;
 mod memory;
-mod operation;
+mod numbers;
 mod passes;
 mod piece;
 mod playing;

@@ -7,10 +7,9 @@ ghost use Rattle.px_listing.specs.Lines.{number_line};
 ghost use Rattle.px_listing.specs.Listings.{canonical_text, end_line, first_lines, grid_line, header_line, macro_line};
 ghost use Rattle.px_listing.specs.Pieces.{Puts};
 
-use crate::kind::Kind;
+use crate::kind::{Kind, operands_of};
 use crate::line::{Line, line_of};
 use crate::listing::Listing;
-use crate::operation::operands_of;
 use crate::piece::{Piece, flush, put};
 use px_io::{Failed, Sink};
 use px_macro::Macro;

@@ -3,7 +3,6 @@ ghost use Rattle.std.specs.Prelude.{◌≡◌};
 
 use px_control::JobFault;
 use px_listing::ListFault;
-use px_normal::NormalFault;
 use px_num::Memory;
 use px_scene::SceneFault;
 use thiserror::Error;
