@@ -1,16 +1,3 @@
-pub mod AskingLemmas
-pub mod DebugLemmas
-pub mod ErrLemmas
-pub mod LimitLemmas
-pub mod ListStopLemmas
 pub mod ListedLemmas
-pub mod MeanLemmas
-pub mod OpenLemmas
-pub mod PartLemmas
-pub mod PlayLemmas
 pub mod RenderLemmas
 pub mod RunLemmas
-pub mod SampleLemmas
-pub mod ShadowLemmas
-pub mod StopLemmas
-pub mod WorkLemmas

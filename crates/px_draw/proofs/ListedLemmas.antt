@@ -18,12 +18,13 @@ use Rattle.px_listing.specs.Reading.{refusal_of}
 use Rattle.px_listing.specs.RoundTrip.{IsReadAs}
 use Rattle.px_listing.specs.declared.read.ListFault.{ListFault}
 use Rattle.px_listing.specs.declared.read.ListFault.TheVariants as f
-use Rattle.px_draw.specs.declared.refusal.Refusal.{Refusal}
-use Rattle.px_draw.specs.ListedScenes.{DoneShowsThePicture, IsListed, ListedPassesArePlayed, ListedPassesShowThePicture}
-use Rattle.px_draw.specs.Listings.{list_refusal, list_refusal_by, listing_written}
-use Rattle.px_draw.specs.Outcomes.{Outcome, done, refused, refused_past, unless_refused}
-use Rattle.px_draw.specs.Refusals.{short_of_bits, too_long}
-use Rattle.px_draw.proofs.LimitLemmas.{at_most}
+use Rattle.px_outcome.specs.declared.refusal.Refusal.{Refusal}
+use Rattle.px_draw.specs.ListedScenes.{DoneShowsThePicture, IsListed, ListedPassesArePlayed}
+use Rattle.px_draw.specs.ListedScenes.{ListedPassesShowThePicture}
+use Rattle.px_outcome.specs.Listings.{list_refusal, list_refusal_by, listing_written}
+use Rattle.px_outcome.specs.Outcomes.{Outcome, done, refused, refused_past, unless_refused}
+use Rattle.px_outcome.specs.Refusals.{short_of_bits, too_long}
+use Rattle.px_outcome.proofs.LimitLaws.{at_most}
 
 -- an outcome that is done passed the limits of a scene
 abbrev limited : Bool → Refusal → Option ℕ → List ℕ → Outcome

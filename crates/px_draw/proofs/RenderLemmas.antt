@@ -1,9 +1,8 @@
 -- What `render` is to write for a text, from what a run is to answer.
-use Rattle.std.proofs.Common.{ℕ, ◌≡◌, ◌++◌, List, [], ◌∷◌, Bool, true, false, Option, Some, None, refl, ap, length, pos, ◌+◌}
-use Rattle.std.proofs.Common.{append-nil, nat_lt, if◌then◌else◌}
+use Rattle.std.proofs.Common.{ℕ, ◌≡◌, ◌++◌, List, [], Bool, true, false, Option, Some, None, refl, ap, length, pos}
+use Rattle.std.proofs.Common.{◌+◌, append-nil, nat_lt, if◌then◌else◌}
 use Rattle.px_model.specs.Scenes.{SceneView}
 use Rattle.px_model.specs.Cells.{picture}
-use Rattle.px_control.specs.declared.fault.JobFault.{JobFault}
 use Rattle.px_control.specs.declared.fault.JobFault.TheVariants as f
 use Rattle.px_deliver.specs.Refusals.{job_refusal, too_many_of}
 use Rattle.px_face.specs.Seen.{PicturesShowFirstCells}
@@ -21,10 +20,10 @@ use Rattle.px_show.specs.declared.fault.LineFault.{LineFault}
 use Rattle.px_show.specs.declared.fault.LineFault.TheVariants as l
 use Rattle.px_show.specs.declared.fault.SceneFault.{SceneFault}
 use Rattle.px_show.specs.declared.fault.SceneFault.TheVariants as s
-use Rattle.px_draw.specs.Outcomes.{Outcome, done, drawable, refused_past, unless_refused}
-use Rattle.px_draw.specs.Outcomes as out
-use Rattle.px_draw.specs.Refusals.{refusal_by, short_of_bits, too_many}
-use Rattle.px_draw.specs.RenderLaw.{AcceptedIsRendered, AreMapsOf, RenderedIsAccepted}
+use Rattle.px_outcome.specs.Outcomes.{Outcome, done, drawable, refused_past, unless_refused}
+use Rattle.px_outcome.specs.Outcomes as out
+use Rattle.px_outcome.specs.Refusals.{refusal_by, short_of_bits}
+use Rattle.px_draw.specs.RenderLaw.{AcceptedIsRendered, RenderedIsAccepted}
 
 abbrev maps_of : SceneView → List ℕ
 maps_of scene = depth_image scene ++ (face_image scene ++ [])

@@ -1,18 +1,22 @@
 -- What a command does is what a run of its words does.
-use Rattle.std.proofs.Common.{ℕ, ◌≡◌, List, [], Option, Some, None, Ok, Err, refl, subst}
+use Rattle.std.proofs.Common.{ℕ, ◌≡◌, List, [], Option, Some, None, Ok, Err, refl, subst, Result, sym}
 use Rattle.px_io.proofs.ToldLaws.{consumes_none, stays}
 use Rattle.px_io.specs.Told.{SinkState}
 use Rattle.px_command.specs.declared.command.Command.{Command}
-use Rattle.px_draw.specs.declared.stop.Stop.{Stop}
-use Rattle.px_draw.specs.declared.stop.Stop.TheVariants as s
-use Rattle.px_draw.specs.declared.status.Status.{Status}
-use Rattle.px_draw.specs.declared.status.Status.TheVariants as status
+use Rattle.px_outcome.specs.declared.stop.Stop.{Stop}
+use Rattle.px_outcome.specs.declared.stop.Stop.TheVariants as s
+use Rattle.px_outcome.specs.declared.status.Status.{Status}
+use Rattle.px_outcome.specs.declared.status.Status.TheVariants as status
 use Rattle.px_command.specs.Commands.{command_of}
-use Rattle.px_draw.specs.Ends.{Ends, with_notes}
-use Rattle.px_draw.specs.Notes.{IsTold, note_of}
-use Rattle.px_draw.specs.Results.{HasCauses, status_of}
-use Rattle.px_draw.specs.Runs.{IsRunOf, Performs}
-use Rattle.px_draw.proofs.WorkLemmas.{performs_over, still}
+use Rattle.px_outcome.specs.Ends.{Ends, with_notes}
+use Rattle.px_outcome.specs.Notes.{IsTold, note_of}
+use Rattle.px_outcome.specs.Results.{HasCauses, status_of, status_in}
+use Rattle.px_outcome.specs.Runs.{IsRunOf, Performs}
+use Rattle.px_outcome.proofs.RunLaws.{performs_over, still}
+use Rattle.px_command.specs.declared.command.Command.TheVariants as c
+use Rattle.px_outcome.specs.Arrays.{Draws}
+use Rattle.px_outcome.specs.Samples.{sample_scene, sampled}
+use Rattle.px_outcome.specs.Stops.{DoesWork}
 
 -- a run that did its work tells nothing
 pub run_done : (words : List (List ℕ)) (bits : ℕ) (u : Unit {0}) (before after : Ends) (notes : SinkState)
@@ -37,3 +41,12 @@ pub performs_usage : (command : Option Command) (bits : ℕ) (ends : Ends) → c
 performs_usage (Some command) bits ends none = cc
 performs_usage None bits ends none =
     performs_over (Err s.Usage) None bits ends ends [] (consumes_none ends.rest) refl (still ends ends refl refl)
+
+-- what is done for the outcome of the sample is what the command does
+pub performs_sample : (result : Result (Unit {0}) Stop) (command : Option Command) (n bits : ℕ) (before after : Ends)
+    → command ≡ Some (c.Sample n) → after.rest ≡ before.rest → DoesWork result (sampled n bits) before.out after.out
+    → Draws (status_in result) bits (sample_scene n) before.array after.array → Performs result command bits before after
+performs_sample result command n bits before after is same serves array =
+    subst (λ x. Performs result x bits before after) (sym is)
+    (performs_over result (Some (c.Sample n)) bits before after [] (rw same (consumes_none before.rest)) serves.meets
+    (record { wrote = serves.writes; array = (serves.reads, array) }))

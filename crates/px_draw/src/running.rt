@@ -1,26 +1,24 @@
 //! The program as a function of its words, its input and its outputs.
 ghost use Rattle.std.specs.Prelude.{◌≡◌, ◌↔◌, ◌≤◌, Err, map, string_bytes, None, Some};
-ghost use Rattle.px_draw.specs.declared.stop.Stop.{Stop};
-ghost use Rattle.px_draw.specs.declared.status.Status.{Status};
+ghost use Rattle.px_outcome.specs.declared.stop.Stop.{Stop};
+ghost use Rattle.px_outcome.specs.declared.status.Status.{Status};
 ghost use Rattle.px_command.specs.Commands.{command_of};
 ghost use Rattle.px_command.specs.declared.command.Command.{Command};
-ghost use Rattle.px_draw.specs.Askings.{AnswersInTime};
-ghost use Rattle.px_draw.specs.Ends.{ends, with_notes};
-ghost use Rattle.px_draw.specs.Results.{HasCauses, status_in};
-ghost use Rattle.px_draw.specs.Runs.{IsRunOf, Performs, Took};
+ghost use Rattle.px_debug_run.specs.Askings.{AnswersInTime};
+ghost use Rattle.px_outcome.specs.Ends.{ends, with_notes};
+ghost use Rattle.px_outcome.specs.Results.{HasCauses, status_in};
+ghost use Rattle.px_outcome.specs.Runs.{IsRunOf, Performs, Took};
 
-use crate::debug::debug;
-use crate::listing::play_input;
-use crate::make::make_of_input;
-use crate::note::{line_of, tell};
-use crate::sample::sample;
-use crate::shadow::shadow;
-use crate::status::Status;
-use crate::stop::Stop;
 use px_asked::Asks;
 use px_asm::Operating;
 use px_command::{Command, command_of};
+use px_debug_run::debug_input;
 use px_io::Sink;
+use px_outcome::{Status, Stop, line_of, tell};
+use px_play_run::play_input;
+use px_sample_run::draw_sample;
+use px_shadow_run::shadow_input;
+use px_work_run::make_of_input;
 use std::alloc::Global;
 
 /// Does what the words ask with the scene that the input writes (docs/SCENES.md).
@@ -93,9 +91,9 @@ fn perform<S: Asks<O>, O: Sink, A: Operating>(
 {
     match command_of(words) {
         Some(Command::Make(work)) => make_of_input(work, alloc, input, out, array),
-        Some(Command::Shadow) => shadow(alloc, input, out, array),
-        Some(Command::Debug) => debug(alloc, input, out, array),
-        Some(Command::Sample(n)) => sample(n, alloc, out, array),
+        Some(Command::Shadow) => shadow_input(alloc, input, out, array),
+        Some(Command::Debug) => debug_input(alloc, input, out, array),
+        Some(Command::Sample(n)) => draw_sample(n, alloc, out, array),
         Some(Command::Play) => play_input(alloc, input, out, array),
         None => Err(Stop::Usage),
     }

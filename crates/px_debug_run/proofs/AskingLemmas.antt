@@ -1,0 +1,105 @@
+-- Each line is answered before more is asked for.
+use Rattle.std.proofs.Common.{ℕ, ◌≡◌, ◌-◌, ◌++◌, List, [], ◌∷◌, length, true, Option, None, refl, ap, sym, subst, ◌∙◌}
+use Rattle.std.proofs.Common.{arith, append_assoc, append-nil, length-append}
+use Rattle.std.proofs.lemmas.List.{take_all}
+use Rattle.std.specs.Io.KnownBytes.{Appends, Consumes}
+use Rattle.px_io.proofs.ToldLaws.{appends_none, consumes_both}
+use Rattle.px_asked.specs.Asks.{Ask, all_given}
+use Rattle.px_asked.proofs.AskLaws.{asked_both, given-append}
+use Rattle.px_lines.specs.Lines.{whole_lines}
+use Rattle.px_lines.specs.Listenings.{ListenedTo, Listens, Silent}
+use Rattle.px_lines.specs.Parts.{part_end}
+use Rattle.px_scene.specs.Scenes.{SceneView}
+use Rattle.px_session.specs.Prompts.{Moment, Prompt, Prompts}
+use Rattle.px_session.specs.Servings.{seen}
+use Rattle.px_session.specs.Sessions.{Stand, answers, session_opened}
+use Rattle.px_debug_run.specs.Askings.{AnswersInTime, InTime, due}
+use Rattle.px_outcome.specs.Debugs.{command_text, has_part, session_of, whole_commands, within_limit}
+use Rattle.px_debug_run.proofs.DebugLemmas.{Holds, Laws, Seated, grown, holds, more_than}
+use Rattle.px_debug_run.proofs.OpenLemmas.{no_part}
+
+-- nothing is due while no scene part is whole
+none_due : (bits : ℕ) (text : List ℕ) → part_end (within_limit text) ≡ None → due bits text ≡ []
+unfolding due has_part
+none_due bits text none = rw none refl
+
+-- and behind one the answers to the lines behind it
+answers_due : (bits : ℕ) (text : List ℕ) → has_part text ≡ true
+    → due bits text ≡ answers bits (session_of text) (whole_commands text)
+unfolding due
+answers_due bits text part = rw part refl
+
+listened : (bits : ℕ) (w : Option (List ℕ)) (text : List ℕ) (xs : List Ask) → Silent 1048577 w text xs
+    → InTime bits w text xs
+listened bits w text [] silent = tt
+listened bits w text (a ∷ xs) silent = (
+  rw (silent.0, none_due bits text silent.1) (appends_none w),
+  λ part. absurd (no_part text silent.1 part),
+  listened bits w (text ++ a.bytes) xs silent.2,
+)
+
+prompt : Laws → (bits n : ℕ) (text z : List ℕ) (scene : SceneView) (s : Stand) (m : ℕ)
+    (behind : List ℕ) (xs : List Ask) → Seated bits n text scene → s.session ≡ session_opened scene
+    → m ≡ more_than text - length z
+    → behind ≡ command_text text ++ z → Prompt bits s m behind xs → InTime bits s.out.written (text ++ z) xs
+prompt laws bits n text z scene s m behind [] seated start count is prompts = tt
+prompt laws bits n text z scene s m behind (a ∷ xs) seated start count is prompts =
+    let t = text ++ z in
+    let held : Holds bits scene t = holds laws bits n text scene seated z in
+    let all : seen (more_than text) z ≡ z = take_all (more_than text - 1) z (omega (arith, count, prompts.2)) in
+    let here : behind ≡ command_text t =
+    is ∙ ap (λ k. command_text text ++ k) (sym all) ∙ sym (grown laws.kept laws.within text z n seated.part).behind in
+    let began : s.session ≡ session_of t = start ∙ ap session_opened (sym held.scene) in
+    let same : answers bits s.session (whole_lines behind) ≡ due bits t =
+    ap (λ k. answers bits s.session (whole_lines k)) here ∙ ap (λ k. answers bits k (whole_commands t)) began
+    ∙ sym (answers_due bits t held.part) in (
+      subst (λ k. Appends s.out.written a.told k) same prompts.0,
+      λ part. (held.admits, rw here at prompts.1),
+      rw (append_assoc text z a.bytes) (prompt laws bits n text (z ++ a.bytes) scene s (m - length a.bytes)
+          (behind ++ a.bytes) xs seated start (omega (arith, count, length-append z a.bytes))
+          (rw is (append_assoc (command_text text) z a.bytes)) prompts.3),
+    )
+
+in_time_both : (bits : ℕ) (w : Option (List ℕ)) (text : List ℕ) (xs ys : List Ask) → InTime bits w text xs
+    → InTime bits w (text ++ all_given xs) ys → InTime bits w text (xs ++ ys)
+in_time_both bits w text [] ys p q = rw (append-nil text) at q
+in_time_both bits w text (x ∷ xs) ys p q = (
+  p.0,
+  p.1,
+  in_time_both bits w (text ++ x.bytes) xs ys p.2 (rw (append_assoc text x.bytes (all_given xs)) q),
+)
+
+-- a scene part was read
+pub answers_listened : (bits : ℕ) (a b : Option (List Ask)) (r s w : Option (List ℕ)) (text : List ℕ)
+    → Consumes r s text
+    → Listens 1048577 a b w text → AnswersInTime bits a b r s w
+answers_listened bits a b r s w text took listens = record {
+  asks = listens.asks;
+  asked = listens.asked;
+  taken = rw listens.given took;
+  in_time = listened bits w [] listens.asks listens.silent;
+}
+
+pub answers_unread : (bits : ℕ) (a b : Option (List Ask)) (r s w : Option (List ℕ)) → ListenedTo 1048577 a b w r s
+    → AnswersInTime bits a b r s w
+answers_unread bits a b r s w (text, took, listens) = answers_listened bits a b r s w text took listens
+
+-- and lines behind it were answered
+pub answers_served : Laws → (bits n : ℕ) (a : Option (List Ask)) (r w : Option (List ℕ)) (text read : List ℕ)
+    (scene : SceneView) (more : ℕ) (was now : Moment) → Seated bits n text scene → Consumes r was.rest text
+    → Listens 1048577 a was.asks w text → was.at.session ≡ session_opened scene → was.at.out.written ≡ w
+    → more ≡ more_than text → read ≡ command_text text
+    → Prompts bits read more was now → AnswersInTime bits a now.asks r now.rest w
+answers_served laws bits n a r w text read scene more was now seated took listens start same left behind prompts =
+    let xs = listens.asks in
+    let ys = prompts.asks in
+    record {
+      asks = xs ++ ys;
+      asked = asked_both a was.asks now.asks xs ys listens.asked prompts.asked;
+      taken = rw (given-append xs ys, listens.given)
+          (consumes_both r was.rest now.rest text (all_given ys) took prompts.taken);
+      in_time = in_time_both bits w [] xs ys (listened bits w [] xs listens.silent)
+          (rw listens.given (rw same at (rw (append-nil text) at (prompt laws bits n text [] scene was.at more read ys seated
+          start
+          (omega (arith, left)) (behind ∙ sym (append-nil (command_text text))) prompts.prompt))));
+    }

@@ -1,0 +1,6 @@
+//! The command `debug`.
+#![tactic(auto)]
+
+mod debug;
+
+pub use debug::debug_input;

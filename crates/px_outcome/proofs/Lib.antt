@@ -1,0 +1,4 @@
+pub mod LimitLaws
+pub mod RunLaws
+pub mod StopLaws
+pub mod StopLemmas

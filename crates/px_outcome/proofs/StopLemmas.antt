@@ -1,0 +1,60 @@
+-- What the stop of a fault says of what was asked.
+use Rattle.std.proofs.Common.{ℕ, ◌≡◌, ◌⊎◌, ◌<◌, ◌≤◌, ◌^◌, inl, inr, List, true, false, Some, refl, arith, nat_lt}
+use Rattle.std.proofs.lemmas.Bool.Decides.{nat_tests}
+use Rattle.px_array.specs.Slots.{ArrayView}
+use Rattle.px_show.specs.declared.fault.SceneFault.{SceneFault}
+use Rattle.px_show.specs.declared.fault.SceneFault.TheVariants as scene_fault
+use Rattle.px_scene.specs.Scenes.{SceneView}
+use Rattle.px_scene.specs.Reading.{refusal_of}
+use Rattle.px_normal.specs.declared.fault.NormalFault.{NormalFault}
+use Rattle.px_normal.specs.declared.fault.NormalFault.TheVariants as normal
+use Rattle.px_prune.specs.Kept.{crowd_of}
+use Rattle.px_sched.specs.Layouts.{layout_of, need_of}
+use Rattle.px_control.specs.Standing.{LeavesOnRefusal}
+use Rattle.px_control.specs.declared.fault.JobFault.{JobFault}
+use Rattle.px_control.specs.declared.fault.JobFault.TheVariants as job
+use Rattle.px_outcome.specs.Arrays.{Draws}
+use Rattle.px_outcome.specs.Outcomes.{drawable, within_products}
+use Rattle.px_outcome.specs.Results.{status_of}
+use Rattle.px_outcome.specs.Stops.{IsTextStop, StopsAt, scene_stop}
+use Rattle.px_outcome.specs.JobStops.{job_stop, products_stop}
+
+pub text_stops : (fault : SceneFault) (text : List ℕ) → (fault ≡ scene_fault.Memory) ⊎ (refusal_of text ≡ Some fault)
+    → IsTextStop (scene_stop fault) text
+text_stops (scene_fault.Malformed line cause) text (inl none) = cc
+text_stops (scene_fault.Malformed line cause) text (inr is) = rw is refl
+text_stops (scene_fault.Limit line kind found) text (inl none) = cc
+text_stops (scene_fault.Limit line kind found) text (inr is) = rw is refl
+text_stops scene_fault.Memory text is = tt
+
+pub products_stops : (fault : NormalFault) (scene : SceneView)
+    → ((count : ℕ) → fault ≡ normal.TooMany count → crowd_of scene ≡ Some count)
+    → StopsAt (within_products scene) (products_stop fault)
+products_stops (normal.TooMany count) scene many =
+    let crowd = many count refl in record { scene = tt; meets = λ o. rw crowd refl }
+products_stops normal.Memory scene many = record { scene = tt; meets = λ o. tt }
+
+pub job_stops : (fault : JobFault) (bits : ℕ) (scene : SceneView)
+    → ((need : ℕ) → fault ≡ job.PixelMemory need
+    → (bits < need_of (layout_of scene)) × (need ≡ need_of (layout_of scene)))
+    → ((count : ℕ) → fault ≡ job.Products count
+    → (need_of (layout_of scene) ≤ bits) × (crowd_of scene ≡ Some count) × (count ≤ 2 ^ 21))
+    → StopsAt (drawable bits scene) (job_stop fault)
+job_stops (job.PixelMemory need) bits scene short many =
+    let is = short need refl in
+    let less = is.0 in
+    let test : nat_lt bits (need_of (layout_of scene)) ≡ true = grind (arith, nat_tests) in
+    record { scene = tt; meets = λ o. rw (test, is.1) refl }
+job_stops (job.Products count) bits scene short many =
+    let is = many count refl in
+    let enough = is.0 in
+    let test : nat_lt bits (need_of (layout_of scene)) ≡ false = grind (arith, nat_tests) in
+    record { scene = tt; meets = λ o. rw (test, is.1) refl }
+job_stops job.Memory bits scene short many = record { scene = tt; meets = λ o. tt }
+
+-- a refusal leaves the array as `Job::open` says
+pub job_draws : (fault : JobFault) (bits : ℕ) (scene : SceneView) (before now : ArrayView)
+    → LeavesOnRefusal fault before now → Draws (status_of (job_stop fault)) bits scene before now
+job_draws (job.PixelMemory need) bits scene before now leaves = leaves
+job_draws (job.Products count) bits scene before now leaves = leaves
+job_draws job.Memory bits scene before now leaves = leaves

@@ -1,0 +1,17 @@
+-- The stop of a job that was not opened, and of a scene that has no plan. Only proofs and private functions stand on it.
+use Rattle.px_normal.specs.declared.fault.NormalFault.{NormalFault}
+use Rattle.px_normal.specs.declared.fault.NormalFault.TheVariants as normal
+use Rattle.px_control.specs.declared.fault.JobFault.{JobFault}
+use Rattle.px_control.specs.declared.fault.JobFault.TheVariants as job
+use Rattle.px_outcome.specs.declared.stop.Stop.{Stop}
+use Rattle.px_outcome.specs.declared.stop.Stop.TheVariants as s
+use Rattle.px_outcome.specs.Refusals.{short_of_bits, too_many}
+
+abbrev pub products_stop : NormalFault → Stop
+products_stop (normal.TooMany count) = s.Refused (too_many count)
+products_stop normal.Memory = s.Memory
+
+abbrev pub job_stop : JobFault → Stop
+job_stop (job.PixelMemory need) = s.Refused (short_of_bits need)
+job_stop (job.Products count) = s.Refused (too_many count)
+job_stop job.Memory = s.Memory

@@ -1,0 +1,17 @@
+pub mod Arrays
+pub mod Debugs
+pub mod Ends
+pub mod JobStops
+pub mod Listings
+pub mod Notes
+pub mod Outcomes
+pub mod Refining
+pub mod Refusals
+pub mod Results
+pub mod Runs
+pub mod Samples
+pub mod Shadows
+pub mod Statuses
+pub mod Stops
+pub mod Tiling
+pub mod Works

@@ -1,0 +1,36 @@
+-- Why a text is refused. Clauses of public calls stand on it.
+use Rattle.std.specs.Prelude.{ℕ, pos, List, Option, Some, None}
+use Rattle.px_show.specs.declared.fault.LimitKind.TheVariants as kind
+use Rattle.px_show.specs.declared.fault.SceneFault.{SceneFault}
+use Rattle.px_show.specs.declared.fault.SceneFault.TheVariants as f
+use Rattle.px_scene.specs.Reading.{refusal_of}
+use Rattle.px_outcome.specs.declared.refusal.TheConstants.{READ_LIMIT}
+use Rattle.px_outcome.specs.declared.refusal.Kind.TheVariants as k
+use Rattle.px_outcome.specs.declared.refusal.Refusal.{Refusal}
+use Rattle.px_outcome.specs.declared.refusal.Refusal.TheVariants as r
+
+-- the refusal of a fault; the want of memory is none
+abbrev pub refusal_in : SceneFault → Option Refusal
+refusal_in (f.Malformed line cause) = Some (r.Malformed line cause)
+refusal_in (f.Limit line kind found) = Some (r.Limit line (k.Scene kind) found)
+refusal_in f.Memory = None
+
+abbrev pub refusal_by : Option SceneFault → Option Refusal
+refusal_by None = None
+refusal_by (Some fault) = refusal_in fault
+
+-- why a text is no scene, where it is none
+abbrev pub text_refusal : List ℕ → Option Refusal
+text_refusal text = refusal_by (refusal_of text)
+
+-- more wanted products than a list may have
+abbrev pub too_many : (count : ℕ) → Refusal
+too_many count = r.Limit 0 (k.Scene kind.Products) (pos count)
+
+-- more bits than a pixel has
+abbrev pub short_of_bits : (need : ℕ) → Refusal
+short_of_bits need = r.Limit 0 (k.Scene kind.PixelMemory) (pos need)
+
+-- more bytes than a text may have
+abbrev pub too_long : Refusal
+too_long = r.Limit 0 (k.Scene kind.Text) (pos READ_LIMIT)

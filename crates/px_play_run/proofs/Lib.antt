@@ -1,0 +1,2 @@
+pub mod ListStopLemmas
+pub mod PlayLemmas

@@ -1,0 +1,107 @@
+//! The command `play`: a listing on the array.
+ghost use Rattle.std.specs.Prelude.{◌≡◌, ◌≢◌, ◌≤◌, All, Err, IfErr, IfOk, None, OnErr, OnOk, Some, true};
+ghost use Rattle.std.specs.Io.KnownBytes.{Appends};
+ghost use Rattle.px_array.specs.Arrays.{IsOpen};
+ghost use Rattle.px_io.specs.Counts.{HasCause};
+ghost use Rattle.px_io.specs.Told.{TakesFront, Tells};
+ghost use Rattle.px_array.specs.Slots.{array_view};
+ghost use Rattle.px_macro.specs.Macros.{IsLawful};
+ghost use Rattle.px_listing.specs.Memories.{memory_text, played_text};
+ghost use Rattle.px_command.specs.declared.command.Command.{Command};
+ghost use Rattle.px_outcome.specs.declared.stop.Stop.{Stop};
+ghost use Rattle.px_outcome.specs.Listings.{Plays, list_refusal, listing_written};
+ghost use Rattle.px_outcome.specs.Outcomes.{done};
+ghost use Rattle.px_outcome.specs.Ends.{ends};
+ghost use Rattle.px_outcome.specs.Results.{HasCauses, status_in};
+ghost use Rattle.px_outcome.specs.Runs.{Performs, Took};
+ghost use Rattle.px_outcome.specs.Stops.{DoesWork};
+ghost use Rattle.px_play_run.specs.Playings.{IsListStop};
+
+use px_array::Array;
+use px_asm::Operating;
+use px_io::{Failed, Sink, Source};
+use px_listing::{Listing, laws_of_listings, play, read_listing, write_memory};
+use px_outcome::{READ_LIMIT, Stop, read_text, too_long};
+use std::alloc::Global;
+
+/// Reads the input to its end, plays the listing that it writes, and prints every pixel's memory
+/// (docs/LISTINGS.md, "Playing").
+pub fn play_input<S: Source, O: Sink, A: Operating>(
+    alloc: Global,
+    input: &mut S,
+    out: &mut O,
+    array: &mut A,
+) -> Result<(), Stop>
+    requires bits { A.BITS ≤ 256 }
+    ensures performs { Performs result (Some Command.Play) A.BITS
+        (ends (S.rest input.old) (S.faults input.old) (O.state out.old)
+        (A.device array.old) (A.slots array.old) (A.work array.old))
+        (ends (S.rest input.new) (S.faults input.new) (O.state out.new)
+        (A.device array.new) (A.slots array.new) (A.work array.new)) }
+    ensures causes { HasCauses result (S.faults input.old) (S.faults input.new) (O.state out.old).faults
+        (O.state out.new).faults }
+    ensures took { Took (Some Command.Play) (status_in result)
+        (S.rest input.old) (S.rest input.new) }
+    ensures worded { result ≢ Err Stop.Usage }
+{
+    let text = read_text(alloc, input)?;
+    let listing = listing_in(alloc, text.as_slice(), A::BITS as u32)?;
+    play_listing(&listing, out, array)
+}
+
+/// The listing that a text writes, for pixels of so many memory bits.
+#[tactic(auto, unfolding(px_outcome::specs::Listings::list_refusal, px_outcome::specs::Listings::listing_written))]
+fn listing_in(alloc: Global, text: &[u8], bits: u32) -> Result<Listing, Stop>
+    requires bits { bits ≤ 256 }
+    ensures ok { IfOk result (λ listing.
+        (list_refusal bits text.now ≡ None) × (listing ≡ listing_written text.now)) }
+    ensures lawful { IfOk result (λ listing. All (λ m. IsLawful m bits) listing.macros) }
+    ensures err { IfErr result (λ stop. IsListStop stop bits text.now) }
+{
+    if text.len() >= READ_LIMIT {
+        return Err(Stop::Refused(too_long()));
+    }
+    match read_listing(alloc, text, bits) {
+        Ok(listing) => Ok(listing),
+        Err(fault) => Err(Stop::from(fault)),
+    }
+}
+
+/// Plays a listing on the array, and prints every pixel's memory.
+fn play_listing<O: Sink, A: Operating>(
+    listing: &Listing,
+    out: &mut O,
+    array: &mut A,
+) -> Result<(), Stop>
+    requires bits { A.BITS ≤ 256 }
+    requires lawful { All (λ m. IsLawful m A.BITS) listing.now.macros }
+    ensures serves { DoesWork result (done (played_text A.BITS listing.now))
+        (O.state out.old) (O.state out.new) }
+    ensures array { Plays (status_in result) A.BITS listing.now
+        (array_view (A.device array.old) (A.slots array.old) (A.work array.old))
+        (array_view (A.device array.new) (A.slots array.new) (A.work array.new)) }
+{
+    let Ok(()) = play(listing, array) else {
+        return Err(Stop::Memory);
+    };
+    laws_of_listings();
+    match deliver_memory(array, out) {
+        Ok(()) => Ok(()),
+        Err(_) => Err(Stop::WriteFault),
+    }
+}
+
+/// Prints the memory of every pixel of an array, and finishes.
+fn deliver_memory<A: Array, O: Sink>(array: &A, out: &mut O) -> Result<(), Failed>
+    requires is_open { IsOpen (A.device array.now) }
+    requires bits { A.BITS ≤ 256 }
+    ensures ok { OnOk result (Appends (O.state out.old).written (O.state out.new).written
+        (memory_text A.BITS (A.device array.now).state)) }
+    ensures end { OnOk result (Tells (O.state out.new).finished true) }
+    ensures err { OnErr result (TakesFront (O.state out.old) (O.state out.new)
+        (memory_text A.BITS (A.device array.now).state)) }
+    ensures cause { HasCause (O.state out.old).faults (O.state out.new).faults result }
+{
+    write_memory(array, out)?;
+    out.finish()
+}

@@ -1,0 +1,6 @@
+//! The command `sample`.
+#![tactic(auto)]
+
+mod sample;
+
+pub use sample::draw_sample;

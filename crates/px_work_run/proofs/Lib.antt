@@ -1,0 +1,2 @@
+pub mod MeanLemmas
+pub mod WorkLemmas

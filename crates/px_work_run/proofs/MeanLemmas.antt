@@ -1,0 +1,48 @@
+-- The image of means over an array that stores the picture of the finer scene.
+use Rattle.std.proofs.Common.{ℕ, ◌≡◌, Option, None, Result, ap, subst, sym, ◌∙◌, refl}
+use Rattle.px_io.specs.Told.{SinkState}
+use Rattle.px_array.specs.Arrays.{State, pixel_of}
+use Rattle.px_scene.specs.Scenes.{SceneView}
+use Rattle.px_sched.specs.Layouts.{LayoutView}
+use Rattle.px_sched.specs.PassesLaw.{ShowsThePicture}
+use Rattle.px_refine.specs.Finer.{fine_scene}
+use Rattle.px_refine.specs.Refined.{refined_image, stored_means}
+use Rattle.px_refine.specs.RefinedLaw.{MeansAreRefined}
+use Rattle.px_outcome.specs.declared.refusal.Refusal.{Refusal}
+use Rattle.px_outcome.specs.declared.stop.Stop.{Stop}
+use Rattle.px_outcome.specs.Outcomes.{done, drawable, unless_refused}
+use Rattle.px_outcome.specs.Refining.{fine_refusal, refined}
+use Rattle.px_outcome.specs.Stops.{DoesWork, StopsAt, fine_stop}
+use Rattle.px_refine.specs.FineFaults.{IsRefusal, fine_fault}
+use Rattle.px_refine.specs.declared.fault.FineFault.{FineFault}
+use Rattle.px_refine.specs.declared.fault.FineFault.TheVariants as fine
+
+pub means_drawn : MeansAreRefined → (s : ℕ) (scene fine : SceneView) (layout drawn : LayoutView) (state : State)
+    → fine ≡ fine_scene s scene → layout ≡ drawn → ShowsThePicture fine drawn (λ x y. (pixel_of state x y).memory)
+    → stored_means s fine layout state ≡ refined_image s scene
+means_drawn law s scene fine layout drawn state is same shows =
+    let here = subst (λ (l : LayoutView). ShowsThePicture fine l (λ x y. (pixel_of state x y).memory)) (sym same)
+    shows in
+    ap (λ f. stored_means s f layout state) is
+    ∙ law s scene layout state
+    (subst (λ (f : SceneView). ShowsThePicture f layout (λ x y. (pixel_of state x y).memory)) is here)
+
+-- what serves the finer scene serves its refinement
+pub serves_refined : (result : Result (Unit {0}) Stop) (s t : ℕ) (scene fine : SceneView) (bits : ℕ)
+    (a b : SinkState) → s ≡ t → fine_refusal s scene ≡ None
+    → fine ≡ fine_scene s scene
+    → DoesWork result (drawable bits fine (done (refined_image s scene))) a b
+    → DoesWork result (refined t scene bits) a b
+serves_refined result s t scene fine bits a b same none is serves =
+    subst (λ (k : ℕ). DoesWork result (refined k scene bits) a b) same
+    (subst (λ (r : Option Refusal). DoesWork result
+    (unless_refused r (drawable bits (fine_scene s scene) (done (refined_image s scene)))) a b) (sym none)
+    (subst (λ (f : SceneView). DoesWork result (drawable bits f (done (refined_image s scene))) a b) is serves))
+
+-- the stop of a fault is what the finer scene is refused by
+pub fine_stops : (fault : FineFault) (s : ℕ) (scene : SceneView) → IsRefusal (fine_fault s scene) fault
+    → StopsAt (unless_refused (fine_refusal s scene)) (fine_stop fault)
+fine_stops (fine.Fraction found) s scene is = record { scene = tt; meets = λ o. rw is refl }
+fine_stops (fine.Picture found) s scene is = record { scene = tt; meets = λ o. rw is refl }
+fine_stops (fine.Coefficient found) s scene is = record { scene = tt; meets = λ o. rw is refl }
+fine_stops fine.Memory s scene is = record { scene = tt; meets = λ o. tt }

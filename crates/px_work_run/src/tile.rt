@@ -1,0 +1,115 @@
+//! The command `tile`: a wide picture, drawn tile by tile.
+ghost use Rattle.std.specs.Prelude.{◌≡◌, ◌^◌, ◌≤◌, ℕ, IfErr, IfOk, OnErr, OnOk, None, true};
+ghost use Rattle.std.specs.Io.KnownBytes.{Appends};
+ghost use Rattle.px_io.specs.Counts.{HasCause};
+ghost use Rattle.px_io.specs.Told.{TakesFront, Tells};
+ghost use Rattle.px_array.specs.Slots.{array_view};
+ghost use Rattle.px_tile.specs.Found.{IsFound};
+ghost use Rattle.px_tile.specs.Pictures.{IsLastDrawn};
+ghost use Rattle.px_tile.specs.Tilings.{IsWideSize};
+ghost use Rattle.px_outcome.specs.Outcomes.{unless_refused};
+ghost use Rattle.px_outcome.specs.Results.{status_in, status_of};
+ghost use Rattle.px_outcome.specs.Stops.{DoesWork, StopsAt, stop_at};
+ghost use Rattle.px_outcome.specs.Tiling.{DrawsTiles, tiled, tiles_refusal, wide_fault_refusal, wide_images};
+ghost use Rattle.px_outcome.specs.declared.stop.Stop.{Stop};
+ghost use Rattle.px_outcome.specs.declared.refusal.Refusal.{Refusal};
+
+use px_asm::Operating;
+use px_command::Size;
+use px_io::{Failed, Sink};
+use px_outcome::{Kind, Refusal, Stop, short_of_bits, too_many};
+use px_scene::{LimitKind, Scene};
+use px_tile::{WideFault, render_tiles, write_wide};
+use std::alloc::Global;
+
+/// Draws a wide picture of a scene tile by tile on the array, and writes its two images.
+pub(crate) fn make_tiled<O: Sink, A: Operating>(
+    alloc: Global,
+    scene: &Scene,
+    size: Size,
+    out: &mut O,
+    array: &mut A,
+) -> Result<(), Stop>
+    requires size { IsWideSize size.width size.height }
+    ensures serves { DoesWork result (tiled size scene.now A.BITS)
+        (O.state out.old) (O.state out.new) }
+    ensures array { DrawsTiles (status_in result) A.BITS size scene.now
+        (array_view (A.device array.old) (A.slots array.old) (A.work array.old))
+        (array_view (A.device array.new) (A.slots array.new) (A.work array.new)) }
+{
+    let found = find_pixels(alloc, scene, size, array)?;
+    match deliver_wide(found.as_slice(), scene, size, out) {
+        Ok(()) => Ok(()),
+        Err(_) => Err(Stop::WriteFault),
+    }
+}
+
+/// Draws the tiles, and gives the numbers of the wide picture.
+fn find_pixels<A: Operating>(
+    alloc: Global,
+    scene: &Scene,
+    size: Size,
+    array: &mut A,
+) -> Result<Vec<u64>, Stop>
+    requires size { IsWideSize size.width size.height }
+    ensures fits { OnOk result (tiles_refusal size scene.now A.BITS ≡ None) }
+    ensures found { IfOk result (λ found. IsFound scene.now size.width size.height found.items) }
+    ensures drawn { OnOk result (IsLastDrawn A.BITS scene.now size.width size.height
+        (array_view (A.device array.new) (A.slots array.new) (A.work array.new))) }
+    ensures err { IfErr result (λ stop.
+        StopsAt (unless_refused (tiles_refusal size scene.now A.BITS)) stop) }
+    ensures array { IfErr result (λ stop. DrawsTiles (status_of stop) A.BITS size scene.now
+        (array_view (A.device array.old) (A.slots array.old) (A.work array.old))
+        (array_view (A.device array.new) (A.slots array.new) (A.work array.new))) }
+{
+    match render_tiles(alloc, scene, size.width, size.height, array) {
+        Ok(found) => Ok(found),
+        Err(fault) => Err(stop_of(fault)),
+    }
+}
+
+/// Why a wide picture is not drawn.
+fn stop_of(fault: WideFault) -> Stop
+    requires { (count : ℕ) → fault ≡ WideFault.Products count → count ≤ 2 ^ 21 }
+    ensures { result ≡ stop_at (wide_fault_refusal fault) }
+{
+    match fault {
+        WideFault::Tiles { found } => past_limit(Kind::Tiles, i64::from(found)),
+        WideFault::Coefficient { found } => {
+            past_limit(Kind::Scene(LimitKind::Coefficient), found)
+        }
+        WideFault::PixelMemory { need } => Stop::Refused(short_of_bits(need)),
+        WideFault::Products { count } => Stop::Refused(too_many(count)),
+        WideFault::Memory => Stop::Memory,
+    }
+}
+
+/// A wide picture is past a limit.
+fn past_limit(kind: Kind, found: i64) -> Stop
+    ensures { result ≡ Stop.Refused (Refusal.Limit 0 kind found) }
+{
+    Stop::Refused(Refusal::Limit {
+        line: 0,
+        kind,
+        found,
+    })
+}
+
+/// Writes the two images of a wide picture, and finishes.
+fn deliver_wide<O: Sink>(
+    found: &[u64],
+    scene: &Scene,
+    size: Size,
+    out: &mut O,
+) -> Result<(), Failed>
+    requires size { IsWideSize size.width size.height }
+    requires found { IsFound scene.now size.width size.height found.now }
+    ensures ok { OnOk result (Appends (O.state out.old).written (O.state out.new).written
+        (wide_images size scene.now)) }
+    ensures end { OnOk result (Tells (O.state out.new).finished true) }
+    ensures err { OnErr result (TakesFront (O.state out.old) (O.state out.new) (wide_images size scene.now)) }
+    ensures cause { HasCause (O.state out.old).faults (O.state out.new).faults result }
+{
+    write_wide(found, scene, size.width, size.height, out)?;
+    out.finish()
+}
