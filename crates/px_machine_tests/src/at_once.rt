@@ -1,5 +1,5 @@
 //! Each operation at once beside its micros, from one random state to the next.
-ghost use Rattle.std.specs.Prelude.{◌≡◌, ◌≤◌};
+ghost use Rattle.std.specs.Prelude.{◌≡◌, ◌≤◌, IfOk};
 ghost use Rattle.px_array.specs.Arrays.{IsOpen};
 ghost use Rattle.px_pixel.specs.Acts.{HasPlace};
 ghost use Rattle.px_machine_tests.specs.Ready.{IsReady};
@@ -102,13 +102,27 @@ fn a_crowd_of_words(rt: HostRuntime) -> Result<(), Fail> {
     Ok(())
 }
 
-/// Those operations on a grid of 512 words.
-fn try_crowd(rt: &impl Abort, alloc: Global, nx: u32, ny: u32) -> Result<(), Memory> {
+/// Both arrays, with as many columns and rows, in which every bit is 0.
+pub(crate) fn open_both<const N: usize>(
+    rt: &impl Abort,
+    alloc: Global,
+    nx: u32,
+    ny: u32,
+) -> Result<(PlaneArray<N>, PixelArray<N>), Memory>
+    requires bits { N ≤ 256 }
+    ensures { IfOk result (λ both. IsReady N both.0 × IsReady N both.1) }
+{
     assert!(rt; 1 <= nx && nx <= 9 && 1 <= ny && ny <= 9);
-    let mut planes = PlaneArray::<7>::new(alloc);
-    let mut pixels = PixelArray::<7>::new(alloc);
+    let mut planes = PlaneArray::new(alloc);
+    let mut pixels = PixelArray::new(alloc);
     planes.open(nx, ny)?;
     pixels.open(nx, ny)?;
+    Ok((planes, pixels))
+}
+
+/// Those operations on a grid of 512 words.
+fn try_crowd(rt: &impl Abort, alloc: Global, nx: u32, ny: u32) -> Result<(), Memory> {
+    let (mut planes, mut pixels) = open_both::<7>(rt, alloc, nx, ny)?;
     for m in CROWDED {
         operate_both(rt, &mut planes, &mut pixels, &m);
     }
@@ -135,11 +149,7 @@ fn try_stirred(
     ny: u32,
     draw: &mut Draw,
 ) -> Result<(), Memory> {
-    assert!(rt; 1 <= nx && nx <= 9 && 1 <= ny && ny <= 9);
-    let mut planes = PlaneArray::<5>::new(alloc);
-    let mut pixels = PixelArray::<5>::new(alloc);
-    planes.open(nx, ny)?;
-    pixels.open(nx, ny)?;
+    let (mut planes, mut pixels) = open_both::<5>(rt, alloc, nx, ny)?;
     for _ in 0..60 {
         clock_each(rt, &mut planes, &mut pixels, draw.micro());
     }
@@ -150,12 +160,19 @@ fn try_stirred(
 }
 
 /// Makes a clock on both arrays.
-fn clock_each(rt: &impl Abort, planes: &mut PlaneArray<5>, pixels: &mut PixelArray<5>, m: Micro)
+pub(crate) fn clock_each(
+    rt: &impl Abort,
+    planes: &mut PlaneArray<5>,
+    pixels: &mut PixelArray<5>,
+    m: Micro,
+)
     requires place { HasPlace 5 m.act }
     requires planes { IsReady 5 planes.old }
     requires pixels { IsReady 5 pixels.old }
     ensures planes { IsReady 5 planes.new }
     ensures pixels { IsReady 5 pixels.new }
+    ensures plane_slots { planes.new.slots ≡ planes.old.slots }
+    ensures pixel_slots { pixels.new.slots ≡ pixels.old.slots }
 {
     assert!(rt; planes.clocks() < MANY && pixels.clocks() < MANY);
     planes.clock(m);
@@ -181,12 +198,8 @@ fn try_grid<const N: usize>(
 ) -> Result<(), Memory>
     requires bits { N ≤ 256 }
 {
-    assert!(rt; 1 <= nx && nx <= 9 && 1 <= ny && ny <= 9);
-    let mut planes = PlaneArray::<N>::new(alloc);
-    let mut pixels = PixelArray::<N>::new(alloc);
-    planes.open(nx, ny)?;
-    pixels.open(nx, ny)?;
-    let mut numbers = Numbers::from(u64::from(8 * nx + ny));
+    let (mut planes, mut pixels) = open_both::<N>(rt, alloc, nx, ny)?;
+    let mut numbers = Numbers::from(8 * u64::from(nx) + u64::from(ny));
     for _ in 0..count {
         let m = operation(&mut numbers, N as u32);
         operate_both(rt, &mut planes, &mut pixels, &m);

@@ -1,6 +1,7 @@
 //! A linear form that is loaded by hand, on four pixels, and an array that is turned back.
 ghost use Rattle.std.specs.Prelude.{◌≡◌};
 ghost use Rattle.px_array.specs.Arrays.{IsOpen};
+ghost use Rattle.px_array.specs.Slots.{IsSaved};
 ghost use Rattle.px_pixel.specs.Acts.{HasPlace};
 
 use px_array::{Array, Micro, PixelArray, Registers, TreeOp, clock_all};
@@ -84,20 +85,32 @@ fn turning_back(rt: HostRuntime) -> Result<(), Fail> {
     array.save(1);
     make_clocks(&rt, &mut array, 6, 8);
     assert_eq!(rt; array.work(), 8);
-    array.restore(3);
-    go_on(&rt, &mut array, &mut plain, 4)?;
-    array.restore(2);
-    go_on(&rt, &mut array, &mut plain, 0)?;
-    array.restore(1);
-    go_on(&rt, &mut array, &mut plain, 6)?;
-    array.restore(0);
-    go_on(&rt, &mut array, &mut plain, 2)?;
-    array.restore(3);
-    go_on(&rt, &mut array, &mut plain, 4)?;
+    try_back(&rt, &mut array, &mut plain, 3, 4)?;
+    try_back(&rt, &mut array, &mut plain, 2, 0)?;
+    try_back(&rt, &mut array, &mut plain, 1, 6)?;
+    try_back(&rt, &mut array, &mut plain, 0, 2)?;
+    try_back(&rt, &mut array, &mut plain, 3, 4)?;
     assert_eq!(rt; array.work(), 8 + 4 + 8 + 2 + 6 + 4);
     array.open(1, 1)?;
     assert_eq!(rt; array.work(), 0);
     Ok(())
+}
+
+/// Turns back to a slot that was saved after so many clocks, and goes on from there.
+fn try_back(
+    rt: &impl Abort,
+    array: &mut PixelArray<5>,
+    plain: &mut PixelArray<5>,
+    slot: u32,
+    clock: u32,
+) -> Result<(), Memory>
+    requires is_open { IsOpen array.old.device }
+    requires saved { IsSaved array.old.slots slot }
+    ensures is_open { IsOpen array.new.device }
+    ensures slots { array.new.slots ≡ array.old.slots }
+{
+    array.restore(slot);
+    go_on(rt, array, plain, clock)
 }
 
 /// Brings the second array to a clock, and then both to the end, equal at each clock.
@@ -137,9 +150,19 @@ fn make_clock(rt: &impl Abort, array: &mut PixelArray<5>, k: u32)
     ensures is_open { IsOpen array.new.device }
     ensures slots { array.new.slots ≡ array.old.slots }
 {
+    make_one(rt, array, eighth(k));
+}
+
+/// Makes one clock.
+pub(crate) fn make_one<A: Array>(rt: &impl Abort, array: &mut A, m: Micro)
+    requires is_open { IsOpen (A.device array.old) }
+    requires place { HasPlace A.BITS m.act }
+    ensures is_open { IsOpen (A.device array.new) }
+    ensures slots { A.slots array.new ≡ A.slots array.old }
+{
     assert!(rt; array.clocks() < 1000);
-    array.clock(eighth(k));
-    assert!(rt; array.size() == (1, 1));
+    array.clock(m);
+    assert!(rt; array.size().0 >= 1);
 }
 
 /// One of eight micros, which load `x + 2 * y + 1` and add it to itself.

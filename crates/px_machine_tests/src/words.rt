@@ -1,16 +1,18 @@
 //! Words worked out by hand, and both arrays side by side.
 ghost use Rattle.std.specs.Prelude.{◌≡◌, ◌<◌, ◌≤◌};
-ghost use Rattle.px_array.specs.Arrays.{IsOpen};
-ghost use Rattle.px_array.specs.Slots.{ArrayView, IsSaved};
 ghost use Rattle.px_pixel.specs.Acts.{HasPlace};
+ghost use Rattle.px_machine_tests.specs.Ready.{IsReady};
 
+use crate::at_once::{clock_each, open_both};
+use crate::clocks::make_one;
 use crate::compared::compare;
 use crate::numbers::Numbers;
 use px_array::{Array, Micro, PixelArray, TreeOp};
-use px_num::Linear;
+use px_num::{Linear, Memory};
 use px_pixel::Act;
 use px_planes::{PlaneArray, PlaneTree};
 use px_tree::{Tree, feed_form, value_bit};
+use std::alloc::Global;
 use std::process::Abort;
 use std::test::Fail;
 
@@ -94,11 +96,9 @@ fn rows_of_a_form(rt: HostRuntime) -> Result<(), Fail> {
         (TreeOp::Hold, Act::Toggle(3)),
     ];
     for (tree, act) in micros {
-        assert!(rt; array.size() == (1, 1) && array.clocks() < 9);
-        array.clock(Micro {
-            tree,
-            act: placed(act),
-        });
+        assert!(rt; array.size() == (1, 1));
+        let act = placed(act);
+        make_one(&rt, &mut array, Micro { tree, act });
     }
     assert!(rt; array.size() == (1, 1));
     let rows = [0b0011, 0b0110, 0b1000, 0b1111, 0];
@@ -111,26 +111,41 @@ fn rows_of_a_form(rt: HostRuntime) -> Result<(), Fail> {
 /// Random micros on both arrays, with saves and restores, in grids of one word and of many.
 #[test]
 fn both_arrays_agree(rt: HostRuntime) -> Result<(), Fail> {
-    let grids = [(1, 1), (2, 1), (1, 3), (3, 3), (4, 4), (6, 1), (5, 5)];
-    for (nx, ny) in grids {
-        let mut pixels = PixelArray::<5>::new(rt.alloc());
-        let mut planes = PlaneArray::<5>::new(rt.alloc());
-        pixels.open(nx, ny)?;
-        planes.open(nx, ny)?;
-        let mut draw = Draw::from(7);
-        for _ in 0..6 {
-            assert!(rt; pixels.size().0 >= 1 && planes.size().0 >= 1);
-            clock_both(&rt, &mut pixels, &mut planes, &mut draw, 40);
-            pixels.save(2);
-            planes.save(2);
-            clock_both(&rt, &mut pixels, &mut planes, &mut draw, 30);
-            pixels.restore(2);
-            planes.restore(2);
-            compare(&rt, &pixels, &planes);
-            assert_eq!(rt; pixels.work(), planes.work());
-        }
+    for (nx, ny) in [(1, 1), (2, 1), (1, 3), (3, 3), (4, 4), (6, 1), (5, 5)] {
+        try_agreement(&rt, rt.alloc(), nx, ny)?;
     }
     Ok(())
+}
+
+fn try_agreement(rt: &impl Abort, alloc: Global, nx: u32, ny: u32) -> Result<(), Memory> {
+    let (mut planes, mut pixels) = open_both(rt, alloc, nx, ny)?;
+    let mut draw = Draw::from(7);
+    for _ in 0..6 {
+        try_saved(rt, &mut planes, &mut pixels, &mut draw);
+    }
+    Ok(())
+}
+
+/// Random micros on both arrays, and more of them that are taken back.
+fn try_saved(
+    rt: &impl Abort,
+    planes: &mut PlaneArray<5>,
+    pixels: &mut PixelArray<5>,
+    draw: &mut Draw,
+)
+    requires planes { IsReady 5 planes.old }
+    requires pixels { IsReady 5 pixels.old }
+    ensures planes { IsReady 5 planes.new }
+    ensures pixels { IsReady 5 pixels.new }
+{
+    clock_both(rt, planes, pixels, draw, 40);
+    planes.save(2);
+    pixels.save(2);
+    clock_both(rt, planes, pixels, draw, 30);
+    planes.restore(2);
+    pixels.restore(2);
+    compare(rt, pixels, planes);
+    assert_eq!(rt; pixels.work(), planes.work());
 }
 
 /// Random numbers, and the lines of the last feed.
@@ -226,35 +241,20 @@ fn placed(act: Act) -> Act
 /// So many random micros on both arrays, which are compared after each.
 fn clock_both(
     rt: &impl Abort,
-    pixels: &mut PixelArray<5>,
     planes: &mut PlaneArray<5>,
+    pixels: &mut PixelArray<5>,
     draw: &mut Draw,
     count: u32,
 )
-    requires pixels { IsOpen pixels.old.device }
-    requires planes { IsOpen planes.old.device }
-    ensures pixels { IsOpen pixels.new.device }
-    ensures planes { IsOpen planes.new.device }
-    ensures pixel_slots { pixels.new.slots ≡ pixels.old.slots }
+    requires planes { IsReady 5 planes.old }
+    requires pixels { IsReady 5 pixels.old }
+    ensures planes { IsReady 5 planes.new }
+    ensures pixels { IsReady 5 pixels.new }
     ensures plane_slots { planes.new.slots ≡ planes.old.slots }
+    ensures pixel_slots { pixels.new.slots ≡ pixels.old.slots }
 {
     for _ in 0..count {
-        clock_one(rt, pixels, planes, draw.micro());
+        clock_each(rt, planes, pixels, draw.micro());
+        compare(rt, pixels, planes);
     }
-}
-
-fn clock_one(rt: &impl Abort, pixels: &mut PixelArray<5>, planes: &mut PlaneArray<5>, m: Micro)
-    requires place { HasPlace 5 m.act }
-    requires pixels { IsOpen pixels.old.device }
-    requires planes { IsOpen planes.old.device }
-    ensures pixels { IsOpen pixels.new.device }
-    ensures planes { IsOpen planes.new.device }
-    ensures pixel_slots { pixels.new.slots ≡ pixels.old.slots }
-    ensures plane_slots { planes.new.slots ≡ planes.old.slots }
-{
-    assert!(rt; pixels.clocks() < 10000 && planes.clocks() < 10000);
-    pixels.clock(m);
-    planes.clock(m);
-    compare(rt, pixels, planes);
-    assert!(rt; pixels.size().0 >= 1 && planes.size().0 >= 1);
 }
