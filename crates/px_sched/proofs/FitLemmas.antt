@@ -15,13 +15,12 @@ use Rattle.px_normal.specs.declared.product.Product.{Product}
 use Rattle.px_model.specs.Cells.{depths_of, end_of}
 use Rattle.px_model.proofs.CellLaws.{end_is_small}
 use Rattle.px_model.proofs.PlaneLaws.{plane_range}
-use Rattle.px_model.specs.Scenes.{IsLawfulScene, SceneView, faces_of, IsLawfulSolid, IsPlane}
-use Rattle.px_sched.specs.Layouts.{LayoutView, bit_length, deep_part, fraction_part, layout_of, need_of, number_part}
+use Rattle.px_model.specs.Scenes.{IsLawfulScene, SceneView, IsLawfulSolid, IsPlane}
+use Rattle.px_sched.specs.Layouts.{IsLayout, LayoutView, deep_part, fraction_part, layout_of, need_of, number_part}
 use Rattle.px_sched.specs.declared.step.Step.{Step}
 use Rattle.px_sched.specs.Passes.{operations, solid_of}
 use Rattle.px_sched.specs.Steps.{IsStep, IsThere, passes_with}
 use Rattle.px_sched.proofs.FewLaws.{any_solid, no_solid_lawful}
-use Rattle.px_sched.proofs.LayoutLaws.{scene_layout}
 use Rattle.px_sched.proofs.OperationLaws.{HoldsOf, each_operation, each_pass, is_there}
 use Rattle.px_sched.proofs.RoomLemmas.{numbers_fit, shifted}
 
@@ -36,24 +35,15 @@ plus_range p n le h = record {
 }
 
 module _ (ranges : EdgesAreInRange) (planes : PlanesAreInRange) (scene : SceneView) (lawful : IsLawfulScene scene)
-    (solids : All IsLawfulSolid scene.solids) where
+    (solids : All IsLawfulSolid scene.solids) (is : IsLayout (layout_of scene)) where
   abbrev f : ℕ
   f = scene.fraction_bits
 
   abbrev end : ℕ
   end = end_of (depths_of scene)
 
-  abbrev i : ℕ
-  i = bit_length (faces_of scene.solids)
-
   abbrev l : LayoutView
   l = layout_of scene
-
-  number_some : 1 ≤ i
-  number_some = (scene_layout scene lawful).some_number
-
-  number_most : i ≤ 12
-  number_most = (scene_layout scene lawful).number
 
   small : end < 2 ^ (scene.depth_bits + f)
   small = end_is_small scene.depth_bits f
@@ -66,46 +56,37 @@ module _ (ranges : EdgesAreInRange) (planes : PlanesAreInRange) (scene : SceneVi
   unit_most : 2 ^ f ≤ 2 ^ 8
   unit_most = pow_mono {i = f} {j = 8} lawful.fraction
 
+  solid_lawful : (solid : ℕ) → IsLawfulSolid (solid_of scene solid)
+  solid_lawful solid = any_solid IsLawfulSolid scene solids no_solid_lawful solid
+
   plane : (solid face : ℕ) → IsThere scene solid face → IsPlane (face_plane (solid_of scene solid) end face)
-  plane solid face there = planes (solid_of scene solid) (solid_lawful solid) end face end_small there where
-    solid_lawful : (i : ℕ) → IsLawfulSolid (solid_of scene i)
-    solid_lawful i = any_solid IsLawfulSolid scene solids no_solid_lawful i
+  plane solid face there = planes (solid_of scene solid) (solid_lawful solid) end face end_small there
 
   field_b : IsField l.key_b (need_of l)
-  field_b = record {
-    from_one = omega (arith, number_some);
-    to_forty = omega (arith, number_most, lawful.depth);
-    within = omega arith;
-  }
+  field_b = record { from_one = omega arith; to_forty = omega arith; within = omega arith }
 
   field_t : IsField l.key_t (need_of l)
-  field_t = record {
-    from_one = omega (arith, number_some);
-    to_forty = omega (arith, number_most, lawful.depth);
-    within = omega arith;
-  }
+  field_t = record { from_one = omega arith; to_forty = omega arith; within = omega arith }
 
   deep : IsField (deep_part l l.key_t) (need_of l)
-  deep = record {
-    from_one = omega (arith, lawful.some_depth);
-    to_forty = omega (arith, lawful.depth);
-    within = omega arith;
-  }
+  deep = record { from_one = omega arith; to_forty = omega arith; within = omega arith }
 
   fraction : (f == 0) ≡ false → IsField (fraction_part l l.key_t) (need_of l)
-  fraction some = record {
-    from_one = grind (arith, nat_tests);
-    to_forty = omega (arith, lawful.fraction);
-    within = omega arith;
-  }
+  fraction some = record { from_one = grind (arith, nat_tests); to_forty = omega arith; within = omega arith }
 
   number : IsField (number_part l l.key_t) (need_of l)
-  number = record { from_one = number_some; to_forty = omega (arith, number_most); within = omega arith }
+  number = record { from_one = omega arith; to_forty = omega arith; within = omega arith }
+
+  -- a face's plane so much further
+  moved : (n : ℕ) → n ≤ 2 ^ f → (solid face : ℕ) → IsThere scene solid face
+      → IsInTreeRange (plus (face_plane (solid_of scene solid) end face) n) × IsField (deep_part l l.key_t) (need_of l)
+  moved n low solid face there =
+      (plus_range (face_plane (solid_of scene solid) end face) n (omega (arith, unit_most)) (plane solid face there), deep)
 
   each_lawful : HoldsOf scene l (λ m. IsLawful m (need_of l))
   each_lawful = record {
     all = tt;
-    best = (field_b, shifted end (scene.depth_bits + f) i small);
+    best = (field_b, shifted end (scene.depth_bits + f) l.number_bits small);
     alive = λ v. omega arith;
     par = omega arith;
     turned = omega arith;
@@ -115,27 +96,15 @@ module _ (ranges : EdgesAreInRange) (planes : PlanesAreInRange) (scene : SceneVi
     copy = (record { fields = (field_t, field_b); length = refl }, inr (omega arith));
     cleared = λ some. (fraction some, pow_pos f);
     number = λ solid face. (number, numbers_fit scene lawful solid face);
-    signs = λ solid face there.
-        ranges (solid_of scene solid) (any_solid IsLawfulSolid scene solids no_solid_lawful solid)
-        end face end_small there;
-    load = λ solid face there. (
-      plus_range (face_plane (solid_of scene solid) end face) (2 ^ f - 1) (omega (arith, unit_most))
-          (plane solid face there),
-      deep,
-    );
+    signs = λ solid face there. ranges (solid_of scene solid) (solid_lawful solid) end face end_small there;
+    load = moved (2 ^ f - 1) (omega arith);
     at_most = λ solid face there.
         (plane_range (face_plane (solid_of scene solid) end face) (plane solid face there), deep);
-    behind = λ solid face there. (
-      plus_range (face_plane (solid_of scene solid) end face) (2 ^ f) (omega (arith, unit_most))
-          (plane solid face there),
-      deep,
-    );
+    behind = moved (2 ^ f) (omega arith);
   }
 
-  pub step_fits : (step : Step) → IsStep scene step
-      → All (λ m. IsLawful m (need_of (layout_of scene))) (operations scene (layout_of scene) step)
+  pub step_fits : (step : Step) → IsStep scene step → All (λ m. IsLawful m (need_of l)) (operations scene l step)
   step_fits step is = each_operation scene l (λ m. IsLawful m (need_of l)) each_lawful step (is_there scene step is)
 
-  pub scene_passes_fit : (products : List Product)
-      → All (λ one. IsLawful one (need_of (layout_of scene))) (passes_with scene (layout_of scene) products)
+  pub scene_passes_fit : (products : List Product) → All (λ m. IsLawful m (need_of l)) (passes_with scene l products)
   scene_passes_fit products = each_pass scene l (λ m. IsLawful m (need_of l)) each_lawful products

@@ -1,8 +1,10 @@
 -- The passes are lawful in any memory that has room for them; what holds of all elements of lists.
-use Rattle.std.proofs.Common.{◌≡◌, refl, ℕ, ◌≤◌, List, [], ◌∷◌}
+use Rattle.std.proofs.Common.{◌≡◌, refl, ℕ, ◌≤◌, List, [], ◌∷◌, get_or, inl, inr, length, subst, sym}
 use Rattle.std.specs.List.{flat_map}
 use Rattle.std.specs.Prelude.{All}
-use Rattle.std.proofs.lemmas.List.Elements.{All-append, All-head, All-nil, All-tail, All-weaker}
+use Rattle.std.proofs.lemmas.Bool.{cases_lt}
+use Rattle.std.proofs.lemmas.List.{get_or_past}
+use Rattle.std.proofs.lemmas.List.Elements.{All-append, All-get_or, All-head, All-nil, All-tail, All-weaker}
 use Rattle.px_macro.specs.Macros.{IsLawful, IsLawfulInMore}
 use Rattle.px_model.specs.Scenes.{IsLawfulScene, SceneView, IsLawfulSolid}
 use Rattle.px_sched.specs.Layouts.{layout_of, need_of}
@@ -28,3 +30,10 @@ pub all_flat : {X Y : Type 0} (P : Y → Type 0) (Q : X → Type 0) (f : X → L
 all_flat P Q f each [] all = All-nil P
 all_flat P Q f each (x ∷ xs) all =
     All-append P (f x) (flat_map f xs) (each x (All-head Q x xs all)) (all_flat P Q f each xs (All-tail Q x xs all))
+
+-- what holds of each element, and of what stands past them
+pub all_or : {X : Type 0} (P : X → Type 0) (xs : List X) (d : X) → All P xs → P d → (i : ℕ) → P (get_or xs i d)
+all_or P xs d all past i = elim (cases_lt i (length xs)) [
+  | inl there ↦ All-get_or P xs i d there all
+  | inr none ↦ subst P (sym (get_or_past xs i d none)) past
+]

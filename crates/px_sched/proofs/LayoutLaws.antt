@@ -32,7 +32,7 @@ scene_layout scene lawful = record {
   fields = refl;
 }
 
-pub count_more : (p : ℕ → Bool) (n : ℕ) → count_by p (range_with_len 0 (n + 1)) ≡ count_by p (range_with_len 0 n)
+count_more : (p : ℕ → Bool) (n : ℕ) → count_by p (range_with_len 0 (n + 1)) ≡ count_by p (range_with_len 0 n)
     + length (filter p (n ∷ []))
 count_more p n =
     let before = range_with_len 0 n in

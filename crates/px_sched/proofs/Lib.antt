@@ -2,7 +2,7 @@ pub mod BlockLemmas
 pub mod BridgeLemmas
 pub mod ConfirmLemmas
 pub mod CoverLaws
-pub mod DrawnLemmas
+pub mod DrawnLaws
 pub mod FewLaws
 pub mod FitLemmas
 pub mod FoldLemmas
@@ -20,3 +20,4 @@ pub mod RunLemmas
 pub mod SightLemmas
 pub mod StandingLemmas
 pub mod StepLemmas
+pub mod WorthLaws

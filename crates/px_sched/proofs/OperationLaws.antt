@@ -1,10 +1,10 @@
 -- What holds of all operations of the passes, by the cases of a step; the face of each step is there.
-use Rattle.std.proofs.Common.{◌≡◌, ℕ, ◌+◌, ◌-◌, ◌*◌, ◌^◌, ◌==◌, ◌<◌, ◌≤◌, All, Bool, true, false, not, List, [], ◌∷◌}
+use Rattle.std.proofs.Common.{◌≡◌, ℕ, ◌+◌, ◌-◌, ◌*◌, ◌^◌, ◌==◌, ◌≤◌, All, Bool, true, false, not, List, [], ◌∷◌}
 use Rattle.std.proofs.Common.{◌++◌}
-use Rattle.std.proofs.Common.{length, map, inl, inr, arith, if◌then◌else◌}
+use Rattle.std.proofs.Common.{length, map, inl, inr, arith}
 use Rattle.std.specs.List.{flat_map, range_with_len}
 use Rattle.std.proofs.lemmas.Bool.{cases_Bool}
-use Rattle.std.proofs.lemmas.List.Elements.{All-append, All-cons, All-map, All-nil}
+use Rattle.std.proofs.lemmas.List.Elements.{All-append, All-cons, All-from_recursion, All-map, All-nil, All-push}
 use Rattle.px_num.specs.Forms.{plus}
 use Rattle.px_num.specs.declared.linear.Linear.{Linear}
 use Rattle.px_num.proofs.RangeLaws.{range_all}
@@ -14,7 +14,7 @@ use Rattle.px_macro.specs.declared.operation.Macro.{Macro}
 use Rattle.px_macro.specs.declared.operation.Macro.TheVariants as m
 use Rattle.px_normal.specs.declared.product.Product.{Product}
 use Rattle.px_model.specs.Cells.{Depths, depths_of, end_of}
-use Rattle.px_model.specs.Scenes.{SceneView, SolidView}
+use Rattle.px_model.specs.Scenes.{SceneView}
 use Rattle.px_sched.specs.declared.literal.Literal.{Literal}
 use Rattle.px_sched.specs.declared.step.Step.{Step}
 use Rattle.px_sched.specs.declared.step.Step.TheVariants.{Start, Open, Candidate, Drop, Clear, Front, Confirm}
@@ -40,49 +40,40 @@ module _ (scene : SceneView) where
   abbrev There : Step → Type 0
   There step = HasFace (IsThere scene) step
 
-  in_faces : (s : SolidView) (first count : ℕ) → first + count ≤ face_count s
-      → All (λ face. face < face_count s) (range_with_len first count)
-  in_faces s first count low = range_all (λ face. face < face_count s) first count (λ i from to. omega (arith, low))
+  faces_there : (step : ℕ → Step) (solid : ℕ) → ((face : ℕ) → IsThere scene solid face → There (step face))
+      → (first count : ℕ) → first + count ≤ face_count (solid_of scene solid)
+      → All There (map step (range_with_len first count))
+  faces_there step solid each first count low =
+      All-map There step (range_with_len first count)
+      (range_all (λ face. There (step face)) first count (λ face from to. each face (omega (arith, low))))
 
   candidates_there : (solid : ℕ) (plain : Bool)
       → All There (map (Candidate solid) (candidate_faces (solid_of scene solid) plain))
   candidates_there solid true =
-      let s = solid_of scene solid in
-      let n = length s.fronts + 1 in
-      All-map There (Candidate solid) (range_with_len 0 n) (in_faces s 0 n (omega arith))
+      faces_there (Candidate solid) solid (λ face there. there) 0 (length (solid_of scene solid).fronts + 1) (omega arith)
   candidates_there solid false =
       let s = solid_of scene solid in
-      let n = length s.fronts + 1 in
-      All-map There (Candidate solid) (range_with_len n (length s.backs)) (in_faces s n (length s.backs) (omega arith))
+      faces_there (Candidate solid) solid (λ face there. there) (length s.fronts + 1) (length s.backs) (omega arith)
 
   confirm_there : (q : Literal) → All There (confirm scene q)
-  confirm_there q = by_kind q.plain where
-    s : SolidView
-    s = solid_of scene q.solid
-
-    by_kind : (plain : Bool) → All There (if plain
-        then map (Drop q.solid) (range_with_len (length s.fronts + 1) (length s.backs + 1))
-        else (Clear ∷ map (Front q.solid) (range_with_len 0 (length s.fronts + 1)) ++ Confirm ∷ []))
-    by_kind true =
-        let n = length s.fronts + 1 in
-        All-map There (Drop q.solid) (range_with_len n (length s.backs + 1))
-        (in_faces s n (length s.backs + 1) (omega arith))
-    by_kind false =
-        let n = length s.fronts + 1 in
-        let turns = map (Front q.solid) (range_with_len 0 n) in
-        All-cons There Clear (turns ++ Confirm ∷ []) tt (All-append There turns (Confirm ∷ [])
-        (All-map There (Front q.solid) (range_with_len 0 n) (in_faces s 0 n (omega arith)))
-        (All-cons There Confirm [] tt (All-nil There)))
+  confirm_there q =
+      let s = solid_of scene q.solid in
+      let n = length s.fronts + 1 in
+      let turns = map (Front q.solid) (range_with_len 0 n) in
+      elim (cases_Bool q.plain) [
+        | inl plain ↦
+            rw plain (faces_there (Drop q.solid) q.solid (λ face there. there) n (length s.backs + 1) (omega arith))
+        | inr barred ↦ rw barred (All-push There (Clear ∷ turns) Confirm (All-cons There Clear turns tt
+            (faces_there (Front q.solid) q.solid (λ face there. there) 0 n (omega arith))) tt)
+      ]
 
   judge_there : (rs : List Literal) (other : ℕ) → All There (judge scene rs other)
   judge_there rs other =
       let r = literal_at rs other in
       let n = face_count (solid_of scene r.solid) in
       let turns = map (Turn other r.solid) (range_with_len 0 n) in
-      let close = Close other r.plain in
-      All-cons There (Begin other) (turns ++ close ∷ []) tt (All-append There turns (close ∷ [])
-      (All-map There (Turn other r.solid) (range_with_len 0 n) (in_faces (solid_of scene r.solid) 0 n (omega arith)))
-      (All-cons There close [] tt (All-nil There)))
+      All-push There (Begin other ∷ turns) (Close other r.plain) (All-cons There (Begin other) turns tt
+      (faces_there (Turn other r.solid) r.solid (λ face there. there) 0 n (omega arith))) tt
 
   literal_there : (q : Literal) (rs : List Literal) → All There (literal_steps scene q rs)
   literal_there q rs =
@@ -94,9 +85,8 @@ module _ (scene : SceneView) where
       (All-append There found (sure ++ (tests ++ Merge ∷ [])) (candidates_there q.solid q.plain)
       (All-append There sure (tests ++ Merge ∷ [])
       (fraction_all There (depths_of scene) (confirm scene q) (λ some. confirm_there q))
-      (All-append There tests (Merge ∷ [])
-      (all_flat There (λ _. Unit {0}) (judge scene rs) (λ other _. judge_there rs other) places (anything places))
-      (All-cons There Merge [] tt (All-nil There)))))
+      (All-push There tests Merge
+      (all_flat There (λ _. Unit {0}) (judge scene rs) (λ other _. judge_there rs other) places (anything places)) tt)))
 
   pub steps_there : (products : List Product) → All There (steps_with scene products)
   steps_there products =
@@ -107,17 +97,11 @@ module _ (scene : SceneView) where
       products (anything products))
 
 pub is_there : (scene : SceneView) (step : Step) → IsStep scene step → HasFace (IsThere scene) step
-is_there scene Start is = tt
-is_there scene Open is = tt
 is_there scene (Candidate solid face) is = is.there
 is_there scene (Drop solid face) is = is.there
-is_there scene Clear is = tt
 is_there scene (Front solid face) is = is.there
-is_there scene Confirm is = tt
-is_there scene (Begin other) is = tt
 is_there scene (Turn other solid face) is = is.there
-is_there scene (Close other plain) is = tt
-is_there scene Merge is = tt
+is_there scene step is = tt
 
 -- what holds of the operations that steps have
 pub record HoldsOf (scene : SceneView) (l : LayoutView) (P : Macro → Type 0) : Type 0 where
@@ -147,18 +131,6 @@ module _ (scene : SceneView) (l : LayoutView) (P : Macro → Type 0) (h : HoldsO
   abbrev end : ℕ
   end = end_of (depths_of scene)
 
-  nil : All P []
-  nil = All-nil P
-
-  cons : (m : Macro) (ms : List Macro) → P m → All P ms → All P (m ∷ ms)
-  cons m ms holds rest = All-cons P m ms holds rest
-
-  two : (first second : Macro) → P first → P second → All P (first ∷ second ∷ [])
-  two first second a b = cons first (second ∷ []) a (cons second [] b nil)
-
-  three : (first second third : Macro) → P first → P second → P third → All P (first ∷ second ∷ third ∷ [])
-  three first second third a b c = cons first (second ∷ third ∷ []) a (two second third b c)
-
   covered : (solid face : ℕ) → IsThere scene solid face → All P (keep_covered end (solid_of scene solid) face)
   covered solid face there = All-map P m.KeepSign (edges (solid_of scene solid) end face) (h.signs solid face there)
 
@@ -167,39 +139,36 @@ module _ (scene : SceneView) (l : LayoutView) (P : Macro → Type 0) (h : HoldsO
       → All P (where_passed l end (solid_of scene solid) face form operation)
   passed solid face form operation there test done =
       let signs = keep_covered end (solid_of scene solid) face in
+      let head : List Macro = m.All ∷ m.KeepBit l.alive true ∷ [] in
       let tail : List Macro = m.KeepAtMost form (deep_part l l.key_t) ∷ operation ∷ [] in
-      cons m.All (m.KeepBit l.alive true ∷ (signs ++ tail)) h.all
-      (cons (m.KeepBit l.alive true) (signs ++ tail) h.where_alive
-      (All-append P signs tail (covered solid face there)
-      (two (m.KeepAtMost form (deep_part l l.key_t)) operation test done)))
+      All-append P head (signs ++ tail) (All-from_recursion P head (h.all, (h.where_alive, tt)))
+      (All-append P signs tail (covered solid face there) (All-from_recursion P tail (test, (done, tt))))
 
   pub each_operation : (step : Step) → HasFace (IsThere scene) step → All P (operations scene l step)
-  each_operation Start there = two m.All _ h.all h.best
-  each_operation Open there = two m.All _ h.all (h.alive false)
+  each_operation Start there = All-from_recursion P (operations scene l Start) (h.all, (h.best, tt))
+  each_operation Open there = All-from_recursion P (operations scene l Open) (h.all, (h.alive false, tt))
   each_operation (Candidate solid face) there =
       let s = solid_of scene solid in
       let load = m.LoadLinear (plus (face_plane s end face) (2 ^ scene.fraction_bits - 1)) (deep_part l l.key_t) in
-      let zero = m.LoadConst (fraction_part l l.key_t) 0 in
-      let clear = where_fraction (depths_of scene) (zero ∷ []) in
+      let zero : List Macro = m.LoadConst (fraction_part l l.key_t) 0 ∷ [] in
+      let clear = where_fraction (depths_of scene) zero in
       let last : List Macro = m.LoadConst (number_part l l.key_t) (face_number s face) ∷ m.SetBit l.alive true ∷ [] in
-      cons m.All (keep_covered end s face ++ (load ∷ clear ++ last)) h.all
+      All-cons P m.All (keep_covered end s face ++ (load ∷ clear ++ last)) h.all
       (All-append P (keep_covered end s face) (load ∷ clear ++ last) (covered solid face there)
-      (All-append P (load ∷ clear) last
-      (cons load clear (h.load solid face there)
-      (fraction_all P (depths_of scene) (zero ∷ []) (λ some. cons zero [] (h.cleared some) nil)))
-      (two _ _ (h.number solid face) (h.alive true))))
+      (All-append P (load ∷ clear) last (All-cons P load clear (h.load solid face there)
+      (fraction_all P (depths_of scene) zero (λ some. All-from_recursion P zero (h.cleared some, tt))))
+      (All-from_recursion P last (h.number solid face, (h.alive true, tt)))))
   each_operation (Drop solid face) there = passed solid face _ _ there (h.at_most solid face there) (h.alive false)
-  each_operation Clear there = two m.All _ h.all h.par
+  each_operation Clear there = All-from_recursion P (operations scene l Clear) (h.all, (h.par, tt))
   each_operation (Front solid face) there = passed solid face _ _ there (h.behind solid face there) h.turned
-  each_operation Confirm there = three m.All _ _ h.all (h.where_par false) (h.alive false)
-  each_operation (Begin other) there = two m.All _ h.all h.par
+  each_operation Confirm there =
+      All-from_recursion P (operations scene l Confirm) (h.all, (h.where_par false, (h.alive false, tt)))
+  each_operation (Begin other) there = All-from_recursion P (operations scene l (Begin other)) (h.all, (h.par, tt))
   each_operation (Turn other solid face) there = passed solid face _ _ there (h.at_most solid face there) h.turned
-  each_operation (Close other plain) there = three m.All _ _ h.all (h.where_par (not plain)) (h.alive false)
+  each_operation (Close other plain) there = All-from_recursion P (operations scene l (Close other plain))
+      (h.all, (h.where_par (not plain), (h.alive false, tt)))
   each_operation Merge there =
-      let less = m.KeepLess l.key_t l.key_b in
-      let copy = m.Copy l.key_t l.key_b in
-      cons m.All (m.KeepBit l.alive true ∷ less ∷ copy ∷ []) h.all
-      (three (m.KeepBit l.alive true) less copy h.where_alive h.less h.copy)
+      All-from_recursion P (operations scene l Merge) (h.all, (h.where_alive, (h.less, (h.copy, tt))))
 
   pub each_pass : (products : List Product) → All P (passes_with scene l products)
   each_pass products =

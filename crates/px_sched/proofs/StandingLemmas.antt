@@ -135,9 +135,6 @@ module _ (scene : SceneView) (l : LayoutView) (products : List Product) where
       → ((l : LayoutView) → length (stage_operations scene l c.stage) ≡ n) → c.at < n
   at_few c n stands more count = omega (arith, inside_of c.stage c.at more stands.place, count l)
 
-  pub given_few : (c : Cursor) → StandsIn scene l products c → c.stage ≢ End → c.given + 1 < 2 ^ 64
-  given_few c stands more = omega (arith, below c stands (inside_of c.stage c.at more stands.place), stands.few)
-
   place_more : (st : Stage) (i : ℕ) → i < length (stage_operations scene l st) → IsWithinStage scene l st i
   place_more Start i low = low
   place_more (At g) i low = low

@@ -4,7 +4,7 @@ use Rattle.std.proofs.Common.{length, map, refl, ap, sym, ◌∙◌, arith, appe
 use Rattle.std.specs.List.{flat_map, range_with_len}
 use Rattle.std.proofs.lemmas.List.{drop_more, get_or-append_right, get_or-map, get_or_append_left, length-map}
 use Rattle.std.proofs.lemmas.Bool.Decides.{nat_tests}
-use Prim.Native.Nat.{zero, suc}
+use Prim.Native.Nat.{suc}
 use Rattle.px_macro.specs.declared.operation.Macro.{Macro}
 use Rattle.px_macro.specs.declared.operation.Macro.TheVariants as m
 use Rattle.px_model.specs.Scenes.{SceneView, SolidView}
@@ -27,9 +27,6 @@ use Rattle.px_sched.specs.Onward.{from_step}
 face_more : (f : ℕ → Step) (face last : ℕ) → face < last → from_face f face last ≡ f face ∷ from_face f (face + 1) last
 face_more f face last more = let size : last - face ≡ suc (last - (face + 1)) = omega arith in rw size refl
 
-no_face : (f : ℕ → Step) (face last : ℕ) → last ≤ face → from_face f face last ≡ []
-no_face f face last past = let size : last - face ≡ 0 = omega arith in rw size refl
-
 less_zero : (n : ℕ) → n - 0 ≡ n
 less_zero n = omega arith
 
@@ -37,12 +34,6 @@ less_zero n = omega arith
 pub elements_more : {X Y : Type 0} (f : X → List Y) (xs : List X) (d : X) (i : ℕ) → i < length xs
     → flat_map f (drop i xs) ≡ f (get_or xs i d) ++ flat_map f (drop (i + 1) xs)
 elements_more f xs d i more = ap (flat_map f) (drop_more xs i d more)
-
-pub no_element : {X Y : Type 0} (f : X → List Y) (xs : List X) (i : ℕ) → length xs ≤ i → flat_map f (drop i xs) ≡ []
-no_element f [] zero past = refl
-no_element f [] (suc i) past = refl
-no_element f (x ∷ xs) zero past = absurd (omega arith)
-no_element f (x ∷ xs) (suc i) past = no_element f xs i (omega arith)
 
 module _ (scene : SceneView) (q : Literal) (rs : List Literal) where
   pub begins : (other : ℕ) → other < length rs → judged_from scene rs other ≡ from_step scene q rs (Begin other)
@@ -57,20 +48,11 @@ module _ (scene : SceneView) (q : Literal) (rs : List Literal) where
       (ap (λ ss. Begin other ∷ ss) (append_assoc (turns ++ close) rest (Merge ∷ [])
       ∙ append_assoc turns close (rest ++ Merge ∷ [])))
 
-  pub merges : (other : ℕ) → length rs ≤ other → judged_from scene rs other ≡ from_step scene q rs Merge
-  merges other past = let size : length rs - other ≡ 0 = omega arith in rw size refl
-
   pub candidate_more : (face : ℕ) → face < candidates_end (solid_of scene q.solid) q.plain
       → candidates_from scene q rs face ≡ from_step scene q rs (Candidate q.solid face)
   candidate_more face more =
       ap (λ ss. ss ++ confirmed_from scene q rs)
       (face_more (Candidate q.solid) face (candidates_end (solid_of scene q.solid) q.plain) more)
-
-  pub no_candidate : (face : ℕ) → candidates_end (solid_of scene q.solid) q.plain ≤ face
-      → candidates_from scene q rs face ≡ confirmed_from scene q rs
-  no_candidate face past =
-      ap (λ ss. ss ++ confirmed_from scene q rs)
-      (no_face (Candidate q.solid) face (candidates_end (solid_of scene q.solid) q.plain) past)
 
   some_fraction : (f : ℕ) → (f ≡ 0 → ⊥) → (f == 0) ≡ false
   some_fraction f some = grind (arith, nat_tests)
@@ -80,12 +62,6 @@ module _ (scene : SceneView) (q : Literal) (rs : List Literal) where
   back_more face more =
       ap (λ ss. ss ++ judged_from scene rs 0)
       (face_more (Drop q.solid) face (face_count (solid_of scene q.solid)) more)
-
-  pub no_drop : (face : ℕ) → face_count (solid_of scene q.solid) ≤ face → drops_from scene q rs face
-      ≡ judged_from scene rs 0
-  no_drop face past =
-      ap (λ ss. ss ++ judged_from scene rs 0)
-      (no_face (Drop q.solid) face (face_count (solid_of scene q.solid)) past)
 
   pub drops_begin : (scene.fraction_bits ≡ 0 → ⊥) → q.plain ≡ true → (first : ℕ)
       → first ≡ length (solid_of scene q.solid).fronts + 1
@@ -112,25 +88,12 @@ module _ (scene : SceneView) (q : Literal) (rs : List Literal) where
       ap (λ ss. ss ++ Confirm ∷ judged_from scene rs 0)
       (face_more (Front q.solid) face (length (solid_of scene q.solid).fronts + 1) more)
 
-  pub no_front : (face : ℕ) → length (solid_of scene q.solid).fronts + 1 ≤ face → fronts_from scene q rs face
-      ≡ from_step scene q rs Confirm
-  no_front face past =
-      ap (λ ss. ss ++ Confirm ∷ judged_from scene rs 0)
-      (no_face (Front q.solid) face (length (solid_of scene q.solid).fronts + 1) past)
-
   pub turn_more : (other face : ℕ) → face < face_count (solid_of scene (literal_at rs other).solid)
       → turns_from scene rs other face ≡ from_step scene q rs (Turn other (literal_at rs other).solid face)
   turn_more other face more =
       let r = literal_at rs other in
       ap (λ ss. ss ++ Close other r.plain ∷ judged_from scene rs (other + 1))
       (face_more (Turn other r.solid) face (face_count (solid_of scene r.solid)) more)
-
-  pub closes : (other face : ℕ) → face_count (solid_of scene (literal_at rs other).solid) ≤ face
-      → turns_from scene rs other face ≡ from_step scene q rs (Close other (literal_at rs other).plain)
-  closes other face past =
-      let r = literal_at rs other in
-      ap (λ ss. ss ++ Close other r.plain ∷ judged_from scene rs (other + 1))
-      (no_face (Turn other r.solid) face (face_count (solid_of scene r.solid)) past)
 
   -- the steps of a literal begin with its first one
   pub opens : literal_steps scene q rs ≡ from_step scene q rs Open

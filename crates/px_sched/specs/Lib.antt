@@ -12,3 +12,4 @@ pub mod Passes
 pub mod PassesFacts
 pub mod PassesLaw
 pub mod Steps
+pub mod Worths

@@ -11,6 +11,6 @@ mod step;
 
 pub use cursor::Cursor;
 pub use layout::{Layout, NeedBits};
-pub use literal::Literal;
+pub use literal::{Literal, literals};
 pub use passes::laws_of_passes;
 pub use step::Step;

@@ -18,7 +18,7 @@ pub struct Literal {
 }
 
 /// The literals of a product: its plain solids in scene order, then its barred ones.
-pub(crate) fn literals(product: &Product) -> ArrayVec<Literal, MAX_LITERALS>
+pub fn literals(product: &Product) -> ArrayVec<Literal, MAX_LITERALS>
     ensures { result.items ≡ literals product.now }
 {
     let plain = product.plain.solids();

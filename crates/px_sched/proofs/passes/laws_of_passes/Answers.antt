@@ -17,11 +17,12 @@ pub returns-clause-lawful : goal.returns-clause-lawful
 returns-clause-lawful c =
     λ scene lawful solids. subst (All (λ m. IsLawful m (need_of (layout_of scene)))) (sym (passes_are scene))
     (scene_passes_fit c.laws_of_edges.ensures.range c.laws_of_edges.ensures.planes scene lawful
-    solids (kept_of scene (sum_of_products scene.show)))
+    solids (scene_layout scene lawful) (kept_of scene (sum_of_products scene.show)))
 
 pub returns-clause-steps : goal.returns-clause-steps
 returns-clause-steps c =
     λ scene lawful solids. step_fits c.laws_of_edges.ensures.range c.laws_of_edges.ensures.planes scene lawful solids
+    (scene_layout scene lawful)
 
 pub returns-clause-few : goal.returns-clause-few
 returns-clause-few c = λ scene lawful few. subst (λ ms. length ms ≤ 2 ^ 43) (sym (passes_are scene))

@@ -8,6 +8,8 @@ use Rattle.std.proofs.lemmas.List.Folds.{list_all-append}
 use Rattle.std.proofs.lemmas.List.Sums.{AllPass-from_list_all}
 use Rattle.px_num.proofs.TruthLaws.{lt_holds, lt_true}
 use Prim.Native.Nat.{zero, suc}
+use Rattle.px_expr.specs.Tree.{HasLeavesBelow, Tree}
+use Rattle.px_expr.proofs.LeafLaws.{leaves_below}
 use Rattle.px_normal.specs.declared.product.Product.{Product}
 use Rattle.px_normal.specs.declared.set.SolidSet.{SolidSet}
 use Rattle.px_normal.specs.Forms.{HasPlain, HasSolidsBelow, sum_of_products}
@@ -80,14 +82,17 @@ both_drawn : (scene : SceneView) (ps : List Product) → All HasPlain ps
     → All (HasSolids (is_known (length scene.solids))) ps → All (HasKnownLiterals scene) ps
 both_drawn scene ps plain known k d low = drawn scene (get_or ps k d) (plain k d low) (known k d low)
 
-pub kept_drawn : PlainIsKept → KnownAreKept → (scene : SceneView) (ps : List Product) → IsLawfulScene scene
-    → All HasPlain (sum_of_products scene.show)
-    → All (HasSolidsBelow (length scene.solids)) (sum_of_products scene.show)
-    → ps ≡ kept_of scene (sum_of_products scene.show) → All (HasKnownLiterals scene) ps
-kept_drawn keeps_plain keeps_known scene ps lawful plain known is =
+-- by the laws of the lower crates
+pub kept_drawn : PlainIsKept → KnownAreKept → ((tree : Tree) → HasLeavesBelow 256 tree → All HasPlain (sum_of_products tree))
+    → ((count : ℕ) (tree : Tree) → HasLeavesBelow 256 tree → HasLeavesBelow count tree
+    → All (HasSolidsBelow count) (sum_of_products tree))
+    → (scene : SceneView) → IsLawfulScene scene → (ps : List Product) → ps ≡ kept_of scene (sum_of_products scene.show)
+    → All (HasKnownLiterals scene) ps
+kept_drawn keeps_plain keeps_known plain known scene lawful ps is =
     let count = length scene.solids in
     let sum = sum_of_products scene.show in
+    let leaves = leaves_below count 256 (omega (arith, lawful.solids)) scene.show lawful.shown in
     subst (All (HasKnownLiterals scene)) (sym is)
-    (both_drawn scene (kept_of scene sum) (keeps_plain scene sum plain)
+    (both_drawn scene (kept_of scene sum) (keeps_plain scene sum (plain scene.show leaves))
     (All-weaker (HasSolidsBelow count) (HasSolids (is_known count)) (known_solids count) (kept_of scene sum)
-    (keeps_known count scene sum known)))
+    (keeps_known count scene sum (known count scene.show leaves lawful.shown))))
