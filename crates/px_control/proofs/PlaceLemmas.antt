@@ -5,12 +5,11 @@ use Rattle.std.specs.List.{slice_get}
 use Rattle.std.specs.Prelude.{IfNone, OnSome}
 use Rattle.std.proofs.lemmas.Option.{slice_get_cases, slice_get_within, slice_get-get_or}
 use Rattle.px_array.specs.declared.micro.Micro.{Micro}
-use Rattle.px_array.specs.Arrays.{Device, IsOpen}
+use Rattle.px_array.specs.Arrays.{Device}
 use Rattle.px_asm.specs.Micros.{micro_at}
 use Rattle.px_macro.specs.Macros.{IsLawful}
 use Rattle.px_macro.specs.declared.operation.Macro.{Macro}
 use Rattle.px_model.specs.Scenes.{SceneView}
-use Rattle.px_tree.specs.Nodes.{IsGrid}
 use Rattle.px_sched.specs.declared.cursor.Cursor.{Cursor}
 use Rattle.px_sched.specs.Cursors.{Stands}
 use Rattle.px_sched.specs.Layouts.{layout_of, need_of}
@@ -21,7 +20,6 @@ use Rattle.px_control.specs.Program.{operation_at, operation_ends, program, rows
 use Rattle.px_control.specs.ProgramLaws.{HaveLawfulPasses, HaveClocks}
 use Rattle.px_control.specs.Standing.{IsWithinOperation, StandsFor}
 use Rattle.px_control.proofs.EndLemmas.{next_end_here, operation_here, start_all, start_within}
-use Rattle.px_control.proofs.ArrayLaws.{columns_at}
 use Rattle.px_control.proofs.StepLemmas.{below_total, lawful_here, micro_here, start_more}
 
 pub record Here (scene : SceneView) (p : Place) (m : Macro) : Type 0 where
@@ -153,12 +151,6 @@ next_end_within scene p m e lawful stands c is =
     let h = here_of scene p m lawful stands c
     in let b = start_within scene (passes scene) (p.operation + 1)
     in omega (arith, stands.clock, h.next, h.micro, b)
-
--- an array that the program is made on is open
-pub is_open : (bits : ℕ) (scene : SceneView) (n : ℕ) (device : Device) → IsGrid (columns_of scene) (rows_of scene)
-    → IsAt bits scene n device → IsOpen device
-is_open bits scene n device grid at =
-    omega (arith, ap (λ d. d.state.tree.nx) at.reached, columns_at bits scene n, grid.0.0)
 
 pub clocks_at : (bits : ℕ) (scene : SceneView) (n : ℕ) (device : Device) → IsAt bits scene n device → device.clocks ≡ n
 unfolding array_after

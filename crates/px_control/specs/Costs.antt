@@ -1,90 +1,83 @@
--- What operations cost: how many they are, and the clocks that they take. Only proofs and private functions stand on it.
-use Rattle.std.specs.Prelude.{◌≡◌, ℕ, ◌+◌, ◌-◌, ◌*◌, ◌≤◌, Bool, List, [], ◌∷◌, length}
-use Rattle.std.specs.List.{flat_map, sum_by}
-use Rattle.px_asm.specs.Micros.{all_micros}
+-- What operations come to: how many they are, or the clocks that they take. Only proofs and private functions stand on it.
+use Rattle.std.specs.Prelude.{◌≡◌, ℕ, ◌+◌, ◌*◌, ◌≤◌, true}
+use Rattle.std.specs.List.{sum_by}
 use Rattle.px_face.specs.Edges.{edge_count}
 use Rattle.px_face.specs.Faces.{level}
 use Rattle.px_macro.specs.declared.operation.Macro.{Macro}
 use Rattle.px_macro.specs.declared.operation.Macro.TheVariants as m
+use Rattle.px_model.specs.Cells.{depths_of}
 use Rattle.px_model.specs.Scenes.{SceneView}
-use Rattle.px_sched.specs.declared.literal.Literal.{Literal}
 use Rattle.px_sched.specs.declared.step.Step.{Step}
 use Rattle.px_sched.specs.declared.step.Step.TheVariants.{Begin, Candidate, Clear, Close, Confirm, Drop, Front, Merge, Open, Start, Turn}
 use Rattle.px_sched.specs.Layouts.{layout_of}
-use Rattle.px_sched.specs.Passes.{judge, literal_steps, operations, solid_of}
-use Rattle.px_control.specs.declared.costs.Costs.{Costs}
+use Rattle.px_sched.specs.Passes.{solid_of}
+use Rattle.px_sched.specs.Worths.{bare}
+use Rattle.px_control.specs.declared.measure.Measure.{Measure}
+use Rattle.px_control.specs.declared.measure.Measure.TheVariants.{Clocks, Operations}
 use Rattle.px_control.specs.declared.rates.Rates.{Rates}
-use Rattle.px_control.specs.Program.{columns_of, rows_of}
+use Rattle.px_control.specs.Program.{cycles_in}
 
--- on the grid of a scene
-abbrev pub cost_of : SceneView → List Macro → Costs
-cost_of scene ms = record {
-  operations = length ms;
-  clocks = length (all_micros ms (columns_of scene) (rows_of scene));
-}
+abbrev pub measured : Measure → (clocks : ℕ) → ℕ
+measured Operations clocks = 1
+measured Clocks clocks = clocks
 
-abbrev pub step_cost : SceneView → Step → Costs
-step_cost scene step = cost_of scene (operations scene (layout_of scene) step)
+-- an operation on the grid of a scene
+abbrev pub worth : SceneView → Measure → Macro → ℕ
+worth scene measure m = measured measure (cycles_in scene m)
 
-abbrev pub steps_cost : SceneView → List Step → Costs
-steps_cost scene steps = cost_of scene (flat_map (operations scene (layout_of scene)) steps)
+-- where those of the edges of a face count nothing
+abbrev pub but_edges : SceneView → Measure → Macro → ℕ
+but_edges scene measure (m.KeepSign form) = 0
+but_edges scene measure m = worth scene measure m
 
-abbrev pub costs_plus : Costs → Costs → Costs
-costs_plus a b = record { operations = a.operations + b.operations; clocks = a.clocks + b.clocks }
+-- a step but for its edges
+abbrev pub bare_worth : SceneView → Measure → Step → ℕ
+bare_worth scene measure step = sum_by (worth scene measure) (bare (layout_of scene) (depths_of scene) step)
 
--- the first but for the second, and none where that is more
-abbrev pub costs_less : Costs → Costs → Costs
-costs_less a b = record { operations = a.operations - b.operations; clocks = a.clocks - b.clocks }
-
-abbrev pub times : ℕ → Costs → Costs
-times n a = record { operations = n * a.operations; clocks = n * a.clocks }
-
-abbrev pub sum_of : {A : Type 0} → (A → Costs) → List A → Costs
-sum_of f xs = record {
-  operations = sum_by (λ x. (f x).operations) xs;
-  clocks = sum_by (λ x. (f x).clocks) xs;
-}
-
--- neither part is greater
-pub record AreCostsAtMost (most : ℕ) (costs : Costs) : Type 0 where
-  pub operations : costs.operations ≤ most
-  pub clocks : costs.clocks ≤ most
-
--- what a literal adds to its product: its own steps, and those against it of each of the others
-abbrev pub share : SceneView → Literal → (others : ℕ) → Costs
-share scene q others =
-    costs_plus (steps_cost scene (literal_steps scene q [])) (times others (steps_cost scene (judge scene (q ∷ []) 0)))
-
--- what an operation that keeps one side of an edge costs
-abbrev pub edge_cost : SceneView → Costs
-edge_cost scene = cost_of scene (m.KeepSign (level 0) ∷ [])
-
-abbrev pub edges_of : SceneView → (solid : ℕ) → ℕ
-edges_of scene solid = edge_count (solid_of scene solid)
-
--- what a face's step costs with so many edges
-abbrev pub with_edges : Rates → Costs → (edges : ℕ) → Costs
-with_edges rates face edges = costs_plus face (times edges rates.edge)
-
--- what steps cost, by their kinds
-pub record AreRates (scene : SceneView) (rates : Rates) : Type 0 where
-  pub start : rates.start ≡ step_cost scene Start
-  pub own : rates.own ≡ costs_plus (step_cost scene Open) (step_cost scene Merge)
-  pub candidate : (solid : ℕ) → with_edges rates rates.candidate (edges_of scene solid) ≡ step_cost scene (Candidate solid 0)
-  pub drop : (solid : ℕ) → with_edges rates rates.drop (edges_of scene solid) ≡ step_cost scene (Drop solid 0)
-  pub confirm : rates.confirm ≡ costs_plus (step_cost scene Clear) (step_cost scene Confirm)
-  pub front : (solid : ℕ) → with_edges rates rates.front (edges_of scene solid) ≡ step_cost scene (Front solid 0)
-  pub judge : (plain : Bool) → rates.judge ≡ costs_plus (step_cost scene (Begin 0)) (step_cost scene (Close 0 plain))
-  pub turn : (solid : ℕ) → with_edges rates rates.turn (edges_of scene solid) ≡ step_cost scene (Turn 0 solid 0)
+-- what steps come to but for their edges, by their kinds, and an edge
+pub record AreRates (scene : SceneView) (measure : Measure) (rates : Rates) : Type 0 where
+  pub start : rates.start ≡ bare_worth scene measure Start
+  pub opening : rates.opening ≡ bare_worth scene measure Open
+  pub candidate : rates.candidate ≡ bare_worth scene measure (Candidate 0 0)
+  pub drop : rates.drop ≡ bare_worth scene measure (Drop 0 0)
+  pub clear : rates.clear ≡ bare_worth scene measure Clear
+  pub front : rates.front ≡ bare_worth scene measure (Front 0 0)
+  pub confirm : rates.confirm ≡ bare_worth scene measure Confirm
+  pub begin : rates.begin ≡ bare_worth scene measure (Begin 0)
+  pub turn : rates.turn ≡ bare_worth scene measure (Turn 0 0 0)
+  pub close : rates.close ≡ bare_worth scene measure (Close 0 true)
+  pub merge : rates.merge ≡ bare_worth scene measure Merge
+  pub edge : rates.edge ≡ worth scene measure (m.KeepSign (level 0))
 
 -- none of them is great
 pub record AreLow (rates : Rates) : Type 0 where
-  pub start : AreCostsAtMost 8364 rates.start
-  pub own : AreCostsAtMost 16728 rates.own
-  pub candidate : AreCostsAtMost 16728 rates.candidate
-  pub drop : AreCostsAtMost 16728 rates.drop
-  pub confirm : AreCostsAtMost 16728 rates.confirm
-  pub front : AreCostsAtMost 16728 rates.front
-  pub judge : AreCostsAtMost 16728 rates.judge
-  pub turn : AreCostsAtMost 16728 rates.turn
-  pub edge : AreCostsAtMost 82 rates.edge
+  pub start : rates.start ≤ 8364
+  pub opening : rates.opening ≤ 8364
+  pub candidate : rates.candidate ≤ 8364
+  pub drop : rates.drop ≤ 8364
+  pub clear : rates.clear ≤ 8364
+  pub front : rates.front ≤ 8364
+  pub confirm : rates.confirm ≤ 8364
+  pub begin : rates.begin ≤ 8364
+  pub turn : rates.turn ≤ 8364
+  pub close : rates.close ≤ 8364
+  pub merge : rates.merge ≤ 8364
+  pub edge : rates.edge ≤ 82
+
+-- a face's step by what it is but for its edges
+abbrev pub with_edges : Rates → SceneView → (bare solid : ℕ) → ℕ
+with_edges rates scene bare solid = bare + edge_count (solid_of scene solid) * rates.edge
+
+-- a step by its kind and the edges of its solid
+abbrev pub rated : Rates → SceneView → Step → ℕ
+rated rates scene Start = rates.start
+rated rates scene Open = rates.opening
+rated rates scene (Candidate solid face) = with_edges rates scene rates.candidate solid
+rated rates scene (Drop solid face) = with_edges rates scene rates.drop solid
+rated rates scene Clear = rates.clear
+rated rates scene (Front solid face) = with_edges rates scene rates.front solid
+rated rates scene Confirm = rates.confirm
+rated rates scene (Begin other) = rates.begin
+rated rates scene (Turn other solid face) = with_edges rates scene rates.turn solid
+rated rates scene (Close other plain) = rates.close
+rated rates scene Merge = rates.merge

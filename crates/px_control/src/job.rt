@@ -1,7 +1,7 @@
 //! A scene's broadcasts, made on an array.
 ghost use Rattle.std.specs.Prelude.{◌≡◌, [], ◌∷◌, ◌+◌, ◌-◌, ◌^◌, ◌<◌, ◌≤◌, ℕ, Err, IfErr, IfOk, OnOk, Some, length, min, slice_get, None};
-ghost use Rattle.px_array.specs.Arrays.{IsOpen, pixel_of};
-ghost use Rattle.px_array.specs.Slots.{IsRunOnce, array_view, no_slots, none_open, worked};
+ghost use Rattle.px_array.specs.Arrays.{pixel_of};
+ghost use Rattle.px_array.specs.Slots.{IsRunOnce, array_view, no_slots, worked};
 ghost use Rattle.px_prune.specs.Kept.{crowd_of};
 ghost use Rattle.px_sched.specs.Layouts.{layout_of, need_of};
 ghost use Rattle.px_sched.specs.Passes.{passes};

@@ -1,12 +1,12 @@
 //! Running a scene's broadcasts on an array.
 #![tactic(auto)]
 
-mod costs;
 mod drawing;
 mod fault;
 mod job;
 mod law;
 mod literal;
+mod measure;
 mod place;
 mod program;
 mod rates;

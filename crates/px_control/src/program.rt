@@ -1,7 +1,7 @@
 //! The program of a scene, given one operation at a time.
 ghost use Rattle.std.specs.Prelude.{◌≡◌, ◌∷◌, ◌+◌, ◌-◌, ◌^◌, ◌<◌, ◌≤◌, ℕ, Err, IfErr, IfNone, IfOk, OnOk, OnSome, Some, None, length, slice_get};
 ghost use Rattle.px_sched.specs.Cursors.{Stands};
-ghost use Rattle.px_asm.specs.Micros.{cycles as cycles_of, micro_at as micro_of};
+ghost use Rattle.px_asm.specs.Micros.{micro_at as micro_of};
 ghost use Rattle.px_array.specs.Slots.{worked};
 ghost use Rattle.px_macro.specs.Macros.{IsLawful, IsLawfulInMore};
 ghost use Rattle.px_prune.specs.Kept.{crowd_of};

@@ -1,91 +1,76 @@
-//! What the steps of a scene cost, by their kinds.
-ghost use Rattle.std.specs.Prelude.{◌≡◌, ◌≤◌};
+//! What the steps of a scene come to, by their kinds.
+ghost use Rattle.std.specs.Prelude.{◌≡◌, ◌+◌, ◌*◌, ◌≤◌};
+ghost use Rattle.px_face.specs.Edges.{edge_count};
 ghost use Rattle.px_sched.specs.Layouts.{layout_of};
-ghost use Rattle.px_control.specs.Costs.{AreCostsAtMost, AreLow, AreRates, edge_cost, with_edges};
+ghost use Rattle.px_control.specs.Costs.{AreLow, AreRates};
 
-use crate::costs::{Costs, step_cost};
-use crate::literal::solid_at;
-use px_asm::cycles;
-use px_face::{edge_count, laws_of_edges};
+use crate::measure::Measure;
+use px_face::edge_count;
 use px_macro::Macro;
-use px_model::{Scene, laws_of_scenes};
+use px_model::{Scene, Solid, laws_of_scenes};
 use px_num::Linear;
 use px_sched::{Layout, Step};
 
-/// What each kind of step costs in a scene: a face's apart from the edges of its solid, each of which costs the same.
+/// What each kind of step comes to in a scene: a face's apart from the edges of its solid, each of which is the same.
 #[derive(Clone, Copy, Debug, PartialEq, Eq)]
 pub(crate) struct Rates {
-    pub(crate) start: Costs,
-    /// What begins a literal, and merges it.
-    pub(crate) own: Costs,
-    pub(crate) candidate: Costs,
-    pub(crate) drop: Costs,
-    /// What stands around the fronts of a barred solid.
-    pub(crate) confirm: Costs,
-    pub(crate) front: Costs,
-    /// What stands around the faces of a literal that judges.
-    pub(crate) judge: Costs,
-    pub(crate) turn: Costs,
-    pub(crate) edge: Costs,
+    pub(crate) start: u64,
+    pub(crate) opening: u64,
+    pub(crate) candidate: u64,
+    pub(crate) drop: u64,
+    pub(crate) clear: u64,
+    pub(crate) front: u64,
+    pub(crate) confirm: u64,
+    pub(crate) begin: u64,
+    pub(crate) turn: u64,
+    pub(crate) close: u64,
+    pub(crate) merge: u64,
+    pub(crate) edge: u64,
 }
 
 impl Rates {
     /// Of a scene, by the faces of its first solid.
-    pub(crate) fn of(scene: &Scene, layout: &Layout) -> Rates
+    pub(crate) fn of(scene: &Scene, layout: &Layout, measure: Measure) -> Rates
         requires layout { layout.now ≡ layout_of scene.now }
-        ensures rates { AreRates scene.now result }
+        ensures rates { AreRates scene.now measure result }
         ensures low { AreLow result }
     {
         laws_of_scenes(scene);
-        laws_of_edges();
-        let start = step_cost(scene, layout, Step::Start);
-        let open = step_cost(scene, layout, Step::Open);
-        let candidate = step_cost(scene, layout, Step::Candidate(0, 0));
-        let drop = step_cost(scene, layout, Step::Drop(0, 0));
-        let clear = step_cost(scene, layout, Step::Clear);
-        let front = step_cost(scene, layout, Step::Front(0, 0));
-        let confirm = step_cost(scene, layout, Step::Confirm);
-        let begin = step_cost(scene, layout, Step::Begin(0));
-        let turn = step_cost(scene, layout, Step::Turn(0, 0, 0));
-        let close = step_cost(scene, layout, Step::Close(0, true));
-        let merge = step_cost(scene, layout, Step::Merge);
-        let edge = edge_cost(scene);
-        let edges = edge.times(edge_count(solid_at(scene, 0)) as u64);
+        let start = measure.of_step(scene, layout, Step::Start);
+        let opening = measure.of_step(scene, layout, Step::Open);
+        let candidate = measure.of_step(scene, layout, Step::Candidate(0, 0));
+        let drop = measure.of_step(scene, layout, Step::Drop(0, 0));
+        let clear = measure.of_step(scene, layout, Step::Clear);
+        let front = measure.of_step(scene, layout, Step::Front(0, 0));
+        let confirm = measure.of_step(scene, layout, Step::Confirm);
+        let begin = measure.of_step(scene, layout, Step::Begin(0));
+        let turn = measure.of_step(scene, layout, Step::Turn(0, 0, 0));
+        let close = measure.of_step(scene, layout, Step::Close(0, true));
+        let merge = measure.of_step(scene, layout, Step::Merge);
+        let edge = measure.of(scene, &Macro::KeepSign(Linear { a: 0, b: 0, c: 0 }));
         Rates {
             start,
-            own: open.plus(&merge),
-            candidate: candidate.less(&edges),
-            drop: drop.less(&edges),
-            confirm: clear.plus(&confirm),
-            front: front.less(&edges),
-            judge: begin.plus(&close),
-            turn: turn.less(&edges),
+            opening,
+            candidate,
+            drop,
+            clear,
+            front,
+            confirm,
+            begin,
+            turn,
+            close,
+            merge,
             edge,
         }
     }
 
-    /// What a face's step costs with so many edges.
-    pub(crate) fn with_edges(&self, face: &Costs, edges: u64) -> Costs
+    /// What a face's step comes to in all.
+    pub(crate) fn with_edges(&self, bare: u64, solid: &Solid) -> u64
         requires low { AreLow self.now }
-        requires face { AreCostsAtMost 16728 face.now }
-        requires few { edges ≤ 97 }
-        ensures cost { result ≡ with_edges self.now face.now edges }
-        ensures few { AreCostsAtMost 25000 result }
+        requires bare { bare ≤ 8364 }
+        ensures all { result ≡ bare + edge_count solid.now * self.now.edge }
+        ensures few { result ≤ 16318 }
     {
-        face.plus(&self.edge.times(edges))
-    }
-}
-
-/// What an operation that keeps one side of an edge costs.
-fn edge_cost(scene: &Scene) -> Costs
-    ensures cost { result ≡ edge_cost scene.now }
-    ensures few { AreCostsAtMost 82 result }
-{
-    laws_of_scenes(scene);
-    let (columns, rows) = scene.grid();
-    let edge = Macro::KeepSign(Linear { a: 0, b: 0, c: 0 });
-    Costs {
-        operations: 1,
-        clocks: u64::from(cycles(&edge, columns, rows)),
+        bare + edge_count(solid) as u64 * self.edge
     }
 }

@@ -1,11 +1,11 @@
 //! The way through a program, on which operations are made at once as long as that shows nowhere.
-ghost use Rattle.std.specs.Prelude.{◌≡◌, ◌⊎◌, ◌+◌, ◌-◌, ◌^◌, ◌<◌, ◌≤◌, ℕ, Some, None, IfSome, IsSome, length, slice_get};
+ghost use Rattle.std.specs.Prelude.{◌≡◌, ◌⊎◌, ◌+◌, ◌-◌, ◌<◌, ◌≤◌, ℕ, Some, None, IfSome, IsSome, length};
 ghost use Rattle.px_array.specs.Slots.{worked};
 ghost use Rattle.px_sched.specs.Layouts.{layout_of, need_of};
 ghost use Rattle.px_sched.specs.Passes.{passes};
 ghost use Rattle.px_control.specs.Program.{IsAt, start_of, total};
 ghost use Rattle.px_control.specs.Standing.{StandsFor};
-ghost use Rattle.px_control.specs.Whole.{AllRenewed, BeginsIn, IsFresh, IsNear, IsSized, after_left};
+ghost use Rattle.px_control.specs.Whole.{AllRenewed, IsFresh, IsNear, IsSized, after_left};
 
 use crate::place::Place;
 use crate::program::Program;

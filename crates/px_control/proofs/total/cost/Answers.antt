@@ -1,28 +1,36 @@
-use Rattle.std.proofs.Common.{◌∙◌}
-use Rattle.px_control.proofs.BoundLemmas.{counted_passes, kept_known}
+use Rattle.std.proofs.Common.{◌∙◌, sym}
+use Rattle.px_normal.specs.Forms.{sum_of_products}
+use Rattle.px_sched.specs.Passes.{passes}
+use Rattle.px_sched.proofs.DrawnLaws.{kept_drawn}
+use Rattle.px_sched.proofs.WorthLaws.{counted}
+use Rattle.px_control.specs.declared.measure.Measure.TheVariants.{Clocks, Operations}
+use Rattle.px_control.proofs.CostLemmas.{passes_come_to, total_is}
 use Rattle.px_control.proofs.total.cost.Goals as goal
 
-pub products_cost-costs-requires-clause-few : goal.products_cost-costs-requires-clause-few
-products_cost-costs-requires-clause-few c =
-    rw (c.as_slice.ensures.value, c.requires.products) c.requires.few
+pub products_cost-requires-clause-few : goal.products_cost-requires-clause-few
+products_cost-requires-clause-few c = rw (c.as_slice.ensures.value, c.requires.products) c.requires.few
 
-pub products_cost-costs-requires-clause-known : goal.products_cost-costs-requires-clause-known
-products_cost-costs-requires-clause-known c =
-    rw (c.as_slice.ensures.value, c.requires.products)
-    (kept_known c.args.scene.now c.laws_of_scenes.ensures.scene (record {
-      whole = c.laws_of_normal_forms.ensures.known;
-      kept = c.laws_of_pruning.ensures.known;
-      apart = c.laws_of_pruning.ensures.apart;
-    }))
-
-pub returns-clause-clocks : goal.returns-clause-clocks
-returns-clause-clocks c =
-    (counted_passes c.args.scene.now c.as_slice.result.now c.products_cost-costs.result
-    (c.as_slice.ensures.value ∙ c.requires.products)
-    c.products_cost-costs.ensures).1
+pub products_cost-requires-clause-known : goal.products_cost-requires-clause-known
+products_cost-requires-clause-known c =
+    let forms = c.laws_of_normal_forms.ensures in
+    let pruning = c.laws_of_pruning.ensures in
+    kept_drawn pruning.plain pruning.known forms.plain forms.known c.args.scene.now c.laws_of_scenes.ensures.scene
+    c.as_slice.result.now (c.as_slice.ensures.value ∙ c.requires.products)
 
 pub returns-clause-macros : goal.returns-clause-macros
 returns-clause-macros c =
-    (counted_passes c.args.scene.now c.as_slice.result.now c.products_cost-costs.result
-    (c.as_slice.ensures.value ∙ c.requires.products)
-    c.products_cost-costs.ensures).0
+    let scene = c.args.scene.now in
+    c.products_cost.ensures.first
+    ∙ passes_come_to c.laws_of_edges.ensures.count scene Operations c.of-operations.result c.of-operations.ensures.rates
+    c.as_slice.result.now (c.as_slice.ensures.value ∙ c.requires.products)
+    (c.laws_of_pruning.ensures.apart scene (sum_of_products scene.show))
+    ∙ sym (counted (passes scene))
+
+pub returns-clause-clocks : goal.returns-clause-clocks
+returns-clause-clocks c =
+    let scene = c.args.scene.now in
+    c.products_cost.ensures.second
+    ∙ passes_come_to c.laws_of_edges.ensures.count scene Clocks c.of-clocks.result c.of-clocks.ensures.rates
+    c.as_slice.result.now (c.as_slice.ensures.value ∙ c.requires.products)
+    (c.laws_of_pruning.ensures.apart scene (sum_of_products scene.show))
+    ∙ sym (total_is scene)

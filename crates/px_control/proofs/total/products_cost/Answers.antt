@@ -1,31 +1,42 @@
-use Rattle.std.proofs.Common.{◌+◌, ◌*◌, ◌^◌, ◌∙◌, [], take, get_or, arith}
-use Rattle.std.proofs.lemmas.List.{take_more}
+use Rattle.std.proofs.Common.{◌≡◌, ℕ, ◌+◌, ◌<◌, ◌≤◌, ◌^◌, ◌∙◌, List, length, get_or, ap, arith}
+use Rattle.std.proofs.lemmas.List.Sums.{sum_by_more}
 use Rattle.px_normal.specs.declared.product.Product.{Product}
-use Rattle.px_control.proofs.CostLemmas.{at_most_more, plus_at_most}
-use Rattle.px_control.proofs.ProductLemmas.{steps_more}
+use Rattle.px_model.specs.Scenes.{SceneView}
+use Rattle.px_sched.specs.declared.literal.Literal.{Literal}
+use Rattle.px_sched.specs.Groups.{no_product}
+use Rattle.px_sched.specs.Passes.{literals}
+use Rattle.px_sched.specs.Worths.{shares_worth}
+use Rattle.px_control.specs.declared.rates.Rates.{Rates}
+use Rattle.px_control.specs.Costs.{rated}
+use Rattle.px_control.proofs.total.products_cost.Invariants.{AreCounted}
 use Rattle.px_control.proofs.total.products_cost.Goals as goal
 
-abbrev no_product : Product
-no_product = record { plain = record { words = [] }; barred = record { words = [] } }
+-- one product more
+more : (cost added : ℕ) (rates : Rates) (scene : SceneView) (products : List Product) (i : ℕ) (qs : List Literal)
+    → i < length products → AreCounted cost rates scene products i → qs ≡ literals (get_or products i no_product)
+    → added ≡ shares_worth (rated rates scene) scene qs → added ≤ 2 ^ 39
+    → AreCounted (cost + added) rates scene products (i + 1)
+more cost added rates scene products i qs there before same is few = record {
+  counted = omega (
+    arith,
+    before.counted,
+    is,
+    ap (shares_worth (rated rates scene) scene) same,
+    sum_by_more (λ product. shares_worth (rated rates scene) scene (literals product)) products i no_product there,
+  );
+  few = omega (arith, before.few, few);
+}
 
 pub loop-product-preserved : goal.loop-product-preserved
 loop-product-preserved c =
-    let products = c.args.products.now
-    in let i = c.loop-product.product-index
-    in record {
-      counted =
-          c.plus-costs.ensures
-          ∙ rw (
-            c.loop-product.invariant.counted,
-            c.product_cost.ensures.cost,
-            take_more products i no_product c.loop-product-test.true,
-          )
-          (steps_more c.args.scene.now (take i products) (get_or products i no_product));
-      few =
-          rw c.plus-costs.ensures
-          (at_most_more (8364 + i * 2 ^ 39 + 2 ^ 39) _ _ (omega arith)
-          (plus_at_most (8364 + i * 2 ^ 39) (2 ^ 39) _ _ c.loop-product.invariant.few c.product_cost.ensures.few));
-    }
-
-pub product_cost-requires-clause-known : goal.product_cost-requires-clause-known
-product_cost-requires-clause-known c = c.requires.known c.loop-product.product-index no_product c.loop-product-test.true
+    let scene = c.args.scene.now in
+    let products = c.args.products.now in
+    let i = c.loop-product.product-index in
+    let before = c.loop-product.invariant in
+    let first = c.literals_cost.ensures in
+    let second = c.literals_cost-in-loop-product.ensures in (
+      more _ _ c.args.first.now scene products i c.as_slice.result.now c.loop-product-test.true before.0
+          (c.as_slice.ensures.value ∙ c.literals-list.ensures) first.cost first.few,
+      more _ _ c.args.second.now scene products i c.as_slice-in-loop-product.result.now c.loop-product-test.true before.1
+          (c.as_slice-in-loop-product.ensures.value ∙ c.literals-list.ensures) second.cost second.few,
+    )

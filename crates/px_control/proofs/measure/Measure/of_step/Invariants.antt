@@ -1,0 +1,17 @@
+use Rattle.std.proofs.Common.{◌≡◌, ℕ, ◌*◌, ◌≤◌, take}
+use Rattle.std.specs.List.{sum_by}
+use Rattle.px_model.specs.Scenes.{SceneView}
+use Rattle.px_sched.specs.declared.step.Step.{Step}
+use Rattle.px_sched.specs.Layouts.{layout_of}
+use Rattle.px_sched.specs.Passes.{operations}
+use Rattle.px_control.specs.declared.measure.Measure.{Measure}
+use Rattle.px_control.specs.Costs.{but_edges}
+use Rattle.px_control.proofs.measure.Measure.of_step.Given as goal
+
+-- what the first operations come to
+pub record AreCounted (sum : ℕ) (scene : SceneView) (measure : Measure) (step : Step) (count : ℕ) : Type 0 where
+  pub counted : sum ≡ sum_by (but_edges scene measure) (take count (operations scene (layout_of scene) step))
+  pub few : sum ≤ count * 82
+
+abbrev pub invariant-loop-at : goal.invariant-loop-at
+invariant-loop-at l = AreCounted l.sum l.scene l.self l.step l.at
