@@ -1,18 +1,28 @@
--- The slots: the room of each, and whether it is saved. Only proofs and private functions stand on it.
-use Rattle.std.specs.Prelude.{◌≡◌, ℕ, All, List, Option, None, Some, false, if◌then◌else◌, map}
-use Rattle.px_array.specs.Arrays.{Device, opened}
-use Rattle.px_array.specs.declared.open_array.Slot.{Slot}
+-- What the slots of an open array keep, and for what they have room. Only proofs and private functions stand on it.
+use Rattle.std.specs.Prelude.{◌≡◌, ℕ, All, List, Option, None, length, map, replicate}
+use Rattle.px_array.specs.Arrays.{Device}
 
--- what a slot keeps
-abbrev pub kept_by : {bits : ℕ} → Slot bits → Option Device
-kept_by {bits} s = if s.is_saved then Some s.grid else None
+-- the size of the grids that a slot has room for, and what it keeps, if anything
+pub record SlotView : Type 0 where
+  pub nx : ℕ
+  pub ny : ℕ
+  pub kept : Option Device
 
-abbrev pub kept_by_slots : {bits : ℕ} → List (Slot bits) → List (Option Device)
-kept_by_slots {bits} slots = map kept_by slots
+abbrev pub empty_slot : (nx ny : ℕ) → SlotView
+empty_slot nx ny = record { nx = nx; ny = ny; kept = None }
 
--- the rooms have the size of a grid
-abbrev pub HaveSize : {bits : ℕ} → (nx ny : ℕ) → List (Slot bits) → Type 0
-HaveSize {bits} nx ny slots = All (λ s. (s.grid.state.tree.nx ≡ nx) × (s.grid.state.tree.ny ≡ ny)) slots
+-- a slot has room for a device
+abbrev pub HasRoom : Device → SlotView → Type 0
+HasRoom d s = (s.nx ≡ d.state.tree.nx) × (s.ny ≡ d.state.tree.ny)
 
-abbrev pub empty_slot : (bits nx ny : ℕ) → Slot bits
-empty_slot bits nx ny = record { grid = opened bits nx ny; is_saved = false }
+abbrev pub HaveRoom : {Slot : Type 0} (held : Slot → SlotView) → Device → List Slot → Type 0
+HaveRoom held d slots = All (λ s. HasRoom d (held s)) slots
+
+abbrev pub kept_by_slots : {Slot : Type 0} (held : Slot → SlotView) → List Slot → List (Option Device)
+kept_by_slots held slots = map (λ s. (held s).kept) slots
+
+-- there are n slots with room for grids of this size, and none of them keeps anything
+pub record AreEmpty {Slot : Type 0} (held : Slot → SlotView) (n nx ny : ℕ) (slots : List Slot) : Type 0 where
+  pub long : length slots ≡ n
+  pub none : kept_by_slots held slots ≡ replicate n None
+  pub rooms : All (λ s. ((held s).nx ≡ nx) × ((held s).ny ≡ ny)) slots

@@ -1,178 +1,112 @@
-//! An open array: its pixels, its tree and its clocks.
-ghost use Rattle.std.specs.Prelude.{◌≡◌, ◌+◌, ◌-◌, ◌*◌, ◌^◌, ◌<◌, ◌≤◌, IfOk, length};
+//! What an open array is made of, however it keeps its pixels and nodes.
+ghost use Rattle.std.specs.Prelude.{◌≡◌, ◌-◌, ◌*◌, ◌^◌, ◌<◌, ◌≤◌, ℕ, IfOk, IsSome, Some};
+ghost use Rattle.px_num.specs.Bits.{bit_at};
 ghost use Rattle.px_pixel.specs.Acts.{HasPlace};
-ghost use Rattle.px_tree.specs.Nodes.{IsGrid, leaf_bit, leaf_output, node_at};
-ghost use Rattle.px_array.specs.Arrays.{HasPixel, IsOpen, opened, pixel_of};
-ghost use Rattle.px_array.specs.Clocks.{acted, after_tree_op, clocked};
-ghost use Rattle.px_array.specs.Words.{IsMemoryWord, memory_bit};
+ghost use Rattle.px_tree.specs.Nodes.{IsGrid, leaf_bit, node_at};
+ghost use Rattle.px_array.specs.Arrays.{Device, HasPixel, IsOpen, levels_of, opened, pixel_of};
+ghost use Rattle.px_array.specs.Arrays.{registers_of};
+ghost use Rattle.px_array.specs.Clocks.{after_tree_op, clocked};
+ghost use Rattle.px_array.specs.OpenArrays.{HasRoom, SlotView, empty_slot};
+ghost use Rattle.px_array.specs.Words.{IsMemoryWord};
 
-use crate::micro::{Micro, TreeOp};
-use px_num::{Memory, power};
-use px_pixel::{Act, Pixel};
-use px_tree::{NodeTree, Tree, leaf_index};
+use crate::micro::{Micro, Registers, TreeOp};
+use px_num::Memory;
+use px_tree::Tree;
 use std::alloc::Global;
-use std::marker::Model;
 
-/// The pixels of an open array, pixel `(x, y)` at place `x * 2^ny + y`, and the tree over them.
-#[derive(Drop)]
-pub(crate) struct Grid<const N: usize> {
-    pixels: Vec<Pixel<N>>,
-    tree: NodeTree,
-    clocks: u64,
-}
+/// The pixels of an open array, pixel `(x, y)` at place `x * 2^ny + y`, the tree over them, and the
+/// clocks.
+pub trait Grid: Sized + Drop {
+    /// How many bits of memory a pixel has.
+    const BITS: usize;
 
-impl<const N: usize> Model for Grid<N> {
-    ghost use Rattle.std.specs.Prelude.{◌≡◌, ◌≤◌, ◌+◌, ◌^◌, length};
-    ghost use Rattle.px_tree.specs.Nodes.{IsGrid};
-    ghost use Rattle.px_array.specs.Arrays.{Device};
+    /// Room for what a slot keeps of a grid, and whether it keeps anything.
+    type Slot: Drop;
 
-    ghost Value = { Device };
+    ghost BITS: { ℕ };
 
-    ghost view = { λ g. record {
-      state = record { pixels = g.pixels.items; tree = g.tree };
-      clocks = g.clocks;
-    } };
+    /// The state of every pixel and node, and the clocks.
+    ghost device: { Self → Device };
 
-    ghost invariant = { λ g. record {
-      bits : N ≤ 256;
-      grid : IsGrid g.tree.nx g.tree.ny;
-      whole : length g.pixels.items ≡ 2 ^ (g.tree.nx + g.tree.ny);
-    } };
-}
+    /// What a slot has room for, and what it keeps.
+    ghost held: { Self.Slot → SlotView };
 
-impl<const N: usize> Grid<N> {
     /// All bits, registers and latches 0.
-    pub(crate) fn new(alloc: Global, nx: u32, ny: u32) -> Result<Grid<N>, Memory>
-        requires bits { N ≤ 256 }
+    fn new(alloc: Global, nx: u32, ny: u32) -> Result<Self, Memory>
+        requires bits { BITS ≤ 256 }
         requires grid { IsGrid nx ny }
-        ensures { IfOk result (λ grid. grid ≡ opened N nx ny) }
-    {
-        let tree = NodeTree::new(alloc, nx, ny)?;
-        let pixels = vec![in alloc; Pixel::zero(); power(nx + ny)]?;
-        Ok(Grid {
-            pixels,
-            tree,
-            clocks: 0,
-        })
-    }
+        ensures { IfOk result (λ grid. device grid ≡ opened BITS nx ny) };
 
-    pub(crate) fn clock(&mut self, m: Micro)
-        requires place { HasPlace N m.act }
-        requires counted { self.old.clocks < 2 ^ 64 - 1 }
-        ensures { self.new ≡ clocked m self.old }
-    {
-        // The pixels come first, since their leaf bits are those from before the clock.
-        act_all(&mut self.pixels, &self.tree, m.act);
-        move_tree(&mut self.tree, m.tree);
-        self.clocks += 1;
-    }
+    /// Room for grids of this size, and nothing kept.
+    fn new_slot(alloc: Global, nx: u32, ny: u32) -> Result<Self::Slot, Memory>
+        requires bits { BITS ≤ 256 }
+        requires grid { IsGrid nx ny }
+        ensures { IfOk result (λ slot. held slot ≡ empty_slot nx ny) };
 
-    /// Takes the state and the clocks of another grid of the same size.
-    pub(crate) fn copy_from(&mut self, other: &Grid<N>)
-        requires columns { self.old.state.tree.nx ≡ other.now.state.tree.nx }
-        requires rows { self.old.state.tree.ny ≡ other.now.state.tree.ny }
-        ensures { self.new ≡ other.now }
-    {
-        self.pixels.copy_from_slice(&other.pixels);
-        self.tree.copy_from(&other.tree);
-        self.clocks = other.clocks;
-    }
+    /// One clock: each pixel does the act by its leaf's bit from before the clock, and the tree its
+    /// operation.
+    fn clock(&mut self, m: Micro)
+        requires place { HasPlace BITS m.act }
+        requires counted { (device self.old).clocks < 2 ^ 64 - 1 }
+        ensures { device self.new ≡ clocked m (device self.old) };
 
-    pub(crate) fn size(&self) -> (u32, u32)
-        ensures size { result ≡ (self.now.state.tree.nx, self.now.state.tree.ny) }
-        ensures is_open { IsOpen self.now }
-        ensures grid { IsGrid self.now.state.tree.nx self.now.state.tree.ny }
-    {
-        self.tree.size()
-    }
+    /// Keeps the state and the clocks in a slot, in place of what it kept.
+    fn save(&self, slot: &mut Self::Slot)
+        requires room { HasRoom (device self.now) (held slot.old) }
+        ensures { held slot.new ≡ record (held slot.old) { kept = Some (device self.now) } };
 
-    pub(crate) fn pixel(&self, x: u32, y: u32) -> &Pixel<N>
-        requires pixel { HasPixel self.now x y }
-        ensures { result.now ≡ pixel_of self.now.state x y }
-    {
-        let (nx, ny) = self.tree.size();
-        &self.pixels[leaf_index(nx, ny, x, y)]
-    }
+    /// Takes the state and the clocks that a slot keeps.
+    fn restore(&mut self, slot: &Self::Slot)
+        requires saved { IsSome (held slot.now).kept }
+        requires room { HasRoom (device self.old) (held slot.now) }
+        ensures restored { (held slot.now).kept ≡ Some (device self.new) }
+        ensures room { HasRoom (device self.new) (held slot.now) };
+
+    /// `(nx, ny)`.
+    fn size(&self) -> (u32, u32)
+        ensures size { result ≡ ((device self.now).state.tree.nx, (device self.now).state.tree.ny) }
+        ensures is_open { IsOpen (device self.now) }
+        ensures grid { IsGrid (device self.now).state.tree.nx (device self.now).state.tree.ny };
+
+    /// Bit `at` of the memory of a pixel.
+    fn bit(&self, x: u32, y: u32, at: u32) -> bool
+        requires pixel { HasPixel (device self.now) x y }
+        requires place { at < BITS }
+        ensures { result ≡ bit_at (pixel_of (device self.now).state x y).memory at };
 
     /// Bit `at` of the memories of the 64 pixels from the place `64 * w` on.
-    pub(crate) fn word(&self, at: u32, w: usize) -> u64
-        requires place { at < N }
-        requires word { 64 * w < 2 ^ (self.now.state.tree.nx + self.now.state.tree.ny) }
-        ensures { IsMemoryWord self.now.state at w result }
-    {
-        let mut word = 0;
-        for i in 0..64 {
-            if self.bit_of_word(at, w, i) {
-                word |= 1 << i;
-            }
-        }
-        word
-    }
+    fn word(&self, at: u32, w: usize) -> u64
+        requires place { at < BITS }
+        requires word { 64 * w < 2 ^ levels_of (device self.now).state.tree }
+        ensures { IsMemoryWord (device self.now).state at w result };
 
-    /// Bit `i` of that word.
-    fn bit_of_word(&self, at: u32, w: usize, i: usize) -> bool
-        requires place { at < N }
-        requires word { 64 * w < 2 ^ (self.now.state.tree.nx + self.now.state.tree.ny) }
-        requires bit { i < 64 }
-        ensures { result ≡ memory_bit self.now.state at (64 * w + i) }
-    {
-        let pixels = self.pixels.len();
-        let place = 64 * w + i;
-        place < pixels && self.pixels[place].memory.get(at)
-    }
+    /// The registers of a pixel.
+    fn registers(&self, x: u32, y: u32) -> Registers
+        requires pixel { HasPixel (device self.now) x y }
+        ensures { result ≡ registers_of (pixel_of (device self.now).state x y) };
 
-    pub(crate) fn tree_bit(&self, x: u32, y: u32) -> bool
-        requires pixel { HasPixel self.now x y }
-        ensures { result ≡ leaf_bit self.now.state.tree x y }
-    {
-        self.tree.leaf(x, y)
-    }
+    /// The output latch of the leaf over a pixel.
+    fn tree_bit(&self, x: u32, y: u32) -> bool
+        requires pixel { HasPixel (device self.now) x y }
+        ensures { result ≡ leaf_bit (device self.now).state.tree x y };
 
-    pub(crate) fn node(&self, level: u32, index: u32) -> (bool, bool)
+    /// The output and the carry latch of a node of the tree; levels are counted from 1.
+    fn node(&self, level: u32, index: u32) -> (bool, bool)
         requires from_one { 1 ≤ level }
-        requires in_tree { level ≤ self.now.state.tree.nx + self.now.state.tree.ny }
+        requires in_tree { level ≤ levels_of (device self.now).state.tree }
         requires in_level { index < 2 ^ level }
-        ensures output { result.0 ≡ (node_at self.now.state.tree level index).output }
-        ensures carry { result.1 ≡ (node_at self.now.state.tree level index).carry }
-    {
-        self.tree.node(level, index)
-    }
+        ensures output { result.0 ≡ (node_at (device self.now).state.tree level index).output }
+        ensures carry { result.1 ≡ (node_at (device self.now).state.tree level index).carry };
 
-    pub(crate) fn clocks(&self) -> u64
-        ensures value { result ≡ self.now.clocks }
-        ensures is_open { IsOpen self.now }
-    {
-        self.clocks
-    }
+    /// The clocks since the array was opened.
+    fn clocks(&self) -> u64
+        ensures value { result ≡ (device self.now).clocks }
+        ensures is_open { IsOpen (device self.now) };
 }
 
-/// Makes every pixel do the act, by its leaf's bit.
-fn act_all<const N: usize>(pixels: &mut [Pixel<N>], tree: &NodeTree, act: Act)
-    requires bits { N ≤ 256 }
-    requires place { HasPlace N act }
-    requires whole { length pixels.old ≡ 2 ^ (tree.now.nx + tree.now.ny) }
-    ensures { pixels.new ≡ acted act tree.now pixels.old }
-{
-    let (nx, ny) = tree.size();
-    for place in 0..pixels.len() {
-        let bit = leaf_at(tree, nx + ny, place);
-        pixels[place].act(act, bit);
-    }
-}
-
-/// The output of the leaf over the pixel at a place.
-fn leaf_at(tree: &NodeTree, levels: u32, place: usize) -> bool
-    requires levels { levels ≡ tree.now.nx + tree.now.ny }
-    requires grid { IsGrid tree.now.nx tree.now.ny }
-    requires place { place < 2 ^ levels }
-    ensures { result ≡ leaf_output tree.now place }
-{
-    tree.node(levels, place as u32).0
-}
-
-/// Makes the tree do its operation.
-fn move_tree(tree: &mut NodeTree, op: TreeOp)
-    ensures { tree.new ≡ after_tree_op op tree.old }
+/// Makes a tree do its operation.
+pub fn move_tree<T: Tree>(tree: &mut T, op: TreeOp)
+    ensures { T.state tree.new ≡ after_tree_op op (T.state tree.old) }
 {
     match op {
         TreeOp::Hold => {}

@@ -1,8 +1,8 @@
 //! An open array: what is clocked, and what its slots keep.
-ghost use Rattle.std.specs.Prelude.{◌≡◌, ◌-◌, ◌^◌, ◌<◌, ◌≤◌, IfOk, Some, length, replicate};
+ghost use Rattle.std.specs.Prelude.{◌≡◌, ◌-◌, ◌^◌, ◌<◌, ◌≤◌, IfOk, Some, length};
 ghost use Rattle.px_array.specs.Arrays.{opened};
 ghost use Rattle.px_array.specs.Clocks.{clocked};
-ghost use Rattle.px_array.specs.OpenArrays.{empty_slot};
+ghost use Rattle.px_array.specs.OpenArrays.{AreEmpty};
 ghost use Rattle.px_array.specs.Slots.{ArrayView, IsSaved, after_save, no_slots, slot_of, worked};
 ghost use Rattle.px_pixel.specs.Acts.{HasPlace};
 ghost use Rattle.px_tree.specs.Nodes.{IsGrid};
@@ -16,46 +16,43 @@ use std::marker::Model;
 /// How many slots an array has.
 const SLOTS: usize = 4;
 
-/// Room for what a slot keeps, and whether it keeps anything.
-#[derive(Drop)]
-pub(crate) struct Slot<const N: usize> {
-    grid: Grid<N>,
-    is_saved: bool,
-}
-
 /// The grid of an open array, the room of its slots, and its work.
 #[derive(Drop)]
-pub(crate) struct OpenArray<const N: usize> {
-    pub(crate) grid: Grid<N>,
-    slots: Vec<Slot<N>>,
-    pub(crate) work: u64,
+pub struct OpenArray<G: Grid> {
+    pub grid: G,
+    slots: Vec<G::Slot>,
+    pub work: u64,
 }
 
-impl<const N: usize> Model for OpenArray<N> {
+impl<G: Grid> Model for OpenArray<G> {
     ghost use Rattle.std.specs.Prelude.{◌≡◌, length};
-    ghost use Rattle.px_array.specs.OpenArrays.{HaveSize, kept_by_slots};
+    ghost use Rattle.px_array.specs.OpenArrays.{HaveRoom, kept_by_slots};
     ghost use Rattle.px_array.specs.Slots.{ArrayView};
 
     ghost Value = { ArrayView };
 
-    ghost view = { λ a. record { device = a.grid; slots = kept_by_slots a.slots.items; work = a.work } };
+    ghost view = { λ a. record {
+      device = G.device a.grid;
+      slots = kept_by_slots G.held a.slots.items;
+      work = a.work;
+    } };
 
     ghost invariant = { λ a. record {
       four : length a.slots.items ≡ 4;
-      sizes : HaveSize a.grid.state.tree.nx a.grid.state.tree.ny a.slots.items;
+      sizes : HaveRoom G.held (G.device a.grid) a.slots.items;
     } };
 }
 
-impl<const N: usize> OpenArray<N> {
+impl<G: Grid> OpenArray<G> {
     /// All bits, registers and latches 0, and no slot saved.
-    pub(crate) fn new(alloc: Global, nx: u32, ny: u32) -> Result<OpenArray<N>, Memory>
-        requires bits { N ≤ 256 }
+    pub(crate) fn new(alloc: Global, nx: u32, ny: u32) -> Result<OpenArray<G>, Memory>
+        requires bits { G.BITS ≤ 256 }
         requires grid { IsGrid nx ny }
         ensures { IfOk result (λ array.
-            array ≡ record { device = opened N nx ny; slots = no_slots; work = 0 }) }
+            array ≡ record { device = opened G.BITS nx ny; slots = no_slots; work = 0 }) }
     {
-        let grid = Grid::new(alloc, nx, ny)?;
-        let slots = empty_slots(alloc, nx, ny)?;
+        let grid = G::new(alloc, nx, ny)?;
+        let slots = empty_slots::<G>(alloc, nx, ny)?;
         Ok(OpenArray {
             grid,
             slots,
@@ -64,7 +61,7 @@ impl<const N: usize> OpenArray<N> {
     }
 
     pub(crate) fn clock(&mut self, m: Micro)
-        requires place { HasPlace N m.act }
+        requires place { HasPlace G.BITS m.act }
         requires counted { self.old.device.clocks < 2 ^ 64 - 1 }
         ensures { self.new ≡ record self.old {
           device = clocked m self.old.device;
@@ -82,9 +79,7 @@ impl<const N: usize> OpenArray<N> {
         } }
         ensures four { length self.old.slots ≡ 4 }
     {
-        let kept = &mut self.slots[slot as usize];
-        kept.grid.copy_from(&self.grid);
-        kept.is_saved = true;
+        self.grid.save(&mut self.slots[slot as usize]);
     }
 
     pub(crate) fn restore(&mut self, slot: u32)
@@ -93,22 +88,19 @@ impl<const N: usize> OpenArray<N> {
         ensures slots { self.new.slots ≡ self.old.slots }
         ensures work { self.new.work ≡ self.old.work }
     {
-        self.grid.copy_from(&self.slots[slot as usize].grid);
+        self.grid.restore(&self.slots[slot as usize]);
     }
 }
 
 /// The room of all slots.
-fn empty_slots<const N: usize>(alloc: Global, nx: u32, ny: u32) -> Result<Vec<Slot<N>>, Memory>
-    requires bits { N ≤ 256 }
+fn empty_slots<G: Grid>(alloc: Global, nx: u32, ny: u32) -> Result<Vec<G::Slot>, Memory>
+    requires bits { G.BITS ≤ 256 }
     requires grid { IsGrid nx ny }
-    ensures { IfOk result (λ slots. slots.items ≡ replicate 4 (empty_slot N nx ny)) }
+    ensures { IfOk result (λ slots. AreEmpty G.held 4 nx ny slots.items) }
 {
     let mut slots = Vec::new(alloc);
     for _ in 0..SLOTS {
-        slots.push(Slot {
-            grid: Grid::new(alloc, nx, ny)?,
-            is_saved: false,
-        })?;
+        slots.push(G::new_slot(alloc, nx, ny)?)?;
     }
     Ok(slots)
 }

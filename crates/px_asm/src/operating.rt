@@ -1,5 +1,5 @@
 //! Arrays that make a whole operation at once.
-ghost use Rattle.std.specs.Prelude.{◌≡◌, ◌+◌, ◌-◌, ◌^◌, ◌≤◌};
+ghost use Rattle.std.specs.Prelude.{◌≡◌, ◌+◌, ◌-◌, ◌^◌, ◌≤◌, IsTrue, false};
 ghost use Rattle.px_array.specs.Arrays.{HasGrid};
 ghost use Rattle.px_array.specs.Slots.{worked};
 ghost use Rattle.px_asm.specs.Making.{cycles_on};
@@ -9,7 +9,8 @@ ghost use Rattle.px_tree.specs.Nodes.{IsGrid};
 
 use crate::law::law_of_microprograms;
 use crate::making::make_operation;
-use px_array::{Array, PixelArray};
+use crate::table::cycles;
+use px_array::{Array, ArrayOf, Grid, PixelGrid};
 use px_macro::Macro;
 
 /// An array that makes an operation at once: memory and enable of every pixel are as its micros
@@ -30,10 +31,53 @@ pub trait Operating: Array {
             ≡ worked (cycles_on (Self.device self.old) m.now) (Self.work self.old) };
 }
 
-impl<const N: usize> Operating for PixelArray<N> {
-    fn operate(&mut self, m: &Macro) {
-        make_operation(self, m);
+/// A grid that may make an operation at once.
+pub trait OperatingGrid: Grid {
+    /// Makes an operation at once, which counts as its clocks, or leaves it to its clocks where these
+    /// are faster, and changes nothing.
+    fn operate(&mut self, m: &Macro) -> bool
+        requires lawful { IsLawful m.now 256 }
+        requires places { IsLawful m.now Self.BITS }
+        requires counted { (Self.device self.old).clocks + cycles_on (Self.device self.old) m.now ≤ 2 ^ 64 - 1 }
+        ensures operated { IsTrue result
+            → IsOperated Self.BITS m.now (Self.device self.old) (Self.device self.new) }
+        ensures left { result ≡ false → Self.device self.new ≡ Self.device self.old };
+}
+
+impl<const N: usize> OperatingGrid for PixelGrid<N> {
+    fn operate(&mut self, _m: &Macro) -> bool {
+        false
     }
+}
+
+impl<G: OperatingGrid> Operating for ArrayOf<G> {
+    fn operate(&mut self, m: &Macro) {
+        if !operate_at_once(self, m) {
+            make_operation(self, m);
+        }
+    }
+}
+
+/// Makes an operation at once, or changes nothing.
+fn operate_at_once<G: OperatingGrid>(array: &mut ArrayOf<G>, m: &Macro) -> bool
+    requires lawful { IsLawful m.now 256 }
+    requires places { IsLawful m.now G.BITS }
+    requires counted { array.old.device.clocks + cycles_on array.old.device m.now ≤ 2 ^ 64 - 1 }
+    ensures operated { IsTrue result → IsOperated G.BITS m.now array.old.device array.new.device }
+    ensures slots { array.new.slots ≡ array.old.slots }
+    ensures work { IsTrue result
+        → array.new.work ≡ worked (cycles_on array.old.device m.now) array.old.work }
+    ensures left { result ≡ false → array.new ≡ array.old }
+{
+    let Some(array) = &mut array.array else {
+        return false;
+    };
+    let (nx, ny) = array.grid.size();
+    let is_made = array.grid.operate(m);
+    if is_made {
+        array.work = array.work.saturating_add(u64::from(cycles(m, nx, ny)));
+    }
+    is_made
 }
 
 /// Two arrays that agree in memory and enable of every pixel become the same by operations that

@@ -1,6 +1,5 @@
 pub use Rattle.px_rows.specs.Rows
 pub mod ArraysLaw
-pub mod OpenPlanes
 pub mod Operations
 pub mod Pixels
 pub mod Shelves

@@ -1,5 +1,5 @@
 -- What a slot keeps: rows of words one behind another. Only proofs and private functions stand on it.
-use Rattle.std.specs.Prelude.{◌≡◌, ℕ, ◌+◌, ◌*◌, ◌^◌, ◌<◌, ◌≤◌, Option, List, [], length, slice_index, slice_index_or}
+use Rattle.std.specs.Prelude.{◌≡◌, ℕ, ◌+◌, ◌*◌, ◌^◌, ◌<◌, ◌≤◌, List, [], length, slice_index, slice_index_or}
 use Rattle.px_array.specs.Arrays.{Device}
 use Rattle.px_num.specs.Lists.{tabulate}
 use Rattle.px_pixel.specs.Pixels.{PixelState, zero_pixel}
@@ -46,9 +46,3 @@ device_on bits tree words clocks = record {
 pub record IsFilled (bits n : ℕ) (words : List ℕ) : Type 0 where
   pub long : length words ≡ (bits + 3) * words_for n
   pub padding : (p : ℕ) → n ≤ p → p < 64 * words_for n → pixel_on bits (words_for n) words p ≡ zero_pixel bits
-
--- what a slot keeps, if anything, and the size of the grids that it has room for
-pub record SlotView : Type 0 where
-  pub nx : ℕ
-  pub ny : ℕ
-  pub kept : Option Device

@@ -4,9 +4,7 @@
 mod acts;
 mod edges;
 mod law;
-mod open_planes;
 mod operating;
-mod plane_array;
 mod plane_grid;
 mod planes;
 mod reach;
@@ -18,6 +16,6 @@ mod word_acts;
 mod word_operations;
 
 pub use law::law_of_arrays;
-pub use plane_array::PlaneArray;
+pub use plane_grid::{PlaneArray, PlaneGrid};
 pub use px_plane_tree::PlaneTree;
 pub use px_rows::{add_row, choose_row, keep_row, majority_row};

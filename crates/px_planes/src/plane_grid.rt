@@ -1,25 +1,20 @@
-//! An open array of planes: its rows, its tree and its clocks.
-ghost use Rattle.std.specs.Prelude.{◌≡◌, ◌+◌, ◌-◌, ◌*◌, ◌^◌, ◌<◌, ◌≤◌, ℕ, false, if◌then◌else◌};
-ghost use Rattle.std.specs.Prelude.{IfOk, length, nat_lt, replicate};
-ghost use Rattle.px_array.specs.Arrays.{HasPixel, IsOpen, opened, pixel_at, pixel_of, registers_of};
-ghost use Rattle.px_array.specs.Clocks.{acted, after_tree_op, clocked};
-ghost use Rattle.px_array.specs.Words.{IsMemoryWord, memory_bit};
-ghost use Rattle.px_asm.specs.Making.{cycles_on};
-ghost use Rattle.px_asm.specs.Operated.{IsOperated};
-ghost use Rattle.px_macro.specs.Macros.{IsLawful};
-ghost use Rattle.px_num.specs.Bits.{bit_at, nat_bit};
+//! The grid with 64 pixels in a word.
+ghost use Rattle.std.specs.Prelude.{◌≡◌, ◌+◌, ◌^◌, ◌<◌, ℕ, IfOk, nat_lt, replicate};
+ghost use Rattle.px_array.specs.Clocks.{acted};
+ghost use Rattle.px_num.specs.Bits.{nat_bit};
 ghost use Rattle.px_pixel.specs.Acts.{HasPlace};
 ghost use Rattle.px_pixel.specs.Pixels.{zero_pixel};
 ghost use Rattle.px_planes.specs.Pixels.{HasPixels, pixels_in};
-ghost use Rattle.px_rows.specs.Rows.{EachBit, words_for};
-ghost use Rattle.px_tree.specs.Nodes.{IsGrid, leaf_bit, node_at};
+ghost use Rattle.px_tree.specs.Nodes.{IsGrid};
 
 use crate::acts::act_planes;
 use crate::operating::{is_made_by_words, operate_planes};
 use crate::planes::Planes;
 use crate::reach::{Reach, is_crowd, whole};
-use px_array::{Micro, Registers, TreeOp};
-use px_asm::cycles;
+use crate::shelf::Shelf;
+use crate::slot::{Slot, keep_planes, take_planes};
+use px_array::{ArrayOf, Grid, Micro, Registers, RowGrid, move_tree};
+use px_asm::{OperatingGrid, cycles};
 use px_macro::Macro;
 use px_num::{Memory, power};
 use px_pixel::Act;
@@ -28,10 +23,14 @@ use px_tree::{Tree, leaf_index};
 use std::alloc::Global;
 use std::marker::Model;
 
+/// An array of pixels of N bits, for N from 1 to 256: a row of words for each memory bit and each
+/// register, and a `PlaneTree`.
+pub type PlaneArray<const N: usize> = ArrayOf<PlaneGrid<N>>;
+
 /// The planes of an open array, whose pixel `(x, y)` stands at place `x * 2^ny + y`, and the tree
 /// over them. No pixel is enabled outside the words of `reach`.
 #[derive(Drop)]
-pub(crate) struct PlaneGrid<const N: usize> {
+pub struct PlaneGrid<const N: usize> {
     pub(crate) planes: Planes,
     pub(crate) tree: PlaneTree,
     pub(crate) clocks: u64,
@@ -60,13 +59,18 @@ impl<const N: usize> Model for PlaneGrid<N> {
     } };
 }
 
-impl<const N: usize> PlaneGrid<N> {
-    /// All bits, registers and latches 0.
-    pub(crate) fn new(alloc: Global, nx: u32, ny: u32) -> Result<PlaneGrid<N>, Memory>
-        requires bits { N ≤ 256 }
-        requires grid { IsGrid nx ny }
-        ensures { IfOk result (λ grid. grid ≡ opened N nx ny) }
-    {
+impl<const N: usize> Grid for PlaneGrid<N> {
+    const BITS: usize = N;
+
+    type Slot = Slot<N>;
+
+    ghost BITS = { N };
+
+    ghost device = { λ grid. grid };
+
+    ghost held = { λ slot. slot };
+
+    fn new(alloc: Global, nx: u32, ny: u32) -> Result<PlaneGrid<N>, Memory> {
         let tree = PlaneTree::new(alloc, nx, ny)?;
         let planes = zero_planes::<N>(alloc, nx, ny)?;
         let reach = whole(&planes);
@@ -78,11 +82,19 @@ impl<const N: usize> PlaneGrid<N> {
         })
     }
 
-    pub(crate) fn clock(&mut self, m: Micro)
-        requires place { HasPlace N m.act }
-        requires counted { self.old.clocks < 2 ^ 64 - 1 }
-        ensures { self.new ≡ clocked m self.old }
-    {
+    fn new_slot(alloc: Global, nx: u32, ny: u32) -> Result<Slot<N>, Memory> {
+        let words = (power(nx + ny) + 63) / 64;
+        let shelf = Shelf::new(alloc, (N + 3) * words)?;
+        let tree = PlaneTree::new(alloc, nx, ny)?;
+        Ok(Slot {
+            shelf,
+            tree,
+            clocks: 0,
+            is_saved: false,
+        })
+    }
+
+    fn clock(&mut self, m: Micro) {
         // The pixels come first, since their leaf bits are those from before the clock.
         act_all::<N>(&mut self.planes, &self.tree, m.act);
         self.reach = whole(&self.planes);
@@ -90,63 +102,34 @@ impl<const N: usize> PlaneGrid<N> {
         self.clocks += 1;
     }
 
-    /// Makes an operation at once, which counts as its clocks.
-    pub(crate) fn operate(&mut self, m: &Macro)
-        requires lawful { IsLawful m.now 256 }
-        requires places { IsLawful m.now N }
-        requires counted { self.old.clocks + cycles_on self.old m.now ≤ 2 ^ 64 - 1 }
-        ensures { IsOperated N m.now self.old self.new }
-    {
-        let (nx, ny) = self.tree.size();
-        self.reach = operate_planes::<N>(&mut self.planes, self.reach, m, nx, ny);
-        self.clocks += u64::from(cycles(m, nx, ny));
+    fn save(&self, slot: &mut Slot<N>) {
+        keep_planes(&mut slot.shelf, &self.planes);
+        slot.tree.copy_from(&self.tree);
+        slot.clocks = self.clocks;
+        slot.is_saved = true;
     }
 
-    /// Whether the clocks of an operation are faster than the operation at once.
-    pub(crate) fn is_faster_by_clocks(&self, m: &Macro) -> bool {
-        is_made_by_words(m) && is_crowd(&self.planes, self.reach)
+    fn restore(&mut self, slot: &Slot<N>) {
+        take_planes(&mut self.planes, &slot.shelf);
+        self.reach = whole(&self.planes);
+        self.tree.copy_from(&slot.tree);
+        self.clocks = slot.clocks;
     }
 
-    pub(crate) fn size(&self) -> (u32, u32)
-        ensures size { result ≡ (self.now.state.tree.nx, self.now.state.tree.ny) }
-        ensures is_open { IsOpen self.now }
-        ensures grid { IsGrid self.now.state.tree.nx self.now.state.tree.ny }
-    {
+    fn size(&self) -> (u32, u32) {
         self.tree.size()
     }
 
-    /// The words of memory bit `at`.
-    pub(crate) fn row(&self, at: u32) -> &[u64]
-        requires place { at < N }
-        ensures words { length result.now
-            ≡ words_for (2 ^ (self.now.state.tree.nx + self.now.state.tree.ny)) }
-        ensures bits { EachBit result.now (memory_bit self.now.state at) }
-    {
-        self.planes.memory[at as usize].words()
-    }
-
-    /// The word of memory bit `at` of the pixels from the place `64 * w` on.
-    pub(crate) fn word(&self, at: u32, w: usize) -> u64
-        requires place { at < N }
-        requires word { 64 * w < 2 ^ (self.now.state.tree.nx + self.now.state.tree.ny) }
-        ensures { IsMemoryWord self.now.state at w result }
-    {
-        self.planes.memory[at as usize].word(w)
-    }
-
-    pub(crate) fn bit(&self, x: u32, y: u32, at: u32) -> bool
-        requires pixel { HasPixel self.now x y }
-        requires place { at < N }
-        ensures { result ≡ bit_at (pixel_of self.now.state x y).memory at }
-    {
+    fn bit(&self, x: u32, y: u32, at: u32) -> bool {
         let (nx, ny) = self.tree.size();
         self.planes.memory[at as usize].bit(leaf_index(nx, ny, x, y))
     }
 
-    pub(crate) fn registers(&self, x: u32, y: u32) -> Registers
-        requires pixel { HasPixel self.now x y }
-        ensures { result ≡ registers_of (pixel_of self.now.state x y) }
-    {
+    fn word(&self, at: u32, w: usize) -> u64 {
+        self.planes.memory[at as usize].word(w)
+    }
+
+    fn registers(&self, x: u32, y: u32) -> Registers {
         let (nx, ny) = self.tree.size();
         let place = leaf_index(nx, ny, x, y);
         Registers {
@@ -156,28 +139,41 @@ impl<const N: usize> PlaneGrid<N> {
         }
     }
 
-    pub(crate) fn tree_bit(&self, x: u32, y: u32) -> bool
-        requires pixel { HasPixel self.now x y }
-        ensures { result ≡ leaf_bit self.now.state.tree x y }
-    {
+    fn tree_bit(&self, x: u32, y: u32) -> bool {
         self.tree.leaf(x, y)
     }
 
-    pub(crate) fn node(&self, level: u32, index: u32) -> (bool, bool)
-        requires from_one { 1 ≤ level }
-        requires in_tree { level ≤ self.now.state.tree.nx + self.now.state.tree.ny }
-        requires in_level { index < 2 ^ level }
-        ensures output { result.0 ≡ (node_at self.now.state.tree level index).output }
-        ensures carry { result.1 ≡ (node_at self.now.state.tree level index).carry }
-    {
+    fn node(&self, level: u32, index: u32) -> (bool, bool) {
         self.tree.node(level, index)
     }
 
-    pub(crate) fn clocks(&self) -> u64
-        ensures value { result ≡ self.now.clocks }
-        ensures is_open { IsOpen self.now }
-    {
+    fn clocks(&self) -> u64 {
         self.clocks
+    }
+}
+
+impl<const N: usize> RowGrid for PlaneGrid<N> {
+    fn row(&self, at: u32) -> &[u64] {
+        self.planes.memory[at as usize].words()
+    }
+}
+
+impl<const N: usize> OperatingGrid for PlaneGrid<N> {
+    fn operate(&mut self, m: &Macro) -> bool {
+        if self.is_faster_by_clocks(m) {
+            return false;
+        }
+        let (nx, ny) = self.tree.size();
+        self.reach = operate_planes::<N>(&mut self.planes, self.reach, m, nx, ny);
+        self.clocks += u64::from(cycles(m, nx, ny));
+        true
+    }
+}
+
+impl<const N: usize> PlaneGrid<N> {
+    /// Whether the clocks of an operation are faster than the operation at once.
+    fn is_faster_by_clocks(&self, m: &Macro) -> bool {
+        is_made_by_words(m) && is_crowd(&self.planes, self.reach)
     }
 }
 
@@ -210,15 +206,4 @@ fn act_all<const N: usize>(planes: &mut Planes, tree: &PlaneTree, act: Act)
 {
     let (nx, ny) = tree.size();
     act_planes(planes, tree.outputs(nx + ny), act);
-}
-
-/// Makes the tree do its operation.
-fn move_tree(tree: &mut PlaneTree, op: TreeOp)
-    ensures { tree.new ≡ after_tree_op op tree.old }
-{
-    match op {
-        TreeOp::Hold => {}
-        TreeOp::Clear => tree.clear(),
-        TreeOp::Feed { a, b, c } => tree.feed(a, b, c),
-    }
 }

@@ -1,35 +1,28 @@
 //! What a slot keeps of a grid of planes.
-ghost use Rattle.std.specs.Prelude.{◌≡◌, ◌+◌, ◌*◌, ◌^◌, ◌<◌, ◌≤◌, ℕ, [], IfOk, IsSome, None, Some};
-ghost use Rattle.std.specs.Prelude.{length, slice_index, slice_index_or};
-ghost use Rattle.px_array.specs.Arrays.{Device};
-ghost use Rattle.px_planes.specs.Pixels.{HasPixels, HasWords, pixels_in};
-ghost use Rattle.px_rows.specs.Rows.{words_for};
-ghost use Rattle.px_planes.specs.Shelves.{AreShelved, IsShelved, SlotView};
-ghost use Rattle.px_tree.specs.Nodes.{IsGrid};
+ghost use Rattle.std.specs.Prelude.{◌≡◌, ◌+◌, ◌*◌, ◌<◌, ◌≤◌, ℕ, [], length, slice_index_or};
+ghost use Rattle.px_planes.specs.Pixels.{HasWords};
+ghost use Rattle.px_planes.specs.Shelves.{AreShelved, IsShelved};
 
-use crate::plane_grid::PlaneGrid;
 use crate::planes::Planes;
-use crate::reach::whole;
 use crate::shelf::Shelf;
-use px_num::{Memory, power};
 use px_plane_tree::PlaneTree;
 use px_rows::Row;
-use std::alloc::Global;
 use std::marker::Model;
 
 /// Room for the rows of a grid, its tree and its clocks, and whether it keeps anything.
 #[derive(Drop)]
-pub(crate) struct Slot<const N: usize> {
-    shelf: Shelf,
-    tree: PlaneTree,
-    clocks: u64,
-    is_saved: bool,
+pub struct Slot<const N: usize> {
+    pub(crate) shelf: Shelf,
+    pub(crate) tree: PlaneTree,
+    pub(crate) clocks: u64,
+    pub(crate) is_saved: bool,
 }
 
 impl<const N: usize> Model for Slot<N> {
     ghost use Rattle.std.specs.Prelude.{◌≡◌, ◌≤◌, ◌+◌, ◌*◌, ◌^◌, true, None, Some, if◌then◌else◌};
     ghost use Rattle.px_rows.specs.Rows.{words_for};
-    ghost use Rattle.px_planes.specs.Shelves.{IsFilled, SlotView, device_on};
+    ghost use Rattle.px_array.specs.OpenArrays.{SlotView};
+    ghost use Rattle.px_planes.specs.Shelves.{IsFilled, device_on};
     ghost use Rattle.px_tree.specs.Nodes.{IsGrid};
 
     ghost Value = { SlotView };
@@ -48,54 +41,8 @@ impl<const N: usize> Model for Slot<N> {
     } };
 }
 
-impl<const N: usize> Slot<N> {
-    /// Room for grids of this size, and nothing kept.
-    pub(crate) fn new(alloc: Global, nx: u32, ny: u32) -> Result<Slot<N>, Memory>
-        requires bits { N ≤ 256 }
-        requires grid { IsGrid nx ny }
-        ensures { IfOk result (λ slot. slot ≡ record { nx = nx; ny = ny; kept = None }) }
-    {
-        let words = (power(nx + ny) + 63) / 64;
-        let shelf = Shelf::new(alloc, (N + 3) * words)?;
-        let tree = PlaneTree::new(alloc, nx, ny)?;
-        Ok(Slot {
-            shelf,
-            tree,
-            clocks: 0,
-            is_saved: false,
-        })
-    }
-
-    /// Keeps the state and the clocks of a grid, in place of what was kept.
-    pub(crate) fn keep(&mut self, grid: &PlaneGrid<N>)
-        requires columns { self.old.nx ≡ grid.now.state.tree.nx }
-        requires rows { self.old.ny ≡ grid.now.state.tree.ny }
-        ensures { self.new ≡ record self.old { kept = Some grid.now } }
-    {
-        keep_planes(&mut self.shelf, &grid.planes);
-        self.tree.copy_from(&grid.tree);
-        self.clocks = grid.clocks;
-        self.is_saved = true;
-    }
-
-    /// Gives a grid the state and the clocks that are kept.
-    pub(crate) fn give(&self, grid: &mut PlaneGrid<N>)
-        requires saved { IsSome self.now.kept }
-        requires columns { grid.old.state.tree.nx ≡ self.now.nx }
-        requires rows { grid.old.state.tree.ny ≡ self.now.ny }
-        ensures given { self.now.kept ≡ Some grid.new }
-        ensures columns { grid.new.state.tree.nx ≡ self.now.nx }
-        ensures rows { grid.new.state.tree.ny ≡ self.now.ny }
-    {
-        take_planes(&mut grid.planes, &self.shelf);
-        grid.reach = whole(&grid.planes);
-        grid.tree.copy_from(&self.tree);
-        grid.clocks = self.clocks;
-    }
-}
-
 /// Keeps the rows of planes, one behind another.
-fn keep_planes(shelf: &mut Shelf, planes: &Planes)
+pub(crate) fn keep_planes(shelf: &mut Shelf, planes: &Planes)
     requires words { HasWords (length planes.now.enable) planes.now }
     requires room { (length planes.now.memory.items + 3) * length planes.now.enable ≤ shelf.old.room }
     ensures kept { IsShelved (length planes.now.memory.items)
@@ -125,7 +72,7 @@ fn push_rows(shelf: &mut Shelf, rows: &[Row], words: usize)
 }
 
 /// Takes the rows that were kept.
-fn take_planes(planes: &mut Planes, shelf: &Shelf)
+pub(crate) fn take_planes(planes: &mut Planes, shelf: &Shelf)
     requires words { HasWords (length planes.old.enable) planes.old }
     requires long { length shelf.now.words
         ≡ (length planes.old.memory.items + 3) * length planes.old.enable }
