@@ -1,6 +1,6 @@
 -- What a command line asks for. Clauses of public calls stand on it.
-use Rattle.std.specs.Prelude.{ℕ, List, [], ◌∷◌, Option, Some, None, bytes_eq, codes, if◌then◌else◌, length, nat_lt}
-use Rattle.px_debug.specs.Words.{plain_number, words_in}
+use Rattle.std.specs.Prelude.{ℕ, List, [], ◌∷◌, Option, Some, None, bytes_eq, codes, if◌then◌else◌, length, nat_le, nat_lt}
+use Rattle.px_text.specs.Text.{size_of_digits, words_in}
 use Rattle.px_debug.specs.declared.command.Command.{Command}
 use Rattle.px_debug.specs.declared.command.Command.TheVariants as c
 
@@ -29,6 +29,10 @@ of_word_and_numbers word a b =
     else if bytes_eq word (codes "field") then c.Field a b
     else if bytes_eq word (codes "tree") then c.Tree a b
     else c.Unknown
+
+-- 1 to 18 digits, whose value is below 10 ^ 18
+abbrev pub plain_number : List ℕ → Option ℕ
+plain_number word = if nat_le (length word) 18 then size_of_digits word else None
 
 abbrev pub with_operand : List ℕ → Option ℕ → Command
 with_operand word None = c.Unknown

@@ -4,4 +4,3 @@ pub mod Commands
 pub mod Courses
 pub mod Marks
 pub mod Moves
-pub mod Words

@@ -1,13 +1,23 @@
 //! What a command line asks for.
-ghost use Rattle.std.specs.Prelude.{◌≡◌, map};
+ghost use Rattle.std.specs.Prelude.{◌≡◌, ◌^◌, ◌<◌, IfSome, map};
 ghost use Rattle.px_debug.specs.Moves.{going};
-ghost use Rattle.px_debug.specs.Commands.{command_in, line_command, of_word, of_word_and_numbers, of_word_and_number};
+ghost use Rattle.px_debug.specs.Commands.{
+  command_in,
+  line_command,
+  of_word,
+  of_word_and_number,
+  of_word_and_numbers,
+  plain_number,
+};
 
 use crate::session::Going;
-use crate::word::{few_words, number_of};
+use px_text::{few_words, size_of};
 
 /// A longer line is none of the commands.
 const MOST_BYTES: usize = 255;
+
+/// A number has at most so many digits.
+const MOST_DIGITS: usize = 18;
 
 /// What a command line asks for (docs/DEBUGGER.md, "Lines").
 #[derive(Clone, Copy, Debug, PartialEq, Eq)]
@@ -80,6 +90,18 @@ fn command_in(words: &[&[u8]]) -> Command
             _ => Command::Unknown,
         },
         _ => Command::Unknown,
+    }
+}
+
+/// The number that a word writes: 1 to 18 digits.
+fn number_of(word: &[u8]) -> Option<u64>
+    ensures value { result ≡ plain_number word.now }
+    ensures small { IfSome result (λ n. n < 10 ^ 18) }
+{
+    if word.len() <= MOST_DIGITS {
+        size_of(word)
+    } else {
+        None
     }
 }
 

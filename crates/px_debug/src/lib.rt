@@ -8,6 +8,5 @@ mod moves;
 mod session;
 mod text;
 mod trace_text;
-mod word;
 
 pub use session::{Going, Session};

@@ -1,12 +1,10 @@
 -- The first bad line, and the lights of the lines before it.
 use Rattle.std.proofs.Common.{◌≡◌, ◌<◌, ◌≤◌, ◌+◌, ◌∙◌, ℕ, Bool, true, false, ◌&&◌, List, [], ◌∷◌, ◌++◌, All, Option}
-use Rattle.std.proofs.Common.{Some, None, length, map, take, get_or, nat_lt, cond, refl, ap, subst, sym, arith, inl}
-use Rattle.std.proofs.Common.{inr, if◌then◌else◌}
-use Prim.Native.Nat.{zero, suc}
+use Rattle.std.proofs.Common.{Some, None, length, map, take, get_or, nat_lt, cond, refl, ap, subst, sym, arith}
+use Rattle.std.proofs.Common.{if◌then◌else◌, length-take-le}
 use Rattle.std.specs.List.{cons_option, filter_map, fold, list_all}
-use Rattle.std.specs.Option.{option_or}
-use Rattle.std.proofs.lemmas.Bool.{cases_lt}
-use Rattle.std.proofs.lemmas.List.{take_all, take_more}
+use Rattle.std.specs.Option.{option_map}
+use Rattle.std.proofs.lemmas.List.{get_or-map, take_all, take_more}
 use Rattle.std.proofs.lemmas.List.Elements.{All-append, All-cons, All-nil, filter_map-append}
 use Rattle.px_text.specs.Text.{Words, words_of, is_name}
 use Rattle.px_normal.specs.declared.set.SolidSet.{SolidSet}
@@ -18,31 +16,12 @@ use Rattle.px_shadow.specs.declared.light.LightFault.{LightFault}
 use Rattle.std.specs.Prelude.{Ok, Err, OnOk, Result, codes, not}
 use Rattle.std.specs.Str.{bytes_eq}
 use Rattle.std.specs.List.{position_or_len}
-use Rattle.px_num.proofs.TruthLaws.{lt_holds, lt_true}
+use Rattle.px_num.proofs.TruthLaws.{and_left, and_right, lt_holds, lt_true}
 use Rattle.px_show.specs.declared.fault.Cause.TheVariants.{BadName, Unexpected, UnknownName}
-use Rattle.px_shadow.specs.LightLines.{as_light, light_fault_at, lights_fault, first_fault, is_solid_name, light_in}
-use Rattle.px_shadow.specs.LightLines.{light_of}
+use Rattle.px_show.proofs.JudgedLaws.{AreGood, all_good, first_is, good_next}
+use Rattle.px_shadow.specs.LightLines.{as_light, fault_behind, lights_fault, is_solid_name, light_in, light_of}
 use Rattle.px_shadow.specs.LightLines.{lights_of, line_fault, named, solid_named}
 use Rattle.px_shadow.specs.Saying.{AreRead}
-
-or_none : (x : Option LightFault) → option_or None x ≡ x
-or_none None = refl
-or_none (Some f) = refl
-
--- no line before a place is bad, nor the one there
-pub good_more : (f : ℕ → Option LightFault) (k : ℕ) → first_fault f k ≡ None → f k ≡ None → first_fault f (k + 1) ≡ None
-good_more f k before here =
-    let next : k + 1 ≡ suc k = omega arith in
-    rw next (rw before here)
-
--- the first bad line decides
-pub bad_stays : (f : ℕ → Option LightFault) (k n : ℕ) (fault : LightFault) → k < n → first_fault f k ≡ None
-    → f k ≡ Some fault → first_fault f n ≡ Some fault
-bad_stays f k zero fault low before here = absurd (omega arith)
-bad_stays f k (suc n) fault low before here = elim (cases_lt k n) [
-  | inl less ↦ ap (λ x. option_or x (f n)) (bad_stays f k n fault less before here)
-  | inr more ↦ let same : k ≡ n = omega arith in rw (← same) (rw before here)
-]
 
 -- one line more
 pub lights_more : (ss : List SolidView) (lines : List Words) (k : ℕ) → k < length lines →
@@ -61,18 +40,10 @@ set_passes : LawsOfSets → (test : ℕ → Bool) → ((q : ℕ) → test q ≡ 
     → list_all test (solids (fold (λ set q. sets_joined set (one q)) a qs)) ≡ true
 set_passes laws test low [] a held each = held
 set_passes laws test low (q ∷ qs) a held each =
-    let here : test q ≡ true = both_left (test q) (list_all test qs) each in
+    let here : test q ≡ true = and_left (test q) (list_all test qs) each in
     set_passes laws test low qs (sets_joined a (one q))
     (laws.all_of_joined test a (one q) ∙ both_true _ _ held (laws.all_of_one test q (low q here) ∙ here))
-    (both_right (test q) (list_all test qs) each)
-  where
-    both_left : (a b : Bool) → (a && b) ≡ true → a ≡ true
-    both_left true b h = refl
-    both_left false b h = h
-
-    both_right : (a b : Bool) → (a && b) ≡ true → b ≡ true
-    both_right true b h = h
-    both_right false b h = cc
+    (and_right (test q) (list_all test qs) each)
 
 -- the place of a solid is below their number
 pub place_low : (ss : List SolidView) (w : List ℕ) (k : ℕ) → solid_named ss w ≡ Some k → k < length ss
@@ -130,29 +101,33 @@ light_known laws ss few (w ∷ ws) set e = by_first (bytes_eq w (codes "light"))
 -- a line by its piece
 pub line_at : (pieces : List (List ℕ)) (k : ℕ) (piece : List ℕ) → k < length pieces → piece ≡ get_or pieces k piece
     → get_or (map words_of pieces) k [] ≡ words_of piece
-line_at pieces k piece low is = get_or-map_at pieces k piece low ∙ ap words_of (sym is)
-  where
-    get_or-map_at : (xs : List (List ℕ)) (k : ℕ) (d : List ℕ) → k < length xs → get_or (map words_of xs) k []
-        ≡ words_of (get_or xs k d)
-    get_or-map_at [] k d low = absurd (omega arith)
-    get_or-map_at (x ∷ xs) zero d low = refl
-    get_or-map_at (x ∷ xs) (suc k) d low = get_or-map_at xs k d (omega arith)
+line_at pieces k piece low is = get_or-map words_of pieces k piece [] low ∙ ap words_of (sym is)
+
+-- the number of a line and the lights before it judge it
+judged : (ss : List SolidView) (first : ℕ) (lines : List Words) (k line : ℕ) (old : List SolidSet) (ws : Words)
+    → k < length lines → line ≡ first + k → old ≡ lights_of ss (take k lines)
+    → fault_behind ss first (take k lines) ws ≡ line_fault line (length old) (light_of ss ws)
+judged ss first lines k line old ws low number each =
+    let count : length (take k lines) ≡ k = length-take-le k lines (omega arith) in
+    rw (count, ← number, ← each) refl
 
 -- a line that is taken
 pub step_good : (ss : List SolidView) (first : ℕ) (lines : List Words) (k line : ℕ) (old : List SolidSet) (ws : Words)
-    → get_or lines k [] ≡ ws →
-    line ≡ first + k → old ≡ lights_of ss (take k lines) → first_fault (light_fault_at ss first lines) k ≡ None →
-    line_fault line (length old) (light_of ss ws) ≡ None → first_fault (light_fault_at ss first lines) (k + 1) ≡ None
-step_good ss first lines k line old ws is number each before here =
-    good_more (light_fault_at ss first lines) k before (rw (is, ← number, ← each) here)
+    → k < length lines → get_or lines k [] ≡ ws →
+    line ≡ first + k → old ≡ lights_of ss (take k lines) → AreGood (fault_behind ss first) lines k →
+    line_fault line (length old) (light_of ss ws) ≡ None → AreGood (fault_behind ss first) lines (k + 1)
+step_good ss first lines k line old ws low is number each before here =
+    good_next (fault_behind ss first) lines k ws before low is (judged ss first lines k line old ws low number each ∙ here)
 
 -- a line that is bad
 pub step_bad : (ss : List SolidView) (first : ℕ) (lines : List Words) (k line : ℕ) (old : List SolidSet) (ws : Words)
     (fault : LightFault) → k < length lines → get_or lines k [] ≡ ws →
-    line ≡ first + k → old ≡ lights_of ss (take k lines) → first_fault (light_fault_at ss first lines) k ≡ None →
+    line ≡ first + k → old ≡ lights_of ss (take k lines) → AreGood (fault_behind ss first) lines k →
     line_fault line (length old) (light_of ss ws) ≡ Some fault → lights_fault ss first lines ≡ Some fault
 step_bad ss first lines k line old ws fault low is number each before here =
-    bad_stays (light_fault_at ss first lines) k (length lines) fault low before (rw (is, ← number, ← each) here)
+    ap (option_map (λ bad. bad.1))
+    (first_is (fault_behind ss first) lines k ws fault before low is
+    (judged ss first lines k line old ws low number each ∙ here))
 
 pub step_each : (ss : List SolidView) (lines : List Words) (k : ℕ) (old now : List SolidSet) (ws : Words)
     → k < length lines → get_or lines k [] ≡ ws →
@@ -166,10 +141,10 @@ step_each ss lines k old now ws low is each more =
 -- all lines are taken
 pub all_read : (ss : List SolidView) (first : ℕ) (lines : List Words) (k : ℕ) (lights : List SolidSet)
     → k ≡ length lines →
-    first_fault (light_fault_at ss first lines) k ≡ None → lights ≡ lights_of ss (take k lines)
+    AreGood (fault_behind ss first) lines k → lights ≡ lights_of ss (take k lines)
     → All (IsBelow (length ss)) lights → AreRead ss first lines lights
 all_read ss first lines k lights all good each known = record {
-  good = ap (first_fault (light_fault_at ss first lines)) (sym all) ∙ good;
+  good = ap (option_map (λ bad. bad.1)) (all_good (fault_behind ss first) lines k good (omega (arith, all)));
   each = each ∙ ap (lights_of ss) (take_all k lines (omega (arith, all)));
   known = known;
 }

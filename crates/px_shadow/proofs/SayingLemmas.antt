@@ -1,6 +1,6 @@
--- What a word more says of a line, and what the words say in the end.
-use Rattle.std.proofs.Common.{◌≡◌, ◌∙◌, ℕ, Bool, true, false, ◌&&◌, not, List, [], ◌∷◌, ◌++◌, Option, Some, None}
-use Rattle.std.proofs.Common.{Result, Ok, Err, refl, ap, sym, if◌then◌else◌}
+-- What a word more says of a line.
+use Rattle.std.proofs.Common.{◌≡◌, ◌∙◌, ℕ, Bool, true, false, ◌&&◌, List, [], ◌∷◌, ◌++◌, Option, Some, None}
+use Rattle.std.proofs.Common.{refl, ap, sym, if◌then◌else◌}
 use Rattle.std.specs.Prelude.{codes}
 use Rattle.std.specs.List.{filter_map, fold, list_all}
 use Rattle.std.specs.Str.{bytes_eq}
@@ -13,8 +13,6 @@ use Rattle.px_normal.specs.declared.set.SolidSet.{SolidSet}
 use Rattle.px_normal.specs.Sets.{empty, sets_joined, one}
 use Rattle.px_model.specs.Scenes.{SolidView}
 use Rattle.px_prune.specs.Kept.{set_of}
-use Rattle.px_show.specs.declared.fault.Cause.{Cause}
-use Rattle.px_show.specs.declared.fault.Cause.TheVariants.{BadName, UnknownName, WordCount}
 use Rattle.px_shadow.specs.declared.light.Said.TheVariants as s
 use Rattle.px_shadow.specs.LightLines.{is_solid_name, solid_named}
 use Rattle.px_shadow.specs.Saying.{are_some, said_behind, said_of, with_solid}
@@ -72,8 +70,3 @@ light_more ss (v ∷ vs) w a n k set e = by_first (bytes_eq v (codes "light")) e
         let found : set ≡ set_of (filter_map (solid_named ss) vs) = cc in
         rw (names, known, found) (sym (behind_more ss vs w))
     by_first false h = absurd (cc)
-
--- what the words say in the end
-abbrev pub judged : (are_some are_names are_solids : Bool) → SolidSet → Result (Option SolidSet) Cause
-judged a n k set = if not a then Err WordCount else if not n then Err BadName else if not k then Err UnknownName else
-    Ok (Some set)

@@ -1,13 +1,13 @@
 -- Light lines: which solids each of them names, and why the first bad line is bad. Clauses of public calls stand on it.
-use Rattle.std.specs.Prelude.{ℕ, ◌+◌, ◌==◌, Bool, not, List, [], ◌∷◌, length, take, get_or, codes, if◌then◌else◌, Option, Some, None, is_some, Result, Ok, Err}
-use Prim.Native.Nat.{zero, suc}
+use Rattle.std.specs.Prelude.{ℕ, ◌+◌, ◌==◌, Bool, not, List, [], ◌∷◌, length, codes, if◌then◌else◌, Option, Some, None, is_some, Result, Ok, Err}
 use Rattle.std.specs.List.{filter_map, list_all, position}
-use Rattle.std.specs.Option.{option_or}
+use Rattle.std.specs.Option.{option_map}
 use Rattle.std.specs.Str.{bytes_eq}
 use Rattle.px_text.specs.Text.{Words, is_name}
 use Rattle.px_normal.specs.declared.set.SolidSet.{SolidSet}
 use Rattle.px_model.specs.Scenes.{SolidView}
 use Rattle.px_prune.specs.Kept.{set_of}
+use Rattle.px_show.specs.Judged.{first_bad}
 use Rattle.px_show.specs.declared.fault.Cause.{Cause}
 use Rattle.px_show.specs.declared.fault.Cause.TheVariants.{BadName, Unexpected, UnknownName, WordCount}
 use Rattle.px_shadow.specs.declared.light.LightFault.{LightFault}
@@ -52,16 +52,10 @@ line_fault number before (Err cause) = Some (Malformed number cause)
 line_fault number before (Ok None) = None
 line_fault number before (Ok (Some light)) = if before == MAX_LIGHTS then Some (Limit number (MAX_LIGHTS + 1)) else None
 
--- what is bad of a line by its place, where the first line has this number
-abbrev pub light_fault_at : List SolidView → (first : ℕ) → List Words → (place : ℕ) → Option LightFault
-light_fault_at ss first lines place =
-    line_fault (first + place) (length (lights_of ss (take place lines))) (light_of ss (get_or lines place []))
-
--- the fault of the least place below n that has one
-abbrev pub first_fault : (ℕ → Option LightFault) → (n : ℕ) → Option LightFault
-first_fault f zero = None
-first_fault f (suc n) = option_or (first_fault f n) (f n)
+-- what is bad of a line behind others, of which the first has this number
+abbrev pub fault_behind : List SolidView → (first : ℕ) → (before : List Words) → Words → Option LightFault
+fault_behind ss first before line = line_fault (first + length before) (length (lights_of ss before)) (light_of ss line)
 
 -- the fault of the first bad line, if one is bad
 abbrev pub lights_fault : List SolidView → (first : ℕ) → List Words → Option LightFault
-lights_fault ss first lines = first_fault (light_fault_at ss first lines) (length lines)
+lights_fault ss first lines = option_map (λ bad. bad.1) (first_bad (fault_behind ss first) [] lines)

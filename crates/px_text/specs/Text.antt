@@ -30,9 +30,13 @@ without_last_feed text = if ends_with_feed text then take (length text - 1) text
 abbrev pub lines_of : List ℕ → List (List ℕ)
 lines_of text = if is_some_byte text then slice_split (λ b. b == 10) (without_last_feed text) else []
 
--- the longest runs of bytes other than blanks, before a comment
+-- the longest runs of bytes other than blanks
+abbrev pub words_in : List ℕ → Words
+words_in bytes = filter is_some_byte (slice_split is_blank bytes)
+
+-- the words of a line before its comment
 abbrev pub words_of : List ℕ → Words
-words_of line = filter is_some_byte (slice_split is_blank (before_first (λ b. b == 35) line))
+words_of line = words_in (before_first (λ b. b == 35) line)
 
 -- the words of each line of a text
 abbrev pub worded : List ℕ → List Words

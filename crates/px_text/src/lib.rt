@@ -2,11 +2,13 @@
 #![tactic(auto)]
 
 mod cut;
+mod few;
 mod text;
 mod word;
 mod written;
 
 pub use cut::{before_comment, is_blank, is_word, without_last_feed};
+pub use few::few_words;
 pub use text::{MAX_TEXT_BYTES, lines_of, words_of};
-pub use word::{is_digit, is_name, is_name_byte, number_of};
+pub use word::{is_name, is_name_byte, number_of, size_of};
 pub use written::written_law;

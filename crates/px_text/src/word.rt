@@ -2,7 +2,9 @@
 ghost use Rattle.std.specs.Prelude.{◌≡◌, ◌^◌, ◌≤◌, ◌-◌, true, min, map};
 ghost use Rattle.std.specs.List.{list_all};
 ghost use Rattle.std.specs.Int.Digits.{number_from_digits};
-ghost use Rattle.px_text.specs.Text.{size_of_digits, number_of, is_digit, is_letter, is_name_byte, is_name, is_some_byte};
+ghost use Rattle.px_text.specs.Text.{size_of_digits, number_of, is_digit, is_letter, is_name_byte, is_name};
+
+use crate::cut::is_word;
 
 /// A larger size stands for this one, which every limit refuses.
 const LARGEST: u64 = 1_000_000_000_000_000_000;
@@ -26,10 +28,13 @@ pub fn number_of(word: &[u8]) -> Option<i64>
     }
 }
 
-fn size_of(digits: &[u8]) -> Option<u64>
+/// The size that a word writes, where it is one or more digits.
+///
+/// A size past `10^18` is taken as `10^18`.
+pub fn size_of(digits: &[u8]) -> Option<u64>
     ensures { result ≡ size_of_digits digits.now }
 {
-    if is_some_byte(digits) && are_digits(digits) {
+    if is_word(digits) && are_digits(digits) {
         Some(magnitude(digits))
     } else {
         None
@@ -40,15 +45,6 @@ fn are_digits(bytes: &[u8]) -> bool
     ensures { result ≡ list_all is_digit bytes.now }
 {
     bytes.iter().all(|b| is_digit(*b))
-}
-
-fn is_some_byte(bytes: &[u8]) -> bool
-    ensures { result ≡ is_some_byte bytes.now }
-{
-    match bytes {
-        [] => false,
-        [_, ..] => true,
-    }
 }
 
 /// The value of decimal digits, at most `LARGEST`.
@@ -80,8 +76,7 @@ fn are_name_bytes(bytes: &[u8]) -> bool
     bytes.iter().all(|b| is_name_byte(*b))
 }
 
-/// Whether a byte is a decimal digit.
-pub fn is_digit(b: u8) -> bool
+fn is_digit(b: u8) -> bool
     ensures { result ≡ is_digit b }
 {
     b'0' <= b && b <= b'9'

@@ -28,7 +28,7 @@ loop-piece-preserved c =
     length-append c.loop-piece.yielded (c.in-Some.piece ∷ []) in
     let made = c.in-Ok.ensures in
     rw next (record {
-      good = step_good ss c.args.first_line lines k c.loop-piece.line _ _ is i.line i.each i.good made.good;
+      good = step_good ss c.args.first_line lines k c.loop-piece.line _ _ low is i.line i.each i.good made.good;
       each = step_each ss lines k _ _ _ low is i.each made.lights;
       known = made.known;
       line = omega (arith, i.line);

@@ -3,14 +3,14 @@ use Rattle.std.proofs.lemmas.Bool.Decides.{nat_tests}
 use Rattle.std.proofs.lemmas.Iterator.Consumers.{YieldsList-at, YieldsList-end, YieldsList-turn, YieldsList-from_filter}
 use Rattle.std.proofs.lemmas.Iterator.Splits.{YieldsList-from_slice_split}
 use Rattle.px_text.specs.Text.{is_blank, is_some_byte}
-use Rattle.px_debug.proofs.word.few_words.Goals as goal
+use Rattle.px_text.proofs.few.few_words.Goals as goal
 
 pub returns-then-is_full-clause-many : goal.returns-then-is_full-clause-many
 returns-then-is_full-clause-many c =
     let turn = YieldsList-turn
     (YieldsList-at c.into_iter-word-iterator.ensures.into_iter_gives
     (YieldsList-from_filter _ is_some_byte
-    (YieldsList-from_slice_split _ is_blank c.args.line.now (cc) (cc) (grind arith) (λ x b q k. search rules))
+    (YieldsList-from_slice_split _ is_blank c.args.bytes.now (cc) (cc) (grind arith) (λ x b q k. search rules))
     c.filter-word-items.ensures.closure (λ x b q k. search rules)))
     c.loop-word.yielded _ c.loop-word.yielded_by _ _ _ c.in-Some.is c.next.ensures.steps in
     let full : length c.loop-word.words.items ≡ 3 = grind (arith, nat_tests) in
@@ -22,6 +22,6 @@ returns-clause-few c =
     (YieldsList-end
     (YieldsList-at c.into_iter-word-iterator.ensures.into_iter_gives
     (YieldsList-from_filter _ is_some_byte
-    (YieldsList-from_slice_split _ is_blank c.args.line.now (cc) (cc) (grind arith) (λ x b q k. search rules))
+    (YieldsList-from_slice_split _ is_blank c.args.bytes.now (cc) (cc) (grind arith) (λ x b q k. search rules))
     c.filter-word-items.ensures.closure (λ x b q k. search rules)))
     c.loop-word.yielded _ c.loop-word.yielded_by _ _ c.in-None.is c.next.ensures.steps).0

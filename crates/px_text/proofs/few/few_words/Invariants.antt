@@ -1,5 +1,5 @@
 use Rattle.std.proofs.Common.{◌≡◌}
-use Rattle.px_debug.proofs.word.few_words.Given as goal
+use Rattle.px_text.proofs.few.few_words.Given as goal
 
 abbrev pub invariant-loop-word : goal.invariant-loop-word
 invariant-loop-word l = l.words.items ≡ l.yielded
