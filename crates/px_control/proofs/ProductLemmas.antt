@@ -47,11 +47,15 @@ nothing_below h zero none = refl
 nothing_below h (suc n) none =
     omega (arith, sum_by_push h (below n) n, nothing_below h n (λ i low. none i (omega arith)), none n (omega arith))
 
-one_below : (h : ℕ → ℕ) (q n : ℕ) → q < n → ((i : ℕ) → i ≢ q → h i ≡ 0) → sum_by h (below n) ≡ h q
+one_below : (h : ℕ → ℕ) (q n : ℕ) → q < n → ((i : ℕ) → i < n → i ≢ q → h i ≡ 0) → sum_by h (below n) ≡ h q
 one_below h q zero low other = absurd (omega arith)
 one_below h q (suc n) low other = elim (cases_eq n q) [
-  | inl e ↦ omega (arith, sum_by_push h (below n) n, nothing_below h n (λ i less. other i (omega arith)), ap h e)
-  | inr ne ↦ omega (arith, sum_by_push h (below n) n, one_below h q n (omega arith) other, other n ne)
+  | inl e ↦
+      let before = nothing_below h n (λ i less. other i (omega arith) (omega arith)) in
+      omega (arith, sum_by_push h (below n) n, before, ap h e)
+  | inr ne ↦
+      let before = one_below h q n (omega arith) (λ i less. other i (omega arith)) in
+      omega (arith, sum_by_push h (below n) n, before, other n (omega arith) ne)
 ]
 
 numbers : (set : SolidSet) (n : ℕ) → n ≡ 256 → solids set ≡ filter (has set) (below n)
@@ -88,39 +92,29 @@ module _ (f : Literal → ℕ) (p : Product) where
         cc
 
     -- what holds of nothing, of what is plain and of what is barred
-    held_each : (q : ℕ) → q < 256 → (P : ℕ → Type 0) → P 0 → (has p.plain q ≡ true → P (f (literal true q)))
-        → (has p.barred q ≡ true → P (f (literal false q))) → P (held q)
+    held_each : (q : ℕ) → q < 256 → (P : ℕ → Type 0) → (has p.plain q ≡ false → has p.barred q ≡ false → P 0)
+        → (has p.plain q ≡ true → P (f (literal true q))) → (has p.barred q ≡ true → P (f (literal false q))) → P (held q)
     held_each q low P none plain barred = by_kind (has p.plain q) (has p.barred q) refl refl where
       by_kind : (a b : Bool) → has p.plain q ≡ a → has p.barred q ≡ b
           → P (cond a (f (literal true q)) 0 + cond b (f (literal false q)) 0)
       by_kind true true is also = absurd (never_both q low is also)
       by_kind true false is also = subst P (omega arith) (plain is)
       by_kind false true is also = subst P (omega arith) (barred also)
-      by_kind false false is also = none
+      by_kind false false is also = none is also
 
     plain_alone : (q : ℕ) → q < 256 → has p.plain q ≡ true → held q ≡ f (literal true q)
-    plain_alone q low is = by_kind (has p.barred q) refl where
-      by_kind : (b : Bool) → has p.barred q ≡ b → held q ≡ f (literal true q)
-      by_kind true also = absurd (never_both q low is also)
-      by_kind false also = rw (is, also) (omega arith)
+    plain_alone q low is =
+        held_each q low (λ k. k ≡ f (literal true q)) (λ no _. absurd (cc)) (λ _. refl)
+        (λ also. absurd (never_both q low is also))
 
     barred_alone : (q : ℕ) → q < 256 → has p.barred q ≡ true → held q ≡ f (literal false q)
-    barred_alone q low is = by_kind (has p.plain q) refl where
-      by_kind : (b : Bool) → has p.plain q ≡ b → held q ≡ f (literal false q)
-      by_kind true also = absurd (never_both q low also is)
-      by_kind false also = rw (is, also) (omega arith)
+    barred_alone q low is =
+        held_each q low (λ k. k ≡ f (literal false q)) (λ _ no. absurd (cc))
+        (λ also. absurd (never_both q low also is)) (λ _. refl)
 
 -- what there is of a solid
 abbrev met : (Literal → ℕ) → ℕ → Literal → ℕ
 met f q r = cond (r.solid == q) (f r) 0
-
-elsewhere : (a b : Bool) (i q m n : ℕ) → i ≢ q → cond a (cond (i == q) m 0) 0 + cond b (cond (i == q) n 0) 0 ≡ 0
-elsewhere a b i q m n other = rw (other_false i q other) (nothing a b) where
-  nothing : (a b : Bool) → cond a 0 0 + cond b 0 0 ≡ 0
-  nothing true true = refl
-  nothing true false = refl
-  nothing false true = refl
-  nothing false false = refl
 
 -- each literal and those of other solids are all
 others_sum : (f : Literal → ℕ) (p : Product) (n : ℕ) → n ≡ 256 → is_void p ≡ false → (q : Literal) → In q (literals p)
@@ -144,8 +138,9 @@ others_sum f p n all apart =
           sum_by-filter_both same (λ r. not (r.solid == q.solid)) (λ r. refl) f (literals p),
           filter_sum same f (literals p),
           by_solids (met f q.solid) p n all,
-          one_below (held (met f q.solid) p) q.solid n (omega arith) (λ i other. elsewhere (has p.plain i)
-              (has p.barred i) i q.solid (f (literal true i)) (f (literal false i)) other),
+          one_below (held (met f q.solid) p) q.solid n (omega arith) (λ i in_range other. held_each (met f q.solid) p
+              apart i (omega arith) (λ k. k ≡ 0) (λ _ _. refl) (λ _. rw (other_false i q.solid other) refl)
+              (λ _. rw (other_false i q.solid other) refl)),
           alone,
         )
 
@@ -232,9 +227,9 @@ module _ (w : SolidView → ℕ) (ss : List SolidView) where
           arith,
           by_solids f p n all,
           solids_above (held f p) n
-              (λ q low there. held_each f p apart q (omega arith) (λ k. k ≤ w (get_or ss q no_solid)) (omega arith)
+              (λ q low there. held_each f p apart q (omega arith) (λ k. k ≤ w (get_or ss q no_solid)) (λ _ _. omega arith)
               (λ is. few (literal true q) there) (λ is. few (literal false q) there))
-              (λ q low past. held_each f p apart q (omega arith) (λ k. k ≡ 0) refl
+              (λ q low past. held_each f p apart q (omega arith) (λ k. k ≡ 0) (λ _ _. refl)
               (λ is. absurd (omega (arith, known.0 q (omega arith) is)))
               (λ is. absurd (omega (arith, known.1 q (omega arith) is)))),
         )
