@@ -112,7 +112,8 @@ pub(crate) fn open_both<const N: usize>(
     requires bits { N ≤ 256 }
     ensures { IfOk result (λ both. IsReady N both.0 × IsReady N both.1) }
 {
-    assert!(rt; 1 <= nx && nx <= 9 && 1 <= ny && ny <= 9);
+    assert!(rt; 1 <= nx && nx <= 9);
+    assert!(rt; 1 <= ny && ny <= 9);
     let mut planes = PlaneArray::new(alloc);
     let mut pixels = PixelArray::new(alloc);
     planes.open(nx, ny)?;
@@ -174,7 +175,8 @@ pub(crate) fn clock_each(
     ensures plane_slots { planes.new.slots ≡ planes.old.slots }
     ensures pixel_slots { pixels.new.slots ≡ pixels.old.slots }
 {
-    assert!(rt; planes.clocks() < MANY && pixels.clocks() < MANY);
+    assert!(rt; planes.clocks() < MANY);
+    assert!(rt; pixels.clocks() < MANY);
     planes.clock(m);
     pixels.clock(m);
 }
@@ -220,7 +222,9 @@ fn operate_both<const N: usize>(
     ensures planes { IsReady N planes.new }
     ensures pixels { IsReady N pixels.new }
 {
-    assert!(rt; N <= 256 && planes.clocks() < MANY && pixels.clocks() < MANY);
+    assert!(rt; N <= 256);
+    assert!(rt; planes.clocks() < MANY);
+    assert!(rt; pixels.clocks() < MANY);
     if lawful(m, N as u32) && lawful(m, 256) {
         planes.operate(m);
         pixels.operate(m);
@@ -265,8 +269,10 @@ fn clock<A: Array>(rt: &impl Abort, array: &mut A, m: &Macro)
     ensures is_open { IsOpen (A.device array.new) }
     ensures slots { A.slots array.new ≡ A.slots array.old }
 {
-    assert!(rt; A::BITS <= 256 && array.clocks() < MANY);
-    assert!(rt; lawful(m, A::BITS as u32) && lawful(m, 256));
+    assert!(rt; A::BITS <= 256);
+    assert!(rt; array.clocks() < MANY);
+    assert!(rt; lawful(m, A::BITS as u32));
+    assert!(rt; lawful(m, 256));
     let (nx, ny) = array.size();
     make_micros(array, m, 0, cycles(m, nx, ny));
     assert!(rt; array.size().0 >= 1);

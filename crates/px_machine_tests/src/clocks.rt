@@ -3,8 +3,11 @@ ghost use Rattle.std.specs.Prelude.{◌≡◌};
 ghost use Rattle.px_array.specs.Arrays.{IsOpen};
 ghost use Rattle.px_array.specs.Slots.{IsSaved};
 ghost use Rattle.px_pixel.specs.Acts.{HasPlace};
+ghost use Rattle.px_machine_tests.specs.Ready.{AreSaved};
 
-use px_array::{Array, Micro, PixelArray, Registers, TreeOp, clock_all};
+use crate::compared::{compare, try_pixel};
+use crate::words::placed;
+use px_array::{Array, Micro, PixelArray, Registers, TreeOp};
 use px_num::Memory;
 use px_pixel::Act;
 use std::process::Abort;
@@ -17,46 +20,78 @@ fn a_form_is_loaded(rt: HostRuntime) -> Result<(), Fail> {
     let mut array = PixelArray::<5>::new(rt.alloc());
     assert_eq!(rt; array.size(), (0, 0));
     array.open(1, 1)?;
-    let first = [
-        micro(TreeOp::Clear, Act::EnableAll),
-        micro(feed(true, false, true), Act::SetCarry(true)),
-        micro(feed(false, false, false), Act::Nop),
-        micro(feed(false, true, false), Act::StoreTree(0)),
+    let micros = [
+        (TreeOp::Clear, Act::EnableAll),
+        (feed(true, false, true), Act::SetCarry(true)),
+        (feed(false, false, false), Act::Nop),
+        (feed(false, true, false), Act::StoreTree(0)),
+        (feed(false, false, false), Act::StoreTree(1)),
+        (feed(false, false, false), Act::StoreTree(2)),
     ];
-    clock_all(&mut array, &first);
-    assert_eq!(rt; (array.clocks(), array.size()), (4, (1, 1)));
+    make_all(&rt, &mut array, &micros[..4]);
+    try_latches(&rt, &array);
+    make_all(&rt, &mut array, &micros[4..]);
+    try_numbers(&rt, &array);
+    array.open(2, 1)?;
+    try_opened(&rt, &array);
+    Ok(())
+}
+
+/// Where the lowest bit is stored.
+fn try_latches(rt: &impl Abort, array: &PixelArray<5>) {
+    assert_eq!(rt; array.clocks(), 4);
+    assert!(rt; array.size() == (1, 1));
     assert_eq!(rt;
         (array.node(2, 0), array.node(2, 3)),
         ((false, false), (false, true))
     );
     assert_eq!(rt; (array.tree_bit(0, 1), array.tree_bit(1, 1)), (true, false));
-    let second = [
-        micro(feed(false, false, false), Act::StoreTree(1)),
-        micro(feed(false, false, false), Act::StoreTree(2)),
-    ];
-    clock_all(&mut array, &second);
+}
+
+/// The value at each pixel, and registers.
+fn try_numbers(rt: &impl Abort, array: &PixelArray<5>) {
     for (x, y, want) in [(0, 0, 1), (1, 0, 2), (0, 1, 3), (1, 1, 4)] {
-        for at in 0..5 {
-            assert_eq!(rt;
-                array.bit(x, y, at),
-                (want >> at) & 1 == 1,
-                "({x}, {y}): {at}"
-            );
-        }
+        try_number(rt, array, x, y, want);
     }
     let registers = Registers {
         enable: true,
         carry: true,
         latch: false,
     };
+    assert!(rt; array.size() == (1, 1));
     assert_eq!(rt; array.registers(1, 0), registers);
-    array.open(2, 1)?;
-    assert_eq!(rt; (array.clocks(), array.size()), (0, (2, 1)));
+}
+
+fn try_number(rt: &impl Abort, array: &PixelArray<5>, x: u32, y: u32, want: u32) {
+    try_pixel(rt, array, x, y);
+    for at in 0..5 {
+        assert!(rt;
+            array.bit(x, y, at) == ((want >> at) & 1 == 1),
+            "({x}, {y}): {at}"
+        );
+    }
+}
+
+/// Eight pixels on which no clock was made.
+fn try_opened(rt: &impl Abort, array: &PixelArray<5>) {
+    assert_eq!(rt; array.clocks(), 0);
+    assert!(rt; array.size() == (2, 1));
     assert_eq!(rt;
         (array.bit(0, 0, 0), array.registers(3, 1).enable),
         (false, false)
     );
-    Ok(())
+}
+
+/// Makes a clock for each of these on pixels of five bits.
+pub(crate) fn make_all<A: Array>(rt: &impl Abort, array: &mut A, micros: &[(TreeOp, Act)])
+    requires is_open { IsOpen (A.device array.old) }
+    requires bits { A.BITS ≡ 5 }
+    ensures { IsOpen (A.device array.new) }
+{
+    for (tree, act) in micros {
+        let act = placed(*act);
+        make_one(rt, array, Micro { tree: *tree, act });
+    }
 }
 
 fn micro(tree: TreeOp, act: Act) -> Micro
@@ -65,7 +100,7 @@ fn micro(tree: TreeOp, act: Act) -> Micro
     Micro { tree, act }
 }
 
-fn feed(a: bool, b: bool, c: bool) -> TreeOp {
+pub(crate) fn feed(a: bool, b: bool, c: bool) -> TreeOp {
     TreeOp::Feed { a, b, c }
 }
 
@@ -76,24 +111,43 @@ fn turning_back(rt: HostRuntime) -> Result<(), Fail> {
     let mut array = PixelArray::<5>::new(rt.alloc());
     let mut plain = PixelArray::<5>::new(rt.alloc());
     array.open(1, 1)?;
-    array.save(2);
-    make_clocks(&rt, &mut array, 0, 2);
-    array.save(0);
-    make_clocks(&rt, &mut array, 2, 4);
-    array.save(3);
-    make_clocks(&rt, &mut array, 4, 6);
-    array.save(1);
-    make_clocks(&rt, &mut array, 6, 8);
+    save_each(&rt, &mut array);
     assert_eq!(rt; array.work(), 8);
-    try_back(&rt, &mut array, &mut plain, 3, 4)?;
-    try_back(&rt, &mut array, &mut plain, 2, 0)?;
-    try_back(&rt, &mut array, &mut plain, 1, 6)?;
-    try_back(&rt, &mut array, &mut plain, 0, 2)?;
-    try_back(&rt, &mut array, &mut plain, 3, 4)?;
+    turn_back(&rt, &mut array, &mut plain)?;
     assert_eq!(rt; array.work(), 8 + 4 + 8 + 2 + 6 + 4);
     array.open(1, 1)?;
     assert_eq!(rt; array.work(), 0);
     Ok(())
+}
+
+fn save_each(rt: &impl Abort, array: &mut PixelArray<5>)
+    requires is_open { IsOpen array.old.device }
+    ensures is_open { IsOpen array.new.device }
+    ensures saved { AreSaved array.new.slots }
+{
+    array.save(2);
+    make_clocks(rt, array, 0, 2);
+    array.save(0);
+    make_clocks(rt, array, 2, 4);
+    array.save(3);
+    make_clocks(rt, array, 4, 6);
+    array.save(1);
+    make_clocks(rt, array, 6, 8);
+}
+
+fn turn_back(
+    rt: &impl Abort,
+    array: &mut PixelArray<5>,
+    plain: &mut PixelArray<5>,
+) -> Result<(), Memory>
+    requires is_open { IsOpen array.old.device }
+    requires saved { AreSaved array.old.slots }
+{
+    try_back(rt, array, plain, 3, 4)?;
+    try_back(rt, array, plain, 2, 0)?;
+    try_back(rt, array, plain, 1, 6)?;
+    try_back(rt, array, plain, 0, 2)?;
+    try_back(rt, array, plain, 3, 4)
 }
 
 /// Turns back to a slot that was saved after so many clocks, and goes on from there.
@@ -179,20 +233,4 @@ fn eighth(k: u32) -> Micro
         6 => micro(feed(true, true, true), Act::EnableBit(1, true)),
         _ => micro(feed(true, true, false), Act::AddTree(1)),
     }
-}
-
-/// Every clock, bit, register, leaf and node of two arrays of four pixels is the same.
-fn compare(rt: &impl Abort, array: &PixelArray<5>, plain: &PixelArray<5>) {
-    assert!(rt; array.size() == (1, 1) && plain.size() == (1, 1));
-    assert_eq!(rt; array.clocks(), plain.clocks());
-    for (x, y) in [(0, 0), (1, 0), (0, 1), (1, 1)] {
-        assert_eq!(rt; array.registers(x, y), plain.registers(x, y));
-        assert_eq!(rt; array.tree_bit(x, y), plain.tree_bit(x, y));
-        assert_eq!(rt; array.node(2, 2 * x + y), plain.node(2, 2 * x + y));
-        for at in 0..5 {
-            assert_eq!(rt; array.bit(x, y, at), plain.bit(x, y, at));
-        }
-    }
-    assert_eq!(rt; array.node(1, 0), plain.node(1, 0));
-    assert_eq!(rt; array.node(1, 1), plain.node(1, 1));
 }

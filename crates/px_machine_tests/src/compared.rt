@@ -1,89 +1,86 @@
 //! Two arrays side by side: what is not the same ends the test.
+ghost use Rattle.std.specs.Prelude.{◌≤◌, ◌<◌, ◌^◌};
+ghost use Rattle.px_array.specs.Arrays.{HasPixel, IsOpen, levels_of};
 
-use px_array::{Array, PixelArray};
+use px_array::Array;
 use px_num::power;
-use px_planes::PlaneArray;
 use std::process::Abort;
 
 /// Every bit, register, leaf and node of both arrays is the same, and so are their clocks.
-pub(crate) fn compare<const N: usize>(
-    rt: &impl Abort,
-    pixels: &PixelArray<N>,
-    planes: &PlaneArray<N>,
-) {
-    compare_memories(rt, pixels, planes);
-    let (nx, ny) = pixels.size();
-    assert!(rt; 1 <= nx && nx <= 9 && 1 <= ny && ny <= 9);
+pub(crate) fn compare<A: Array, B: Array>(rt: &impl Abort, one: &A, other: &B) {
+    compare_memories(rt, one, other);
+    let (nx, ny) = one.size();
+    assert!(rt; 1 <= nx);
     for x in 0..power(nx) {
         for y in 0..power(ny) {
-            compare_registers(rt, pixels, planes, x as u32, y as u32);
+            compare_registers(rt, one, other, x as u32, y as u32);
         }
     }
     for level in 1..nx + ny + 1 {
         for index in 0..power(level) {
-            compare_node(rt, pixels, planes, level, index as u32);
+            compare_node(rt, one, other, level, index as u32);
         }
     }
 }
 
-/// The memory and the enable register of every pixel are the same, and the clocks of both arrays.
-pub(crate) fn compare_memories<const N: usize>(
-    rt: &impl Abort,
-    pixels: &PixelArray<N>,
-    planes: &PlaneArray<N>,
-) {
-    assert_eq!(rt; pixels.clocks(), planes.clocks());
-    let (nx, ny) = pixels.size();
-    assert!(rt; 1 <= nx && nx <= 9 && 1 <= ny && ny <= 9);
+/// The memory and the enable register of every pixel are the same, and the clocks and the size of both
+/// arrays.
+pub(crate) fn compare_memories<A: Array, B: Array>(rt: &impl Abort, one: &A, other: &B) {
+    assert_eq!(rt; one.clocks(), other.clocks());
+    assert_eq!(rt; one.size(), other.size());
+    let (nx, ny) = one.size();
+    assert!(rt; 1 <= nx);
     for x in 0..power(nx) {
         for y in 0..power(ny) {
-            compare_memory(rt, pixels, planes, x as u32, y as u32);
+            compare_memory(rt, one, other, x as u32, y as u32);
         }
     }
 }
 
-fn compare_memory<const N: usize>(
-    rt: &impl Abort,
-    pixels: &PixelArray<N>,
-    planes: &PlaneArray<N>,
-    x: u32,
-    y: u32,
-) {
-    let (nx, ny) = pixels.size();
-    assert!(rt; planes.size() == (nx, ny) && 1 <= nx && nx <= 9 && ny <= 9 && N <= 256);
-    assert!(rt; (x as usize) < power(nx) && (y as usize) < power(ny));
-    assert_eq!(rt;
-        pixels.registers(x, y).enable,
-        planes.registers(x, y).enable
-    );
-    for at in 0..N as u32 {
-        assert_eq!(rt; pixels.bit(x, y, at), planes.bit(x, y, at));
+fn compare_memory<A: Array, B: Array>(rt: &impl Abort, one: &A, other: &B, x: u32, y: u32) {
+    try_pixel(rt, one, x, y);
+    try_pixel(rt, other, x, y);
+    assert!(rt; A::BITS == B::BITS);
+    assert!(rt; A::BITS <= 256);
+    assert_eq!(rt; one.registers(x, y).enable, other.registers(x, y).enable);
+    for at in 0..A::BITS as u32 {
+        assert_eq!(rt; one.bit(x, y, at), other.bit(x, y, at));
     }
 }
 
-fn compare_registers<const N: usize>(
-    rt: &impl Abort,
-    pixels: &PixelArray<N>,
-    planes: &PlaneArray<N>,
-    x: u32,
-    y: u32,
-) {
-    let (nx, ny) = pixels.size();
-    assert!(rt; planes.size() == (nx, ny) && 1 <= nx && nx <= 9 && ny <= 9);
-    assert!(rt; (x as usize) < power(nx) && (y as usize) < power(ny));
-    assert_eq!(rt; pixels.registers(x, y), planes.registers(x, y));
-    assert_eq!(rt; pixels.tree_bit(x, y), planes.tree_bit(x, y));
+fn compare_registers<A: Array, B: Array>(rt: &impl Abort, one: &A, other: &B, x: u32, y: u32) {
+    try_pixel(rt, one, x, y);
+    try_pixel(rt, other, x, y);
+    assert_eq!(rt; one.registers(x, y), other.registers(x, y));
+    assert_eq!(rt; one.tree_bit(x, y), other.tree_bit(x, y));
 }
 
-fn compare_node<const N: usize>(
-    rt: &impl Abort,
-    pixels: &PixelArray<N>,
-    planes: &PlaneArray<N>,
-    level: u32,
-    index: u32,
-) {
-    let (nx, ny) = pixels.size();
-    assert!(rt; planes.size() == (nx, ny) && 1 <= nx && nx <= 9 && ny <= 9);
-    assert!(rt; 1 <= level && level <= nx + ny && (index as usize) < power(level));
-    assert_eq!(rt; pixels.node(level, index), planes.node(level, index));
+/// The array has the pixel.
+pub(crate) fn try_pixel<A: Array>(rt: &impl Abort, array: &A, x: u32, y: u32)
+    ensures { HasPixel (A.device array.now) x y }
+{
+    let (nx, ny) = array.size();
+    assert!(rt; 1 <= nx);
+    assert!(rt; (x as usize) < power(nx));
+    assert!(rt; (y as usize) < power(ny));
+}
+
+fn compare_node<A: Array, B: Array>(rt: &impl Abort, one: &A, other: &B, level: u32, index: u32) {
+    try_node(rt, one, level, index);
+    try_node(rt, other, level, index);
+    assert_eq!(rt; one.node(level, index), other.node(level, index));
+}
+
+/// The array has the node.
+fn try_node<A: Array>(rt: &impl Abort, array: &A, level: u32, index: u32)
+    ensures is_open { IsOpen (A.device array.now) }
+    ensures from_one { 1 ≤ level }
+    ensures in_tree { level ≤ levels_of (A.device array.now).state.tree }
+    ensures in_level { index < 2 ^ level }
+{
+    let (nx, ny) = array.size();
+    assert!(rt; 1 <= nx);
+    assert!(rt; 1 <= level);
+    assert!(rt; level <= nx + ny);
+    assert!(rt; (index as usize) < power(level));
 }

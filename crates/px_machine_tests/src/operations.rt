@@ -129,7 +129,8 @@ fn carry_out(rt: &impl Abort, array: &mut PixelArray<16>, m: &Macro)
     ensures columns { array.new.device.state.tree.nx ≡ 1 }
     ensures rows { array.new.device.state.tree.ny ≡ 1 }
 {
-    assert!(rt; lawful(m, 16) && lawful(m, 256) && array.clocks() < 1000);
+    assert!(rt; lawful(m, 16) && lawful(m, 256));
+    assert!(rt; array.clocks() < 1000);
     for i in 0..cycles(m, 1, 1) {
         array.clock(micro_at(m, 1, 1, i));
     }
@@ -139,8 +140,7 @@ fn carry_out(rt: &impl Abort, array: &mut PixelArray<16>, m: &Macro)
 fn try_pixel(rt: &impl Abort, array: &PixelArray<16>, m: &Macro, x: u32, y: u32, want: u32)
     requires pixel { HasPixel array.now.device x y }
 {
-    let is_enabled = array.registers(x, y).enable;
-    assert!(rt; is_enabled == (want >> 16 == 1), "{m:?} at ({x}, {y})");
-    let memory = number_in(array, WHOLE, x, y);
-    assert!(rt; memory == u64::from(want & 0xffff), "{m:?} at ({x}, {y})");
+    let found = (array.registers(x, y).enable, number_in(array, WHOLE, x, y));
+    let wanted = (want >> 16 == 1, u64::from(want & 0xffff));
+    assert!(rt; found == wanted, "{m:?} at ({x}, {y})");
 }

@@ -4,7 +4,7 @@ ghost use Rattle.px_pixel.specs.Acts.{HasPlace};
 ghost use Rattle.px_machine_tests.specs.Ready.{IsReady};
 
 use crate::at_once::{clock_each, open_both};
-use crate::clocks::make_one;
+use crate::clocks::{feed, make_all};
 use crate::compared::compare;
 use crate::numbers::Numbers;
 use px_array::{Array, Micro, PixelArray, TreeOp};
@@ -95,17 +95,18 @@ fn rows_of_a_form(rt: HostRuntime) -> Result<(), Fail> {
         (feed(false, false, false), Act::StoreTree(2)),
         (TreeOp::Hold, Act::Toggle(3)),
     ];
-    for (tree, act) in micros {
-        assert!(rt; array.size() == (1, 1));
-        let act = placed(act);
-        make_one(&rt, &mut array, Micro { tree, act });
-    }
-    assert!(rt; array.size() == (1, 1));
-    let rows = [0b0011, 0b0110, 0b1000, 0b1111, 0];
-    for at in 0..5 {
-        assert_eq!(rt; array.row(at as u32), [rows[at]].as_slice(), "row {at}");
+    make_all(&rt, &mut array, &micros);
+    for (at, word) in [(0, 0b0011), (1, 0b0110), (2, 0b1000), (3, 0b1111), (4, 0)] {
+        try_row(&rt, &array, at, word);
     }
     Ok(())
+}
+
+/// The row of four pixels is this word.
+fn try_row(rt: &impl Abort, array: &PlaneArray<5>, at: u32, word: u64) {
+    assert!(rt; at < 5);
+    assert!(rt; array.size() == (1, 1));
+    assert!(rt; array.row(at) == [word].as_slice(), "row {at}");
 }
 
 /// Random micros on both arrays, with saves and restores, in grids of one word and of many.
@@ -197,10 +198,6 @@ impl Draw {
     }
 }
 
-fn feed(a: bool, b: bool, c: bool) -> TreeOp {
-    TreeOp::Feed { a, b, c }
-}
-
 fn act_of(kind: u32, at: u32, v: bool) -> Act {
     match kind {
         0 => Act::Nop,
@@ -221,7 +218,7 @@ fn act_of(kind: u32, at: u32, v: bool) -> Act {
 }
 
 /// The act with its place below 5.
-fn placed(act: Act) -> Act
+pub(crate) fn placed(act: Act) -> Act
     ensures { HasPlace 5 result }
 {
     match act {

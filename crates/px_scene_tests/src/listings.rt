@@ -100,104 +100,81 @@ fn try_played<const N: usize>(
     Ok(())
 }
 
-/// The first bad line, by its form.
+/// Texts, each with its first bad line and the cause.
+const FORMS: [(&[u8], u32, Cause); 12] = [
+    (b"", 0, Cause::MissingEnd),
+    (b"# none\n\n", 2, Cause::MissingEnd),
+    (b"pxlist 01", 1, Cause::NotHeader),
+    (b"pxlist 1 1", 1, Cause::NotHeader),
+    (b"pxlist 1\nend\n", 2, Cause::Unexpected),
+    (b"pxlist 1\ngrid 1\n", 2, Cause::WordCount),
+    (b"pxlist 1\ngrid 1 x\n", 2, Cause::NotNumber),
+    (b"pxlist 1\ngrid 1 1\nnop\n", 3, Cause::Unexpected),
+    (b"pxlist 1\ngrid 1 1\ntoggle\n", 3, Cause::WordCount),
+    (b"pxlist 1\ngrid 1 1\ntoggle -\n", 3, Cause::NotNumber),
+    (b"pxlist 1\ngrid 1 1\nend\nend\n", 4, Cause::AfterEnd),
+    (b"pxlist 1\ngrid 1 1\nall\n\n", 4, Cause::MissingEnd),
+];
+
 #[test]
 fn forms(rt: HostRuntime) {
-    let cases = [
-        (b"".as_slice(), 0, Cause::MissingEnd),
-        (b"# none\n\n".as_slice(), 2, Cause::MissingEnd),
-        (b"pxlist 01".as_slice(), 1, Cause::NotHeader),
-        (b"pxlist 1 1".as_slice(), 1, Cause::NotHeader),
-        (b"pxlist 1\nend\n".as_slice(), 2, Cause::Unexpected),
-        (b"pxlist 1\ngrid 1\n".as_slice(), 2, Cause::WordCount),
-        (b"pxlist 1\ngrid 1 x\n".as_slice(), 2, Cause::NotNumber),
-        (
-            b"pxlist 1\ngrid 1 1\nnop\n".as_slice(),
-            3,
-            Cause::Unexpected,
-        ),
-        (
-            b"pxlist 1\ngrid 1 1\ntoggle\n".as_slice(),
-            3,
-            Cause::WordCount,
-        ),
-        (
-            b"pxlist 1\ngrid 1 1\ntoggle -\n".as_slice(),
-            3,
-            Cause::NotNumber,
-        ),
-        (
-            b"pxlist 1\ngrid 1 1\nend\nend\n".as_slice(),
-            4,
-            Cause::AfterEnd,
-        ),
-        (
-            b"pxlist 1\ngrid 1 1\nall\n\n".as_slice(),
-            4,
-            Cause::MissingEnd,
-        ),
-    ];
-    for (text, line, cause) in cases {
-        try_refused(&rt, rt.alloc(), text, ListFault::Malformed { line, cause });
+    for (text, line, cause) in FORMS {
+        let fault = ListFault::Malformed { line, cause };
+        assert!(rt; refusal(&rt, rt.alloc(), text) == Some(fault));
     }
 }
 
-/// The first limit on the third line, for pixels of 72 bits.
+/// Third lines, each with the first limit that it passes, for pixels of 72 bits.
+const LIMITS: [(&[u8], ListKind, i64); 13] = [
+    (
+        b"load-linear 0 -134217729 0 -1 0",
+        ListKind::Coefficient,
+        -134217729,
+    ),
+    (
+        b"keep-sign 0 0 274877906945",
+        ListKind::Coefficient,
+        274877906945,
+    ),
+    (b"add-linear 0 0 0 -1 0", ListKind::Length, 0),
+    (b"load-const -1 41 -1", ListKind::Length, 41),
+    (b"keep-at-most 0 0 0 -1 4", ListKind::Place, -1),
+    (b"keep-bit 72 2", ListKind::Place, 73),
+    (b"copy 69 4 70", ListKind::Place, 73),
+    (b"keep-less 0 4 69", ListKind::Place, 73),
+    (b"set-bit 71 2", ListKind::Value, 2),
+    (b"load-const 0 4 16", ListKind::Value, 16),
+    (b"copy 0 4 3", ListKind::Overlap, 3),
+    (b"copy 4 4 4", ListKind::Overlap, 4),
+    (
+        b"toggle 9999999999999999999",
+        ListKind::Place,
+        1_000_000_000_000_000_001,
+    ),
+];
+
 #[test]
-fn limits(rt: HostRuntime) {
-    let cases = [
-        (
-            b"load-linear 0 -134217729 0 -1 0".as_slice(),
-            ListKind::Coefficient,
-            -134217729,
-        ),
-        (
-            b"keep-sign 0 0 274877906945".as_slice(),
-            ListKind::Coefficient,
-            274877906945,
-        ),
-        (b"add-linear 0 0 0 -1 0".as_slice(), ListKind::Length, 0),
-        (b"load-const -1 41 -1".as_slice(), ListKind::Length, 41),
-        (b"keep-at-most 0 0 0 -1 4".as_slice(), ListKind::Place, -1),
-        (b"keep-bit 72 2".as_slice(), ListKind::Place, 73),
-        (b"copy 69 4 70".as_slice(), ListKind::Place, 73),
-        (b"keep-less 0 4 69".as_slice(), ListKind::Place, 73),
-        (b"set-bit 71 2".as_slice(), ListKind::Value, 2),
-        (b"load-const 0 4 16".as_slice(), ListKind::Value, 16),
-        (b"copy 0 4 3".as_slice(), ListKind::Overlap, 3),
-        (b"copy 4 4 4".as_slice(), ListKind::Overlap, 4),
-        (
-            b"toggle 9999999999999999999".as_slice(),
-            ListKind::Place,
-            1_000_000_000_000_000_001,
-        ),
-    ];
-    for (line, kind, found) in cases {
-        try_limit(&rt, rt.alloc(), line, kind, found);
+fn limits(rt: HostRuntime) -> Result<(), Fail> {
+    for (third, kind, found) in LIMITS {
+        let text = text_of(rt.alloc(), third)?;
+        let line = 3;
+        let fault = ListFault::Limit { line, kind, found };
+        assert!(rt; refusal(&rt, rt.alloc(), text.as_slice()) == Some(fault));
     }
+    Ok(())
 }
 
-fn try_limit(rt: &impl Abort, alloc: Global, line: &[u8], kind: ListKind, found: i64) {
-    let mut text = Vec::new(alloc);
-    if put_lines(&mut text, line).is_ok() {
-        let fault = ListFault::Limit {
-            line: 3,
-            kind,
-            found,
-        };
-        try_refused(rt, alloc, text.as_slice(), fault);
-    }
+/// A listing with this third line.
+fn text_of(alloc: Global, third: &[u8]) -> Result<Vec<u8>, AllocError> {
+    let mut text = Vec::from_slice(alloc, b"pxlist 1\ngrid 1 1\n")?;
+    text.extend_from_slice(third)?;
+    text.extend_from_slice(b"\nend\n")?;
+    Ok(text)
 }
 
-fn put_lines(text: &mut Vec<u8>, line: &[u8]) -> Result<(), AllocError> {
-    text.extend_from_slice(b"pxlist 1\ngrid 1 1\n")?;
-    text.extend_from_slice(line)?;
-    text.extend_from_slice(b"\nend\n")
-}
-
-fn try_refused(rt: &impl Abort, alloc: Global, text: &[u8], fault: ListFault) {
+fn refusal(rt: &impl Abort, alloc: Global, text: &[u8]) -> Option<ListFault> {
     assert!(rt; text.len() <= 1_048_576);
-    assert!(rt; read_listing(alloc, text, 72).err() == Some(fault));
+    read_listing(alloc, text, 72).err()
 }
 
 const LISTINGS: [(ListFault, &str); 3] = [

@@ -28,78 +28,74 @@ fn read_in(alloc: Global, version: Version, text: &[u8]) -> Result<Expr, LineErr
     read_show(alloc, version, &solids, words.as_slice())
 }
 
+const SUM: &[Node] = &[Node::Leaf(0), Node::Leaf(1), Node::Union(0, 1)];
+
+/// Texts, each with its nodes.
+const GOOD: [(&[u8], &[Node]); 7] = [
+    (b"b", &[Node::Leaf(1)]),
+    (b"(a + b)", SUM),
+    (b"(a+b)", SUM),
+    (b"( a\t+ b ) # c", SUM),
+    (
+        b"(a^b)",
+        &[Node::Leaf(0), Node::Leaf(1), Node::Differ(0, 1)],
+    ),
+    (
+        b"((a - b) * c)",
+        &[
+            Node::Leaf(0),
+            Node::Leaf(1),
+            Node::Minus(0, 1),
+            Node::Leaf(2),
+            Node::Meet(2, 3),
+        ],
+    ),
+    (
+        b"(a-(b-c))",
+        &[
+            Node::Leaf(0),
+            Node::Leaf(1),
+            Node::Leaf(2),
+            Node::Minus(1, 2),
+            Node::Minus(0, 3),
+        ],
+    ),
+];
+
 #[test]
 fn good_expressions(rt: HostRuntime) {
-    let sum = [Node::Leaf(0), Node::Leaf(1), Node::Union(0, 1)];
-    let cases = [
-        (b"b".as_slice(), [Node::Leaf(1)].as_slice()),
-        (b"(a + b)".as_slice(), sum.as_slice()),
-        (b"(a+b)".as_slice(), sum.as_slice()),
-        (b"( a\t+ b ) # c".as_slice(), sum.as_slice()),
-        (
-            b"(a^b)".as_slice(),
-            [Node::Leaf(0), Node::Leaf(1), Node::Differ(0, 1)].as_slice(),
-        ),
-        (
-            b"((a - b) * c)".as_slice(),
-            [
-                Node::Leaf(0),
-                Node::Leaf(1),
-                Node::Minus(0, 1),
-                Node::Leaf(2),
-                Node::Meet(2, 3),
-            ]
-            .as_slice(),
-        ),
-        (
-            b"(a-(b-c))".as_slice(),
-            [
-                Node::Leaf(0),
-                Node::Leaf(1),
-                Node::Leaf(2),
-                Node::Minus(1, 2),
-                Node::Minus(0, 3),
-            ]
-            .as_slice(),
-        ),
-    ];
-    for (text, nodes) in cases {
+    for (text, nodes) in GOOD {
         let expr = read(rt.alloc(), text).expect(&rt, "an expression");
         assert!(rt; expr.nodes() == nodes);
     }
 }
 
+/// Texts, each with the cause.
+const BAD: [(&[u8], Cause); 17] = [
+    (b"", Cause::BadExpression),
+    (b"a + a", Cause::BadExpression),
+    (b"(a + )", Cause::BadExpression),
+    (b"((a)", Cause::BadExpression),
+    (b"(a)", Cause::BadExpression),
+    (b"(a + a) a", Cause::BadExpression),
+    (b"(a & b)", Cause::BadExpression),
+    (b"(9a + b)", Cause::BadExpression),
+    (b"(a b)", Cause::BadExpression),
+    (b"(a + b + c)", Cause::BadExpression),
+    (b"(d + )", Cause::BadExpression),
+    (b"a$", Cause::BadExpression),
+    (b"a12345678901234567890123456789012", Cause::BadExpression),
+    (b"a1234567890123456789012345678901", Cause::UnknownName),
+    (b"d", Cause::UnknownName),
+    (b"(a + d)", Cause::UnknownName),
+    (b"(a + ab)", Cause::UnknownName),
+];
+
 #[test]
 fn bad_expressions(rt: HostRuntime) {
-    let cases = [
-        (b"".as_slice(), Cause::BadExpression),
-        (b"a + a".as_slice(), Cause::BadExpression),
-        (b"(a + )".as_slice(), Cause::BadExpression),
-        (b"((a)".as_slice(), Cause::BadExpression),
-        (b"(a)".as_slice(), Cause::BadExpression),
-        (b"(a + a) a".as_slice(), Cause::BadExpression),
-        (b"(a & b)".as_slice(), Cause::BadExpression),
-        (b"(9a + b)".as_slice(), Cause::BadExpression),
-        (b"(a b)".as_slice(), Cause::BadExpression),
-        (b"(a + b + c)".as_slice(), Cause::BadExpression),
-        (b"(d + )".as_slice(), Cause::BadExpression),
-        (b"a$".as_slice(), Cause::BadExpression),
-        (
-            b"a12345678901234567890123456789012".as_slice(),
-            Cause::BadExpression,
-        ),
-        (
-            b"a1234567890123456789012345678901".as_slice(),
-            Cause::UnknownName,
-        ),
-        (b"d".as_slice(), Cause::UnknownName),
-        (b"(a + d)".as_slice(), Cause::UnknownName),
-        (b"(a + ab)".as_slice(), Cause::UnknownName),
-    ];
-    for (text, cause) in cases {
-        assert!(rt;
-            read(rt.alloc(), text).err() == Some(LineError::Bad(LineFault::Malformed(cause)))
-        );
+    for (text, cause) in BAD {
+        let bad = LineError::Bad(LineFault::Malformed(cause));
+        assert!(rt; read(rt.alloc(), text).err() == Some(bad));
     }
 }
 

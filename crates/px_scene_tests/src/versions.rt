@@ -1,76 +1,77 @@
 //! What each version of scene texts has, and what it refuses.
 use px_scene::{Cause, LimitKind, SceneFault, read_scene};
+use std::alloc::Global;
 use std::test::Fail;
 
-fn malformed(line: u32, cause: Cause) -> Option<SceneFault> {
-    Some(SceneFault::Malformed { line, cause })
-}
+/// Texts, each with its first bad line and the cause.
+const MALFORMED: [(&[u8], u32, Cause); 10] = [
+    (b"pxscene 4", 1, Cause::NotHeader),
+    (b"pxscene 01", 1, Cause::NotHeader),
+    (b"pxscene 2 2", 1, Cause::NotHeader),
+    (b"pxscene", 1, Cause::NotHeader),
+    (b"scene 3", 1, Cause::NotHeader),
+    (b"pxscene 1\npicture 1 1\ndepth 4 0", 3, Cause::WordCount),
+    (b"pxscene 2\npicture 1 1\ndepth 4 2", 3, Cause::WordCount),
+    (b"pxscene 3\npicture 1 1\ndepth 4", 3, Cause::WordCount),
+    (b"pxscene 3\npicture 1 1\ndepth 25 x", 3, Cause::NotNumber),
+    (
+        b"pxscene 1\npicture 1 1\ndepth 4\nsolid a 0 0 0\nshow (a^a)\nend",
+        5,
+        Cause::BadExpression,
+    ),
+];
 
-fn limit(line: u32, kind: LimitKind, found: i64) -> Option<SceneFault> {
-    Some(SceneFault::Limit { line, kind, found })
-}
+/// Texts whose third line passes a limit.
+const LIMITED: [(&[u8], LimitKind, i64); 4] = [
+    (
+        b"pxscene 3\npicture 1 1\ndepth 20 5",
+        LimitKind::Fraction,
+        5,
+    ),
+    (b"pxscene 3\npicture 1 1\ndepth 4 9", LimitKind::Fraction, 9),
+    (
+        b"pxscene 3\npicture 1 1\ndepth 4 -1",
+        LimitKind::Fraction,
+        -1,
+    ),
+    (b"pxscene 3\npicture 1 1\ndepth 25 9", LimitKind::Depth, 25),
+];
 
-/// What each version has, and what it refuses.
+const ACCEPTED: [&[u8]; 3] = [
+    b"pxscene 3\npicture 1 1\ndepth 24 0\nsolid a 0 0 0\nshow a\nend",
+    b"pxscene 3\npicture 1 1\ndepth 16 8\nsolid a 0 0 0\nshow (a^a)\nend",
+    b"# roof\npxscene 2\npicture 1 1\ndepth 4\nsolid a 0 0 0\nshow (a^a)\nend",
+];
+
+/// What each version refuses by its form.
 #[test]
-fn versions(rt: HostRuntime) {
-    let cases = [
-        (b"pxscene 4".as_slice(), malformed(1, Cause::NotHeader)),
-        (b"pxscene 01".as_slice(), malformed(1, Cause::NotHeader)),
-        (b"pxscene 2 2".as_slice(), malformed(1, Cause::NotHeader)),
-        (b"pxscene".as_slice(), malformed(1, Cause::NotHeader)),
-        (b"scene 3".as_slice(), malformed(1, Cause::NotHeader)),
-        (
-            b"pxscene 1\npicture 1 1\ndepth 4 0".as_slice(),
-            malformed(3, Cause::WordCount),
-        ),
-        (
-            b"pxscene 2\npicture 1 1\ndepth 4 2".as_slice(),
-            malformed(3, Cause::WordCount),
-        ),
-        (
-            b"pxscene 3\npicture 1 1\ndepth 4".as_slice(),
-            malformed(3, Cause::WordCount),
-        ),
-        (
-            b"pxscene 3\npicture 1 1\ndepth 25 x".as_slice(),
-            malformed(3, Cause::NotNumber),
-        ),
-        (
-            b"pxscene 3\npicture 1 1\ndepth 20 5".as_slice(),
-            limit(3, LimitKind::Fraction, 5),
-        ),
-        (
-            b"pxscene 3\npicture 1 1\ndepth 4 9".as_slice(),
-            limit(3, LimitKind::Fraction, 9),
-        ),
-        (
-            b"pxscene 3\npicture 1 1\ndepth 4 -1".as_slice(),
-            limit(3, LimitKind::Fraction, -1),
-        ),
-        (
-            b"pxscene 3\npicture 1 1\ndepth 25 9".as_slice(),
-            limit(3, LimitKind::Depth, 25),
-        ),
-        (
-            b"pxscene 3\npicture 1 1\ndepth 24 0\nsolid a 0 0 0\nshow a\nend".as_slice(),
-            None,
-        ),
-        (
-            b"pxscene 3\npicture 1 1\ndepth 16 8\nsolid a 0 0 0\nshow (a^a)\nend".as_slice(),
-            None,
-        ),
-        (
-            b"# roof\npxscene 2\npicture 1 1\ndepth 4\nsolid a 0 0 0\nshow (a^a)\nend".as_slice(),
-            None,
-        ),
-        (
-            b"pxscene 1\npicture 1 1\ndepth 4\nsolid a 0 0 0\nshow (a^a)\nend".as_slice(),
-            malformed(5, Cause::BadExpression),
-        ),
-    ];
-    for (text, fault) in cases {
-        assert!(rt; read_scene(rt.alloc(), text).err() == fault);
+fn malformed_lines_of_versions(rt: HostRuntime) {
+    for (text, line, cause) in MALFORMED {
+        let fault = SceneFault::Malformed { line, cause };
+        assert!(rt; refusal(rt.alloc(), text) == Some(fault));
     }
+}
+
+/// What it refuses by a limit.
+#[test]
+fn limits_of_versions(rt: HostRuntime) {
+    for (text, kind, found) in LIMITED {
+        let line = 3;
+        let fault = SceneFault::Limit { line, kind, found };
+        assert!(rt; refusal(rt.alloc(), text) == Some(fault));
+    }
+}
+
+/// And what it has.
+#[test]
+fn scenes_of_versions(rt: HostRuntime) {
+    for text in ACCEPTED {
+        assert!(rt; refusal(rt.alloc(), text).is_none());
+    }
+}
+
+fn refusal(alloc: Global, text: &[u8]) -> Option<SceneFault> {
+    read_scene(alloc, text).err()
 }
 
 const SCENES: [(SceneFault, &str); 3] = [
