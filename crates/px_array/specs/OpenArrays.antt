@@ -1,4 +1,4 @@
--- What the slots of an open array keep, and for what they have room. Only proofs and private functions stand on it.
+-- What the slots of a grid have room for, and what they keep. Clauses of the trait `Grid` stand on it, and none of `Array`.
 use Rattle.std.specs.Prelude.{◌≡◌, ℕ, All, List, Option, None, length, map, replicate}
 use Rattle.px_array.specs.Arrays.{Device}
 
