@@ -1,6 +1,6 @@
 -- Lines that are judged one after another: why a line is bad, the first bad line of a text, and why a text is refused,
 -- whatever has a limit in it. Clauses of public calls stand on it.
-use Rattle.std.specs.Prelude.{◌≡◌, ℕ, ℤ, pos, ◌+◌, ◌-ℤ◌, List, [], ◌∷◌, ◌++◌, length, Bool, true, false, ◌&&◌, if◌then◌else◌, Option, Some, None}
+use Rattle.std.specs.Prelude.{ℕ, ℤ, pos, ◌+◌, ◌-ℤ◌, List, [], ◌∷◌, ◌++◌, length, Bool, true, false, ◌&&◌, if◌then◌else◌, Option, Some, None}
 use lib.Signed.{le_z}
 use Rattle.px_text.specs.Text.{Words}
 use Rattle.px_show.specs.declared.fault.Cause.{Cause}
@@ -48,8 +48,3 @@ abbrev pub refused : {K : Type 0} → Option (ℕ × LineFault K) → Bool → �
 refused (Some bad) ended count = Some (fault_at bad.0 bad.1)
 refused None true count = None
 refused None false count = Some (fault.Malformed count c.MissingEnd)
-
--- the fault of the first bad line of a text
-abbrev pub IsFirstBad : {K : Type 0} → (List Words → Words → Option (LineFault K)) → List Words → TextFault K → Type 0
-IsFirstBad judge lines found =
-    (bad : _) × (first_bad judge [] lines ≡ Some bad) × (found ≡ fault_at bad.0 bad.1)

@@ -1,6 +1,6 @@
 //! Reading a text line by line, until one is bad (docs/SCENES.md, "Lines and words" and "Refusals").
-ghost use Rattle.std.specs.Prelude.{◌≡◌, ◌⊎◌, ◌+◌, ◌<◌, ◌≤◌, ◌^◌, ◌++◌, ◌∷◌, [], Bool, IfErr, IfOk, IfSome, IsErrOf, List, None, OnOk, Option, Some, is_some, length, map};
-ghost use Rattle.px_show.specs.Judged.{IsFirstBad, fault_at, first_bad, refused};
+ghost use Rattle.std.specs.Prelude.{◌≡◌, ◌⊎◌, ◌+◌, ◌<◌, ◌≤◌, ◌^◌, ◌++◌, ◌∷◌, [], Bool, IfErr, IfOk, IfSome, IsErrOf, List, None, OnOk, Option, Some, is_some, length, map, ℕ};
+ghost use Rattle.px_show.specs.Judged.{fault_at, first_bad, refused};
 ghost use Rattle.px_show.specs.declared.fault.LineFault.{LineFault};
 ghost use Rattle.px_text.specs.LentWords.{now_of};
 ghost use Rattle.px_text.specs.Text.{Words, lines_of, words_of, worded};
@@ -90,8 +90,9 @@ fn draft_of<D: Drafting>(
     ensures good { OnOk result (first_bad (D.judge draft) [] (map (λ l. words_of l.now) lines.now)
         ≡ None) }
     ensures says { IfOk result (λ d. D.says d (map (λ l. words_of l.now) lines.now)) }
-    ensures err { IfErr result (λ f. (f ≡ TextFault.Memory)
-        ⊎ IsFirstBad (D.judge draft) (map (λ l. words_of l.now) lines.now) f) }
+    ensures err { IfErr result (λ f. (f ≡ TextFault.Memory) ⊎ ((ended : Bool) (count : ℕ) →
+        refused (first_bad (D.judge draft) [] (map (λ l. words_of l.now) lines.now)) ended count
+        ≡ Some f)) }
 {
     for (i, bytes) in lines.iter().enumerate() {
         let line = Line::cut(alloc, i as u32 + 1, bytes)?;

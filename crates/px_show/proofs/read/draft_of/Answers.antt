@@ -1,8 +1,8 @@
-use Rattle.std.proofs.Common.{◌≡◌, ◌+◌, ◌∙◌, Err, [], ap, get_or, inr, map, subst, sym, take}
+use Rattle.std.proofs.Common.{◌≡◌, ◌∙◌, Err, Some, [], ap, get_or, inr, map, subst, sym, take}
 use Rattle.px_text.specs.LentWords.{now_of}
 use Rattle.px_text.specs.Text.{words_of}
 use Rattle.px_text.proofs.LineLaws.{words_among, words_here}
-use Rattle.px_show.specs.Judged.{fault_at}
+use Rattle.px_show.specs.Judged.{fault_at, refused}
 use Rattle.px_show.proofs.JudgedLaws.{first_is, good_next, one_more}
 use Rattle.px_show.proofs.read.draft_of.Goals as goal
 
@@ -16,17 +16,15 @@ returns-in-Err-Bad-clause-err g c =
     let before = take c.loop-i.i lines in
     let here : get_or lines c.loop-i.i [] ≡ words =
     words_here c.args.lines.now c.loop-i.i _ c.loop-i-test.true ∙ sym c.in_ok-line.ensures.words in
-    inr (
-      (c.loop-i.i + 1, c.in-Err-Bad.fault),
-      first_is (g.D.Drafting.judge c.args.draft) lines c.loop-i.i words c.in-Err-Bad.fault c.loop-i.invariant.judged
-          (words_among _ _ c.loop-i-test.true) here (
-          ap (λ judge. judge before words) (sym c.loop-i.invariant.judges)
-          ∙ c.in-Err-Bad.ensures.bad before c.loop-i.invariant.says c.in-Err-Bad.fault (ap Err c.in-Err-Bad.field-0-is)
-          ),
-      c.fault_at.ensures
-          ∙ (ap (fault_at c.in_ok-line.line.number) c.in-Err-Bad.fault-is
-          ∙ ap (λ number. fault_at number c.in-Err-Bad.fault) c.in_ok-line.ensures.number),
-    )
+    let first = first_is (g.D.Drafting.judge c.args.draft) lines c.loop-i.i words c.in-Err-Bad.fault
+    c.loop-i.invariant.judged (words_among _ _ c.loop-i-test.true) here (
+      ap (λ judge. judge before words) (sym c.loop-i.invariant.judges)
+      ∙ c.in-Err-Bad.ensures.bad before c.loop-i.invariant.says c.in-Err-Bad.fault (ap Err c.in-Err-Bad.field-0-is)
+    ) in
+    let found = c.fault_at.ensures
+    ∙ (ap (fault_at c.in_ok-line.line.number) c.in-Err-Bad.fault-is
+    ∙ ap (λ number. fault_at number c.in-Err-Bad.fault) c.in_ok-line.ensures.number) in
+    inr (λ ended count. ap (λ bad. refused bad ended count) first ∙ ap Some (sym found))
 
 pub loop-i-preserved : goal.loop-i-preserved
 loop-i-preserved g c =

@@ -11,7 +11,9 @@ returns-in-Err-clause-err g c =
     ∙ c.in_ok-lines.ensures.lines) in
     elim c.in-Err.ensures.err [
       | inl memory ↦ inl memory
-      | inr (bad, first, is) ↦ inr (rw (← lines, first, is) refl)
+      | inr first ↦
+          inr (rw (← lines) (first (g.D.Drafting.is_whole (map (λ l. words_of l.now) c.as_slice.result.now))
+          (length (lines_of c.args.text.now))))
     ]
 
 pub returns-in-Some-clause-ok : goal.returns-in-Some-clause-ok
