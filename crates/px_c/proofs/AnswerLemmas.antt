@@ -1,8 +1,8 @@
 -- What a call answers, step by step.
 use Rattle.std.proofs.Common.{ℕ, ◌≡◌, ◌⊎◌, ◌<◌, ◌≤◌, inl, inr, true, false, Option, Some, None, refl, arith, nat_lt}
 use Rattle.std.proofs.lemmas.Bool.Decides.{nat_tests}
-use Rattle.px_show.specs.declared.fault.SceneFault.{SceneFault}
-use Rattle.px_show.specs.declared.fault.SceneFault.TheVariants as f
+use Rattle.px_show.specs.Judged.{SceneFault}
+use Rattle.px_show.specs.declared.fault.TextFault.TheVariants as f
 use Rattle.px_c.specs.declared.answer.Answer.{Answer}
 use Rattle.px_c.specs.declared.found.Found.{Found}
 use Rattle.px_c.specs.declared.status.TheConstants.{NO_ROOM, OK}

@@ -1,8 +1,8 @@
 -- What a call answers for a text: its status, and what it found. Clauses of public calls stand on it.
 use Rattle.std.specs.Prelude.{◌≡◌, ◌⊎◌, ℕ, ◌*◌, pos, List, length, min, nat_lt, if◌then◌else◌, Option, Some, None}
 use Rattle.px_show.specs.declared.fault.LimitKind.TheVariants as kind
-use Rattle.px_show.specs.declared.fault.SceneFault.{SceneFault}
-use Rattle.px_show.specs.declared.fault.SceneFault.TheVariants as f
+use Rattle.px_show.specs.Judged.{SceneFault}
+use Rattle.px_show.specs.declared.fault.TextFault.TheVariants as f
 use Rattle.px_scene.specs.Reading.{refusal_of, scene_of}
 use Rattle.px_scene.specs.Text.{worded}
 use Rattle.px_model.specs.Scenes.{SceneView, faces_of}

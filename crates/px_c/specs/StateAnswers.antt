@@ -2,9 +2,9 @@
 use Rattle.std.specs.Prelude.{◌≡◌, ℕ, ◌+◌, ◌^◌, ◌<◌, ◌≤◌, List, length, Option, Some, None}
 use Rattle.px_array.specs.declared.micro.Micro.{Micro}
 use Rattle.px_listing.specs.Listings.{ListingView}
-use Rattle.px_listing.specs.declared.read.ListFault.{ListFault}
-use Rattle.px_listing.specs.declared.read.ListFault.TheVariants as list
-use Rattle.px_show.specs.declared.fault.SceneFault.TheVariants as scene
+use Rattle.px_listing.specs.Reading.{ListFault}
+use Rattle.px_show.specs.declared.fault.TextFault.TheVariants as list
+use Rattle.px_show.specs.declared.fault.TextFault.TheVariants as scene
 use Rattle.px_state.specs.Courses.{IsNext, total}
 use Rattle.px_state.specs.Packing.{packed}
 use Rattle.px_state.specs.Refusals.{course_of, micros_refusal, state_refusal}

@@ -3,7 +3,7 @@ ghost use Rattle.std.specs.Prelude.{◌≡◌, ◌⊎◌, ◌≤◌, IfErr, IfOk
 ghost use Rattle.px_normal.specs.declared.product.TheConstants.{MAX_PRODUCTS};
 ghost use Rattle.px_scene.specs.Reading.{scene_of};
 ghost use Rattle.px_scene.specs.Text.{worded};
-ghost use Rattle.px_show.specs.declared.fault.SceneFault.{SceneFault};
+ghost use Rattle.px_show.specs.declared.fault.TextFault.TheVariants as TextFault;
 ghost use Rattle.px_c.specs.Answers.{Answers, Tells, check_answer, cost_found, drawn_answer, refused, undrawn};
 ghost use Rattle.px_c.specs.declared.status.TheConstants.{OK};
 
@@ -48,7 +48,7 @@ fn check_scene(alloc: Global, scene: &Scene) -> Answer
 /// What is found of a scene that can be drawn, with what its passes cost.
 pub(crate) fn found_in(alloc: Global, scene: &Scene) -> Result<Found, SceneFault>
     ensures ok { IfOk result (λ found. (undrawn scene.now ≡ None) × (found ≡ cost_found scene.now)) }
-    ensures err { IfErr result (λ fault. (fault ≡ SceneFault.Memory) ⊎ (undrawn scene.now ≡ Some fault)) }
+    ensures err { IfErr result (λ fault. (fault ≡ TextFault.Memory) ⊎ (undrawn scene.now ≡ Some fault)) }
 {
     let layout = match Layout::of(scene, BITS as u32) {
         Ok(layout) => layout,

@@ -16,8 +16,8 @@ use Rattle.px_listing.specs.PassesText.{CanPlay, PassesAreReadBack, PlayedPasses
 use Rattle.px_listing.specs.Played.{HasPlayed}
 use Rattle.px_listing.specs.Reading.{refusal_of}
 use Rattle.px_listing.specs.RoundTrip.{IsReadAs}
-use Rattle.px_listing.specs.declared.read.ListFault.{ListFault}
-use Rattle.px_listing.specs.declared.read.ListFault.TheVariants as f
+use Rattle.px_listing.specs.Reading.{ListFault}
+use Rattle.px_show.specs.declared.fault.TextFault.TheVariants as f
 use Rattle.px_outcome.specs.declared.refusal.Refusal.{Refusal}
 use Rattle.px_draw.specs.ListedScenes.{DoneShowsThePicture, IsListed, ListedPassesArePlayed}
 use Rattle.px_draw.specs.ListedScenes.{ListedPassesShowThePicture}

@@ -9,17 +9,15 @@ use Rattle.px_face.specs.Seen.{PicturesShowFirstCells}
 use Rattle.px_frame.specs.Picture.{depth_image, face_image}
 use Rattle.px_prune.specs.Kept.{crowd_of}
 use Rattle.px_text.specs.declared.text.TheConstants.{MAX_TEXT_BYTES}
-use Rattle.px_show.specs.Judged.{first_bad}
+use Rattle.px_show.specs.Judged.{SceneFault, first_bad, refused}
+use Rattle.px_show.proofs.JudgedLaws.{not_memory}
 use Rattle.px_text.specs.Text.{lines_of, worded}
 use Rattle.px_scene.specs.Drafts.{draft_of}
-use Rattle.px_scene.specs.Reading.{fault_behind, is_nothing, refusal_of, refused, scene_of}
+use Rattle.px_scene.specs.Reading.{fault_behind, is_nothing, refusal_of, scene_of}
 use Rattle.px_scene.specs.AcceptedLaw.{AcceptedIsLawful}
 use Rattle.px_sched.specs.Layouts.{layout_of, need_of}
 use Rattle.px_show.specs.declared.fault.LimitKind.TheVariants as kind
-use Rattle.px_show.specs.declared.fault.LineFault.{LineFault}
-use Rattle.px_show.specs.declared.fault.LineFault.TheVariants as l
-use Rattle.px_show.specs.declared.fault.SceneFault.{SceneFault}
-use Rattle.px_show.specs.declared.fault.SceneFault.TheVariants as s
+use Rattle.px_show.specs.declared.fault.TextFault.TheVariants as s
 use Rattle.px_outcome.specs.Outcomes.{Outcome, done, drawable, refused_past, unless_refused}
 use Rattle.px_outcome.specs.Outcomes as out
 use Rattle.px_outcome.specs.Refusals.{refusal_by, short_of_bits}
@@ -65,19 +63,13 @@ accepted_is_rendered lawful seen text bits good fits =
 -- a text is never refused for want of memory
 never_memory : (text : List ℕ) → refusal_of text ≡ Some s.Memory → ⊥
 never_memory text = by_length (nat_lt MAX_TEXT_BYTES (length text)) where
-  by_fault : (bad : Option (ℕ × LineFault)) (ended : Bool) (count : ℕ) → refused bad ended count ≡ Some s.Memory → ⊥
-  by_fault (Some (line, l.Malformed cause)) ended count e = absurd cc
-  by_fault (Some (line, l.Limit kind found)) ended count e = absurd cc
-  by_fault None true count e = absurd cc
-  by_fault None false count e = absurd cc
-
   by_length : (long : Bool)
       → (if long then Some (s.Limit 0 kind.Text (pos (MAX_TEXT_BYTES + 1)))
       else refused (first_bad fault_behind [] (worded text)) (is_nothing (draft_of (worded text)).due) (length (lines_of text)))
       ≡ Some s.Memory → ⊥
   by_length true e = absurd cc
   by_length false e =
-      by_fault (first_bad fault_behind [] (worded text)) (is_nothing (draft_of (worded text)).due) (length (lines_of text)) e
+      not_memory (first_bad fault_behind [] (worded text)) (is_nothing (draft_of (worded text)).due) (length (lines_of text)) e
 
 pub rendered_is_accepted : RenderedIsAccepted
 rendered_is_accepted text bits maps e = by_refusal (refusal_of text) refl e where

@@ -2,7 +2,7 @@
 use Rattle.std.specs.Prelude.{ℕ, List, Option, Some, None}
 use Rattle.px_control.specs.declared.fault.JobFault.{JobFault}
 use Rattle.px_deliver.specs.Refusals.{job_refusal}
-use Rattle.px_show.specs.declared.fault.SceneFault.{SceneFault}
+use Rattle.px_show.specs.Judged.{SceneFault}
 use Rattle.px_scene.specs.Reading.{refusal_of, scene_of}
 use Rattle.px_scene.specs.Text.{worded}
 use Rattle.px_example.specs.declared.NotDrawn.{NotDrawn}

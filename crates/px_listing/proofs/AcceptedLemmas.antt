@@ -1,7 +1,6 @@
 -- A line that is not refused writes an operation that the pixels can carry out.
-use Rattle.std.proofs.Common.{◌≡◌, ◌≢◌, ℕ, ℤ, pos, ◌+◌, ◌-◌, ◌^◌, ◌<◌, ◌≤◌, ◌≤ℤ◌, All, List, [], ◌∷◌, ◌++◌, length}
-use Rattle.std.proofs.Common.{Bool, true, false}
-use Rattle.std.proofs.Common.{Option, Some, None, IfSome, refl, arith}
+use Rattle.std.proofs.Common.{◌≡◌, ℕ, ℤ, pos, ◌+◌, ◌-◌, ◌^◌, ◌<◌, ◌≤◌, ◌≤ℤ◌, All, List, [], ◌∷◌, ◌++◌, length}
+use Rattle.std.proofs.Common.{Option, Some, None, IfOk, IfSome, Result, Ok, Err, refl, arith}
 use Rattle.std.specs.List.{cons_option, filter_map}
 use Rattle.std.specs.Option.{option_or}
 use Rattle.std.proofs.lemmas.Int.{ints}
@@ -13,35 +12,33 @@ use Rattle.px_num.specs.Forms.{IsInTreeRange}
 use Rattle.px_macro.specs.Macros.{AreApart, AreOfOneLength, IsField, IsLawful}
 use Rattle.px_macro.specs.declared.operation.Macro.{Macro}
 use Rattle.px_macro.specs.declared.operation.Macro.TheVariants as m
-use Rattle.px_show.specs.declared.fault.Cause.{Cause}
-use Rattle.px_show.specs.Judged.{first_bad}
+use Rattle.px_show.specs.Judged.{first_bad, past, size_past}
 use Rattle.px_text.specs.Text.{Words, worded}
-use Rattle.px_show.proofs.JudgedLaws.{none_here}
+use Rattle.px_show.proofs.FaultLaws.{within_limits}
+use Rattle.px_show.proofs.JudgedLaws.{none_here, not_memory, not_refused}
 use Rattle.px_scene.specs.Lines.{numbers_of, plane_of, size_of}
 use Rattle.px_listing.specs.AcceptedLaw.{AcceptedIsLawful, MemoryIsNoRefusal}
 use Rattle.px_listing.specs.Keywords.{keyword_of}
 use Rattle.px_listing.specs.Kinds.{field_of, operation_of, operation_with, shape_of}
-use Rattle.px_listing.specs.Limits.{end_past, field_past, fields_past, form_past, limit_of, overlap, past, shape_past, size_past}
+use Rattle.px_listing.specs.Limits.{end_past, field_past, fields_past, form_past, limit_of, overlap, shape_past}
 use Rattle.px_listing.specs.Limits.{value_past}
 use Rattle.px_listing.specs.Lines.{cause_of}
-use Rattle.px_listing.specs.Reading.{due_behind, fault_behind, fault_of, line_judged, operation_in, refused}
+use Rattle.px_listing.specs.Reading.{ListFault, due_behind, fault_behind, fault_of, listing_of, operation_in, refusal_of}
+use Rattle.px_listing.specs.Listings.{ListingView}
 use Rattle.px_listing.specs.declared.keyword.Due.{Due}
 use Rattle.px_listing.specs.declared.keyword.Keyword.{Keyword}
 use Rattle.px_listing.specs.declared.keyword.Keyword.TheVariants as k
 use Rattle.px_listing.specs.declared.kind.Kind.{Kind}
 use Rattle.px_listing.specs.declared.kind.Kind.TheVariants as n
-use Rattle.px_listing.specs.declared.limit.LineFault.{LineFault}
-use Rattle.px_listing.specs.declared.limit.LineFault.TheVariants as f
-use Rattle.px_listing.specs.declared.read.ListFault.TheVariants as fault
 use Rattle.px_listing.specs.declared.limit.ListKind.TheVariants as kind
 use Rattle.px_listing.proofs.LimitLemmas.{within}
 
 form_in_range : (a b c : ℤ) → form_past a b c ≡ None → IsInTreeRange (plane_of a b c)
 form_in_range a b c e =
-    let two = none_first _ (size_past (2 ^ 38) c) e in record {
-      a = within kind.Coefficient _ _ a (none_first _ (size_past (2 ^ 27) b) two);
-      b = within kind.Coefficient _ _ b (none_second (size_past (2 ^ 27) a) _ two);
-      c = within kind.Coefficient _ _ c (none_second _ (size_past (2 ^ 38) c) e);
+    let two = none_first _ (size_past kind.Coefficient (2 ^ 38) c) e in record {
+      a = within kind.Coefficient _ _ a (none_first _ (size_past kind.Coefficient (2 ^ 27) b) two);
+      b = within kind.Coefficient _ _ b (none_second (size_past kind.Coefficient (2 ^ 27) a) _ two);
+      c = within kind.Coefficient _ _ c (none_second _ (size_past kind.Coefficient (2 ^ 38) c) e);
     }
 
 -- so many bits from a place on stand within the memory
@@ -157,16 +154,12 @@ op_lawful bits k.Grid zs none = tt
 op_lawful bits k.End zs none = tt
 op_lawful bits k.Other zs none = tt
 
-limit_passed : (cause : Option Cause) (limit : Option LineFault) → line_judged cause limit ≡ None → limit ≡ None
-limit_passed None limit none = none
-limit_passed (Some cause) limit none = cc
-
 line_lawful : (bits : ℕ) (due : Due) (l : Words) → fault_of bits due l ≡ None
     → IfSome (operation_in l) (λ op. IsLawful op bits)
 line_lawful bits due [] none = tt
 line_lawful bits due (w ∷ ws) none =
     op_lawful bits (keyword_of w) (numbers_of ws)
-    (limit_passed (cause_of due w ws) (limit_of bits (keyword_of w) (numbers_of ws)) none)
+    (within_limits (cause_of due w ws) (limit_of bits (keyword_of w) (numbers_of ws)) none)
 
 listed : (bits : ℕ) (o : Option Macro) (ops : List Macro) → IfSome o (λ op. IsLawful op bits)
     → All (λ op. IsLawful op bits) ops → All (λ op. IsLawful op bits) (cons_option o ops)
@@ -182,19 +175,16 @@ lines_lawful bits before (l ∷ ls) none =
     listed bits (operation_in l) (filter_map operation_in ls) (line_lawful bits (due_behind before) l each.0)
     (lines_lawful bits (before ++ l ∷ []) ls each.1)
 
-no_bad : (bad : Option (ℕ × LineFault)) (ended : Bool) (count : ℕ) → refused bad ended count ≡ None → bad ≡ None
-no_bad None ended count none = refl
-no_bad (Some bad) ended count none = cc
-
 pub accepted_is_lawful : AcceptedIsLawful
 accepted_is_lawful bits text none =
-    lines_lawful bits [] (worded text) (no_bad (first_bad (fault_behind bits) [] (worded text)) _ _ none)
+    lines_lawful bits [] (worded text) (not_refused (first_bad (fault_behind bits) [] (worded text)) _ _ none).0
 
-not_memory : (bad : Option (ℕ × LineFault)) (ended : Bool) (count : ℕ) → refused bad ended count ≢ Some fault.Memory
-not_memory (Some (line, f.Malformed cause)) ended count e = cc
-not_memory (Some (line, f.Limit kind found)) ended count e = cc
-not_memory None true count e = cc
-not_memory None false count e = cc
+-- such pixels can carry out each operation of the listing that is read
+pub read_is_lawful : (bits : ℕ) (text : List ℕ) (r : Result ListingView ListFault)
+    → IfOk r (λ l. (refusal_of bits text ≡ None) × (l ≡ listing_of (worded text)))
+    → IfOk r (λ l. All (λ op. IsLawful op bits) l.macros)
+read_is_lawful bits text (Ok l) (good, is) = rw is (accepted_is_lawful bits text good)
+read_is_lawful bits text (Err f) e = tt
 
 pub memory_is_no_refusal : MemoryIsNoRefusal
 memory_is_no_refusal bits text = not_memory (first_bad (fault_behind bits) [] (worded text)) _ _

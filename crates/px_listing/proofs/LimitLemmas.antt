@@ -1,8 +1,7 @@
 -- What a number that passes no limit is.
 use Rattle.std.proofs.Common.{◌≡◌, ℤ, ◌≤ℤ◌, None, arith}
 use Rattle.std.proofs.lemmas.Int.{ints}
-use Rattle.px_listing.specs.Limits.{past}
-use Rattle.px_listing.specs.declared.limit.ListKind.{ListKind}
+use Rattle.px_show.specs.Judged.{past}
 
-pub within : (kind : ListKind) (low high z : ℤ) → past kind low high z ≡ None → (low ≤ℤ z) × (z ≤ℤ high)
+pub within : {K : Type 0} (kind : K) (low high z : ℤ) → past kind low high z ≡ None → (low ≤ℤ z) × (z ≤ℤ high)
 within kind low high z e = (grind (arith, ints), grind (arith, ints))

@@ -1,40 +1,36 @@
--- Lines read one after another, until one is bad.
-use Rattle.std.proofs.Common.{◌≡◌, ℕ, ℤ, pos, ◌+◌, ◌<◌, ◌≤◌, All, List, [], ◌∷◌, ◌++◌, length, take, get_or}
+-- What a line more says, and what it keeps.
+use Rattle.std.proofs.Common.{◌≡◌, ℕ, ℤ, pos, ◌+◌, ◌≤◌, All, List, [], ◌∷◌, ◌++◌, length}
 use Rattle.std.proofs.Common.{Option, Some, None, IfSome, Bool, true, false, if◌then◌else◌, ◌&&◌}
-use Rattle.std.proofs.Common.{codes, refl, ap, sym, subst, ◌∙◌, arith, length-append}
+use Rattle.std.proofs.Common.{codes, refl, ap, sym, subst, ◌∙◌, arith, length-append, OnOk, Result, Ok, Err}
 use lib.IntN.{negsuc}
 use Rattle.std.specs.Str.{bytes_eq}
 use Rattle.std.proofs.lemmas.Int.{ints}
-use Rattle.std.proofs.lemmas.List.{take_all, append-nil}
+use Rattle.std.proofs.lemmas.List.{append-nil}
 use Rattle.std.proofs.lemmas.List.Elements.{All-push, filter_map-append}
 use Rattle.std.specs.List.{filter_map, cons_option}
 use Rattle.px_num.proofs.TruthLaws.{none_first, none_second}
 use Rattle.px_macro.specs.Macros.{IsLawful}
 use Rattle.px_macro.specs.declared.operation.Macro.{Macro}
 use Rattle.px_show.specs.declared.fault.Cause.TheVariants as cause
-use Rattle.px_show.specs.Judged.{first_bad}
-use Rattle.px_text.specs.Text.{Words, lines_of, worded}
-use Rattle.px_show.proofs.JudgedLaws.{AreGood, all_good, first_is, good_next, one_more}
+use Rattle.px_show.specs.Judged.{past}
+use Rattle.px_text.specs.Text.{Words}
 use Rattle.px_tree.specs.Nodes.{IsGrid}
 use Rattle.px_listing.specs.Listings.{ListingView}
 use Rattle.px_scene.specs.Lines.{numbers_of, size_of}
-use Rattle.px_listing.specs.Drafts.{DraftView, IsDraft, IsDraftOf, IsFirstBad, draft_of, head_of, or_else, taken}
+use Rattle.px_listing.specs.Drafts.{DraftView, IsDraft, IsDraftOf, draft_of, head_of, or_else, taken}
 use Rattle.px_listing.specs.Drafts.{with_line, with_operation}
 use Rattle.px_listing.specs.Keywords.{due_after, is_header, is_one, keyword_of}
-use Rattle.px_listing.specs.Limits.{grid_past, limit_of, past}
+use Rattle.px_listing.specs.Limits.{grid_past, limit_of}
 use Rattle.px_listing.specs.Lines.{cause_of}
 use Rattle.px_listing.specs.Kinds.{operation_of}
 use Rattle.px_listing.specs.Reading.{Exponents, due_behind, due_behind_line, exponents_of, fault_behind, fault_of}
-use Rattle.px_listing.specs.Reading.{grid_in, is_nothing, last_or, least_grid, listing_of}
-use Rattle.px_listing.specs.Reading.{operation_in, refusal_of}
+use Rattle.px_listing.specs.Reading.{grid_in, last_or, least_grid, listing_of}
+use Rattle.px_listing.specs.Reading.{operation_in}
 use Rattle.px_listing.specs.declared.keyword.Due.{Due}
 use Rattle.px_listing.specs.declared.keyword.Due.TheVariants as d
 use Rattle.px_listing.specs.declared.keyword.Keyword.{Keyword}
 use Rattle.px_listing.specs.declared.keyword.Keyword.TheVariants as k
-use Rattle.px_listing.specs.declared.limit.LineFault.{LineFault}
 use Rattle.px_listing.specs.declared.limit.ListKind.TheVariants as kind
-use Rattle.px_listing.specs.declared.read.ListFault.{ListFault}
-use Rattle.px_listing.specs.declared.read.ListFault.TheVariants as fault
 use Rattle.px_listing.proofs.LimitLemmas.{within}
 
 last_of : {A : Type 0} (a x : A) (xs : List A) → last_or a (xs ++ x ∷ []) ≡ x
@@ -171,15 +167,9 @@ kept_more bits count draft new w ws keyword zs word figures cause limit lawful i
     } in
     subst (IsDraft bits (count + 1)) (sym is) kept
 
--- no line is bad before this one
-pub record IsReadTo (bits : ℕ) (draft : DraftView) (lines : List Words) (i : ℕ) : Type 0 where
-  pub says : draft ≡ draft_of (take i lines)
-  pub keeps : IsDraft bits i draft
-  pub judged : AreGood (fault_behind bits) lines i
-
-pub read_start : (bits : ℕ) (draft : DraftView) (lines : List Words)
-    → draft ≡ record { due = d.Header; grid = least_grid; macros = [] } → IsReadTo bits draft lines 0
-read_start bits draft lines e = rw e (record {
+pub read_start : (bits : ℕ) (draft : DraftView)
+    → draft ≡ record { due = d.Header; grid = least_grid; macros = [] } → IsDraftOf bits draft []
+read_start bits draft e = rw e (record {
   says = refl;
   keeps = record {
     grid = ((omega arith, omega arith), (omega arith, omega arith));
@@ -187,58 +177,24 @@ read_start bits draft lines e = rw e (record {
         absurd (omega arith);
     few = omega arith;
   };
-  judged = refl;
 })
 
-told : (bits : ℕ) (draft : DraftView) (before : List Words) (l : Words) → draft ≡ draft_of before
+-- the draft of the lines before judges a line
+pub told : (bits : ℕ) (draft : DraftView) (before : List Words) (l : Words) → draft ≡ draft_of before
     → fault_behind bits before l ≡ fault_of bits draft.due l
 told bits draft before l says = ap (λ (v : DraftView). fault_of bits v.due l) (sym says)
 
-pub read_next : (bits : ℕ) (draft new : DraftView) (lines : List Words) (i : ℕ) (l : Words)
-    → IsReadTo bits draft lines i → i < length lines → get_or lines i [] ≡ l
-    → fault_of bits draft.due l ≡ None → new ≡ taken draft l → IsDraft bits (i + 1) new
-    → IsReadTo bits new lines (i + 1)
-read_next bits draft new lines i l so lt is good e keeps = record {
-  says = e ∙ (ap (λ v. taken v l) so.says ∙ (sym (draft_more (take i lines) l)
-      ∙ ap draft_of (sym (one_more lines i l lt is))));
-  keeps = keeps;
-  judged = good_next (fault_behind bits) lines i l so.judged lt is (told bits draft (take i lines) l so.says ∙ good);
-}
-
-pub read_bad : (bits : ℕ) (draft : DraftView) (lines : List Words) (i : ℕ) (l : Words) (f : LineFault)
-    → IsReadTo bits draft lines i → i < length lines → get_or lines i [] ≡ l
-    → fault_of bits draft.due l ≡ Some f → first_bad (fault_behind bits) [] lines ≡ Some (i + 1, f)
-read_bad bits draft lines i l f so lt is bad =
-    first_is (fault_behind bits) lines i l f so.judged lt is (told bits draft (take i lines) l so.says ∙ bad)
-
-pub read_all : (bits : ℕ) (draft : DraftView) (lines : List Words) (i : ℕ) → IsReadTo bits draft lines i
-    → length lines ≤ i → i ≤ length lines → IsDraftOf bits draft lines
-read_all bits draft lines i so past within =
-    let count : i ≡ length lines = omega arith in
-    record {
-      good = all_good (fault_behind bits) lines i so.judged past;
-      says = so.says ∙ ap draft_of (take_all i lines past);
-      keeps = subst (λ n. IsDraft bits n draft) count so.keeps;
-    }
-
-pub refused_bad : (bits : ℕ) (text : List ℕ) (lines : List Words) (f : ListFault) → lines ≡ worded text
-    → IsFirstBad bits f lines → refusal_of bits text ≡ Some f
-refused_bad bits text lines f e (bad, first, is) = rw (← e, first, is) refl
-
-pub refused_end : (bits : ℕ) (text : List ℕ) (lines : List Words) (draft : DraftView) (count : ℕ)
-    → lines ≡ worded text → IsDraftOf bits draft lines
-    → is_nothing draft.due ≡ false → count ≡ length (lines_of text) → refusal_of bits text
-    ≡ Some (fault.Malformed count cause.MissingEnd)
-refused_end bits text lines draft count e is open_still counted =
-    let due = ap (λ (v : DraftView). is_nothing v.due) is.says in
-    rw (← e, is.good, ← due, open_still, counted) refl
-
-pub accepted : (bits : ℕ) (text : List ℕ) (lines : List Words) (draft : DraftView) → lines ≡ worded text
-    → IsDraftOf bits draft lines
-    → is_nothing draft.due ≡ true → refusal_of bits text ≡ None
-accepted bits text lines draft e is ended =
-    let due = ap (λ (v : DraftView). is_nothing v.due) is.says in
-    rw (← e, is.good, ← due, ended) refl
+pub read_next : {T E : Type 0} (r : Result T E) (bits : ℕ) (draft new : DraftView) (before : List Words) (l : Words)
+    → (bits ≤ 256) × IsDraftOf bits draft before → OnOk r (new ≡ taken draft l)
+    → OnOk r (IsDraft bits (length before + 1) new) → OnOk r ((bits ≤ 256) × IsDraftOf bits new (before ++ l ∷ []))
+read_next (Ok x) bits draft new before l (few, so) e keeps = (
+  few,
+  record {
+    says = e ∙ (ap (λ v. taken v l) so.says ∙ sym (draft_more before l));
+    keeps = subst (λ n. IsDraft bits n new) (sym (length-append before (l ∷ []))) keeps;
+  },
+)
+read_next (Err f) bits draft new before l so e keeps = tt
 
 pub listing_is : (bits : ℕ) (draft : DraftView) (lines : List Words) → IsDraftOf bits draft lines
     → (let l : ListingView = record { nx = draft.grid.nx; ny = draft.grid.ny; macros = draft.macros } in

@@ -15,15 +15,16 @@ use Rattle.px_num.specs.Forms.{IsInTreeRange, IsWithin}
 use Rattle.px_num.specs.declared.linear.Linear.{Linear}
 use Rattle.px_num.proofs.TruthLaws.{same_true}
 use Rattle.px_scene.specs.Lines.{are_numbers, numbers_of}
+use Rattle.px_show.specs.Judged.{judged, past}
 use Rattle.px_show.specs.declared.fault.Cause.TheVariants as c
 use Rattle.px_text.specs.Text.{Words, number_of}
 use Rattle.px_text.specs.Written.{are_plain, is_plain}
 use Rattle.px_text.proofs.LineLaws.{small_size}
 use Rattle.px_listing.specs.Keywords.{due_after, is_due, keyword_of}
 use Rattle.px_listing.specs.Kinds.{bit_number, is_set, kind_of, number_count, operands_of, operation_of, operation_with, shape_of, word_of}
-use Rattle.px_listing.specs.Limits.{end_past, field_past, form_past, limit_of, overlap, past, shape_past}
+use Rattle.px_listing.specs.Limits.{end_past, field_past, form_past, limit_of, overlap, shape_past}
 use Rattle.px_listing.specs.Lines.{form_of}
-use Rattle.px_listing.specs.Reading.{due_behind_line, exponents_of, fault_of, grid_in, line_judged, operation_in}
+use Rattle.px_listing.specs.Reading.{due_behind_line, exponents_of, fault_of, grid_in, operation_in}
 use Rattle.px_listing.specs.declared.keyword.Keyword.{Keyword}
 use Rattle.px_listing.specs.declared.keyword.Keyword.TheVariants as k
 use Rattle.px_listing.specs.declared.kind.Kind.{Kind}
@@ -252,7 +253,7 @@ module _ (bits : ℕ) (most : bits ≤ 256) where
   good_line : (keyword : Keyword) (kind : Kind) (ws : Words) (zs : List ℤ) → keyword ≡ k.Operation kind
       → (length ws == number_count (shape_of kind)) ≡ true → are_numbers ws ≡ true → numbers_of ws ≡ zs
       → shape_past bits (shape_of kind) zs ≡ None
-      → line_judged (if is_due d.Operation keyword then form_of keyword ws else Some c.Unexpected)
+      → judged (if is_due d.Operation keyword then form_of keyword ws else Some c.Unexpected)
       (limit_of bits keyword (numbers_of ws)) ≡ None
   good_line keyword kind ws zs is count numeric read good = rw (is, count, numeric, read) good
 

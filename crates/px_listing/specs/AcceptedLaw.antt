@@ -2,7 +2,7 @@
 use Rattle.std.specs.Prelude.{◌≡◌, ◌≢◌, ℕ, All, List, None, Some}
 use Rattle.px_macro.specs.Macros.{IsLawful}
 use Rattle.px_listing.specs.Reading.{listing_of, refusal_of}
-use Rattle.px_listing.specs.declared.read.ListFault.TheVariants as fault
+use Rattle.px_show.specs.declared.fault.TextFault.TheVariants as fault
 use Rattle.px_text.specs.Text.{worded}
 
 -- pixels of as many bits as a text is accepted for can carry each of its operations out

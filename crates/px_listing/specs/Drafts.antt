@@ -2,18 +2,15 @@
 use Rattle.std.specs.Prelude.{◌≡◌, ℕ, ◌+◌, ◌≤◌, All, List, [], ◌∷◌, ◌++◌, length, Option, Some, None}
 use Rattle.px_macro.specs.Macros.{IsLawful}
 use Rattle.px_macro.specs.declared.operation.Macro.{Macro}
-use Rattle.px_show.specs.Judged.{first_bad}
 use Rattle.px_text.specs.Text.{Words}
 use Rattle.px_tree.specs.Nodes.{IsGrid}
 use Rattle.px_listing.specs.Keywords.{due_after, keyword_of}
 use Rattle.px_scene.specs.Lines.{numbers_of}
 use Rattle.px_listing.specs.Kinds.{operation_of}
-use Rattle.px_listing.specs.Reading.{Exponents, due_behind, exponents_of, fault_at, fault_behind, grid_of, operation_in}
+use Rattle.px_listing.specs.Reading.{Exponents, due_behind, exponents_of, grid_of, operation_in}
 use Rattle.px_listing.specs.declared.keyword.Keyword.{Keyword}
 use Rattle.px_listing.specs.declared.keyword.Due.{Due}
 use Rattle.px_listing.specs.declared.keyword.Due.TheVariants as d
-use Rattle.px_listing.specs.declared.limit.LineFault.{LineFault}
-use Rattle.px_listing.specs.declared.read.ListFault.{ListFault}
 use Rattle.px_listing.specs.declared.draft.Draft.{Draft}
 use Rattle.std.specs.List.{filter_map}
 use Rattle.std.specs.Prelude.{ℤ}
@@ -63,10 +60,5 @@ pub record IsDraft (bits count : ℕ) (draft : DraftView) : Type 0 where
 
 -- the draft of lines of which none is bad
 pub record IsDraftOf (bits : ℕ) (draft : DraftView) (lines : List Words) : Type 0 where
-  pub good : first_bad (fault_behind bits) [] lines ≡ None
   pub says : draft ≡ draft_of lines
   pub keeps : IsDraft bits (length lines) draft
-
--- the fault of the first bad line
-abbrev pub IsFirstBad : (bits : ℕ) → ListFault → List Words → Type 0
-IsFirstBad bits found lines = (bad : ℕ × LineFault) × (first_bad (fault_behind bits) [] lines ≡ Some bad) × (found ≡ fault_at bad.0 bad.1)

@@ -1,87 +1,84 @@
 -- The limits of a line's numbers, in the order in which they are asked. Clauses of public calls stand on it.
-use Rattle.std.specs.Prelude.{ℕ, ◌-◌, ◌^◌, ℤ, pos, ◌+ℤ◌, ◌-ℤ◌, List, [], ◌∷◌, ◌&&◌, ◌||◌, not, if◌then◌else◌, Option, Some, None}
+use Rattle.std.specs.Prelude.{ℕ, ◌-◌, ◌^◌, ℤ, pos, ◌+ℤ◌, List, [], ◌∷◌, ◌||◌, not, if◌then◌else◌, Option, Some, None}
 use lib.Signed.{le_z}
 use Rattle.std.specs.Option.{option_or}
 use Rattle.px_scene.specs.Lines.{size_of}
+use Rattle.px_show.specs.Judged.{past, size_past}
 use Rattle.px_listing.specs.Kinds.{shape_of}
 use Rattle.px_listing.specs.declared.kind.Shape.{Shape}
 use Rattle.px_listing.specs.declared.kind.Shape.TheVariants as s
 use Rattle.px_listing.specs.declared.keyword.Keyword.{Keyword}
 use Rattle.px_listing.specs.declared.keyword.Keyword.TheVariants as k
-use Rattle.px_listing.specs.declared.limit.LineFault.{LineFault}
-use Rattle.px_listing.specs.declared.limit.LineFault.TheVariants as f
+use Rattle.px_show.specs.declared.fault.LineFault.{LineFault}
+use Rattle.px_show.specs.declared.fault.LineFault.TheVariants as f
 use Rattle.px_listing.specs.declared.limit.ListKind.{ListKind}
 use Rattle.px_listing.specs.declared.limit.ListKind.TheVariants as kind
 
--- a number past its range
-abbrev pub past : ListKind → ℤ → ℤ → ℤ → Option LineFault
-past limit low high found = if le_z low found && le_z found high then None else Some (f.Limit limit found)
-
-abbrev pub grid_past : List ℤ → Option LineFault
+abbrev pub grid_past : List ℤ → Option (LineFault ListKind)
 grid_past (nx ∷ ny ∷ []) = option_or (past kind.Grid (pos 1) (pos 9) nx) (past kind.Grid (pos 1) (pos 9) ny)
 grid_past zs = None
 
--- a coefficient past n in size
-abbrev pub size_past : ℕ → ℤ → Option LineFault
-size_past n z = past kind.Coefficient (pos 0 -ℤ pos n) (pos n) z
+-- the first coefficient past its limit
+abbrev pub form_past : (a b c : ℤ) → Option (LineFault ListKind)
+form_past a b c =
+    option_or
+    (option_or (size_past kind.Coefficient (2 ^ 27) a) (size_past kind.Coefficient (2 ^ 27) b))
+    (size_past kind.Coefficient (2 ^ 38) c)
 
-abbrev pub form_past : (a b c : ℤ) → Option LineFault
-form_past a b c = option_or (option_or (size_past (2 ^ 27) a) (size_past (2 ^ 27) b)) (size_past (2 ^ 38) c)
-
-abbrev pub sign_past : List ℤ → Option LineFault
+abbrev pub sign_past : List ℤ → Option (LineFault ListKind)
 sign_past (a ∷ b ∷ c ∷ []) = form_past a b c
 sign_past zs = None
 
 -- a place that is negative, or, with so many bits from it on, past the memory: then its end is found
-abbrev pub end_past : (bits : ℕ) → (at len : ℤ) → Option LineFault
+abbrev pub end_past : (bits : ℕ) → (at len : ℤ) → Option (LineFault ListKind)
 end_past bits at len =
     if not (le_z (pos 0) at) then Some (f.Limit kind.Place at)
     else if le_z (at +ℤ len) (pos bits) then None
     else Some (f.Limit kind.Place (at +ℤ len))
 
-abbrev pub place_past : (bits : ℕ) → List ℤ → Option LineFault
+abbrev pub place_past : (bits : ℕ) → List ℤ → Option (LineFault ListKind)
 place_past bits (place ∷ []) = end_past bits place (pos 1)
 place_past bits zs = None
 
-abbrev pub bit_past : (bits : ℕ) → List ℤ → Option LineFault
+abbrev pub bit_past : (bits : ℕ) → List ℤ → Option (LineFault ListKind)
 bit_past bits (place ∷ v ∷ []) = option_or (end_past bits place (pos 1)) (past kind.Value (pos 0) (pos 1) v)
 bit_past bits zs = None
 
 -- the length of a field, and then its place
-abbrev pub field_past : (bits : ℕ) → (at len : ℤ) → Option LineFault
+abbrev pub field_past : (bits : ℕ) → (at len : ℤ) → Option (LineFault ListKind)
 field_past bits at len = option_or (past kind.Length (pos 1) (pos 40) len) (end_past bits at len)
 
-abbrev pub linear_past : (bits : ℕ) → List ℤ → Option LineFault
+abbrev pub linear_past : (bits : ℕ) → List ℤ → Option (LineFault ListKind)
 linear_past bits (a ∷ b ∷ c ∷ at ∷ len ∷ []) = option_or (form_past a b c) (field_past bits at len)
 linear_past bits zs = None
 
 -- a constant that has more bits than its field
-abbrev pub value_past : (len number : ℤ) → Option LineFault
+abbrev pub value_past : (len number : ℤ) → Option (LineFault ListKind)
 value_past len number = past kind.Value (pos 0) (pos (2 ^ size_of len - 1)) number
 
-abbrev pub const_past : (bits : ℕ) → List ℤ → Option LineFault
+abbrev pub const_past : (bits : ℕ) → List ℤ → Option (LineFault ListKind)
 const_past bits (at ∷ len ∷ number ∷ []) = option_or (field_past bits at len) (value_past len number)
 const_past bits zs = None
 
 -- two fields of one length
-abbrev pub fields_past : (bits : ℕ) → (at len to : ℤ) → Option LineFault
+abbrev pub fields_past : (bits : ℕ) → (at len to : ℤ) → Option (LineFault ListKind)
 fields_past bits at len to = option_or (field_past bits at len) (end_past bits to len)
 
 -- two fields that share a bit: the place of the second is found
-abbrev pub overlap : (at len to : ℤ) → Option LineFault
+abbrev pub overlap : (at len to : ℤ) → Option (LineFault ListKind)
 overlap at len to =
     if le_z (at +ℤ len) to || le_z (to +ℤ len) at then None else Some (f.Limit kind.Overlap to)
 
-abbrev pub copy_past : (bits : ℕ) → List ℤ → Option LineFault
+abbrev pub copy_past : (bits : ℕ) → List ℤ → Option (LineFault ListKind)
 copy_past bits (at ∷ len ∷ to ∷ []) = option_or (fields_past bits at len to) (overlap at len to)
 copy_past bits zs = None
 
-abbrev pub less_past : (bits : ℕ) → List ℤ → Option LineFault
+abbrev pub less_past : (bits : ℕ) → List ℤ → Option (LineFault ListKind)
 less_past bits (at ∷ len ∷ to ∷ []) = fields_past bits at len to
 less_past bits zs = None
 
 -- the first limit that the numbers of an operation pass
-abbrev pub shape_past : (bits : ℕ) → Shape → List ℤ → Option LineFault
+abbrev pub shape_past : (bits : ℕ) → Shape → List ℤ → Option (LineFault ListKind)
 shape_past bits s.Nothing zs = None
 shape_past bits s.Form zs = sign_past zs
 shape_past bits s.Place zs = place_past bits zs
@@ -92,7 +89,7 @@ shape_past bits s.FieldsApart zs = copy_past bits zs
 shape_past bits s.Fields zs = less_past bits zs
 
 -- the first limit that a line of good form passes, in pixels of so many memory bits
-abbrev pub limit_of : (bits : ℕ) → Keyword → List ℤ → Option LineFault
+abbrev pub limit_of : (bits : ℕ) → Keyword → List ℤ → Option (LineFault ListKind)
 limit_of bits k.Grid zs = grid_past zs
 limit_of bits (k.Operation kind) zs = shape_past bits (shape_of kind) zs
 limit_of bits keyword zs = None

@@ -1,11 +1,9 @@
 -- A listing's text line by line: the first bad line, and the listing of a text that has none.
 -- Each line is judged by what is due behind the lines before it. Clauses of public calls stand on it.
-use Rattle.std.specs.Prelude.{ℕ, ℤ, ◌+◌, List, [], ◌∷◌, ◌++◌, length, Bool, true, false, Option, Some, None}
+use Rattle.std.specs.Prelude.{ℕ, ℤ, List, [], ◌∷◌, length, Bool, true, false, Option, Some, None}
 use Rattle.std.specs.List.{filter_map}
 use Rattle.px_macro.specs.declared.operation.Macro.{Macro}
-use Rattle.px_show.specs.declared.fault.Cause.{Cause}
-use Rattle.px_show.specs.declared.fault.Cause.TheVariants as c
-use Rattle.px_show.specs.Judged.{first_bad}
+use Rattle.px_show.specs.Judged.{first_bad, judged, refused}
 use Rattle.px_text.specs.Text.{Words, lines_of, worded}
 use Rattle.px_listing.specs.Keywords.{due_after, keyword_of}
 use Rattle.px_scene.specs.Lines.{numbers_of, size_of}
@@ -17,10 +15,13 @@ use Rattle.px_listing.specs.declared.keyword.Keyword.{Keyword}
 use Rattle.px_listing.specs.declared.keyword.Keyword.TheVariants as k
 use Rattle.px_listing.specs.declared.keyword.Due.{Due}
 use Rattle.px_listing.specs.declared.keyword.Due.TheVariants as d
-use Rattle.px_listing.specs.declared.limit.LineFault.{LineFault}
-use Rattle.px_listing.specs.declared.limit.LineFault.TheVariants as f
-use Rattle.px_listing.specs.declared.read.ListFault.{ListFault}
-use Rattle.px_listing.specs.declared.read.ListFault.TheVariants as fault
+use Rattle.px_show.specs.declared.fault.LineFault.{LineFault}
+use Rattle.px_listing.specs.declared.limit.ListKind.{ListKind}
+use Rattle.px_show.specs.declared.fault.TextFault.{TextFault}
+
+-- why a text is no listing
+abbrev pub ListFault : Type 0
+ListFault = TextFault ListKind
 
 -- the last of some, or else another
 abbrev pub last_or : {A : Type 0} → A → List A → A
@@ -36,17 +37,13 @@ due_behind_line (w ∷ ws) = Some (due_after (keyword_of w))
 abbrev pub due_behind : List Words → Due
 due_behind lines = last_or d.Header (filter_map due_behind_line lines)
 
-abbrev pub line_judged : Option Cause → Option LineFault → Option LineFault
-line_judged (Some cause) limit = Some (f.Malformed cause)
-line_judged None limit = limit
-
 -- why a line is bad, where it is: its form first, and then its limits in pixels of so many memory bits
-abbrev pub fault_of : (bits : ℕ) → Due → Words → Option LineFault
+abbrev pub fault_of : (bits : ℕ) → Due → Words → Option (LineFault ListKind)
 fault_of bits due [] = None
-fault_of bits due (w ∷ ws) = line_judged (cause_of due w ws) (limit_of bits (keyword_of w) (numbers_of ws))
+fault_of bits due (w ∷ ws) = judged (cause_of due w ws) (limit_of bits (keyword_of w) (numbers_of ws))
 
 -- why a line is bad behind others
-abbrev pub fault_behind : (bits : ℕ) → (before : List Words) → Words → Option LineFault
+abbrev pub fault_behind : (bits : ℕ) → (before : List Words) → Words → Option (LineFault ListKind)
 fault_behind bits before line = fault_of bits (due_behind before) line
 
 -- the exponents of a grid's columns and rows
@@ -84,19 +81,10 @@ listing_of lines = record {
   macros = filter_map operation_in lines;
 }
 
-abbrev pub fault_at : ℕ → LineFault → ListFault
-fault_at line (f.Malformed cause) = fault.Malformed line cause
-fault_at line (f.Limit kind found) = fault.Limit line kind found
-
+-- whether nothing more is due, as behind the end
 abbrev pub is_nothing : Due → Bool
 is_nothing d.Nothing = true
 is_nothing due = false
-
--- the first bad line, or else the missing end, at the last line
-abbrev pub refused : Option (ℕ × LineFault) → Bool → ℕ → Option ListFault
-refused (Some bad) ended count = Some (fault_at bad.0 bad.1)
-refused None true count = None
-refused None false count = Some (fault.Malformed count c.MissingEnd)
 
 -- why a text is no listing for pixels of so many memory bits, where it is none
 abbrev pub refusal_of : (bits : ℕ) → List ℕ → Option ListFault

@@ -7,20 +7,20 @@ ghost use Rattle.px_listing.specs.Reading.{exponents_of, fault_of, is_nothing, l
 ghost use Rattle.px_listing.specs.declared.keyword.Due.TheVariants as Due;
 ghost use Rattle.px_listing.specs.declared.keyword.Keyword.TheVariants as Keyword;
 ghost use Rattle.px_tree.specs.Nodes.{IsGrid};
-ghost use Rattle.px_listing.specs.declared.limit.LineFault.{LineFault};
+ghost use Rattle.px_listing.specs.declared.limit.ListKind.{ListKind};
+ghost use Rattle.px_show.specs.declared.fault.LineFault.{LineFault};
 ghost use Rattle.px_macro.specs.Macros.{IsLawful};
 ghost use Rattle.px_text.specs.declared.text.TheConstants.{MAX_TEXT_BYTES};
-ghost use Rattle.px_text.specs.Text.{words_of};
 ghost use Rattle.px_text.specs.LentWords.{now_of};
 
 use crate::judge::numbers_in;
 use crate::keyword::{Due, Keyword, due_after, keyword_of};
-use crate::limit::{LineError, LineFault, limit_of};
+use crate::limit::{ListKind, limit_of};
 use crate::listing::Listing;
 use crate::numbers::operation_of;
 use px_macro::Macro;
 use px_num::Memory;
-use px_text::words_of;
+use px_show::{LineError, LineFault};
 use std::alloc::Global;
 
 /// What the lines so far have said.
@@ -45,32 +45,35 @@ impl Draft {
         }
     }
 
-    /// Takes a line in; one without words says nothing.
-    pub(crate) fn add_line(
+    /// Takes the words of a line in; one without words says nothing.
+    pub(crate) fn add_words(
         &mut self,
-        alloc: Global,
         bits: u32,
-        line: &[u8],
-    ) -> Result<(), LineError>
+        words: &[&[u8]],
+    ) -> Result<(), LineError<ListKind>>
         requires bits { bits ≤ 256 }
-        ensures bad { (f : LineFault) → IsErrOf result (LineError.Bad f) →
-            fault_of bits self.old.due (words_of line.now) ≡ Some f }
-        ensures good { OnOk result (fault_of bits self.old.due (words_of line.now) ≡ None) }
-        ensures taken { OnOk result (view_of self.new ≡ taken (view_of self.old) (words_of line.now)) }
+        ensures bad { (f : LineFault ListKind) → IsErrOf result (LineError.Bad f) →
+            fault_of bits self.old.due (now_of words.now) ≡ Some f }
+        ensures good { OnOk result (fault_of bits self.old.due (now_of words.now) ≡ None) }
+        ensures taken { OnOk result (view_of self.new ≡ taken (view_of self.old) (now_of words.now)) }
         ensures keeps { (count : ℕ) → IsDraft bits count (view_of self.old) →
             OnOk result (IsDraft bits (count + 1) (view_of self.new)) }
     {
-        let words = words_of(alloc, line)?;
-        match words.as_slice() {
+        match words {
             [] => Ok(()),
             [word, arguments @ ..] => self.add(bits, word, arguments),
         }
     }
 
     /// Takes a line in, by its first word and the words after it.
-    fn add(&mut self, bits: u32, word: &[u8], arguments: &[&[u8]]) -> Result<(), LineError>
+    fn add(
+        &mut self,
+        bits: u32,
+        word: &[u8],
+        arguments: &[&[u8]],
+    ) -> Result<(), LineError<ListKind>>
         requires bits { bits ≤ 256 }
-        ensures bad { (f : LineFault) → IsErrOf result (LineError.Bad f) →
+        ensures bad { (f : LineFault ListKind) → IsErrOf result (LineError.Bad f) →
             fault_of bits self.old.due (word.now ∷ now_of arguments.now) ≡ Some f }
         ensures good { OnOk result
             (fault_of bits self.old.due (word.now ∷ now_of arguments.now) ≡ None) }

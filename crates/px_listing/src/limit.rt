@@ -3,6 +3,7 @@ ghost use Rattle.std.specs.Prelude.{◌≡◌, ◌≤◌, ◌^◌, ◌-◌, ◌+
 ghost use lib.Signed.{le_z};
 ghost use Rattle.px_scene.specs.Lines.{size_of};
 ghost use Rattle.px_num.specs.Forms.{IsWithin};
+ghost use Rattle.px_show.specs.Judged.{past};
 ghost use Rattle.px_listing.specs.declared.limit.ListKind.TheVariants as Kind;
 ghost use Rattle.px_listing.specs.Limits.{
   bit_past,
@@ -17,7 +18,6 @@ ghost use Rattle.px_listing.specs.Limits.{
   limit_of,
   linear_past,
   overlap,
-  past,
   place_past,
   shape_past,
   sign_past,
@@ -26,8 +26,8 @@ ghost use Rattle.px_listing.specs.Limits.{
 
 use crate::keyword::Keyword;
 use crate::kind::Shape;
-use px_num::{Memory, power};
-use px_scene::Cause;
+use px_num::power;
+use px_show::{LineFault, past};
 
 /// What has a limit in a listing (docs/LISTINGS.md, "Limits").
 #[derive(Clone, Copy, Debug, PartialEq, Eq)]
@@ -40,34 +40,9 @@ pub enum ListKind {
     Overlap,
 }
 
-/// A line's form is bad, or else one of its numbers passes a limit.
-#[derive(Clone, Copy, Debug, PartialEq, Eq)]
-pub(crate) enum LineFault {
-    Malformed(Cause),
-    Limit { kind: ListKind, found: i64 },
-}
-
-/// A line is bad, or memory was wanted and not given.
-#[derive(Clone, Copy, Debug, PartialEq, Eq)]
-pub(crate) enum LineError {
-    Bad(LineFault),
-    Memory,
-}
-
-impl From<Memory> for LineError {
-    ghost use Rattle.std.specs.Prelude.{◌≡◌};
-    ghost use Rattle.px_listing.specs.declared.limit.LineError.TheVariants.{Memory};
-
-    ghost from_gives = { λ _ e. e ≡ Memory };
-
-    fn from(_: Memory) -> Self {
-        LineError::Memory
-    }
-}
-
 /// The first limit that a line of good form passes, where it passes one, in pixels of so many
 /// memory bits (docs/LISTINGS.md, "Limits").
-pub(crate) fn limit_of(bits: u32, keyword: Keyword, numbers: &[i64]) -> Option<LineFault>
+pub(crate) fn limit_of(bits: u32, keyword: Keyword, numbers: &[i64]) -> Option<LineFault<ListKind>>
     requires bits { bits ≤ 256 }
     requires small { All (IsWithin (10 ^ 18)) numbers.now }
     ensures { result ≡ limit_of bits keyword numbers.now }
@@ -79,7 +54,7 @@ pub(crate) fn limit_of(bits: u32, keyword: Keyword, numbers: &[i64]) -> Option<L
     }
 }
 
-fn shape_past(bits: u32, shape: Shape, numbers: &[i64]) -> Option<LineFault>
+fn shape_past(bits: u32, shape: Shape, numbers: &[i64]) -> Option<LineFault<ListKind>>
     requires bits { bits ≤ 256 }
     requires small { All (IsWithin (10 ^ 18)) numbers.now }
     ensures { result ≡ shape_past bits shape numbers.now }
@@ -96,29 +71,16 @@ fn shape_past(bits: u32, shape: Shape, numbers: &[i64]) -> Option<LineFault>
     }
 }
 
-fn past(kind: ListKind, low: i64, high: i64, found: &i64) -> Option<LineFault>
-    ensures { result ≡ past kind low high found.now }
-{
-    if low <= *found && *found <= high {
-        None
-    } else {
-        Some(LineFault::Limit {
-            kind,
-            found: *found,
-        })
-    }
-}
-
-fn grid_past(numbers: &[i64]) -> Option<LineFault>
+fn grid_past(numbers: &[i64]) -> Option<LineFault<ListKind>>
     ensures { result ≡ grid_past numbers.now }
 {
     match numbers {
-        [nx, ny] => past(ListKind::Grid, 1, 9, nx).or(past(ListKind::Grid, 1, 9, ny)),
+        [nx, ny] => past(ListKind::Grid, 1, 9, *nx).or(past(ListKind::Grid, 1, 9, *ny)),
         _ => None,
     }
 }
 
-fn sign_past(numbers: &[i64]) -> Option<LineFault>
+fn sign_past(numbers: &[i64]) -> Option<LineFault<ListKind>>
     ensures { result ≡ sign_past numbers.now }
 {
     match numbers {
@@ -127,15 +89,15 @@ fn sign_past(numbers: &[i64]) -> Option<LineFault>
     }
 }
 
-fn form_past(a: &i64, b: &i64, c: &i64) -> Option<LineFault>
+fn form_past(a: &i64, b: &i64, c: &i64) -> Option<LineFault<ListKind>>
     ensures { result ≡ form_past a.now b.now c.now }
 {
-    past(ListKind::Coefficient, -134217728, 134217728, a)
-        .or(past(ListKind::Coefficient, -134217728, 134217728, b))
-        .or(past(ListKind::Coefficient, -274877906944, 274877906944, c))
+    past(ListKind::Coefficient, -134217728, 134217728, *a)
+        .or(past(ListKind::Coefficient, -134217728, 134217728, *b))
+        .or(past(ListKind::Coefficient, -274877906944, 274877906944, *c))
 }
 
-fn place_past(bits: u32, numbers: &[i64]) -> Option<LineFault>
+fn place_past(bits: u32, numbers: &[i64]) -> Option<LineFault<ListKind>>
     requires bits { bits ≤ 256 }
     requires small { All (IsWithin (10 ^ 18)) numbers.now }
     ensures { result ≡ place_past bits numbers.now }
@@ -147,7 +109,7 @@ fn place_past(bits: u32, numbers: &[i64]) -> Option<LineFault>
 }
 
 /// A place that is negative, or with so many bits from it on past the memory.
-fn end_past(bits: u32, at: &i64, len: &i64) -> Option<LineFault>
+fn end_past(bits: u32, at: &i64, len: &i64) -> Option<LineFault<ListKind>>
     requires bits { bits ≤ 256 }
     requires small { IsWithin (10 ^ 18) at.now }
     requires low { pos 1 ≤ℤ len.now }
@@ -170,30 +132,30 @@ fn end_past(bits: u32, at: &i64, len: &i64) -> Option<LineFault>
     }
 }
 
-fn bit_past(bits: u32, numbers: &[i64]) -> Option<LineFault>
+fn bit_past(bits: u32, numbers: &[i64]) -> Option<LineFault<ListKind>>
     requires bits { bits ≤ 256 }
     requires small { All (IsWithin (10 ^ 18)) numbers.now }
     ensures { result ≡ bit_past bits numbers.now }
 {
     match numbers {
-        [place, v] => end_past(bits, place, &1).or(past(ListKind::Value, 0, 1, v)),
+        [place, v] => end_past(bits, place, &1).or(past(ListKind::Value, 0, 1, *v)),
         _ => None,
     }
 }
 
 /// The length first, and then the place.
-fn field_past(bits: u32, at: &i64, len: &i64) -> Option<LineFault>
+fn field_past(bits: u32, at: &i64, len: &i64) -> Option<LineFault<ListKind>>
     requires bits { bits ≤ 256 }
     requires small { IsWithin (10 ^ 18) at.now }
     ensures { result ≡ field_past bits at.now len.now }
 {
-    match past(ListKind::Length, 1, 40, len) {
+    match past(ListKind::Length, 1, 40, *len) {
         None => end_past(bits, at, len),
         past => past,
     }
 }
 
-fn linear_past(bits: u32, numbers: &[i64]) -> Option<LineFault>
+fn linear_past(bits: u32, numbers: &[i64]) -> Option<LineFault<ListKind>>
     requires bits { bits ≤ 256 }
     requires small { All (IsWithin (10 ^ 18)) numbers.now }
     ensures { result ≡ linear_past bits numbers.now }
@@ -204,7 +166,7 @@ fn linear_past(bits: u32, numbers: &[i64]) -> Option<LineFault>
     }
 }
 
-fn const_past(bits: u32, numbers: &[i64]) -> Option<LineFault>
+fn const_past(bits: u32, numbers: &[i64]) -> Option<LineFault<ListKind>>
     requires bits { bits ≤ 256 }
     requires small { All (IsWithin (10 ^ 18)) numbers.now }
     ensures { result ≡ const_past bits numbers.now }
@@ -219,11 +181,11 @@ fn const_past(bits: u32, numbers: &[i64]) -> Option<LineFault>
 }
 
 /// A constant that has more bits than its field.
-fn value_past(len: &i64, number: &i64) -> Option<LineFault>
+fn value_past(len: &i64, number: &i64) -> Option<LineFault<ListKind>>
     requires good { past Kind.Length (pos 1) (pos 40) len.now ≡ None }
     ensures { result ≡ value_past len.now number.now }
 {
-    past(ListKind::Value, 0, greatest(len), number)
+    past(ListKind::Value, 0, greatest(len), *number)
 }
 
 /// The greatest number of so many bits.
@@ -243,7 +205,7 @@ fn length_of(len: &i64) -> u32
 }
 
 /// The two fields of one length.
-fn fields_past(bits: u32, at: &i64, len: &i64, to: &i64) -> Option<LineFault>
+fn fields_past(bits: u32, at: &i64, len: &i64, to: &i64) -> Option<LineFault<ListKind>>
     requires bits { bits ≤ 256 }
     requires first { IsWithin (10 ^ 18) at.now }
     requires second { IsWithin (10 ^ 18) to.now }
@@ -255,7 +217,7 @@ fn fields_past(bits: u32, at: &i64, len: &i64, to: &i64) -> Option<LineFault>
     }
 }
 
-fn copy_past(bits: u32, numbers: &[i64]) -> Option<LineFault>
+fn copy_past(bits: u32, numbers: &[i64]) -> Option<LineFault<ListKind>>
     requires bits { bits ≤ 256 }
     requires small { All (IsWithin (10 ^ 18)) numbers.now }
     ensures { result ≡ copy_past bits numbers.now }
@@ -270,7 +232,7 @@ fn copy_past(bits: u32, numbers: &[i64]) -> Option<LineFault>
 }
 
 /// Two fields that share a bit.
-fn overlap(at: &i64, len: &i64, to: &i64) -> Option<LineFault>
+fn overlap(at: &i64, len: &i64, to: &i64) -> Option<LineFault<ListKind>>
     requires first { IsWithin (10 ^ 18) at.now }
     requires second { IsWithin (10 ^ 18) to.now }
     requires length { IsWithin 40 len.now }
@@ -295,7 +257,7 @@ fn is_behind(at: &i64, len: &i64, to: &i64) -> bool
     *at + *len <= *to
 }
 
-fn less_past(bits: u32, numbers: &[i64]) -> Option<LineFault>
+fn less_past(bits: u32, numbers: &[i64]) -> Option<LineFault<ListKind>>
     requires bits { bits ≤ 256 }
     requires small { All (IsWithin (10 ^ 18)) numbers.now }
     ensures { result ≡ less_past bits numbers.now }

@@ -2,8 +2,8 @@
 use Rattle.std.proofs.Common.{ℕ, ◌≡◌, ◌⊎◌, ◌<◌, ◌≤◌, ◌^◌, inl, inr, List, true, false, Some, refl, arith, nat_lt}
 use Rattle.std.proofs.lemmas.Bool.Decides.{nat_tests}
 use Rattle.px_array.specs.Slots.{ArrayView}
-use Rattle.px_show.specs.declared.fault.SceneFault.{SceneFault}
-use Rattle.px_show.specs.declared.fault.SceneFault.TheVariants as scene_fault
+use Rattle.px_show.specs.Judged.{SceneFault}
+use Rattle.px_show.specs.declared.fault.TextFault.TheVariants as scene_fault
 use Rattle.px_scene.specs.Scenes.{SceneView}
 use Rattle.px_scene.specs.Reading.{refusal_of}
 use Rattle.px_normal.specs.declared.fault.NormalFault.{NormalFault}

@@ -12,8 +12,8 @@ use Rattle.px_listing.specs.Memories.{played_text}
 use Rattle.px_listing.specs.PassesText.{passes_listing}
 use Rattle.px_listing.specs.Played.{HasPlayed, played_on}
 use Rattle.px_listing.specs.Reading.{listing_of, refusal_of}
-use Rattle.px_listing.specs.declared.read.ListFault.{ListFault}
-use Rattle.px_listing.specs.declared.read.ListFault.TheVariants as f
+use Rattle.px_listing.specs.Reading.{ListFault}
+use Rattle.px_show.specs.declared.fault.TextFault.TheVariants as f
 use Rattle.px_outcome.specs.declared.refusal.Kind.TheVariants as k
 use Rattle.px_outcome.specs.declared.refusal.Refusal.{Refusal}
 use Rattle.px_outcome.specs.declared.refusal.Refusal.TheVariants as r

@@ -1,8 +1,8 @@
 -- Why a text is refused. Clauses of public calls stand on it.
 use Rattle.std.specs.Prelude.{ℕ, pos, List, Option, Some, None}
 use Rattle.px_show.specs.declared.fault.LimitKind.TheVariants as kind
-use Rattle.px_show.specs.declared.fault.SceneFault.{SceneFault}
-use Rattle.px_show.specs.declared.fault.SceneFault.TheVariants as f
+use Rattle.px_show.specs.Judged.{SceneFault}
+use Rattle.px_show.specs.declared.fault.TextFault.TheVariants as f
 use Rattle.px_scene.specs.Reading.{refusal_of}
 use Rattle.px_outcome.specs.declared.refusal.TheConstants.{READ_LIMIT}
 use Rattle.px_outcome.specs.declared.refusal.Kind.TheVariants as k

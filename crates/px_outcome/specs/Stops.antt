@@ -4,9 +4,9 @@ use Rattle.px_io.specs.Counts.{Rose}
 use Rattle.px_io.specs.Told.{SinkState}
 use Rattle.px_io.specs.declared.reading.ReadError.{ReadError}
 use Rattle.px_io.specs.declared.reading.ReadError.TheVariants as read
-use Rattle.px_show.specs.declared.fault.SceneFault.{SceneFault}
+use Rattle.px_show.specs.Judged.{SceneFault}
 use Rattle.px_refine.specs.declared.fault.FineFault.{FineFault}
-use Rattle.px_listing.specs.declared.read.ListFault.{ListFault}
+use Rattle.px_listing.specs.Reading.{ListFault}
 use Rattle.px_outcome.specs.declared.refusal.Refusal.{Refusal}
 use Rattle.px_outcome.specs.declared.stop.Stop.{Stop}
 use Rattle.px_outcome.specs.declared.stop.Stop.TheVariants as s

@@ -1,8 +1,7 @@
 -- What the stop of a listing's fault says of its text.
 use Rattle.std.proofs.Common.{ℕ, ◌≡◌, ◌⊎◌, ◌<◌, inl, inr, List, Some, length, refl}
-use Rattle.px_listing.specs.Reading.{refusal_of}
-use Rattle.px_listing.specs.declared.read.ListFault.{ListFault}
-use Rattle.px_listing.specs.declared.read.ListFault.TheVariants as fault
+use Rattle.px_listing.specs.Reading.{ListFault, refusal_of}
+use Rattle.px_show.specs.declared.fault.TextFault.TheVariants as fault
 use Rattle.px_outcome.specs.Listings.{list_refusal}
 use Rattle.px_play_run.specs.Playings.{IsListStop}
 use Rattle.px_outcome.specs.Stops.{list_stop}

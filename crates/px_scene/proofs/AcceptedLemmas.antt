@@ -7,12 +7,10 @@ use Rattle.px_num.proofs.TruthLaws.{none_first, none_second}
 use Rattle.px_expr.specs.Tree.{HasLeavesBelow, Tree, leaf}
 use Rattle.px_model.specs.Scenes.{IsLawfulScene, IsLawfulSolid, names_of}
 use Rattle.px_model.proofs.SolidLemmas.{All-push}
-use Rattle.px_show.specs.Judged.{first_bad}
+use Rattle.px_show.specs.Judged.{SceneFault, first_bad, refused}
 use Rattle.px_text.specs.Text.{Words, lines_of, worded}
-use Rattle.px_show.proofs.JudgedLaws.{none_here}
-use Rattle.px_show.specs.declared.fault.LineFault.{LineFault}
+use Rattle.px_show.proofs.JudgedLaws.{none_here, not_refused}
 use Rattle.px_show.specs.declared.fault.LimitKind.TheVariants as kind
-use Rattle.px_show.specs.declared.fault.SceneFault.{SceneFault}
 use Rattle.px_show.specs.declared.scene_version.Version.{Version}
 use Rattle.px_show.proofs.FaultLaws.{good_form, within_limits}
 use Rattle.px_scene.specs.declared.line.Due.{Due}
@@ -25,7 +23,7 @@ use Rattle.px_scene.specs.Drafts.{DraftView, blank, draft_of, drawn, fault_in, f
 use Rattle.px_scene.specs.Drafts.{taken, with_line, with_picture}
 use Rattle.px_scene.specs.LawfulDrafts.{IsGoodForm, IsLawfulDraft, is_ended}
 use Rattle.px_scene.specs.Lines.{cause_of, face_past, figures, keyword_of, limit_of, limit_on, most, numbers_of, three_past}
-use Rattle.px_scene.specs.Reading.{fault_behind, is_nothing, refused}
+use Rattle.px_scene.specs.Reading.{fault_behind, is_nothing}
 use Rattle.px_scene.proofs.DraftLemmas.{draft_more}
 use Rattle.px_scene.proofs.LawfulLemmas.{can_be_taken, lawful_line}
 use Rattle.px_scene.proofs.ReadLemmas.{lawful_blank}
@@ -140,12 +138,6 @@ drawn_lawful draft is ended = record {
   faces = let faces = is.faces in omega (arith, is.count);
   shown = shown_leaves (length draft.solids) draft.show (is.shown (ended_nothing draft.due ended));
 }
-
-not_refused : (bad : Option (ℕ × LineFault)) (ended : Bool) (count : ℕ) → refused bad ended count ≡ None
-    → (bad ≡ None) × (ended ≡ true)
-not_refused (Some bad) ended count e = cc
-not_refused None true count e = (refl, refl)
-not_refused None false count e = cc
 
 past_limit : (long : Bool) (why : SceneFault) (later : Option SceneFault) → (if long then Some why else later) ≡ None
     → later ≡ None

@@ -15,6 +15,7 @@ use Rattle.px_show.specs.Versions.{version_or_first}
 use Rattle.px_show.specs.declared.scene_version.Version.{Version}
 use Rattle.px_expr.specs.Tree.{HasLeavesBelow}
 use Rattle.px_show.specs.Expressions.{show_cause, show_tree}
+use Rattle.px_show.specs.Judged.{past}
 use Rattle.px_show.proofs.ShowLaws.{shown_lawful, named_show}
 use Rattle.px_num.specs.declared.linear.Linear.{Linear}
 use Rattle.std.proofs.lemmas.Bool.{cases_eq}
@@ -22,7 +23,7 @@ use Rattle.px_num.proofs.TruthLaws.{none_first, none_second}
 use Rattle.px_model.specs.declared.solid.Colour.{Colour}
 use Rattle.px_model.specs.declared.solid.Face.{Face}
 use Rattle.px_text.specs.Text.{Words}
-use Rattle.px_scene.specs.Lines.{numeric, numbers_of, limit_of, figures, two_past, depth_past, fraction_past, past}
+use Rattle.px_scene.specs.Lines.{numeric, numbers_of, limit_of, figures, two_past, depth_past, fraction_past}
 use Rattle.px_scene.specs.Lines.{most, due_after}
 use Rattle.px_scene.specs.Lines.{size_of, face_of, side_of}
 use Rattle.px_model.specs.Scenes.{SolidView, faces_in, names_of, IsNumberedFrom, faces_of}

@@ -15,7 +15,8 @@ use Rattle.px_scene.specs.Lines.{limit_on, due_after}
 use Rattle.px_scene.specs.declared.parse.Line.TheVariants as l
 use Rattle.px_scene.specs.declared.line.Keyword.TheVariants as k
 use Rattle.px_show.specs.declared.scene_version.Version.TheVariants as v
-use Rattle.px_show.specs.Expressions.{judged, show_cause, show_limit, show_tree}
+use Rattle.px_show.specs.Expressions.{show_cause, show_limit, show_tree}
+use Rattle.px_show.specs.Judged.{judged}
 use Rattle.px_show.specs.Versions.{version_word, version_or_first}
 use Rattle.px_show.proofs.FaultLaws.{good_form, within_limits}
 use Rattle.px_scene.specs.Drafts.{DraftView, with_line, tally_of, taken, fault_in, new_solid}

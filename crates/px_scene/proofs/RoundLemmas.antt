@@ -16,14 +16,15 @@ use Rattle.px_scene.specs.declared.line.Due.{Due}
 use Rattle.px_scene.specs.declared.line.Tally.{Tally}
 use Rattle.px_show.specs.declared.fault.LineFault.{LineFault}
 use Rattle.px_expr.specs.Tree.{Tree, HasLeavesBelow, IsLawfulTree}
-use Rattle.px_show.specs.Expressions.{has_signs, judged, is_among}
+use Rattle.px_show.specs.Expressions.{has_signs, is_among}
+use Rattle.px_show.specs.Judged.{judged, past, size_past}
 use Rattle.px_show.specs.Versions.{version_word}
 use Rattle.px_show.specs.declared.scene_version.Version.{Version}
 use Rattle.px_show.specs.declared.scene_version.Version.TheVariants as v
 use Rattle.px_show.specs.Printed.{AreDistinctNames, printed, named_by}
 use Rattle.px_show.proofs.PrintedLaws.{printed_tree, printed_good}
-use Rattle.px_scene.specs.Lines.{numeric, solid_form, three_past, fault_of, are_numbers, numbers_of, past, most}
-use Rattle.px_scene.specs.Lines.{size_past, plane_past, colour_past, face_past, face_limit}
+use Rattle.px_scene.specs.Lines.{numeric, solid_form, three_past, fault_of, are_numbers, numbers_of, most}
+use Rattle.px_scene.specs.Lines.{plane_past, colour_past, face_past, face_limit}
 use Rattle.px_model.specs.Scenes.{SolidView, IsColour, IsPlane, names_of}
 use Rattle.px_scene.specs.Drafts.{DraftView, with_front, with_back, with_side, with_last, tally_of}
 use Rattle.px_scene.specs.Drafts.{fresh_solid, new_solid}
@@ -51,7 +52,7 @@ one_figure w z ws zs read are = record { are = rw (read, are.are) refl; is = rw 
 past_in : (limit : LimitKind) (low high n : ℕ) → low ≤ n → n ≤ high → past limit (pos low) (pos high) (pos n) ≡ None
 past_in limit low high n above below = grind (arith, ints, nat_tests)
 
-size_in : (n : ℕ) (z : ℤ) → IsWithin n z → size_past n z ≡ None
+size_in : (n : ℕ) (z : ℤ) → IsWithin n z → size_past kind.Coefficient n z ≡ None
 size_in n z within = let low = within.0 in let high = within.1 in grind (arith, ints, nat_tests)
 
 abbrev pub opened : Version → ℕ → ℕ → ℕ → ℕ → DraftView
@@ -326,7 +327,7 @@ solid_formed : (names : Words) (name : List ℕ) (ws : Words) (c : Colour) → w
     → is_name name ≡ true → is_among names name ≡ false → solid_form names (name ∷ ws) ≡ None
 solid_formed names name ws c e are lawful fresh = rw e (rw (lawful, rw e at are, fresh) refl)
 
-abbrev solid_limit : Tally → List ℤ → Option LineFault
+abbrev solid_limit : Tally → List ℤ → Option (LineFault LimitKind)
 solid_limit t zs = option_or (option_or (three_past zs) (most kind.Solids 255 (t.solids + 1)))
     (most kind.Faces 4095 (t.numbered + 1))
 

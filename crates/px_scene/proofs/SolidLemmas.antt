@@ -12,10 +12,11 @@ use Rattle.px_model.specs.declared.solid.Colour.{Colour}
 use Rattle.px_model.specs.declared.solid.Face.{Face}
 use Rattle.px_model.specs.Scenes.{AreFaces, IsColour, IsLawfulSolid, IsPlane, SolidView}
 use Rattle.px_model.proofs.SolidLemmas.{All-push, faces_pushed}
+use Rattle.px_show.specs.Judged.{past, size_past}
 use Rattle.px_show.specs.declared.fault.LimitKind.TheVariants as kind
 use Rattle.px_scene.specs.Drafts.{fresh_solid, with_back, with_front, with_last, with_side}
 use Rattle.px_scene.specs.LawfulDrafts.{CanTakeFace}
-use Rattle.px_scene.specs.Lines.{colour_of, colour_past, face_past, past, plane_of, plane_past, size_of, size_past, three_past}
+use Rattle.px_scene.specs.Lines.{colour_of, colour_past, face_past, plane_of, plane_past, size_of, three_past}
 use Rattle.px_scene.proofs.TakenLemmas.{head_colour, past_none}
 
 part_within : (z : ℤ) → past kind.Colour (pos 0) (pos 255) z ≡ None → size_of z < 256
@@ -36,10 +37,10 @@ colour_within red green blue e =
 
 plane_within : (a b c : ℤ) → plane_past a b c ≡ None → IsPlane (plane_of a b c)
 plane_within a b c e =
-    let first = none_first (option_or (size_past (2 ^ 23) a) (size_past (2 ^ 23) b)) (size_past (2 ^ 33) c) e in
-    let in_a = past_none kind.Coefficient _ _ a (none_first _ (size_past (2 ^ 23) b) first) in
-    let in_b = past_none kind.Coefficient _ _ b (none_second (size_past (2 ^ 23) a) _ first) in
-    let in_c = past_none kind.Coefficient _ _ c (none_second (option_or (size_past (2 ^ 23) a) (size_past (2 ^ 23) b)) _ e) in
+    let first = none_first (option_or (size_past kind.Coefficient (2 ^ 23) a) (size_past kind.Coefficient (2 ^ 23) b)) (size_past kind.Coefficient (2 ^ 33) c) e in
+    let in_a = past_none kind.Coefficient _ _ a (none_first _ (size_past kind.Coefficient (2 ^ 23) b) first) in
+    let in_b = past_none kind.Coefficient _ _ b (none_second (size_past kind.Coefficient (2 ^ 23) a) _ first) in
+    let in_c = past_none kind.Coefficient _ _ c (none_second (option_or (size_past kind.Coefficient (2 ^ 23) a) (size_past kind.Coefficient (2 ^ 23) b)) _ e) in
     record { a = (in_a.above, in_a.below); b = (in_b.above, in_b.below); c = (in_c.above, in_c.below) }
 
 head_within : (zs : List ℤ) → three_past zs ≡ None → IsColour (head_colour zs)

@@ -6,6 +6,7 @@ use Rattle.std.proofs.Common.{Some, None, get_or, unwrap_or, add-zero, if◌then
 use Rattle.std.proofs.lemmas.Int.{ints}
 use Rattle.std.specs.Option.{option_or}
 use Rattle.std.specs.List.{AllPairs, AllPass}
+use Rattle.px_show.specs.Judged.{past}
 use Rattle.px_show.specs.declared.fault.LimitKind.{LimitKind}
 use Rattle.px_show.specs.declared.fault.LimitKind.TheVariants as kind
 use Rattle.px_scene.specs.declared.line.Due.{Due}
@@ -17,7 +18,7 @@ use Rattle.px_show.specs.declared.fault.Cause.{Cause}
 use Rattle.px_show.specs.declared.fault.Cause.TheVariants as cause
 use Rattle.px_text.specs.Text.{Words, is_name, number_of}
 use Rattle.px_show.specs.declared.fault.LineFault.{LineFault}
-use Rattle.px_scene.specs.Lines.{past, most, fraction_past, face_past, face_limit, is_due, form_of, is_header}
+use Rattle.px_scene.specs.Lines.{most, fraction_past, face_past, face_limit, is_due, form_of, is_header}
 use Rattle.px_scene.specs.Lines.{keyword_of, cause_of, solid_form, are_numbers, numbers_of, figures}
 use Rattle.px_show.specs.Expressions.{is_among}
 use Rattle.px_scene.specs.Lines.{colour_of, size_of}
@@ -58,7 +59,7 @@ pub record SolidRoom (before numbered : ℕ) : Type 0 where
   pub solids : before < 255
   pub numbers : numbered < 4095
 
-pub solid_room : (before numbered : ℕ) (past : Option LineFault)
+pub solid_room : (before numbered : ℕ) (past : Option (LineFault LimitKind))
     → option_or (option_or past (most kind.Solids 255 (before + 1))) (most kind.Faces 4095 (numbered + 1)) ≡ None
     → SolidRoom before numbered
 solid_room before numbered past e =

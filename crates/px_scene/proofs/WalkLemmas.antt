@@ -6,7 +6,7 @@ use Rattle.px_text.specs.Text.{Words, worded}
 use Rattle.px_scene.specs.Drafts.{DraftView, blank, draft_of, drawn, fault_in, taken}
 use Rattle.px_scene.specs.Reading.{fault_behind, is_nothing}
 use Rattle.px_scene.specs.Writable.{IsReadAs}
-use Rattle.px_scene.proofs.ReadLemmas.{accepted, says_more, told}
+use Rattle.px_scene.proofs.ReadLemmas.{says_more, short, told}
 
 abbrev pub IsGood : DraftView → Words → Type 0
 IsGood draft l = fault_in draft l ≡ None
@@ -41,9 +41,11 @@ walked draft last before (l ∷ ls) says walk =
 
 pub read_by_walk : (text : List ℕ) (last : DraftView) → length text ≤ 2 ^ 20 → Walk blank (worded text) last
     → is_nothing last.due ≡ true → IsReadAs text (drawn last)
-read_by_walk text last short walk ended =
+read_by_walk text last few walk ended =
     let all = walked blank last [] (worded text) refl walk
+    in let due : is_nothing last.due ≡ is_nothing (draft_of (worded text)).due =
+    ap (λ (d : DraftView). is_nothing d.due) all.says
     in record {
-      good = accepted text (worded text) last short refl all.good all.says ended;
+      good = rw (short text few, all.good, ← due, ended) refl;
       read = ap drawn (sym all.says);
     }

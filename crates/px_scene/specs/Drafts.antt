@@ -7,6 +7,7 @@ use Rattle.px_model.specs.declared.solid.Face.{Face}
 use Rattle.px_scene.specs.declared.line.Due.{Due}
 use Rattle.px_scene.specs.declared.line.Due.TheVariants as d
 use Rattle.px_scene.specs.declared.line.Tally.{Tally}
+use Rattle.px_show.specs.declared.fault.LimitKind.{LimitKind}
 use Rattle.px_show.specs.declared.fault.LineFault.{LineFault}
 use Rattle.px_text.specs.Text.{Words}
 use Rattle.px_expr.specs.Tree.{Tree, leaf}
@@ -95,7 +96,7 @@ tally_of draft = record {
 }
 
 -- why a line is bad, by what the lines before it have said
-abbrev pub fault_in : DraftView → Words → Option LineFault
+abbrev pub fault_in : DraftView → Words → Option (LineFault LimitKind)
 fault_in draft line = fault_of draft.version draft.due (names_of draft.solids) (tally_of draft) line
 
 -- the size of the picture

@@ -1,5 +1,5 @@
 -- One line of a scene text: what its numbers say, which lines are due, and why a line is bad. Clauses of public calls stand on it.
-use Rattle.std.specs.Prelude.{ℕ, ℤ, pos, List, [], ◌∷◌, Option, Some, None, ◌+◌, ◌-◌, min, ◌-ℤ◌, ◌==◌, ◌&&◌, ◌||◌, not, Bool, true, false, if◌then◌else◌, map, length, codes, unwrap_or, is_some}
+use Rattle.std.specs.Prelude.{ℕ, ℤ, pos, List, [], ◌∷◌, Option, Some, None, ◌+◌, ◌-◌, min, ◌==◌, ◌&&◌, ◌||◌, not, Bool, true, false, if◌then◌else◌, map, length, codes, unwrap_or, is_some}
 use lib.IntN.{negsuc}
 use Rattle.px_num.specs.declared.linear.Linear.{Linear}
 use Rattle.px_model.specs.declared.solid.Colour.{Colour}
@@ -7,10 +7,10 @@ use Rattle.px_model.specs.declared.solid.Face.{Face}
 use Rattle.std.specs.Option.{option_or}
 use Rattle.std.specs.Str.{bytes_eq}
 use Rattle.std.specs.List.{list_all}
-use lib.Signed.{le_z}
 use Rattle.px_model.specs.declared.limits.TheConstants.{MAX_CONSTANT, MAX_DEPTH_BITS, MAX_FACES, MAX_FRACTION_BITS, MAX_PICTURE_SIZE, MAX_PLANES_OF_A_KIND, MAX_SLOPE, MAX_SOLIDS}
 use Rattle.px_text.specs.Text.{Words, number_of, is_name}
-use Rattle.px_show.specs.Expressions.{judged, is_among, show_cause, show_limit}
+use Rattle.px_show.specs.Expressions.{is_among, show_cause, show_limit}
+use Rattle.px_show.specs.Judged.{judged, past, size_past}
 use Rattle.px_show.specs.Versions.{depth_count, version_of}
 use Rattle.px_show.specs.declared.scene_version.Version.{Version}
 use Rattle.px_scene.specs.declared.line.Keyword.{Keyword}
@@ -23,7 +23,6 @@ use Rattle.px_scene.specs.declared.line.Keyword.TheVariants as k
 use Rattle.px_scene.specs.declared.line.Due.TheVariants as d
 use Rattle.px_show.specs.declared.fault.Cause.TheVariants as c
 use Rattle.px_show.specs.declared.fault.LimitKind.TheVariants as kind
-use Rattle.px_show.specs.declared.fault.LineFault.TheVariants as f
 
 -- a number that is not negative
 abbrev pub size_of : ℤ → ℕ
@@ -151,36 +150,31 @@ cause_of version d.Header names w ws = if is_header w ws then None else Some c.N
 cause_of version d.Nothing names w ws = Some c.AfterEnd
 cause_of version due names w ws = due_form version due (keyword_of w) names ws
 
--- a number past its range
-abbrev pub past : LimitKind → ℤ → ℤ → ℤ → Option LineFault
-past limit low high found = if le_z low found && le_z found high then None else Some (f.Limit limit found)
-
 -- a count past its limit
-abbrev pub most : LimitKind → ℕ → ℕ → Option LineFault
+abbrev pub most : LimitKind → ℕ → ℕ → Option (LineFault LimitKind)
 most limit high found = past limit (pos 0) (pos high) (pos found)
 
 -- the first side of a picture past its limit
-abbrev pub picture_past : ℤ → ℤ → Option LineFault
+abbrev pub picture_past : ℤ → ℤ → Option (LineFault LimitKind)
 picture_past width height =
     option_or
     (past kind.Picture (pos 1) (pos MAX_PICTURE_SIZE) width)
     (past kind.Picture (pos 1) (pos MAX_PICTURE_SIZE) height)
 
 -- the first part of a colour past its limit
-abbrev pub colour_past : ℤ → ℤ → ℤ → Option LineFault
+abbrev pub colour_past : ℤ → ℤ → ℤ → Option (LineFault LimitKind)
 colour_past red green blue =
     option_or (option_or (past kind.Colour (pos 0) (pos 255) red) (past kind.Colour (pos 0) (pos 255) green)) (past kind.Colour (pos 0) (pos 255) blue)
 
--- a coefficient past n in size
-abbrev pub size_past : ℕ → ℤ → Option LineFault
-size_past n z = past kind.Coefficient (pos 0 -ℤ pos n) (pos n) z
-
 -- the first coefficient of a plane past its limit
-abbrev pub plane_past : ℤ → ℤ → ℤ → Option LineFault
-plane_past a b c = option_or (option_or (size_past MAX_SLOPE a) (size_past MAX_SLOPE b)) (size_past MAX_CONSTANT c)
+abbrev pub plane_past : ℤ → ℤ → ℤ → Option (LineFault LimitKind)
+plane_past a b c =
+    option_or
+    (option_or (size_past kind.Coefficient MAX_SLOPE a) (size_past kind.Coefficient MAX_SLOPE b))
+    (size_past kind.Coefficient MAX_CONSTANT c)
 
 -- the first number of a face's line past its limit: its plane's, and then its colour's
-abbrev pub face_past : List ℤ → Option LineFault
+abbrev pub face_past : List ℤ → Option (LineFault LimitKind)
 face_past (a ∷ b ∷ c ∷ []) = plane_past a b c
 face_past (a ∷ b ∷ c ∷ red ∷ green ∷ blue ∷ []) = option_or (plane_past a b c) (colour_past red green blue)
 face_past zs = None
@@ -204,36 +198,36 @@ figures k.End ws = []
 figures k.Other ws = []
 
 -- the first number of a picture's line past its limit
-abbrev pub two_past : List ℤ → Option LineFault
+abbrev pub two_past : List ℤ → Option (LineFault LimitKind)
 two_past (width ∷ height ∷ []) = picture_past width height
 two_past zs = None
 
 -- fraction bits past their limit, or past what the bits of a depth leave of the limit of both
-abbrev pub fraction_past : ℤ → ℤ → Option LineFault
+abbrev pub fraction_past : ℤ → ℤ → Option (LineFault LimitKind)
 fraction_past bits fraction =
     past kind.Fraction (pos 0) (pos (min MAX_FRACTION_BITS (MAX_DEPTH_BITS - size_of bits))) fraction
 
 -- the first number of a depth's line past its limit
-abbrev pub depth_past : List ℤ → Option LineFault
+abbrev pub depth_past : List ℤ → Option (LineFault LimitKind)
 depth_past (bits ∷ []) = past kind.Depth (pos 1) (pos MAX_DEPTH_BITS) bits
 depth_past (bits ∷ fraction ∷ []) =
     option_or (past kind.Depth (pos 1) (pos MAX_DEPTH_BITS) bits) (fraction_past bits fraction)
 depth_past zs = None
 
 -- the first number of a solid's line past its limit
-abbrev pub three_past : List ℤ → Option LineFault
+abbrev pub three_past : List ℤ → Option (LineFault LimitKind)
 three_past (red ∷ green ∷ blue ∷ []) = colour_past red green blue
 three_past zs = None
 
 -- a face's line: its numbers, the faces of its kind, and the face numbers, with this line
-abbrev pub face_limit : LimitKind → ℕ → ℕ → List ℤ → Option LineFault
+abbrev pub face_limit : LimitKind → ℕ → ℕ → List ℤ → Option (LineFault LimitKind)
 face_limit limit faces numbered zs =
     option_or
     (option_or (face_past zs) (most limit MAX_PLANES_OF_A_KIND (faces + 1)))
     (most kind.Faces MAX_FACES (numbered + 1))
 
 -- the first limit that a line of good form passes: its numbers from left to right, and then the counts with this line
-abbrev pub limit_of : Keyword → Tally → List ℤ → Option LineFault
+abbrev pub limit_of : Keyword → Tally → List ℤ → Option (LineFault LimitKind)
 limit_of k.Picture t zs = two_past zs
 limit_of k.Depth t zs = depth_past zs
 limit_of k.Solid t zs =
@@ -249,12 +243,12 @@ limit_of k.End t zs = None
 limit_of k.Other t zs = None
 
 -- the first limit that a line passes: an expression's, or a number's or a count's
-abbrev pub limit_on : Version → Keyword → Tally → Words → Option LineFault
+abbrev pub limit_on : Version → Keyword → Tally → Words → Option (LineFault LimitKind)
 limit_on version k.Show t ws = show_limit version ws
 limit_on version keyword t ws = limit_of keyword t (numbers_of (figures keyword ws))
 
 -- why a line is bad, by the version, what is due, the names of the solids before and the counts before: its form first, and then its limits
-abbrev pub fault_of : Version → Due → Words → Tally → Words → Option LineFault
+abbrev pub fault_of : Version → Due → Words → Tally → Words → Option (LineFault LimitKind)
 fault_of version due names t [] = None
 fault_of version due names t (w ∷ ws) =
     judged (cause_of version due names w ws) (limit_on version (keyword_of w) t ws)

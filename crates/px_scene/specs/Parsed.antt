@@ -4,7 +4,8 @@ use Rattle.std.specs.Prelude.{◌≡◌, ℕ, ℤ, List, [], ◌∷◌, ◌==◌
 use Rattle.px_text.specs.Text.{Words, is_name, number_of}
 use Rattle.px_text.specs.LentWords.{now_of}
 use Rattle.px_show.specs.Versions.{version_word, version_of}
-use Rattle.px_show.specs.Expressions.{judged, is_among, show_cause, show_fault}
+use Rattle.px_show.specs.Expressions.{is_among, show_cause, show_fault}
+use Rattle.px_show.specs.Judged.{judged}
 use Rattle.px_scene.specs.Lines.{keyword_of, is_due, numeric, numbers_of, figures, form_of, cause_of, limit_of}
 use Rattle.px_scene.specs.Drafts.{DraftView, tally_of}
 use Rattle.px_scene.specs.Drafts.{first_word}
@@ -12,6 +13,7 @@ use Rattle.px_model.specs.Scenes.{names_of}
 use Rattle.px_show.specs.declared.scene_version.Version.{Version}
 use Rattle.px_show.specs.declared.fault.Cause.{Cause}
 use Rattle.px_show.specs.declared.fault.Cause.TheVariants as c
+use Rattle.px_show.specs.declared.fault.LimitKind.{LimitKind}
 use Rattle.px_show.specs.declared.fault.LineFault.{LineFault}
 use Rattle.px_scene.specs.declared.line.Due.{Due}
 use Rattle.px_scene.specs.declared.line.Keyword.{Keyword}
@@ -128,11 +130,11 @@ FaceForms ws (Ok face) = (numeric (length ws == 3 || length ws == 6) ws ≡ None
 FaceForms ws (Err cause) = numeric (length ws == 3 || length ws == 6) ws ≡ Some cause
 
 -- why a line of good form is bad, but for its expression: a name that stands already, or a limit
-abbrev pub fault_left : DraftView → Line → Option LineFault
+abbrev pub fault_left : DraftView → Line → Option (LineFault LimitKind)
 fault_left draft line =
     judged (second_name (names_of draft.solids) line) (limit_of (keyword_in line) (tally_of draft) (numbers_in line))
 
 -- and why its expression is
-abbrev pub fault_shown : DraftView → Line → Option LineFault
+abbrev pub fault_shown : DraftView → Line → Option (LineFault LimitKind)
 fault_shown draft (l.Show words) = show_fault draft.version (names_of draft.solids) (now_of words.now)
 fault_shown draft line = None

@@ -1,43 +1,30 @@
 -- A scene text line by line: the first bad line, why a text is no scene, and the scene of a text that is one.
 -- Each line is judged by what the lines before it have said. Clauses of public calls stand on it.
-use Rattle.std.specs.Prelude.{ℕ, ◌+◌, List, [], length, Bool, true, false, if◌then◌else◌, Option, Some, None, pos, nat_lt}
+use Rattle.std.specs.Prelude.{ℕ, ◌+◌, List, [], length, Bool, true, false, if◌then◌else◌, Option, Some, pos, nat_lt}
 use Rattle.px_model.specs.Scenes.{SceneView}
 use Rattle.px_scene.specs.Drafts.{draft_of, drawn, fault_in}
 use Rattle.px_scene.specs.declared.line.Due.{Due}
 use Rattle.px_scene.specs.declared.line.Due.TheVariants as d
-use Rattle.px_show.specs.declared.fault.Cause.TheVariants as c
 use Rattle.px_show.specs.declared.fault.LimitKind.TheVariants as kind
+use Rattle.px_show.specs.declared.fault.LimitKind.{LimitKind}
 use Rattle.px_show.specs.declared.fault.LineFault.{LineFault}
-use Rattle.px_show.specs.declared.fault.LineFault.TheVariants as f
-use Rattle.px_show.specs.declared.fault.SceneFault.{SceneFault}
-use Rattle.px_show.specs.declared.fault.SceneFault.TheVariants as fault
-use Rattle.px_show.specs.Judged.{first_bad}
+use Rattle.px_show.specs.declared.fault.TextFault.TheVariants as fault
+use Rattle.px_show.specs.Judged.{SceneFault, first_bad, refused}
 use Rattle.px_text.specs.Text.{Words, lines_of, worded}
 use Rattle.px_text.specs.declared.text.TheConstants.{MAX_TEXT_BYTES}
 
 -- why a line is bad behind others
-abbrev pub fault_behind : List Words → Words → Option LineFault
+abbrev pub fault_behind : List Words → Words → Option (LineFault LimitKind)
 fault_behind before line = fault_in (draft_of before) line
 
 -- the scene of a text without a bad line
 abbrev pub scene_of : List Words → SceneView
 scene_of lines = drawn (draft_of lines)
 
--- a line's fault, as the text's
-abbrev pub fault_at : ℕ → LineFault → SceneFault
-fault_at line (f.Malformed cause) = fault.Malformed line cause
-fault_at line (f.Limit kind found) = fault.Limit line kind found
-
 -- whether nothing more is due, as behind the end
 abbrev pub is_nothing : Due → Bool
 is_nothing d.Nothing = true
 is_nothing due = false
-
--- the first bad line, or else the missing end
-abbrev pub refused : Option (ℕ × LineFault) → Bool → ℕ → Option SceneFault
-refused (Some bad) ended count = Some (fault_at bad.0 bad.1)
-refused None true count = None
-refused None false count = Some (fault.Malformed count c.MissingEnd)
 
 -- the limit of the text, the first bad line, the missing end
 abbrev pub refusal_of : List ℕ → Option SceneFault

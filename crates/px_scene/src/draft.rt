@@ -2,7 +2,6 @@
 ghost use Rattle.std.specs.Prelude.{◌≡◌, false, ◌<◌, ◌≤◌, ◌+◌, ◌++◌, ◌∷◌, [], length, pos, None, Some, IfSome, IfOk, IfErr, vec_len, slice_get, ◌-◌, OnOk, OnErr, IsErrOf, All, true, is_some};
 ghost use Rattle.std.specs.Str.{bytes_eq};
 ghost use Rattle.std.specs.List.{list_any};
-ghost use Rattle.px_text.specs.Text.{words_of};
 ghost use Rattle.px_text.specs.LentWords.{now_of};
 ghost use Rattle.px_scene.specs.Reading.{is_nothing};
 ghost use Rattle.px_show.specs.Expressions.{is_among, show_fault, show_tree};
@@ -15,6 +14,7 @@ ghost use Rattle.px_scene.specs.Drafts.{fresh_solid, with_line, with_depth, take
 ghost use Rattle.px_scene.specs.LawfulDrafts.{CanTakeFace, CanBeTaken, IsLawfulDraft};
 ghost use Rattle.px_scene.specs.declared.line.Due.TheVariants as Due;
 ghost use Rattle.px_show.specs.declared.scene_version.Version.TheVariants as Version;
+ghost use Rattle.px_show.specs.declared.fault.LimitKind.{LimitKind};
 ghost use Rattle.px_show.specs.declared.fault.LineFault.{LineFault};
 
 use crate::figure::{colour_of, face_of};
@@ -25,8 +25,7 @@ use arrayvec::ArrayVec;
 use px_expr::Expr;
 use px_model::{Scene, Solid};
 use px_num::{Linear, Memory};
-use px_show::{Cause, LineError, LineFault, Version, read_show};
-use px_text::words_of;
+use px_show::{Cause, LimitKind, LineError, LineFault, Version, read_show};
 use std::alloc::Global;
 
 /// What the lines so far have said.
@@ -97,18 +96,21 @@ impl Draft {
         }
     }
 
-    /// Takes a line in; one without words says nothing.
-    pub(crate) fn add_line(&mut self, alloc: Global, line: &[u8]) -> Result<(), LineError>
+    /// Takes the words of a line in; one without words says nothing.
+    pub(crate) fn add_words(
+        &mut self,
+        alloc: Global,
+        words: &[&[u8]],
+    ) -> Result<(), LineError<LimitKind>>
         requires { IsLawfulDraft (view_of self.old) }
-        ensures bad { (f : LineFault) → IsErrOf result (LineError.Bad f) →
-            fault_in (view_of self.old) (words_of line.now) ≡ Some f }
-        ensures good { OnOk result (fault_in (view_of self.old) (words_of line.now) ≡ None) }
-        ensures taken { OnOk result (view_of self.new ≡ taken (view_of self.old) (words_of
-            line.now)) }
+        ensures bad { (f : LineFault LimitKind) → IsErrOf result (LineError.Bad f) →
+            fault_in (view_of self.old) (now_of words.now) ≡ Some f }
+        ensures good { OnOk result (fault_in (view_of self.old) (now_of words.now) ≡ None) }
+        ensures taken { OnOk result (view_of self.new ≡ taken (view_of self.old)
+            (now_of words.now)) }
         ensures lawful { OnOk result (IsLawfulDraft (view_of self.new)) }
     {
-        let words = words_of(alloc, line)?;
-        match words.as_slice() {
+        match words {
             [] => Ok(()),
             [word, arguments @ ..] => self.add(alloc, word, arguments),
         }
@@ -141,14 +143,14 @@ impl Draft {
     }
 
     /// Takes a line in, by its first word and the words after it.
-    pub(crate) fn add(
+    fn add(
         &mut self,
         alloc: Global,
         word: &[u8],
         arguments: &[&[u8]],
-    ) -> Result<(), LineError>
+    ) -> Result<(), LineError<LimitKind>>
         requires { IsLawfulDraft (view_of self.old) }
-        ensures bad { (f : LineFault) → IsErrOf result (LineError.Bad f) →
+        ensures bad { (f : LineFault LimitKind) → IsErrOf result (LineError.Bad f) →
             fault_in (view_of self.old) (word.now ∷ now_of arguments.now) ≡ Some f }
         ensures good { OnOk result
             (fault_in (view_of self.old) (word.now ∷ now_of arguments.now) ≡ None) }
@@ -166,7 +168,7 @@ impl Draft {
     }
 
     /// Why a line of good form is bad, but for its expression.
-    fn fault(&self, line: Line) -> Option<LineFault>
+    fn fault(&self, line: Line) -> Option<LineFault<LimitKind>>
         requires { IsLawfulDraft (view_of self.now) }
         ensures { result ≡ fault_left (view_of self.now) line.entry }
     {
@@ -177,13 +179,13 @@ impl Draft {
     }
 
     /// Takes in what a line says; an expression is judged as it is read.
-    fn take(&mut self, alloc: Global, line: Line) -> Result<(), LineError>
+    fn take(&mut self, alloc: Global, line: Line) -> Result<(), LineError<LimitKind>>
         requires lawful { IsLawfulDraft (view_of self.old) }
         requires due { is_due self.old.due (keyword_in line) ≡ true }
         requires name { length (name_in line) ≤ 32 }
         requires limit { limit_of (keyword_in line) (tally_of (view_of self.old)) (numbers_in line)
             ≡ None }
-        ensures bad { (f : LineFault) → IsErrOf result (LineError.Bad f) →
+        ensures bad { (f : LineFault LimitKind) → IsErrOf result (LineError.Bad f) →
             fault_shown (view_of self.old) line.entry ≡ Some f }
         ensures good { OnOk result (fault_shown (view_of self.old) line.entry ≡ None) }
         ensures taken { OnOk result (view_of self.new ≡ with_line (keyword_in line.entry)
@@ -225,9 +227,9 @@ impl Draft {
         };
     }
 
-    fn take_show(&mut self, alloc: Global, words: &[&[u8]]) -> Result<(), LineError>
+    fn take_show(&mut self, alloc: Global, words: &[&[u8]]) -> Result<(), LineError<LimitKind>>
         requires { IsLawfulDraft (view_of self.old) }
-        ensures bad { (f : LineFault) → IsErrOf result (LineError.Bad f) →
+        ensures bad { (f : LineFault LimitKind) → IsErrOf result (LineError.Bad f) →
             show_fault self.old.version (names_of self.old.solids.items) (now_of words.now)
             ≡ Some f }
         ensures good { OnOk result (show_fault self.old.version (names_of self.old.solids.items)

@@ -6,8 +6,9 @@ ghost use Rattle.px_model.specs.declared.limits.TheConstants.{
   MAX_PLANES_OF_A_KIND,
   MAX_SOLIDS,
 };
+ghost use Rattle.px_show.specs.Judged.{past};
 ghost use Rattle.px_show.specs.declared.fault.LimitKind.TheVariants as Kind;
-ghost use Rattle.px_scene.specs.Lines.{past, most, picture_past, depth_past, fraction_past, colour_past, plane_past, face_past, limit_of};
+ghost use Rattle.px_scene.specs.Lines.{most, picture_past, depth_past, fraction_past, colour_past, plane_past, face_past, limit_of};
 ghost use Rattle.px_scene.specs.Parsed.{keyword_in, numbers_in, depth_numbers, face_numbers};
 
 use crate::line::Tally;
@@ -17,11 +18,11 @@ use px_model::{
     MAX_PLANES_OF_A_KIND, MAX_SLOPE, MAX_SOLIDS,
 };
 use px_num::Linear;
-use px_show::{LimitKind, LineFault};
+use px_show::{LimitKind, LineFault, past};
 
 /// The first limit that a line of good form passes, where it passes one: its numbers from left to
 /// right, and then the counts with this line. The limits of an expression are found as it is read.
-pub(crate) fn limit_of(line: Line, tally: Tally) -> Option<LineFault>
+pub(crate) fn limit_of(line: Line, tally: Tally) -> Option<LineFault<LimitKind>>
     requires solids { tally.solids ≤ MAX_SOLIDS }
     requires numbered { tally.numbered ≤ MAX_FACES }
     requires faces { (tally.fronts ≤ MAX_PLANES_OF_A_KIND) × (tally.backs ≤ MAX_PLANES_OF_A_KIND)
@@ -47,14 +48,14 @@ pub(crate) fn limit_of(line: Line, tally: Tally) -> Option<LineFault>
     }
 }
 
-fn picture_past(width: i64, height: i64) -> Option<LineFault>
+fn picture_past(width: i64, height: i64) -> Option<LineFault<LimitKind>>
     ensures { result ≡ picture_past width height }
 {
     let size = i64::from(MAX_PICTURE_SIZE);
     past(LimitKind::Picture, 1, size, width).or(past(LimitKind::Picture, 1, size, height))
 }
 
-fn depth_past(bits: i64, fraction: Option<i64>) -> Option<LineFault>
+fn depth_past(bits: i64, fraction: Option<i64>) -> Option<LineFault<LimitKind>>
     ensures { result ≡ depth_past (depth_numbers bits fraction) }
 {
     let depth = past(LimitKind::Depth, 1, i64::from(MAX_DEPTH_BITS), bits);
@@ -65,7 +66,7 @@ fn depth_past(bits: i64, fraction: Option<i64>) -> Option<LineFault>
 }
 
 /// Fraction bits are judged beside good bits of a depth.
-fn fraction_past(bits: i64, fraction: i64) -> Option<LineFault>
+fn fraction_past(bits: i64, fraction: i64) -> Option<LineFault<LimitKind>>
     requires { past Kind.Depth (pos 1) (pos MAX_DEPTH_BITS) bits ≡ None }
     ensures { result ≡ fraction_past bits fraction }
 {
@@ -73,7 +74,7 @@ fn fraction_past(bits: i64, fraction: i64) -> Option<LineFault>
     past(LimitKind::Fraction, 0, left, fraction)
 }
 
-fn face_past(face: Plane) -> Option<LineFault>
+fn face_past(face: Plane) -> Option<LineFault<LimitKind>>
     ensures { result ≡ face_past (face_numbers face) }
 {
     match face.paint {
@@ -82,7 +83,7 @@ fn face_past(face: Plane) -> Option<LineFault>
     }
 }
 
-fn plane_past(form: Linear) -> Option<LineFault>
+fn plane_past(form: Linear) -> Option<LineFault<LimitKind>>
     ensures { result ≡ plane_past form.a form.b form.c }
 {
     let slope = i64::from(MAX_SLOPE);
@@ -92,7 +93,7 @@ fn plane_past(form: Linear) -> Option<LineFault>
         .or(past(LimitKind::Coefficient, -constant, constant, form.c))
 }
 
-fn colour_past(paint: Paint) -> Option<LineFault>
+fn colour_past(paint: Paint) -> Option<LineFault<LimitKind>>
     ensures { result ≡ colour_past paint.red paint.green paint.blue }
 {
     past(LimitKind::Colour, 0, 255, paint.red)
@@ -100,18 +101,8 @@ fn colour_past(paint: Paint) -> Option<LineFault>
         .or(past(LimitKind::Colour, 0, 255, paint.blue))
 }
 
-fn most(kind: LimitKind, high: u32, found: u32) -> Option<LineFault>
+fn most(kind: LimitKind, high: u32, found: u32) -> Option<LineFault<LimitKind>>
     ensures { result ≡ most kind high found }
 {
     past(kind, 0, i64::from(high), i64::from(found))
-}
-
-fn past(kind: LimitKind, low: i64, high: i64, found: i64) -> Option<LineFault>
-    ensures { result ≡ past kind low high found }
-{
-    if low <= found && found <= high {
-        None
-    } else {
-        Some(LineFault::Limit { kind, found })
-    }
 }

@@ -18,11 +18,11 @@ fn solid(alloc: Global, byte: u8) -> Solid {
 }
 
 /// The expression over the solids `a`, `b` and `c`, under a version that has each sign.
-fn read(alloc: Global, text: &[u8]) -> Result<Expr, LineError> {
+fn read(alloc: Global, text: &[u8]) -> Result<Expr, LineError<LimitKind>> {
     read_in(alloc, Version::Two, text)
 }
 
-fn read_in(alloc: Global, version: Version, text: &[u8]) -> Result<Expr, LineError> {
+fn read_in(alloc: Global, version: Version, text: &[u8]) -> Result<Expr, LineError<LimitKind>> {
     let solids = [solid(alloc, b'a'), solid(alloc, b'b'), solid(alloc, b'c')];
     let words = words_of(alloc, text)?;
     read_show(alloc, version, &solids, words.as_slice())
@@ -107,7 +107,7 @@ fn differ_is_a_sign_from_version_two_on(rt: HostRuntime) {
 }
 
 /// `a` in so many brackets, each with `- a` behind it.
-fn nested(alloc: Global, depth: u32) -> Result<Expr, LineError> {
+fn nested(alloc: Global, depth: u32) -> Result<Expr, LineError<LimitKind>> {
     let mut text = Vec::new(alloc);
     for _ in 0..depth {
         text.push(b'(').map_err(|_| LineError::Memory)?;

@@ -1,8 +1,11 @@
 -- Lines that are judged one after another, until one is bad.
-use Rattle.std.proofs.Common.{◌≡◌, ℕ, ◌+◌, ◌<◌, ◌≤◌, List, [], ◌∷◌, ◌++◌, length, take, drop, get_or, Option, Some, None}
+use Rattle.std.proofs.Common.{◌≡◌, ◌≢◌, ℕ, ◌+◌, ◌<◌, ◌≤◌, List, [], ◌∷◌, ◌++◌, length, take, drop, get_or, Option, Some, None, Bool, true, false}
 use Rattle.std.proofs.Common.{refl, ap, sym, ◌∙◌, arith, length-take}
 use Rattle.std.proofs.lemmas.List.{take_more, drop_more, drop_all}
-use Rattle.px_show.specs.Judged.{at_line, first_bad}
+use Rattle.px_show.specs.Judged.{at_line, first_bad, refused}
+use Rattle.px_show.specs.declared.fault.LineFault.{LineFault}
+use Rattle.px_show.specs.declared.fault.LineFault.TheVariants as f
+use Rattle.px_show.specs.declared.fault.TextFault.TheVariants as text
 use Rattle.px_text.specs.Text.{Words}
 
 -- none of the lines before this one is bad
@@ -47,3 +50,18 @@ pub none_here : {F : Type 0} (n : ℕ) (fault : Option F) (later : Option (ℕ �
     → (fault ≡ None) × (later ≡ None)
 none_here n None later e = (refl, e)
 none_here n (Some fault) later e = cc
+
+-- where a text is not refused, no line is bad and its end has come
+pub not_refused : {K : Type 0} (bad : Option (ℕ × LineFault K)) (ended : Bool) (count : ℕ) → refused bad ended count ≡ None
+    → (bad ≡ None) × (ended ≡ true)
+not_refused (Some bad) ended count e = cc
+not_refused None true count e = (refl, refl)
+not_refused None false count e = cc
+
+-- no text is refused for want of memory
+pub not_memory : {K : Type 0} (bad : Option (ℕ × LineFault K)) (ended : Bool) (count : ℕ)
+    → refused bad ended count ≢ Some text.Memory
+not_memory (Some (line, f.Malformed cause)) ended count e = cc
+not_memory (Some (line, f.Limit kind found)) ended count e = cc
+not_memory None true count e = cc
+not_memory None false count e = cc

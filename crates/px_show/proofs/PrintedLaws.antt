@@ -15,7 +15,8 @@ use Rattle.px_expr.specs.Tree as shown
 use Rattle.px_text.specs.Text.{Words, is_blank, is_some_byte, words_of, is_name, is_name_byte}
 use Rattle.px_show.specs.Expressions.{Token, name, opens, closes, sign, mark, tokens_in, tokens_of, nesting}
 use Rattle.px_show.specs.Expressions.{Named, leaf, join, written, has_names, has_signs, whole, expression_of, leaves}
-use Rattle.px_show.specs.Expressions.{is_among, judged}
+use Rattle.px_show.specs.Expressions.{is_among}
+use Rattle.px_show.specs.Judged.{judged}
 use Rattle.px_show.specs.Expressions.{place_of, over_places, are_known, cause_in, limit_in, count_past, show_tree}
 use Rattle.px_show.specs.Expressions.{show_fault}
 use Rattle.px_show.specs.Versions.{has_differ, sign_byte, is_sign, is_differ, has_difference}

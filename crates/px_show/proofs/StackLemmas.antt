@@ -14,12 +14,14 @@ use Rattle.std.proofs.Math.Seq.{drop-append_seam}
 use Rattle.px_num.proofs.TruthLaws.{or_false}
 use Rattle.px_expr.specs.declared.node.Op.{Op}
 use Rattle.px_text.specs.Text.{Words}
-use Rattle.px_show.specs.Expressions.{is_among, judged, opens, sign, other}
+use Rattle.px_show.specs.Expressions.{is_among, opens, sign, other}
 use Rattle.px_show.specs.Expressions.{Named, leaf, join, leaves, nesting, Part, side, token, bracket_closed, whole}
 use Rattle.px_show.specs.Expressions.{place_of, over_places, are_known, cause_in, limit_in, counts_past}
+use Rattle.px_show.specs.Judged.{judged}
 use Rattle.px_show.specs.Stacks.{stack_part, bracketed, closing, nesting_of, tree_steps, all_steps, is_leaf, is_unknown}
 use Rattle.px_show.specs.Stacks.{AreKept}
 use Rattle.px_show.specs.declared.fault.Cause.TheVariants as cause
+use Rattle.px_show.specs.declared.fault.LimitKind.{LimitKind}
 use Rattle.px_show.specs.declared.fault.LineFault.{LineFault}
 use Rattle.px_show.specs.declared.fault.LineFault.TheVariants as fault
 use Rattle.px_show.specs.declared.stack.Part.{Part as Kind}
@@ -152,7 +154,7 @@ whole_stack names parts steps read n e is = by_parts read is.order (e ∙ ap nes
     by_parts (token other ∷ []) order e = absurd (cc)
     by_parts parts order e = absurd (cc)
 
-judged_by : (limit : Option LineFault) (test : Bool)
+judged_by : (limit : Option (LineFault LimitKind)) (test : Bool)
     → judged (if test then None else Some cause.UnknownName) limit
     ≡ (if not test then Some (fault.Malformed cause.UnknownName) else limit)
 judged_by limit true = refl

@@ -7,6 +7,7 @@ use Rattle.std.specs.Prelude.{ℕ, ◌==◌, List, [], ◌∷◌, if◌then◌el
 use Rattle.std.specs.List.{flat_map, list_any}
 use Rattle.px_expr.specs.declared.node.Op.{Op}
 use Rattle.px_text.specs.Text.{Words, is_name_byte, is_name}
+use Rattle.px_show.specs.Judged.{judged}
 use Rattle.px_show.specs.Versions.{is_sign, op_of}
 use Rattle.px_show.specs.declared.scene_version.Version.{Version}
 use Rattle.std.specs.Str.{bytes_eq}
@@ -121,11 +122,6 @@ pub record IsExpressionOf (ts : List Token) (tree : Named) : Type 0 where
   pub text : written tree ≡ ts
   pub names : has_names tree ≡ true
 
--- a cause, or else a limit that is passed
-abbrev pub judged : Option Cause → Option LineFault → Option LineFault
-judged (Some cause) limit = Some (f.Malformed cause)
-judged None limit = limit
-
 -- whether a word is one of the names
 abbrev pub is_among : Words → List ℕ → Bool
 is_among names word = list_any (λ n. bytes_eq n word) names
@@ -151,15 +147,15 @@ cause_in names None = Some c.BadExpression
 cause_in names (Some tree) = if are_known names tree then None else Some c.UnknownName
 
 -- a count past its limit
-abbrev pub count_past : LimitKind → ℕ → ℕ → Option LineFault
+abbrev pub count_past : LimitKind → ℕ → ℕ → Option (LineFault LimitKind)
 count_past kind limit found = if nat_le found limit then None else Some (f.Limit kind (pos found))
 
 -- the leaves and then the nesting, both of the whole expression
-abbrev pub counts_past : ℕ → ℕ → Option LineFault
+abbrev pub counts_past : ℕ → ℕ → Option (LineFault LimitKind)
 counts_past leaves nesting = option_or (count_past kind.Leaves MAX_LEAVES leaves) (count_past kind.Nesting MAX_NESTING nesting)
 
 -- the first limit that an expression passes
-abbrev pub limit_in : Option Named → Option LineFault
+abbrev pub limit_in : Option Named → Option (LineFault LimitKind)
 limit_in None = None
 limit_in (Some tree) = counts_past (leaves tree) (nesting tree)
 
@@ -168,11 +164,11 @@ abbrev pub show_cause : Version → Words → Words → Option Cause
 show_cause version names ws = cause_in names (expression_of (tokens_of version ws))
 
 -- the first limit that their expression passes
-abbrev pub show_limit : Version → Words → Option LineFault
+abbrev pub show_limit : Version → Words → Option (LineFault LimitKind)
 show_limit version ws = limit_in (expression_of (tokens_of version ws))
 
 -- why the expression is bad: its form and its names first, and then its limits
-abbrev pub show_fault : Version → Words → Words → Option LineFault
+abbrev pub show_fault : Version → Words → Words → Option (LineFault LimitKind)
 show_fault version names ws = judged (show_cause version names ws) (show_limit version ws)
 
 -- their expression, over the places of the solids

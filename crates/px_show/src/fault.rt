@@ -1,7 +1,11 @@
-//! Why a line of a scene text is bad, and why a text is no scene (docs/SCENES.md, "Causes", "Limits" and "Refusals").
+//! Why a line of a text is bad, and why a text is refused, by what has a limit in it
+//! (docs/SCENES.md, "Causes", "Limits" and "Refusals").
+ghost use Rattle.std.specs.Prelude.{◌≡◌};
+ghost use Rattle.px_show.specs.Judged.{past};
 
 use px_num::Memory;
 use std::alloc::AllocError;
+use std::fmt::Debug;
 use thiserror::Error;
 
 /// Why the words of a line are bad (docs/SCENES.md, "Causes").
@@ -19,7 +23,7 @@ pub enum Cause {
     MissingEnd,
 }
 
-/// What has a limit (docs/SCENES.md, "Limits").
+/// What has a limit in a scene text (docs/SCENES.md, "Limits").
 #[derive(Clone, Copy, Debug, PartialEq, Eq)]
 pub enum LimitKind {
     Text,
@@ -41,39 +45,47 @@ pub enum LimitKind {
 
 /// A line's form is bad, or else one of its numbers or counts passes a limit.
 #[derive(Clone, Copy, Debug, PartialEq, Eq)]
-pub enum LineFault {
+pub enum LineFault<K> {
     Malformed(Cause),
-    Limit { kind: LimitKind, found: i64 },
+    Limit { kind: K, found: i64 },
 }
 
 /// A line is bad, or memory was wanted and not given.
 #[derive(Clone, Copy, Debug, PartialEq, Eq)]
-pub enum LineError {
-    Bad(LineFault),
+pub enum LineError<K> {
+    Bad(LineFault<K>),
     Memory,
 }
 
-/// Why a text is no scene (docs/SCENES.md, "Refusals"). The first bad line decides.
+/// Why a text is refused (docs/SCENES.md, "Refusals"). The first bad line decides.
 #[derive(Clone, Copy, Debug, PartialEq, Eq, Error)]
-pub enum SceneFault {
+#[error_bound(K: Debug)]
+pub enum TextFault<K> {
     /// The words of a line are bad, or the text has no `end`.
     #[error("line {line}: {cause:?}")]
-    Malformed {
-        line: u32,
-        cause: Cause,
-    },
+    Malformed { line: u32, cause: Cause },
     /// A number or a count passes its limit; the line is 0 for the length of the text.
     #[error("line {line}: {kind:?} {found}")]
-    Limit {
-        line: u32,
-        kind: LimitKind,
-        found: i64,
-    },
+    Limit { line: u32, kind: K, found: i64 },
     #[error("out of memory")]
     Memory,
 }
 
-impl From<Cause> for LineError {
+/// Why a text is no scene.
+pub type SceneFault = TextFault<LimitKind>;
+
+/// A number past its range.
+pub fn past<K: Copy>(kind: K, low: i64, high: i64, found: i64) -> Option<LineFault<K>>
+    ensures { result ≡ past kind low high found }
+{
+    if low <= found && found <= high {
+        None
+    } else {
+        Some(LineFault::Limit { kind, found })
+    }
+}
+
+impl<K> From<Cause> for LineError<K> {
     ghost use Rattle.std.specs.Prelude.{◌≡◌};
     ghost use Rattle.px_show.specs.declared.fault.LineFault.TheVariants.{Malformed};
     ghost use Rattle.px_show.specs.declared.fault.LineError.TheVariants.{Bad};
@@ -85,7 +97,7 @@ impl From<Cause> for LineError {
     }
 }
 
-impl From<Memory> for LineError {
+impl<K> From<Memory> for LineError<K> {
     ghost use Rattle.std.specs.Prelude.{◌≡◌};
     ghost use Rattle.px_show.specs.declared.fault.LineError.TheVariants.{Memory};
 
@@ -96,7 +108,7 @@ impl From<Memory> for LineError {
     }
 }
 
-impl From<AllocError> for LineError {
+impl<K> From<AllocError> for LineError<K> {
     ghost use Rattle.std.specs.Prelude.{◌≡◌};
     ghost use Rattle.px_show.specs.declared.fault.LineError.TheVariants.{Memory};
 
@@ -107,13 +119,13 @@ impl From<AllocError> for LineError {
     }
 }
 
-impl From<Memory> for SceneFault {
+impl<K> From<Memory> for TextFault<K> {
     ghost use Rattle.std.specs.Prelude.{◌≡◌};
-    ghost use Rattle.px_show.specs.declared.fault.SceneFault.TheVariants.{Memory};
+    ghost use Rattle.px_show.specs.declared.fault.TextFault.TheVariants.{Memory};
 
     ghost from_gives = { λ _ e. e ≡ Memory };
 
     fn from(_: Memory) -> Self {
-        SceneFault::Memory
+        TextFault::Memory
     }
 }

@@ -1,5 +1,6 @@
 //! The expression of a `show` line.
 ghost use Rattle.std.specs.Prelude.{◌≡◌, ◌≤◌, None, Some, true, List, OnOk, IfOk, IfErr, IsErrOf, length};
+ghost use Rattle.px_show.specs.declared.fault.LimitKind.{LimitKind};
 ghost use Rattle.px_show.specs.declared.fault.LineFault.{LineFault};
 ghost use Rattle.px_model.specs.declared.limits.TheConstants.{MAX_SOLIDS};
 ghost use Rattle.px_model.specs.Scenes.{names_of};
@@ -13,7 +14,7 @@ ghost use Rattle.px_show.specs.Expressions.{Named, has_names, has_signs, written
 ghost use Rattle.px_show.specs.Stacks.{tree_steps};
 ghost use Rattle.px_show.specs.declared.scene_version.Version.{Version as AnyVersion};
 
-use crate::fault::{LineError, LineFault};
+use crate::fault::{LimitKind, LineError};
 use crate::scene_version::Version;
 use crate::stack::{Stack, Step};
 use crate::token::tokens_of;
@@ -30,9 +31,9 @@ pub fn read_show(
     version: Version,
     solids: &[Solid],
     words: &[&[u8]],
-) -> Result<Expr, LineError>
+) -> Result<Expr, LineError<LimitKind>>
     requires { length solids.now ≤ MAX_SOLIDS }
-    ensures bad { (f : LineFault) → IsErrOf result (LineError.Bad f) →
+    ensures bad { (f : LineFault LimitKind) → IsErrOf result (LineError.Bad f) →
         show_fault version (names_of solids.now) (now_of words.now) ≡ Some f }
     ensures good { OnOk result (show_fault version (names_of solids.now) (now_of words.now) ≡ None) }
     ensures tree { IfOk result (λ e.

@@ -3,7 +3,8 @@ ghost use Rattle.std.specs.Prelude.{◌≡◌, ◌≤◌, ◌<◌, ◌^◌, ◌+
 ghost use Rattle.std.specs.List.{list_any};
 ghost use Rattle.px_model.specs.declared.limits.TheConstants.{MAX_SOLIDS};
 ghost use Rattle.px_model.specs.Scenes.{names_of};
-ghost use Rattle.px_show.specs.Expressions.{name, Part as AnyPart, with_token, parts_of, bracket_closed, whole, judged};
+ghost use Rattle.px_show.specs.Expressions.{name, Part as AnyPart, with_token, parts_of, bracket_closed, whole};
+ghost use Rattle.px_show.specs.Judged.{judged};
 ghost use Rattle.px_show.specs.Expressions.{place_of, cause_in, limit_in, count_past, counts_past};
 ghost use Rattle.px_text.specs.Text.{Words};
 ghost use Rattle.px_show.specs.Stacks.{token_of, closing, bracketed, nesting_of, nesting_in, is_leaf, is_unknown, IsStackOf};
@@ -128,7 +129,7 @@ impl Stack {
     }
 
     /// Why the tokens are no expression over so many solids, or else the limit that it passes.
-    pub(crate) fn fault(&self, solids: usize) -> Option<LineFault>
+    pub(crate) fn fault(&self, solids: usize) -> Option<LineFault<LimitKind>>
         ensures { (names : Words) (read : List AnyPart) → length names ≡ solids →
             IsStackOf names self.now read →
             result ≡ judged (cause_in names (whole read)) (limit_in (whole read)) }
@@ -222,7 +223,7 @@ fn is_leaf(step: Step) -> bool
 }
 
 /// The first limit that the whole expression passes: its leaves, and then its nesting.
-fn counts_past(leaves: usize, nesting: usize) -> Option<LineFault>
+fn counts_past(leaves: usize, nesting: usize) -> Option<LineFault<LimitKind>>
     ensures { leaves < 2 ^ 63 → nesting < 2 ^ 63 → result ≡ counts_past leaves nesting }
 {
     count_past(LimitKind::Leaves, MAX_LEAVES, leaves).or(count_past(
@@ -232,7 +233,7 @@ fn counts_past(leaves: usize, nesting: usize) -> Option<LineFault>
     ))
 }
 
-fn count_past(kind: LimitKind, limit: usize, found: usize) -> Option<LineFault>
+fn count_past(kind: LimitKind, limit: usize, found: usize) -> Option<LineFault<LimitKind>>
     ensures { found < 2 ^ 63 → result ≡ count_past kind limit found }
 {
     if found <= limit {

@@ -7,8 +7,8 @@ use Rattle.px_text.specs.declared.text.TheConstants.{MAX_TEXT_BYTES}
 use Rattle.px_text.specs.Text.{Words, words_of, worded}
 use Rattle.px_model.specs.Scenes.{SceneView}
 use Rattle.px_show.specs.declared.fault.LimitKind.TheVariants as kind
-use Rattle.px_show.specs.declared.fault.SceneFault.{SceneFault}
-use Rattle.px_show.specs.declared.fault.SceneFault.TheVariants as scene
+use Rattle.px_show.specs.Judged.{SceneFault}
+use Rattle.px_show.specs.declared.fault.TextFault.TheVariants as scene
 use Rattle.px_scene.specs.Reading.{scene_of}
 use Rattle.px_scene.specs.Reading as reading
 use Rattle.px_prune.specs.Kept.{crowd_of}
@@ -19,8 +19,8 @@ use Rattle.px_listing.specs.Listings.{ListingView}
 use Rattle.px_listing.specs.PassesText.{passes_listing}
 use Rattle.px_listing.specs.Reading.{listing_of}
 use Rattle.px_listing.specs.Reading as listing
-use Rattle.px_listing.specs.declared.read.ListFault.{ListFault}
-use Rattle.px_listing.specs.declared.read.ListFault.TheVariants as list
+use Rattle.px_listing.specs.Reading.{ListFault}
+use Rattle.px_show.specs.declared.fault.TextFault.TheVariants as list
 use Rattle.px_state.specs.Courses.{total}
 use Rattle.px_state.specs.Words.{room_of}
 use Rattle.px_state.specs.declared.fault.StateFault.{StateFault}

@@ -3,7 +3,8 @@ use Rattle.std.specs.Int.{int_min}
 use lib.IntN.{negsuc}
 use Rattle.std.proofs.lemmas.Int.{ints, int_min_is}
 use Rattle.px_model.specs.declared.limits.TheConstants.{MAX_DEPTH_BITS, MAX_FRACTION_BITS}
-use Rattle.px_scene.specs.Lines.{size_of, past}
+use Rattle.px_scene.specs.Lines.{size_of}
+use Rattle.px_show.specs.Judged.{past}
 use Rattle.px_show.specs.declared.fault.LimitKind.TheVariants as kind
 use Rattle.px_scene.proofs.TakenLemmas.{size_within}
 use Rattle.px_scene.proofs.limit.fraction_past.Goals as goal

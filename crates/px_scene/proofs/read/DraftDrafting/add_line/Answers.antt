@@ -1,0 +1,22 @@
+use Rattle.std.proofs.Common.{◌∙◌}
+use Rattle.px_text.specs.LentWords.{now_of}
+use Rattle.px_scene.specs.DraftViews.{view_of}
+use Rattle.px_scene.proofs.ReadLemmas.{read_next, told}
+use Rattle.px_scene.proofs.read.DraftDrafting.add_line.Goals as goal
+
+pub add_words-requires : goal.add_words-requires
+add_words-requires c = c.requires.1.lawful
+
+pub returns-clause-bad : goal.returns-clause-bad
+returns-clause-bad c before so f is =
+    rw (← c.as_slice.ensures.value) (told (view_of c.args.self.now) before _ so.says ∙ c.add_words.ensures.bad f is)
+
+pub returns-clause-good : goal.returns-clause-good
+returns-clause-good c before so =
+    rw (← c.as_slice.ensures.value, told (view_of c.args.self.now) before (now_of c.as_slice.result.now) so.says)
+    c.add_words.ensures.good
+
+pub returns-clause-says : goal.returns-clause-says
+returns-clause-says c before so =
+    rw (← c.as_slice.ensures.value) (read_next c.add_words.result (view_of c.args.self.now) (view_of c.add_words.new.self) before
+    (now_of c.as_slice.result.now) so c.add_words.ensures.taken c.add_words.ensures.lawful)
