@@ -1,23 +1,13 @@
--- What the slots of a grid have room for, and what they keep. Clauses of the trait `Grid` stand on it, and none of `Array`.
+-- What the slots of an open array keep, and for what they have room. Only proofs and private functions stand on it.
 use Rattle.std.specs.Prelude.{◌≡◌, ℕ, All, List, Option, None, length, map, replicate}
 use Rattle.px_array.specs.Arrays.{Device}
+use Rattle.px_array.specs.Slots.{HasRoom, SlotView}
 
--- the size of the grids that a slot has room for, and what it keeps, if anything
-pub record SlotView : Type 0 where
-  pub nx : ℕ
-  pub ny : ℕ
-  pub kept : Option Device
-
-abbrev pub empty_slot : (nx ny : ℕ) → SlotView
-empty_slot nx ny = record { nx = nx; ny = ny; kept = None }
-
--- a slot has room for a device
-abbrev pub HasRoom : Device → SlotView → Type 0
-HasRoom d s = (s.nx ≡ d.state.tree.nx) × (s.ny ≡ d.state.tree.ny)
-
+-- each of some slots has room for a device
 abbrev pub HaveRoom : {Slot : Type 0} (held : Slot → SlotView) → Device → List Slot → Type 0
 HaveRoom held d slots = All (λ s. HasRoom d (held s)) slots
 
+-- what each of them keeps, if anything
 abbrev pub kept_by_slots : {Slot : Type 0} (held : Slot → SlotView) → List Slot → List (Option Device)
 kept_by_slots held slots = map (λ s. (held s).kept) slots
 

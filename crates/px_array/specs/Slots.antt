@@ -38,3 +38,17 @@ none_open = record { device = closed; slots = no_slots; work = 0 }
 pub record IsRunOnce (now : ArrayView) : Type 0 where
   pub slots : now.slots ≡ no_slots
   pub work : now.work ≡ now.device.clocks
+
+-- the size of the grids that a slot has room for, and what it keeps, if anything
+pub record SlotView : Type 0 where
+  pub nx : ℕ
+  pub ny : ℕ
+  pub kept : Option Device
+
+-- a slot that keeps nothing
+abbrev pub empty_slot : (nx ny : ℕ) → SlotView
+empty_slot nx ny = record { nx = nx; ny = ny; kept = None }
+
+-- a slot has room for a device
+abbrev pub HasRoom : Device → SlotView → Type 0
+HasRoom d s = (s.nx ≡ d.state.tree.nx) × (s.ny ≡ d.state.tree.ny)

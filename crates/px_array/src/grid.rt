@@ -6,7 +6,7 @@ ghost use Rattle.px_tree.specs.Nodes.{IsGrid, leaf_bit, node_at};
 ghost use Rattle.px_array.specs.Arrays.{Device, HasPixel, IsOpen, levels_of, opened, pixel_of};
 ghost use Rattle.px_array.specs.Arrays.{registers_of};
 ghost use Rattle.px_array.specs.Clocks.{after_tree_op, clocked};
-ghost use Rattle.px_array.specs.OpenArrays.{HasRoom, SlotView, empty_slot};
+ghost use Rattle.px_array.specs.Slots.{HasRoom, SlotView, empty_slot};
 ghost use Rattle.px_array.specs.Words.{IsMemoryWord};
 
 use crate::micro::{Micro, Registers, TreeOp};

@@ -78,19 +78,6 @@ clocked_more bits ops i d start before now can within before_is is =
     ∙ (ap (λ ms. all_clocked ms before) list
     ∙ (ap (all_clocked (micros op nx start.state.tree.ny)) before_is ∙ sym (made_more ops i d start within)))
 
--- before the first operation
-pub nearly_none : (bits : ℕ) (d : Device) → HasGrid bits d.state.tree.nx d.state.tree.ny d.state → IsNearly bits [] d d
-nearly_none bits d grid = record {
-  known = record {
-    agree = record { first = grid; second = grid; pixels = λ x y column row. refl };
-    tree = λ e. refl;
-    carry = λ e place inside. refl;
-    latch = λ e place inside. refl;
-  };
-  clocks = omega arith;
-  few = omega arith;
-}
-
 -- one operation more at once
 pub nearly_more : StayKnown → (bits : ℕ) (ops : List Macro) (i : ℕ) (d : Macro) (start before now : Device) → CanMake bits ops start
     → i < length ops → IsNearly bits (take i ops) start before → IsOperated bits (get_or ops i d) before now
@@ -208,31 +195,6 @@ enough ops n first tree carry latch n_is is_tree is_carry is_latch before_tree b
     (known_again (λ (k : Known). k.latch) (λ a b. refl) (λ op k. refl) refl ops n first latch n_is low is_latch before_latch)
 
 -- ---- both halves
-
-pub can_front : (bits : ℕ) (ops : List Macro) (n : ℕ) (d : Device) → CanMake bits ops d → n ≤ length ops
-    → CanMake bits (take n ops) d
-can_front bits ops n d can low =
-    let size = length-take n ops in
-    record {
-      grid = can.grid;
-      pixels = can.pixels;
-      lawful = λ i x below. rw (get_or-take n ops i x (omega (arith, size))) (can.lawful i x (omega (arith, size)));
-      places = λ i x below. rw (get_or-take n ops i x (omega (arith, size))) (can.places i x (omega (arith, size)));
-      counted = omega (arith, can.counted, size);
-    }
-
-pub can_rest : (bits : ℕ) (ops : List Macro) (n : ℕ) (start now : Device) → CanMake bits ops start → n ≤ length ops
-    → IsNearly bits (take n ops) start now → CanMake bits (drop n ops) now
-can_rest bits ops n start now can low near =
-    let first = near.known.agree.first in
-    let size = length-drop n ops in
-    record {
-      grid = rw (first.columns, first.rows) can.grid;
-      pixels = own_grid bits start.state.tree.nx start.state.tree.ny now first;
-      lawful = λ i x below. rw (get_or-drop n ops i x) (can.lawful (n + i) x (omega (arith, size)));
-      places = λ i x below. rw (get_or-drop n ops i x) (can.places (n + i) x (omega (arith, size)));
-      counted = omega (arith, can.counted, near.few, size, length-take n ops);
-    }
 
 -- what is made at once, and then clock by clock, is what the clocks make
 pub all_is_made : BecomeTheSameAgain → (bits : ℕ) (ops : List Macro) (n : ℕ) (start near now : Device) → CanMake bits ops start

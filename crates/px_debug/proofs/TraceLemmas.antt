@@ -23,9 +23,6 @@ keep_keep k xs ys =
     omega (arith, length-append xs ys, length-append zs ys, length-drop d xs) in
     sym (rw n (ap (λ q. drop (length front + j) q) whole ∙ drop-append-add front (zs ++ ys) j))
 
-pub keep_all : {X : Type 0} (k : ℕ) (xs : List X) → length xs ≤ k → keep_last k xs ≡ xs
-keep_all k xs h = let e : length xs - k ≡ 0 = omega arith in rw e refl
-
 pub one_more : (p : List Micro) (a m : ℕ) (x : Micro) → slice_get p (a + m) ≡ Some x → take (m + 1) (drop a p)
     ≡ take m (drop a p) ++ x ∷ []
 one_more p a m x e =

@@ -7,7 +7,3 @@ pub on_err_consumed : {T E : Type 0} (r : Result T E) (a b : Option (List ℕ)) 
     → Consumes a b bs → length bs ≤ limit → OnErr r (ConsumesAtMost a b limit)
 on_err_consumed (Ok x) a b bs limit p q = tt
 on_err_consumed (Err e) a b bs limit p q = (bs, p, q)
-
-pub at_most_more : {T E : Type 0} (r : Result T E) (a b : Option (List ℕ)) (m n : ℕ) → m ≤ n
-    → ConsumesAtMost a b m → OnErr r (ConsumesAtMost a b n)
-at_most_more r a b m n le (bs, p, q) = on_err_consumed r a b bs n p (omega arith)

@@ -33,9 +33,6 @@ listens_more n a b c w xs ys listens none noted =
       silent = silent_more n w [] listens.asks one listens.silent refl (rw listens.given none);
     }
 
-pub heard_none : (b : Begun) (w : Option (List ℕ)) → Heard b b.asks b.rest w []
-heard_none b w = record { taken = consumes_none b.rest; listens = listens_none b.limit b.asks w }
-
 pub heard_more : (b : Begun) (asks more : Option (List Ask)) (rest left w : Option (List ℕ)) (xs ys : List ℕ)
     → Waits b asks rest w xs → Notes asks more w ys → Consumes rest left ys → Heard b more left w (xs ++ ys)
 heard_more b asks more rest left w xs ys waits noted took = record {

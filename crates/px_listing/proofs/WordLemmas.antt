@@ -32,13 +32,6 @@ numeric_more words i w lt =
     list_all_more (λ v. is_some (number_of v)) (now_of words) i [] (omega (arith, length-map words (λ v. v.now)))
     ∙ ap (λ v. are_numbers (take i (now_of words)) && is_some (number_of v)) (get_or-map (λ v. v.now) words i w [] lt)
 
--- a word that is no number
-pub numeric_not : (words : List (Bor (List ℕ))) (i : ℕ) (w : Bor (List ℕ)) → i < length words
-    → number_of (get_or words i w).now ≡ None → are_numbers (now_of words) ≡ false
-numeric_not words i w lt none =
-    list_all_at (λ v. is_some (number_of v)) (now_of words) i [] (omega (arith, length-map words (λ v. v.now)))
-    (ap (λ v. is_some (number_of v)) (get_or-map (λ v. v.now) words i w [] lt) ∙ ap is_some none)
-
 -- the number of one more word
 pub one_more : (words : List (Bor (List ℕ))) (i : ℕ) (w : Bor (List ℕ)) → i < length words
     → take (i + 1) (numbers_of (now_of words)) ≡ take i (numbers_of (now_of words))

@@ -43,16 +43,6 @@ idle (m.Toggle at) part x y p off = idle_put at _ p off
 idle (m.Copy f g) part x y p off = idle_field g _ p off
 idle (m.KeepLess f g) part x y p off = idle_keep _ p off
 
-pub idle_word : (op : Macro) (ny w n : ℕ) (planes : Planes) → IsPartial op → HasWords n planes → get_or planes.enable w 0 ≡ 0
-    → IsWordDone op ny w n planes planes
-idle_word op ny w n planes part words none = record {
-  each = λ p within here.
-      let off : row_bit planes.enable p ≡ false = rw (here, none) (bit_of_zero (p % 64)) in
-      sym (idle op part (p / 2 ^ ny) (p % 2 ^ ny) (bits_of (pixel_in planes p)) off);
-  others = λ p within other. refl;
-  like = record { words = words; memory = refl; carry = refl; latch = refl; full = refl };
-}
-
 same_pixel : (p q : PixelState) → bits_of p ≡ bits_of q → p.carry ≡ q.carry → p.latch ≡ q.latch → p ≡ q
 same_pixel p q bits carry latch =
     ap (λ (b : PixelBits). record { memory = b.memory; enable = b.enable; carry = p.carry; latch = p.latch }) bits

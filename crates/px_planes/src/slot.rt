@@ -21,7 +21,7 @@ pub struct Slot<const N: usize> {
 impl<const N: usize> Model for Slot<N> {
     ghost use Rattle.std.specs.Prelude.{◌≡◌, ◌≤◌, ◌+◌, ◌*◌, ◌^◌, true, None, Some, if◌then◌else◌};
     ghost use Rattle.px_rows.specs.Rows.{words_for};
-    ghost use Rattle.px_array.specs.OpenArrays.{SlotView};
+    ghost use Rattle.px_array.specs.Slots.{SlotView};
     ghost use Rattle.px_planes.specs.Shelves.{IsFilled, device_on};
     ghost use Rattle.px_tree.specs.Nodes.{IsGrid};
 

@@ -26,16 +26,6 @@ pub word_read : (at k : ℕ) (row words : List ℕ) → IsBlock at row words →
     ≡ get_or row k 0
 word_read at k row words b low high = b.each (k - at) (omega arith) ∙ ap (λ n. get_or row n 0) (omega arith)
 
--- a loop that writes a block a turn
-pub blocks_more : (P Q : ℕ → ℕ → Type 0) (block : ℕ) (old new : List ℕ) → IsWritten P (8 * block) old new
-    → ((k : ℕ) → k < 8 * block → Q k (get_or old k 0))
-    → ((k : ℕ) → 8 * block ≤ k → k < 8 * block + 8 → P k (get_or new k 0) → Q k (get_or new k 0))
-    → (k : ℕ) → k < 8 * (block + 1) → Q k (get_or new k 0)
-blocks_more P Q block old new w done now k low = elim (cases_lt k (8 * block)) [
-  | inl before ↦ rw (w.before k before) (done k before)
-  | inr past ↦ let high : k < 8 * block + 8 = omega arith in now k past high (w.inside k past high)
-]
-
 pub blocks_rest : (P : ℕ → ℕ → Type 0) (block : ℕ) (start old new : List ℕ) → IsWritten P (8 * block) old new
     → ((k : ℕ) → 8 * block ≤ k → get_or old k 0 ≡ get_or start k 0)
     → (k : ℕ) → 8 * (block + 1) ≤ k → get_or new k 0 ≡ get_or start k 0

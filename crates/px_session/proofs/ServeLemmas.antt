@@ -226,27 +226,3 @@ served_end result bits read more a b c stopped causes on prompts kept (inr (same
   causes = (subst (λ n. Rose n c.at.out.faults) causes.1 rose, on.faults ∙ causes.0);
   prompts = prompts_still bits read more a b c on prompts;
 })
-
--- without finishing
-pub served_as : (ending : Ending) (bits : ℕ) (read : List ℕ) (more : ℕ) (a b : Moment)
-    → ending ≢ e.Quit → ending ≢ e.End → Stopped ending bits read more a b → HasCauses ending a b
-    → Prompts bits read more a b
-    → Serves ending bits read more a b
-served_as ending bits read more a b not_quit not_end stopped causes prompts = record {
-  bytes = stopped.bytes;
-  few = stopped.few;
-  taken = stopped.taken;
-  ended = stopped.ended;
-  served = by_ending ending not_quit not_end stopped.served;
-  causes = causes;
-  prompts = prompts;
-}
-  where
-    by_ending : (ending : Ending) → ending ≢ e.Quit → ending ≢ e.End
-        → HasServed ending false bits a.at b.at (lines_in (read ++ seen more stopped.bytes))
-        → HasServed ending true bits a.at b.at (lines_in (read ++ seen more stopped.bytes))
-    by_ending e.Quit not_quit not_end served = absurd (not_quit refl)
-    by_ending e.End not_quit not_end served = absurd (not_end refl)
-    by_ending e.Long not_quit not_end served = served
-    by_ending e.ReadFault not_quit not_end served = served
-    by_ending e.WriteFault not_quit not_end served = broke_ending bits a.at b.at _ served

@@ -109,16 +109,6 @@ pub rest_of : (xs ys : List Macro) (d now : Device) → now ≡ carried_out xs d
     ≡ carried_out (xs ++ ys) d
 rest_of xs ys d now is = ap (carried_out ys) is ∙ sym (carried_both xs ys d)
 
--- an array that can carry operations out can make them
-pub can_make : (bits : ℕ) (ms : List Macro) (d : Device) → CanCarryOut bits ms d → CanMake bits ms d
-can_make bits ms d can = record {
-  grid = can.sized.grid;
-  pixels = can.sized.pixels;
-  lawful = can.lawful;
-  places = can.places;
-  counted = can.counted;
-}
-
 -- an array with what is told of it
 module _ {A : Type 0} (bits : ℕ) (device : A → Device) (slots : A → List (Option Device)) (work : A → ℕ) where
   pub all_left : (whole : List Macro) (start : A) → CanCarryOut bits whole (device start)

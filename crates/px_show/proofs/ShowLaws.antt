@@ -80,19 +80,3 @@ fewer count most (shown.join op left right) le below =
 
 not_past : (limit : LimitKind) (most found : ℕ) → count_past limit most found ≡ None → found ≤ most
 not_past limit most found e = grind (arith, nat_tests)
-
--- what is shown is within all limits
-pub shown_within : (version : Version) (names ws : Words) → length names ≤ 256 → show_fault version names ws ≡ None
-    → IsSomeAnd (show_tree version names ws) IsLawfulTree
-shown_within version names ws few e =
-    let good = good_cause names (expression_of (tokens_of version ws))
-    (good_form _ (limit_in (expression_of (tokens_of version ws))) e)
-    in let past : counts_past (leaves good.tree) (nesting good.tree) ≡ None =
-    sym (ap limit_in good.is) ∙ within_limits (cause_in names (expression_of (tokens_of version ws))) _ e
-    in rw (ap (option_map (over_places names)) good.is) (record {
-      leaves = rw (same_leaves names good.tree) (not_past kind.Leaves 512 (leaves good.tree)
-          (none_first _ (count_past kind.Nesting 64 (nesting good.tree)) past));
-      depth = rw (same_nesting names good.tree) (not_past kind.Nesting 64 (nesting good.tree)
-          (none_second (count_past kind.Leaves 512 (leaves good.tree)) _ past));
-      solids = fewer (length names) 256 (over_places names good.tree) few (known_below names good.tree good.known);
-    })

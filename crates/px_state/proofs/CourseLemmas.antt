@@ -45,17 +45,6 @@ begins l k m here = start_more l.macros l.nx l.ny k m here
 pub begins_all : (l : ListingView) (k : ℕ) → length l.macros ≤ k → start_of l k ≡ total l
 begins_all l k past = ap (λ ms. length (all_micros ms l.nx l.ny)) (take_all k l.macros past)
 
--- an operation ends by the end of all
-pub ends_within : (l : ListingView) (k : ℕ) (m : Macro) → slice_get l.macros k ≡ Some m
-    → start_of l k + cycles m l.nx l.ny ≤ total l
-ends_within l k m here =
-    let f : Macro → List Micro = λ m. micros m l.nx l.ny in
-    let parts = sym (ap (flat_map f) (take-append-drop (k + 1) l.macros))
-    ∙ flat_map-append f (take (k + 1) l.macros) (drop (k + 1) l.macros) in
-    let count = ap length parts ∙ length-append (all_micros (take (k + 1) l.macros) l.nx l.ny)
-    (all_micros (drop (k + 1) l.macros) l.nx l.ny) in
-    omega (arith, begins l k m here, count)
-
 -- the broadcasts up to a cycle of an operation
 pub front_with : (l : ListingView) (k i : ℕ) (m : Macro) → slice_get l.macros k ≡ Some m → i ≤ cycles m l.nx l.ny →
     take (start_of l k + i) (broadcasts l) ≡ take (start_of l k) (broadcasts l) ++ take i (micros m l.nx l.ny)
@@ -99,11 +88,6 @@ device_with bits l k i m here within =
       state = after_clocks (take (start_of l k + i) (broadcasts l)) zeros;
       clocks = start_of l k + n;
     }) count)
-
--- the clocks of some operations are few
-pub few_before : (l : ListingView) (k : ℕ) (m : Macro) (clocks : ℕ) → slice_get l.macros k ≡ Some m → cycles m l.nx l.ny ≤ 82
-    → clocks ≤ 82 * k → clocks + cycles m l.nx l.ny ≤ 82 * (k + 1)
-few_before l k m clocks here few before = omega (arith, few, before)
 
 -- the operation at a place
 pub here_in : (ms : List Macro) (i : ℕ) → i < length ms → slice_get ms i ≡ Some (get_or ms i op.All)

@@ -13,10 +13,6 @@ use Rattle.px_control.proofs.PlaceLemmas.{at_end, micro_is, operation_is}
 use Rattle.px_listing.specs.PassesText.{passes_listing}
 use Rattle.px_state.specs.Courses.{HasCycle, IsNext, broadcasts, device_after, total}
 
-pub same_program : (scene : SceneView) → program scene ≡ broadcasts (passes_listing scene)
-unfolding program
-same_program scene = refl
-
 pub same_total : (scene : SceneView) → program.total scene ≡ total (passes_listing scene)
 unfolding program
 same_total scene = refl

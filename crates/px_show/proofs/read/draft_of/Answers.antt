@@ -18,8 +18,8 @@ returns-in-Err-Bad-clause-err g c =
     words_here c.args.lines.now c.loop-i.i _ c.loop-i-test.true ∙ sym c.in_ok-line.ensures.words in
     let first = first_is (g.D.Drafting.judge c.args.draft) lines c.loop-i.i words c.in-Err-Bad.fault
     c.loop-i.invariant.judged (words_among _ _ c.loop-i-test.true) here (
-      ap (λ judge. judge before words) (sym c.loop-i.invariant.judges)
-      ∙ c.in-Err-Bad.ensures.bad before c.loop-i.invariant.says c.in-Err-Bad.fault (ap Err c.in-Err-Bad.field-0-is)
+    ap (λ judge. judge before words) (sym c.loop-i.invariant.judges)
+    ∙ c.in-Err-Bad.ensures.bad before c.loop-i.invariant.says c.in-Err-Bad.fault (ap Err c.in-Err-Bad.field-0-is)
     ) in
     let found = c.fault_at.ensures
     ∙ (ap (fault_at c.in_ok-line.line.number) c.in-Err-Bad.fault-is
