@@ -6,6 +6,8 @@ mod faults;
 #[cfg(test)]
 mod lights;
 #[cfg(test)]
+mod runs;
+#[cfg(test)]
 mod sessions;
 #[cfg(test)]
 mod states;

@@ -1,52 +1,39 @@
 //! A scene that fills pixels of 72 bits: with one light it is drawn on pixels of 80 alone.
 ghost use Rattle.std.specs.Prelude.{◌≤◌};
 
+use crate::runs::{Left, calm_input, calm_sink, run_words};
 use itoa::Buffer;
 use px_asm::Operating;
-use px_draw::{Status, run};
-use px_io::{CalmSource, MemSink};
+use px_draw::Status;
 use px_planes::PlaneArray;
 use std::alloc::Global;
 use std::test::Fail;
 
 #[test]
 fn a_light_takes_a_bit_more(rt: HostRuntime) -> Result<(), Fail> {
-    let alloc = rt.alloc();
-    let mut out = MemSink::new(alloc, 99, 99, Vec::new(alloc))?;
-    let mut notes = MemSink::new(alloc, 99, 99, Vec::new(alloc))?;
-    let mut narrow = PlaneArray::<72>::new(alloc);
-    let status = shadow(alloc, &mut narrow, &mut out, &mut notes)?;
-    assert_eq!(rt; status, Status::Limit);
-    assert_eq!(rt;
-        notes.written(),
-        b"limit line 0: pixel-memory 73\n".as_slice()
-    );
-    assert_eq!(rt; out.written(), b"".as_slice());
-    let mut wide = PlaneArray::<80>::new(alloc);
-    assert_eq!(rt;
-        shadow(alloc, &mut wide, &mut out, &mut notes)?,
-        Status::Done
-    );
-    assert_eq!(rt; out.written(), b"P6\n1 1\n255\n\0\0\0".as_slice());
+    let mut narrow = PlaneArray::<72>::new(rt.alloc());
+    let left = shadow(rt.alloc(), &mut narrow)?;
+    assert_eq!(rt; left.status, Status::Limit);
+    let told = b"limit line 0: pixel-memory 73\n".as_slice();
+    assert_eq!(rt; left.notes.written(), told);
+    assert!(rt; left.out.written().is_empty());
+    let mut wide = PlaneArray::<80>::new(rt.alloc());
+    let left = shadow(rt.alloc(), &mut wide)?;
+    assert_eq!(rt; left.status, Status::Done);
+    assert_eq!(rt; left.out.written(), b"P6\n1 1\n255\n\0\0\0".as_slice());
     Ok(())
 }
 
 /// A run of `shadow` over the scene and a light that its shown solid keeps off.
-fn shadow<A: Operating>(
-    alloc: Global,
-    array: &mut A,
-    out: &mut MemSink,
-    notes: &mut MemSink,
-) -> Result<Status, Fail>
+fn shadow<A: Operating>(alloc: Global, array: &mut A) -> Result<Left, Fail>
     requires some_bits { 1 ≤ A.BITS }
     requires bits { A.BITS ≤ 256 }
 {
-    let mut words = Vec::new(alloc);
-    words.push(String::from_str(alloc, "shadow")?)?;
     let mut text = scene_of_most_bits(alloc)?;
     text.extend_from_slice(b"light z\n")?;
-    let mut input = CalmSource::new(text);
-    Ok(run(alloc, words.as_slice(), &mut input, out, notes, array))
+    let input = calm_input(alloc, text.as_slice())?;
+    let (out, notes) = (calm_sink(alloc, 99)?, calm_sink(alloc, 99)?);
+    run_words(alloc, &["shadow"], input, out, notes, array)
 }
 
 /// Depths of 24 bits and 2047 faces: 31 solids of 32 fronts and 32 backs, and one of 31 fronts.

@@ -1,9 +1,9 @@
 //! Runs of `debug` over sources and sinks in memory, whose calls fail at a place.
-
 ghost use Rattle.std.specs.Prelude.{◌<◌};
 
-use px_array::{Array, PixelArray};
-use px_draw::{Status, run};
+use crate::runs::{Left, calm_sink, run_words};
+use px_array::PixelArray;
+use px_draw::Status;
 use px_io::{MemSink, MemSource};
 use std::alloc::Global;
 use std::process::Abort;
@@ -28,16 +28,6 @@ at 50 of 317 macro 5 micro 40\nat 57\nat 50\n\
 pixel 0 0 m 001111000000000000000000000000000000000000000000000000000000000000000000 \
 e 1 k 0 l 0 t 1\n";
 
-/// What a run left.
-#[derive(Drop)]
-struct Left {
-    status: Status,
-    output: usize,
-    finished: bool,
-    clocks: u64,
-    work: u64,
-}
-
 /// Runs `debug` on one solid and these lines, read in pieces, with a read and a write that fail; the
 /// output is a front of the answers.
 fn sit(
@@ -50,36 +40,23 @@ fn sit(
 ) -> Result<Left, Fail>
     requires { 0 < piece }
 {
+    let input = input_of(alloc, lines, piece, failing.0)?;
+    let out = MemSink::new(alloc, 1000, 1000, Vec::from_slice(alloc, &[failing.1])?)?;
+    let notes = calm_sink(alloc, 100)?;
+    let mut array = PixelArray::<72>::new(alloc);
+    let left = run_words(alloc, &["debug"], input, out, notes, &mut array)?;
+    assert!(rt; answers.starts_with(left.out.written()));
+    Ok(left)
+}
+
+/// One solid and lines behind it, in pieces, of which one call fails; none does where it is 0.
+fn input_of(alloc: Global, lines: &[u8], piece: usize, failing: u64) -> Result<MemSource, Fail>
+    requires { 0 < piece }
+{
     let mut text = ONE_SOLID.to_vec(alloc)?;
     text.extend_from_slice(lines)?;
-    let mut input = MemSource::new(text, piece, Vec::from_slice(alloc, &[failing.0])?);
-    let mut out = MemSink::new(alloc, 1000, 1000, Vec::from_slice(alloc, &[failing.1])?)
-        .ok()
-        .ok_or("out")?;
-    let mut notes = MemSink::new(alloc, 100, 100, Vec::new(alloc))
-        .ok()
-        .ok_or("notes")?;
-    let mut words: Vec<String> = Vec::new(alloc);
-    words.push(String::from_str(alloc, "debug")?)?;
-    let mut array = PixelArray::<72>::new(alloc);
-    let status = run(
-        alloc,
-        words.as_slice(),
-        &mut input,
-        &mut out,
-        &mut notes,
-        &mut array,
-    );
-    let output = out.written();
-    assert!(rt; output.len() <= answers.len());
-    assert_eq!(rt; output, &answers[..output.len().min(answers.len())]);
-    Ok(Left {
-        status,
-        output: output.len(),
-        finished: out.finished(),
-        clocks: array.clocks(),
-        work: array.work(),
-    })
+    let calls = Vec::from_slice(alloc, &[failing])?;
+    Ok(MemSource::new(text, piece, calls))
 }
 
 /// However the input is cut, the answers are the same; a line behind `quit` is not answered.
@@ -88,12 +65,12 @@ fn pieces_do_not_matter(rt: HostRuntime) -> Result<(), Fail> {
     for piece in [1, 7, 4096] {
         let many = sit(&rt, rt.alloc(), MANY_LINES, MANY_ANSWERS, piece, (0, 0))?;
         assert_eq!(rt; many.status, Status::Done, "piece {piece}");
-        assert_eq!(rt; many.output, MANY_ANSWERS.len());
-        assert!(rt; many.finished);
+        assert_eq!(rt; many.out.written().len(), MANY_ANSWERS.len());
+        assert!(rt; many.out.finished());
         assert_eq!(rt; many.clocks, 317);
         let back = sit(&rt, rt.alloc(), BACK_LINES, BACK_ANSWERS, piece, (0, 0))?;
         assert_eq!(rt; back.status, Status::Done, "piece {piece}");
-        assert_eq!(rt; back.output, BACK_ANSWERS.len());
+        assert_eq!(rt; back.out.written().len(), BACK_ANSWERS.len());
         assert_eq!(rt; back.clocks, 50);
     }
     Ok(())
@@ -105,8 +82,8 @@ fn lines_are_answered_before_the_next_read(rt: HostRuntime) -> Result<(), Fail> 
     let answers = b"at 3\nat 3 of 317 macro 1 micro 2\n";
     let left = sit(&rt, rt.alloc(), b"step 3\nat\n", answers, 1000, (2, 0))?;
     assert_eq!(rt; left.status, Status::ReadFault);
-    assert_eq!(rt; left.output, answers.len());
-    assert!(rt; !left.finished);
+    assert_eq!(rt; left.out.written().len(), answers.len());
+    assert!(rt; !left.out.finished());
     assert_eq!(rt; left.clocks, 3);
     Ok(())
 }
@@ -128,8 +105,8 @@ fn a_failing_write_breaks_off(rt: HostRuntime) -> Result<(), Fail> {
     for (call, output, clocks) in left_by_call {
         let left = sit(&rt, rt.alloc(), MANY_LINES, MANY_ANSWERS, 9, (0, call))?;
         assert_eq!(rt; left.status, Status::WriteFault, "call {call}");
-        assert_eq!(rt; left.output, output, "call {call}");
-        assert!(rt; !left.finished);
+        assert_eq!(rt; left.out.written().len(), output, "call {call}");
+        assert!(rt; !left.out.finished());
         assert_eq!(rt; left.clocks, clocks, "call {call}");
     }
     Ok(())
@@ -140,7 +117,10 @@ fn a_failing_write_breaks_off(rt: HostRuntime) -> Result<(), Fail> {
 fn the_work_of_going_back(rt: HostRuntime) -> Result<(), Fail> {
     let answers = b"at 317\nat 310\n";
     let left = sit(&rt, rt.alloc(), b"run\nback 7\n", answers, 100, (0, 0))?;
-    assert_eq!(rt; (left.status, left.output), (Status::Done, answers.len()));
+    assert_eq!(rt;
+        (left.status, left.out.written().len()),
+        (Status::Done, answers.len())
+    );
     assert_eq!(rt; left.clocks, 310);
     assert!(rt; left.work <= 428);
     Ok(())
@@ -159,8 +139,8 @@ fn past_the_limit_of_a_text(rt: HostRuntime) -> Result<(), Fail> {
         lines.extend_from_slice(padding.as_slice())?;
         let left = sit(&rt, alloc, lines.as_slice(), b"at 3\n", 4096, (0, 0))?;
         assert_eq!(rt; left.status, status);
-        assert_eq!(rt; (left.output, left.clocks), (5, 3));
-        assert_eq!(rt; left.finished, status == Status::Done);
+        assert_eq!(rt; (left.out.written().len(), left.clocks), (5, 3));
+        assert_eq!(rt; left.out.finished(), status == Status::Done);
     }
     Ok(())
 }

@@ -1,9 +1,9 @@
 //! A picture wider than the array: what is clocked tile by tile.
+use crate::runs::{calm_input, calm_sink, run_words};
 use arrayvec::ArrayVec;
 use px_array::{Array, Micro, PixelArray, Registers};
 use px_asm::Operating;
-use px_draw::{Status, run};
-use px_io::{CalmSink, CalmSource};
+use px_draw::Status;
 use px_macro::Macro;
 use px_num::Memory;
 use std::alloc::Global;
@@ -136,18 +136,7 @@ fn each_tile_is_opened_and_clocked(rt: HostRuntime) -> Result<(), Fail> {
 
 /// A run of `tile 5 1` over the slopes.
 fn tile(alloc: Global, array: &mut Watched) -> Result<Status, Fail> {
-    let mut words = Vec::new(alloc);
-    for word in ["tile", "5", "1"] {
-        words.push(String::from_str(alloc, word)?)?;
-    }
-    let mut input = CalmSource::new(Vec::from_slice(alloc, SLOPES)?);
-    let (mut out, mut notes) = (CalmSink::new(), CalmSink::new());
-    Ok(run(
-        alloc,
-        words.as_slice(),
-        &mut input,
-        &mut out,
-        &mut notes,
-        array,
-    ))
+    let input = calm_input(alloc, SLOPES)?;
+    let (out, notes) = (calm_sink(alloc, 99)?, calm_sink(alloc, 99)?);
+    Ok(run_words(alloc, &["tile", "5", "1"], input, out, notes, array)?.status)
 }
