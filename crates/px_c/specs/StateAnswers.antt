@@ -3,8 +3,7 @@ use Rattle.std.specs.Prelude.{◌≡◌, ℕ, ◌+◌, ◌^◌, ◌<◌, ◌≤�
 use Rattle.px_array.specs.declared.micro.Micro.{Micro}
 use Rattle.px_listing.specs.Listings.{ListingView}
 use Rattle.px_listing.specs.Reading.{ListFault}
-use Rattle.px_show.specs.declared.fault.TextFault.TheVariants as list
-use Rattle.px_show.specs.declared.fault.TextFault.TheVariants as scene
+use Rattle.px_show.specs.declared.fault.TextFault.TheVariants as text_fault
 use Rattle.px_state.specs.Courses.{IsNext, total}
 use Rattle.px_state.specs.Packing.{packed}
 use Rattle.px_state.specs.Refusals.{course_of, micros_refusal, state_refusal}
@@ -20,9 +19,9 @@ use Rattle.px_c.specs.declared.status.TheConstants.{BITS, LIMIT, MALFORMED, NO_C
 
 -- the refusal of a listing: its first bad line, and why, or what it found past a limit
 abbrev pub list_refused : ListFault → Answer
-list_refused (list.Malformed line cause) = record { status = MALFORMED; found = record nothing { line = line; cause = cause_number cause } }
-list_refused (list.Limit line limit found) = record { status = LIMIT; found = record nothing { line = line; kind = list_number limit; number = found } }
-list_refused list.Memory = refused scene.Memory
+list_refused (text_fault.Malformed line cause) = record { status = MALFORMED; found = record nothing { line = line; cause = cause_number cause } }
+list_refused (text_fault.Limit line limit found) = record { status = LIMIT; found = record nothing { line = line; kind = list_number limit; number = found } }
+list_refused text_fault.Memory = refused text_fault.Memory
 
 -- why there is no state, or there are no micros: the text, its clocks, or too little room
 abbrev pub state_refused : StateFault → Answer
@@ -31,7 +30,7 @@ state_refused (f.Job fault) = refused (scene_fault fault)
 state_refused (f.Listing fault) = list_refused fault
 state_refused (f.NoClock clocks) = record { status = NO_CLOCK; found = record nothing { clocks = clocks } }
 state_refused (f.NoRoom room) = record { status = NO_ROOM; found = record nothing { room = room } }
-state_refused f.Memory = refused scene.Memory
+state_refused f.Memory = refused text_fault.Memory
 
 -- what a text broadcasts is found, where nothing is refused
 abbrev pub unless_faulty : Option StateFault → ListingView → Answer

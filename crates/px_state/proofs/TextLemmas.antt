@@ -8,12 +8,11 @@ use Rattle.px_text.specs.Text.{worded}
 use Rattle.px_scene.specs.Reading.{scene_of}
 use Rattle.px_scene.specs.Reading as reading
 use Rattle.px_show.specs.Judged.{SceneFault}
-use Rattle.px_show.specs.declared.fault.TextFault.TheVariants as scene
+use Rattle.px_show.specs.declared.fault.TextFault.TheVariants as text_fault
 use Rattle.px_listing.specs.PassesText.{passes_listing}
 use Rattle.px_listing.specs.Reading.{listing_of}
 use Rattle.px_listing.specs.Reading as listing
 use Rattle.px_listing.specs.Reading.{ListFault}
-use Rattle.px_show.specs.declared.fault.TextFault.TheVariants as list
 use Rattle.px_state.specs.Refusals.{HasSmallCount, IsRefusedBy, course_of, is_listing, job_refusal, list_fault, scene_fault, text_refusal, too_long}
 use Rattle.px_state.specs.Keeping.{KeepsArray}
 use Rattle.px_state.specs.declared.fault.StateFault.{StateFault}
@@ -41,33 +40,33 @@ pub scene_course : (text : List ℕ) → is_listing text ≡ false → course_of
 unfolding course_of
 scene_course text flagged = rw flagged refl
 
-pub list_refused : (fault : ListFault) (refusal : Option ListFault) → (fault ≡ list.Memory) ⊎ (refusal ≡ Some fault)
+pub list_refused : (fault : ListFault) (refusal : Option ListFault) → (fault ≡ text_fault.Memory) ⊎ (refusal ≡ Some fault)
     → IsRefusedBy (list_fault fault) (option_map list_fault refusal)
 list_refused fault refusal (inl memory) = inl (ap list_fault memory)
 list_refused fault refusal (inr is) = inr (ap (option_map list_fault) is)
 
 pub scene_refused : (fault : SceneFault) (refusal : Option SceneFault) (job : Option StateFault)
-    → (fault ≡ scene.Memory) ⊎ (refusal ≡ Some fault)
+    → (fault ≡ text_fault.Memory) ⊎ (refusal ≡ Some fault)
     → IsRefusedBy (scene_fault fault) (option_or (option_map scene_fault refusal) job)
 scene_refused fault refusal job (inl memory) = inl (ap scene_fault memory)
 scene_refused fault refusal job (inr is) = inr (rw is refl)
 
 pub list_small : (fault : ListFault) → HasSmallCount (list_fault fault)
-list_small (list.Malformed line cause) = tt
-list_small (list.Limit line kind found) = tt
-list_small list.Memory = tt
+list_small (text_fault.Malformed line cause) = tt
+list_small (text_fault.Limit line kind found) = tt
+list_small text_fault.Memory = tt
 
 pub scene_small : (fault : SceneFault) → HasSmallCount (scene_fault fault)
-scene_small (scene.Malformed line cause) = tt
-scene_small (scene.Limit line kind found) = tt
-scene_small scene.Memory = tt
+scene_small (text_fault.Malformed line cause) = tt
+scene_small (text_fault.Limit line kind found) = tt
+scene_small text_fault.Memory = tt
 
 pub list_keeps : (fault : ListFault) → KeepsArray (list_fault fault)
-list_keeps (list.Malformed line cause) bits l array = refl
-list_keeps (list.Limit line kind found) bits l array = refl
-list_keeps list.Memory bits l array = inl refl
+list_keeps (text_fault.Malformed line cause) bits l array = refl
+list_keeps (text_fault.Limit line kind found) bits l array = refl
+list_keeps text_fault.Memory bits l array = inl refl
 
 pub scene_keeps : (fault : SceneFault) → KeepsArray (scene_fault fault)
-scene_keeps (scene.Malformed line cause) bits l array = refl
-scene_keeps (scene.Limit line kind found) bits l array = refl
-scene_keeps scene.Memory bits l array = inl refl
+scene_keeps (text_fault.Malformed line cause) bits l array = refl
+scene_keeps (text_fault.Limit line kind found) bits l array = refl
+scene_keeps text_fault.Memory bits l array = inl refl

@@ -8,7 +8,7 @@ use Rattle.px_text.specs.Text.{Words, words_of, worded}
 use Rattle.px_model.specs.Scenes.{SceneView}
 use Rattle.px_show.specs.declared.fault.LimitKind.TheVariants as kind
 use Rattle.px_show.specs.Judged.{SceneFault}
-use Rattle.px_show.specs.declared.fault.TextFault.TheVariants as scene
+use Rattle.px_show.specs.declared.fault.TextFault.TheVariants as text_fault
 use Rattle.px_scene.specs.Reading.{scene_of}
 use Rattle.px_scene.specs.Reading as reading
 use Rattle.px_prune.specs.Kept.{crowd_of}
@@ -20,7 +20,6 @@ use Rattle.px_listing.specs.PassesText.{passes_listing}
 use Rattle.px_listing.specs.Reading.{listing_of}
 use Rattle.px_listing.specs.Reading as listing
 use Rattle.px_listing.specs.Reading.{ListFault}
-use Rattle.px_show.specs.declared.fault.TextFault.TheVariants as list
 use Rattle.px_state.specs.Courses.{total}
 use Rattle.px_state.specs.Words.{room_of}
 use Rattle.px_state.specs.declared.fault.StateFault.{StateFault}
@@ -28,9 +27,9 @@ use Rattle.px_state.specs.declared.fault.StateFault.TheVariants as f
 
 -- the faults of the parts; the want of memory is one for all
 abbrev pub scene_fault : SceneFault → StateFault
-scene_fault (scene.Malformed line cause) = f.Scene (scene.Malformed line cause)
-scene_fault (scene.Limit line kind found) = f.Scene (scene.Limit line kind found)
-scene_fault scene.Memory = f.Memory
+scene_fault (text_fault.Malformed line cause) = f.Scene (text_fault.Malformed line cause)
+scene_fault (text_fault.Limit line kind found) = f.Scene (text_fault.Limit line kind found)
+scene_fault text_fault.Memory = f.Memory
 
 abbrev pub job_fault : JobFault → StateFault
 job_fault (job.PixelMemory need) = f.Job (job.PixelMemory need)
@@ -38,9 +37,9 @@ job_fault (job.Products count) = f.Job (job.Products count)
 job_fault job.Memory = f.Memory
 
 abbrev pub list_fault : ListFault → StateFault
-list_fault (list.Malformed line cause) = f.Listing (list.Malformed line cause)
-list_fault (list.Limit line kind found) = f.Listing (list.Limit line kind found)
-list_fault list.Memory = f.Memory
+list_fault (text_fault.Malformed line cause) = f.Listing (text_fault.Malformed line cause)
+list_fault (text_fault.Limit line kind found) = f.Listing (text_fault.Limit line kind found)
+list_fault text_fault.Memory = f.Memory
 
 -- whether the first word of a line is `pxlist`, where it has one
 abbrev pub starts_listing : Words → Option Bool
@@ -54,7 +53,7 @@ is_listing text =
 
 -- more bytes than a text may have
 abbrev pub too_long : StateFault
-too_long = f.Scene (scene.Limit 0 kind.Text (pos (MAX_TEXT_BYTES + 1)))
+too_long = f.Scene (text_fault.Limit 0 kind.Text (pos (MAX_TEXT_BYTES + 1)))
 
 abbrev pub refused_where : Bool → StateFault → Option StateFault
 refused_where true fault = Some fault
