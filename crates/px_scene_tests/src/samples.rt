@@ -1,6 +1,5 @@
-//! The texts of samples.
-
-use px_scene::{read_scene, sample_text};
+//! The texts of samples, of which `sample N` prints numbers alone.
+use px_scene::sample_text;
 use std::test::Fail;
 
 /// The sample of one block, and the expression of that of seven.
@@ -18,16 +17,5 @@ fn samples_of_one_and_of_seven(rt: HostRuntime) -> Result<(), Fail> {
     assert_eq!(rt; one.as_slice(), ONE);
     let seven = sample_text(rt.alloc(), 7)?;
     assert!(rt; seven.as_slice().ends_with(SEVEN));
-    Ok(())
-}
-
-#[test]
-fn samples_are_scenes(rt: HostRuntime) -> Result<(), Fail> {
-    for n in [1, 16, 17, 200] {
-        let text = sample_text(rt.alloc(), n)?;
-        let scene = read_scene(rt.alloc(), text.as_slice())?;
-        assert_eq!(rt; scene.solids().len(), n as usize + 1);
-        assert_eq!(rt; scene.width(), 64);
-    }
     Ok(())
 }
