@@ -1,15 +1,13 @@
-//! Whole runs, and states of the machine as data: what they answer, and what they leave.
+//! Whole runs whose calls fail or are watched, and the texts of errors: what no text alone can show.
 #![tactic(auto)]
 
 #[cfg(test)]
 mod faults;
 #[cfg(test)]
-mod lights;
-#[cfg(test)]
 mod runs;
 #[cfg(test)]
 mod sessions;
 #[cfg(test)]
-mod states;
+mod texts;
 #[cfg(test)]
 mod wide;

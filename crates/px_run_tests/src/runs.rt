@@ -1,11 +1,14 @@
 //! Runs over a source and sinks in memory.
-ghost use Rattle.std.specs.Prelude.{◌≤◌};
+ghost use Rattle.std.specs.Prelude.{◌<◌, ◌≤◌};
 
 use px_asm::Operating;
 use px_draw::{Status, run};
 use px_io::{MemSink, MemSource};
 use std::alloc::Global;
 use std::test::Fail;
+
+pub(crate) const ONE_SOLID: &[u8] = b"pxscene 1\npicture 1 1\ndepth 4\nsolid a 200 100 50\n\
+    front 0 0 5\nback 0 0 9\nshow a\nend\n";
 
 /// What a run left.
 #[derive(Drop)]
@@ -14,22 +17,22 @@ pub(crate) struct Left {
     pub(crate) out: MemSink,
     pub(crate) notes: MemSink,
     pub(crate) clocks: u64,
-    pub(crate) work: u64,
 }
 
-/// Runs the command of some words.
+/// Runs the command of some words, with room for so many bytes of notes.
 pub(crate) fn run_words<A: Operating>(
     alloc: Global,
     words: &[&str],
     mut input: MemSource,
     mut out: MemSink,
-    mut notes: MemSink,
+    notes: usize,
     array: &mut A,
 ) -> Result<Left, Fail>
     requires some_bits { 1 ≤ A.BITS }
     requires bits { A.BITS ≤ 256 }
 {
     let words = owned(alloc, words)?;
+    let mut notes = MemSink::new(alloc, notes, 5, Vec::new(alloc))?;
     let words = words.as_slice();
     let status = run(alloc, words, &mut input, &mut out, &mut notes, array);
     Ok(Left {
@@ -37,7 +40,6 @@ pub(crate) fn run_words<A: Operating>(
         out,
         notes,
         clocks: array.clocks(),
-        work: array.work(),
     })
 }
 
@@ -49,12 +51,21 @@ fn owned(alloc: Global, words: &[&str]) -> Result<Vec<String>, Fail> {
     Ok(owned)
 }
 
-/// A text, read by calls that do not fail.
-pub(crate) fn calm_input(alloc: Global, text: &[u8]) -> Result<MemSource, Fail> {
-    Ok(MemSource::new(text.to_vec(alloc)?, 4096, Vec::new(alloc)))
+/// A text, read in pieces of so many bytes by calls of which one fails; none does where it is 0.
+pub(crate) fn source_of(
+    alloc: Global,
+    text: &[u8],
+    piece: usize,
+    failing: u64,
+) -> Result<MemSource, Fail>
+    requires { 0 < piece }
+{
+    let calls = Vec::from_slice(alloc, &[failing])?;
+    Ok(MemSource::new(text.to_vec(alloc)?, piece, calls))
 }
 
-/// A sink with room for so many bytes, whose calls do not fail.
-pub(crate) fn calm_sink(alloc: Global, room: usize) -> Result<MemSink, Fail> {
-    Ok(MemSink::new(alloc, room, 4096, Vec::new(alloc))?)
+/// A sink with room for all, of which one call fails; none does where it is 0.
+pub(crate) fn sink_of(alloc: Global, failing: u64) -> Result<MemSink, Fail> {
+    let calls = Vec::from_slice(alloc, &[failing])?;
+    Ok(MemSink::new(alloc, 4096, 4096, calls)?)
 }

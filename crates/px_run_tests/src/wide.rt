@@ -1,47 +1,22 @@
 //! A picture wider than the array: what is clocked tile by tile.
-use crate::runs::{calm_input, calm_sink, run_words};
+use crate::runs::{run_words, sink_of, source_of};
 use arrayvec::ArrayVec;
 use px_array::{Array, Micro, PixelArray, Registers};
 use px_asm::Operating;
 use px_draw::Status;
 use px_macro::Macro;
 use px_num::Memory;
-use std::alloc::Global;
 use std::test::Fail;
 
 /// Two slopes that meet at the third column, at depth 4.
 const SLOPES: &[u8] = b"pxscene 1\npicture 2 1\ndepth 6\nsolid a 0 0 0\n\
     front 2 0 0\nfront -2 0 8\nshow a\nend\n";
 
-/// How an array was opened, and the clocks that it then made.
-#[derive(Clone, Copy, Debug, Default, PartialEq, Eq)]
-struct Opening {
-    columns: u32,
-    rows: u32,
-    clocks: u64,
-}
-
-/// An array that keeps each of its openings.
+/// An array that keeps of each of its openings the levels of the grid, and the clocks that were made before.
 #[derive(Drop)]
 struct Watched {
     array: PixelArray<72>,
-    openings: ArrayVec<Opening, 8>,
-}
-
-impl Watched {
-    fn new(alloc: Global) -> Watched {
-        Watched {
-            array: PixelArray::new(alloc),
-            openings: ArrayVec::new(),
-        }
-    }
-
-    /// Keeps the clocks that were made since the last opening.
-    fn count(&mut self) {
-        if let Some(last) = self.openings.last_mut() {
-            last.clocks = self.array.clocks();
-        }
-    }
+    openings: ArrayVec<(u32, u32, u64), 8>,
 }
 
 impl Array for Watched {
@@ -56,14 +31,8 @@ impl Array for Watched {
     ghost work = { λ a. a.array.work };
 
     fn open(&mut self, nx: u32, ny: u32) -> Result<(), Memory> {
-        self.count();
-        let opening = Opening {
-            columns: nx,
-            rows: ny,
-            clocks: 0,
-        };
         // A ninth opening is not kept.
-        let _ = self.openings.try_push(opening);
+        let _ = self.openings.try_push((nx, ny, self.array.clocks()));
         self.array.open(nx, ny)
     }
 
@@ -118,25 +87,21 @@ impl Operating for Watched {
     }
 }
 
-/// Each tile's 29 operations take 473 clocks on 2 by 2 pixels.
-const ONE_TILE: Opening = Opening {
-    columns: 1,
-    rows: 1,
-    clocks: 473,
-};
-
+/// Each of the three tiles is opened, and its 29 operations take 473 clocks on 2 by 2 pixels.
 #[test]
 fn each_tile_is_opened_and_clocked(rt: HostRuntime) -> Result<(), Fail> {
-    let mut array = Watched::new(rt.alloc());
-    assert_eq!(rt; tile(rt.alloc(), &mut array)?, Status::Done);
-    array.count();
-    assert_eq!(rt; array.openings.as_slice(), [ONE_TILE; 3].as_slice());
+    let mut array = Watched {
+        array: PixelArray::new(rt.alloc()),
+        openings: ArrayVec::new(),
+    };
+    let input = source_of(rt.alloc(), SLOPES, 4096, 0)?;
+    let out = sink_of(rt.alloc(), 0)?;
+    let left = run_words(rt.alloc(), &["tile", "5", "1"], input, out, 99, &mut array)?;
+    assert_eq!(rt; left.status, Status::Done);
+    assert_eq!(rt;
+        array.openings.as_slice(),
+        [(1, 1, 0), (1, 1, 473), (1, 1, 473)].as_slice()
+    );
+    assert_eq!(rt; left.clocks, 473);
     Ok(())
-}
-
-/// A run of `tile 5 1` over the slopes.
-fn tile(alloc: Global, array: &mut Watched) -> Result<Status, Fail> {
-    let input = calm_input(alloc, SLOPES)?;
-    let (out, notes) = (calm_sink(alloc, 99)?, calm_sink(alloc, 99)?);
-    Ok(run_words(alloc, &["tile", "5", "1"], input, out, notes, array)?.status)
 }

@@ -631,6 +631,23 @@ static void compare_one_pixel(void)
         differs("one pixel", "other micros");
 }
 
+/* A number that is loaded, and a form that is added to it, on four columns and two rows, by the tables of docs/MACHINE.md: 19
+   clocks, of which the first is an enable-all, and the second a clear. */
+static void compare_small_listing(void)
+{
+    static const char listing[] = "pxlist 1\ngrid 2 1\nall\nload-linear 1 4 2 3 5\nadd-linear 1 1 0 3 5\nend\n";
+    const uint8_t *text = (const uint8_t *) listing;
+    uint64_t words[154], micros[19];
+    struct pxplanes_state state;
+    struct pxplanes_found found;
+    if (pxplanes_state(text, sizeof listing - 1, 10, words, 154, &state, &found) != PXPLANES_OK || state.clocks != 19 ||
+        state.grid_width != 4 || state.grid_height != 2)
+        differs("a small listing", "another state");
+    if (pxplanes_micros(text, sizeof listing - 1, 0, micros, 19, &found) != PXPLANES_OK || micros[0] != 2ull << 32 ||
+        micros[1] != (1ull << 48) + (1ull << 32))
+        differs("a small listing", "other micros");
+}
+
 static void compare_names(void)
 {
     uint8_t word[17];
@@ -659,6 +676,7 @@ int main(int words, char **word)
     read_texts(word[1]);
     compare_names();
     compare_one_pixel();
+    compare_small_listing();
     pthread_attr_init(&small);
     pthread_attr_setstacksize(&small, STACK);
     for (size_t i = 0; i < THREADS; i++) {
