@@ -1,8 +1,9 @@
 //! Finer scenes, and why a scene has none.
 ghost use Rattle.std.specs.Prelude.{◌≤◌};
 
+use px_canonical::write_scene;
 use px_refine::{FineFault, fine_scene};
-use px_scene::{read_scene, write_scene};
+use px_scene::read_scene;
 use std::alloc::Global;
 use std::test::Fail;
 

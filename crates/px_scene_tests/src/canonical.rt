@@ -1,6 +1,7 @@
 //! Scene texts and their canonical texts.
 
-use px_scene::{read_scene, write_scene};
+use px_canonical::write_scene;
+use px_scene::read_scene;
 use std::test::Fail;
 
 /// Texts, each with its canonical text.

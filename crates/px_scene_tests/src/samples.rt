@@ -1,6 +1,7 @@
 //! The texts of samples.
 
-use px_scene::{read_scene, sample_text};
+use px_sample::sample_text;
+use px_scene::read_scene;
 use std::test::Fail;
 
 /// The sample of one block, and the expression of that of seven.
