@@ -2,7 +2,7 @@
 use Rattle.std.specs.Prelude.{ℕ, ◌==◌, if◌then◌else◌, List, length, sum_by}
 use Rattle.std.specs.List.{range_with_len}
 use Rattle.px_frame.specs.Picture.{depth_at, face_at}
-use Rattle.px_scene.specs.Sample.{sample_text}
+use Rattle.px_sample.specs.Sample.{sample_text}
 use Rattle.px_scene.specs.Scenes.{SceneView}
 use Rattle.px_scene.specs.Text.{worded}
 use Rattle.px_scene.specs.Reading.{scene_of}

@@ -1,7 +1,7 @@
 -- What is made of the scene that is the whole input. Clauses of public calls stand on it.
 use Rattle.std.specs.Prelude.{ℕ, List, [], ◌∷◌, length}
 use Rattle.px_scene.specs.Scenes.{names_of, SceneView}
-use Rattle.px_scene.specs.Canonical.{canonical_text}
+use Rattle.px_canonical.specs.Canonical.{canonical_text}
 use Rattle.px_scene.specs.Text.{worded}
 use Rattle.px_scene.specs.Reading.{scene_of}
 use Rattle.px_normal.specs.Forms.{sum_of_products}

@@ -3,7 +3,7 @@ use Rattle.std.proofs.Common.{ℕ, ◌≡◌, ◌+◌, ◌*◌, ◌≤◌, List,
 use Rattle.px_io.specs.Told.{SinkState}
 use Rattle.px_array.specs.Slots.{ArrayView}
 use Rattle.px_scene.specs.Scenes.{SceneView}
-use Rattle.px_scene.specs.Sample.{sample_text}
+use Rattle.px_sample.specs.Sample.{sample_text}
 use Rattle.px_scene.specs.Text.{worded}
 use Rattle.px_scene.specs.Reading.{scene_of}
 use Rattle.px_refine.proofs.SumLaws.{sum_more}

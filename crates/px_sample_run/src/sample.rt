@@ -7,7 +7,7 @@ ghost use Rattle.px_array.specs.Slots.{IsRunOnce, array_view};
 ghost use Rattle.px_prune.specs.Kept.{plan_of};
 ghost use Rattle.px_sched.specs.Layouts.{layout_of};
 ghost use Rattle.px_scene.specs.Reading.{scene_of};
-ghost use Rattle.px_scene.specs.Sample.{sample_text};
+ghost use Rattle.px_sample.specs.Sample.{sample_text};
 ghost use Rattle.px_scene.specs.Text.{worded};
 ghost use Rattle.px_control.specs.Program.{IsAt};
 ghost use Rattle.px_deliver.specs.Drawn.{IsDrawn};
@@ -28,7 +28,8 @@ use px_frame::stored;
 use px_io::{Failed, Sink};
 use px_model::MAX_PICTURE_SIZE;
 use px_outcome::{Stop, drawing_of, open_job, scene_in, write_finished};
-use px_scene::{MAX_BLOCKS, Scene, laws_of_scenes, sample_text};
+use px_sample::sample_text;
+use px_scene::{MAX_BLOCKS, Scene, laws_of_scenes};
 use px_sched::Layout;
 use std::alloc::Global;
 

@@ -24,7 +24,7 @@ use Rattle.px_scene.specs.Drafts.{taken, with_line, with_picture}
 use Rattle.px_scene.specs.LawfulDrafts.{IsGoodForm, IsLawfulDraft, is_ended}
 use Rattle.px_scene.specs.Lines.{cause_of, face_past, figures, keyword_of, limit_of, limit_on, most, numbers_of, three_past}
 use Rattle.px_scene.specs.Reading.{fault_behind, is_nothing}
-use Rattle.px_scene.proofs.DraftLemmas.{draft_more}
+use Rattle.px_scene.proofs.DraftLaws.{draft_more}
 use Rattle.px_scene.proofs.LawfulLemmas.{can_be_taken, lawful_line}
 use Rattle.px_scene.proofs.ReadLemmas.{lawful_blank}
 use Rattle.px_scene.proofs.SolidLemmas.{head_lawful, last_back, last_front, last_side, lawful_last}

@@ -33,8 +33,9 @@ use Rattle.px_scene.specs.Drafts.{with_line, with_picture, with_depth, fresh_sol
 use Rattle.px_scene.specs.LawfulDrafts.{is_begun, is_ended}
 use Rattle.px_scene.specs.LawfulDrafts.{IsGoodForm, CanBeTaken}
 use Rattle.px_scene.specs.Drafts.{first_word}
+use Rattle.px_scene.proofs.NameLaws.{names_push}
 use Rattle.px_scene.proofs.NumberLemmas.{numbered_front, numbered_back, numbered_push}
-use Rattle.px_scene.proofs.TakenLemmas.{numbered_last, faces_of-with_last, names_with_last, names_push, IsNewName}
+use Rattle.px_scene.proofs.TakenLemmas.{numbered_last, faces_of-with_last, names_with_last, IsNewName}
 use Rattle.px_scene.proofs.TakenLemmas.{SolidRoom, size_within, fraction_within}
 use Rattle.px_scene.proofs.TakenLemmas.{numbered_fresh, face_room, solid_room, begun_front, begun_back, begun_side}
 use Rattle.px_scene.proofs.TakenLemmas.{begun_end, new_name, ended_end, last_can_take}

@@ -1,11 +1,10 @@
 -- A draft stays lawful over a good line.
-use Prim.Native.Nat.{zero, suc}
-use Rattle.std.proofs.Common.{◌≡◌, ◌≢◌, ℕ, ℤ, pos, ◌≤ℤ◌, ◌+◌, ◌-◌, min, ◌<◌, ◌≤◌, List, [], ◌∷◌, ◌++◌, length, Bool}
-use Rattle.std.proofs.Common.{true, false, not, ◌||◌, codes, refl, ap, sym, arith, slice_get, IfSome, Option}
-use Rattle.std.proofs.Common.{Some, None, get_or, unwrap_or, add-zero, if◌then◌else◌}
+use Prim.Native.Nat.{suc}
+use Rattle.std.proofs.Common.{◌≡◌, ℕ, ℤ, pos, ◌≤ℤ◌, ◌+◌, ◌-◌, min, ◌<◌, ◌≤◌, List, [], ◌∷◌, length, Bool}
+use Rattle.std.proofs.Common.{true, false, not, codes, refl, ap, arith, slice_get, IfSome, Option}
+use Rattle.std.proofs.Common.{Some, None, unwrap_or, add-zero, if◌then◌else◌}
 use Rattle.std.proofs.lemmas.Int.{ints}
 use Rattle.std.specs.Option.{option_or}
-use Rattle.std.specs.List.{AllPairs, AllPass}
 use Rattle.px_show.specs.Judged.{past}
 use Rattle.px_show.specs.declared.fault.LimitKind.{LimitKind}
 use Rattle.px_show.specs.declared.fault.LimitKind.TheVariants as kind
@@ -18,20 +17,15 @@ use Rattle.px_show.specs.declared.fault.Cause.{Cause}
 use Rattle.px_show.specs.declared.fault.Cause.TheVariants as cause
 use Rattle.px_text.specs.Text.{Words, is_name, number_of}
 use Rattle.px_show.specs.declared.fault.LineFault.{LineFault}
-use Rattle.px_scene.specs.Lines.{most, fraction_past, face_past, face_limit, is_due, form_of, is_header}
-use Rattle.px_scene.specs.Lines.{keyword_of, cause_of, solid_form, are_numbers, numbers_of, figures}
+use Rattle.px_scene.specs.Lines.{most, fraction_past, face_past, face_limit, is_due, form_of, is_header, keyword_of}
+use Rattle.px_scene.specs.Lines.{cause_of, solid_form, are_numbers, numbers_of, figures, colour_of, size_of}
 use Rattle.px_show.specs.Expressions.{is_among}
-use Rattle.px_scene.specs.Lines.{colour_of, size_of}
-use Rattle.px_scene.specs.Drafts.{first_word}
+use Rattle.px_scene.specs.Drafts.{first_word, new_solid, fresh_solid, with_last}
 use lib.IntN.{negsuc}
 use Rattle.px_model.specs.declared.solid.Colour.{Colour}
 use Rattle.std.specs.Str.{bytes_eq}
-use Rattle.std.specs.Cmp.Lexicographic.{other_text}
 use Rattle.px_model.specs.Scenes.{SolidView, black, faces_in, names_of, IsNumberedFrom, AreNumberedFrom, faces_of}
-use Rattle.px_scene.specs.Drafts.{new_solid, fresh_solid, with_last}
 use Rattle.px_scene.specs.LawfulDrafts.{CanTakeFace, is_begun, is_ended, IsGoodForm}
-use Rattle.std.proofs.lemmas.List.Elements.{All-push}
-use Rattle.std.proofs.lemmas.List.Quantifiers.{all_pairs_push}
 use Rattle.px_num.proofs.TruthLaws.{and_left, none_first, none_second}
 use Rattle.px_model.proofs.FaceLaws.{faces_of-cons}
 
@@ -182,28 +176,6 @@ new_name names (name ∷ a ∷ b ∷ c ∷ []) e =
           solid = λ n. refl;
         }
 new_name names (name ∷ a ∷ b ∷ c ∷ d ∷ ws) e = cc
-
--- names: all lawful, and no two alike
-pub record AreNames (names : Words) : Type 0 where
-  pub lawful : AllPass is_name names
-  pub different : AllPairs (λ m n. m ≢ n) names
-
-neither : (a b : Bool) → a || b ≡ false → (a ≡ false) × (b ≡ false)
-neither false b e = (refl, e)
-neither true b e = cc
-
-others : (names : Words) (name : List ℕ) → is_among names name ≡ false → (k : ℕ) (e : List ℕ) → k < length names
-    → get_or names k e ≢ name
-others [] name fresh k e lt = absurd (omega arith)
-others (n ∷ ns) name fresh zero e lt = other_text n name (sym (neither (bytes_eq n name) _ fresh).0)
-others (n ∷ ns) name fresh (suc k) e lt = others ns name (neither (bytes_eq n name) _ fresh).1 k e (omega arith)
-
-pub names_push : (names : Words) (name : List ℕ) → AreNames names → is_name name ≡ true → is_among names name ≡ false
-    → AreNames (names ++ name ∷ [])
-names_push names name are lawful fresh = record {
-  lawful = All-push (λ n. is_name n ≡ true) names name are.lawful lawful;
-  different = all_pairs_push (λ m n. m ≢ n) names name are.different (others names name fresh);
-}
 
 pub names_with_last : (change : SolidView → SolidView) → ((s : SolidView) → (change s).name ≡ s.name)
     → (ss : List SolidView) → names_of (with_last change ss) ≡ names_of ss

@@ -20,7 +20,7 @@ ghost use Rattle.px_show.specs.declared.fault.LineFault.{LineFault};
 use crate::figure::{colour_of, face_of};
 use crate::limit::limit_of;
 use crate::line::{Due, Tally};
-use crate::parse::{Line, Paint, Plane};
+use crate::parse::{Paint, Plane, Statement};
 use arrayvec::ArrayVec;
 use px_expr::Expr;
 use px_model::{Scene, Solid};
@@ -158,49 +158,49 @@ impl Draft {
             arguments.now)) }
         ensures lawful { OnOk result (IsLawfulDraft (view_of self.new)) }
     {
-        let line = Line::parse(self.version, self.due, word, arguments)?;
-        if let Some(fault) = self.fault(line) {
+        let statement = Statement::parse(self.version, self.due, word, arguments)?;
+        if let Some(fault) = self.fault(statement) {
             return Err(LineError::Bad(fault));
         }
-        self.take(alloc, line)?;
-        self.due = line.due_after();
+        self.take(alloc, statement)?;
+        self.due = statement.due_after();
         Ok(())
     }
 
-    /// Why a line of good form is bad, but for its expression.
-    fn fault(&self, line: Line) -> Option<LineFault<LimitKind>>
+    /// Why the line of a statement is bad, but for its expression.
+    fn fault(&self, statement: Statement) -> Option<LineFault<LimitKind>>
         requires { IsLawfulDraft (view_of self.now) }
-        ensures { result ≡ fault_left (view_of self.now) line.entry }
+        ensures { result ≡ fault_left (view_of self.now) statement.entry }
     {
-        match second_name(self.solids.as_slice(), line) {
+        match second_name(self.solids.as_slice(), statement) {
             Some(cause) => Some(LineFault::Malformed(cause)),
-            None => limit_of(line, self.tally()),
+            None => limit_of(statement, self.tally()),
         }
     }
 
-    /// Takes in what a line says; an expression is judged as it is read.
-    fn take(&mut self, alloc: Global, line: Line) -> Result<(), LineError<LimitKind>>
+    /// Takes a statement in; an expression is judged as it is read.
+    fn take(&mut self, alloc: Global, statement: Statement) -> Result<(), LineError<LimitKind>>
         requires lawful { IsLawfulDraft (view_of self.old) }
-        requires due { is_due self.old.due (keyword_in line) ≡ true }
-        requires name { length (name_in line) ≤ 32 }
-        requires limit { limit_of (keyword_in line) (tally_of (view_of self.old)) (numbers_in line)
-            ≡ None }
+        requires due { is_due self.old.due (keyword_in statement) ≡ true }
+        requires name { length (name_in statement) ≤ 32 }
+        requires limit { limit_of (keyword_in statement) (tally_of (view_of self.old))
+            (numbers_in statement) ≡ None }
         ensures bad { (f : LineFault LimitKind) → IsErrOf result (LineError.Bad f) →
-            fault_shown (view_of self.old) line.entry ≡ Some f }
-        ensures good { OnOk result (fault_shown (view_of self.old) line.entry ≡ None) }
-        ensures taken { OnOk result (view_of self.new ≡ with_line (keyword_in line.entry)
-            (view_of self.old) (kept_words line.entry) (numbers_in line.entry)) }
+            fault_shown (view_of self.old) statement.entry ≡ Some f }
+        ensures good { OnOk result (fault_shown (view_of self.old) statement.entry ≡ None) }
+        ensures taken { OnOk result (view_of self.new ≡ with_line (keyword_in statement.entry)
+            (view_of self.old) (kept_words statement.entry) (numbers_in statement.entry)) }
     {
-        match line {
-            Line::Header(version) => self.version = version,
-            Line::Picture { width, height } => self.take_picture(width, height),
-            Line::Depth { bits, fraction } => self.take_depth(bits, fraction),
-            Line::Solid { name, paint } => self.take_solid(alloc, name, paint)?,
-            Line::Front(face) => self.take_front(face)?,
-            Line::Back(face) => self.take_back(face)?,
-            Line::Side(form) => self.take_side(form)?,
-            Line::Show(words) => self.take_show(alloc, words)?,
-            Line::End => {}
+        match statement {
+            Statement::Header(version) => self.version = version,
+            Statement::Picture { width, height } => self.take_picture(width, height),
+            Statement::Depth { bits, fraction } => self.take_depth(bits, fraction),
+            Statement::Solid { name, paint } => self.take_solid(alloc, name, paint)?,
+            Statement::Front(face) => self.take_front(face)?,
+            Statement::Back(face) => self.take_back(face)?,
+            Statement::Side(form) => self.take_side(form)?,
+            Statement::Show(words) => self.take_show(alloc, words)?,
+            Statement::End => {}
         }
         Ok(())
     }
@@ -321,11 +321,11 @@ impl Draft {
 }
 
 /// A solid of the same name that stands already.
-fn second_name(solids: &[Solid], line: Line) -> Option<Cause>
-    ensures { result ≡ second_name (names_of solids.now) line.entry }
+fn second_name(solids: &[Solid], statement: Statement) -> Option<Cause>
+    ensures { result ≡ second_name (names_of solids.now) statement.entry }
 {
-    match line {
-        Line::Solid { name, paint: _ } => {
+    match statement {
+        Statement::Solid { name, paint: _ } => {
             if is_among(solids, name) {
                 Some(Cause::SecondName)
             } else {

@@ -1,4 +1,4 @@
-//! The text of a scene, both ways: what it says or why it is bad, and its canonical form.
+//! The text of a scene, read: what it says or why it is bad.
 #![tactic(auto)]
 
 mod draft;
@@ -7,9 +7,8 @@ mod limit;
 mod line;
 mod parse;
 mod read;
-mod sample;
-mod write;
 
+pub use line::{Due, Tally};
 pub use px_model::{
     Colour, Face, MAX_BLOCKS, MAX_CONSTANT, MAX_DEPTH_BITS, MAX_FACES, MAX_FRACTION_BITS,
     MAX_PICTURE_SIZE, MAX_PLANES_OF_A_KIND, MAX_SLOPE, MAX_SOLIDS, Scene, Solid, laws_of_scenes,
@@ -17,5 +16,3 @@ pub use px_model::{
 pub use px_show::{Cause, LimitKind, SceneFault, expression_law, printed_law};
 pub use px_text::{MAX_TEXT_BYTES, written_law};
 pub use read::{laws_of_texts, read_scene};
-pub use sample::{laws_of_samples, sample_text};
-pub use write::{canonical_law, write_scene};

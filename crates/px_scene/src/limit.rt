@@ -12,7 +12,7 @@ ghost use Rattle.px_scene.specs.Lines.{most, picture_past, depth_past, fraction_
 ghost use Rattle.px_scene.specs.Parsed.{keyword_in, numbers_in, depth_numbers, face_numbers};
 
 use crate::line::Tally;
-use crate::parse::{Line, Paint, Plane};
+use crate::parse::{Paint, Plane, Statement};
 use px_model::{
     MAX_CONSTANT, MAX_DEPTH_BITS, MAX_FACES, MAX_FRACTION_BITS, MAX_PICTURE_SIZE,
     MAX_PLANES_OF_A_KIND, MAX_SLOPE, MAX_SOLIDS,
@@ -20,31 +20,31 @@ use px_model::{
 use px_num::Linear;
 use px_show::{LimitKind, LineFault, past};
 
-/// The first limit that a line of good form passes, where it passes one: its numbers from left to
-/// right, and then the counts with this line. The limits of an expression are found as it is read.
-pub(crate) fn limit_of(line: Line, tally: Tally) -> Option<LineFault<LimitKind>>
+/// The first limit that a statement passes, where it passes one: its numbers from left to right,
+/// and then the counts with its line. The limits of an expression are found as it is read.
+pub(crate) fn limit_of(statement: Statement, tally: Tally) -> Option<LineFault<LimitKind>>
     requires solids { tally.solids ≤ MAX_SOLIDS }
     requires numbered { tally.numbered ≤ MAX_FACES }
     requires faces { (tally.fronts ≤ MAX_PLANES_OF_A_KIND) × (tally.backs ≤ MAX_PLANES_OF_A_KIND)
         × (tally.sides ≤ MAX_PLANES_OF_A_KIND) }
-    ensures { result ≡ limit_of (keyword_in line.entry) tally (numbers_in line.entry) }
+    ensures { result ≡ limit_of (keyword_in statement.entry) tally (numbers_in statement.entry) }
 {
-    match line {
-        Line::Picture { width, height } => picture_past(width, height),
-        Line::Depth { bits, fraction } => depth_past(bits, fraction),
-        Line::Solid { name: _, paint } => colour_past(paint)
+    match statement {
+        Statement::Picture { width, height } => picture_past(width, height),
+        Statement::Depth { bits, fraction } => depth_past(bits, fraction),
+        Statement::Solid { name: _, paint } => colour_past(paint)
             .or(most(LimitKind::Solids, MAX_SOLIDS, tally.solids + 1))
             .or(most(LimitKind::Faces, MAX_FACES, tally.numbered + 1)),
-        Line::Front(face) => face_past(face)
+        Statement::Front(face) => face_past(face)
             .or(most(LimitKind::Fronts, MAX_PLANES_OF_A_KIND, tally.fronts + 1))
             .or(most(LimitKind::Faces, MAX_FACES, tally.numbered + 1)),
-        Line::Back(face) => face_past(face)
+        Statement::Back(face) => face_past(face)
             .or(most(LimitKind::Backs, MAX_PLANES_OF_A_KIND, tally.backs + 1))
             .or(most(LimitKind::Faces, MAX_FACES, tally.numbered + 1)),
-        Line::Side(form) => {
+        Statement::Side(form) => {
             plane_past(form).or(most(LimitKind::Sides, MAX_PLANES_OF_A_KIND, tally.sides + 1))
         }
-        Line::Header(_) | Line::Show(_) | Line::End => None,
+        Statement::Header(_) | Statement::Show(_) | Statement::End => None,
     }
 }
 

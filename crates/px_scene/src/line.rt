@@ -19,7 +19,7 @@ pub(crate) enum Keyword {
 
 /// What is due on a line, by the line before it.
 #[derive(Clone, Copy, Debug, PartialEq, Eq)]
-pub(crate) enum Due {
+pub enum Due {
     Header,
     Picture,
     Depth,
@@ -31,7 +31,7 @@ pub(crate) enum Due {
 
 /// What is counted over the lines before a line.
 #[derive(Clone, Copy, Debug, PartialEq, Eq)]
-pub(crate) struct Tally {
+pub struct Tally {
     pub solids: u32,
     pub numbered: u32,
     pub fronts: u32,

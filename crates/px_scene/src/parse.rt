@@ -27,9 +27,10 @@ pub(crate) struct Plane {
     pub paint: Option<Paint>,
 }
 
-/// A line that is due and of good form, with its numbers; what stands before it is not asked yet.
+/// What a line says that is due and of good form, with its numbers; what stands before it is not
+/// asked yet.
 #[derive(Clone, Copy, Debug)]
-pub(crate) enum Line<'t> {
+pub(crate) enum Statement<'t> {
     Header(Version),
     Picture { width: i64, height: i64 },
     Depth { bits: i64, fraction: Option<i64> },
@@ -41,14 +42,14 @@ pub(crate) enum Line<'t> {
     End,
 }
 
-impl<'t> Line<'t> {
-    /// The line that a first word and the words after it write, by the version and by what is due.
+impl<'t> Statement<'t> {
+    /// What a first word and the words after it say, by the version and by what is due.
     pub(crate) fn parse(
         version: Version,
         due: Due,
         word: &[u8],
         words: &'t [&'t [u8]],
-    ) -> Result<Line<'t>, Cause>
+    ) -> Result<Statement<'t>, Cause>
         ensures { ParsesTo version due word.now (now_of words.now) result }
     {
         match (due, keyword_of(word)) {
@@ -57,55 +58,58 @@ impl<'t> Line<'t> {
             (Due::Picture, Keyword::Picture) => picture(words),
             (Due::Depth, Keyword::Depth) => depth(version, words),
             (Due::Solid, Keyword::Solid) => solid(words),
-            (Due::Solid, Keyword::Show) => Ok(Line::Show(words)),
+            (Due::Solid, Keyword::Show) => Ok(Statement::Show(words)),
             (Due::Plane, Keyword::Front) => front(words),
             (Due::Plane, Keyword::Back) => back(words),
             (Due::Plane, Keyword::Side) => side(words),
             (Due::Plane, Keyword::Solid) => solid(words),
-            (Due::Plane, Keyword::Show) => Ok(Line::Show(words)),
+            (Due::Plane, Keyword::Show) => Ok(Statement::Show(words)),
             (Due::End, Keyword::End) => end(words),
             (Due::Nothing, _) => Err(Cause::AfterEnd),
             _ => Err(Cause::Unexpected),
         }
     }
 
-    /// What is due on the line after it.
+    /// What is due on the line after its own.
     pub(crate) fn due_after(self) -> Due
         ensures { result ≡ due_after (keyword_in self.entry) }
     {
         match self {
-            Line::Header(_) => Due::Picture,
-            Line::Picture { .. } => Due::Depth,
-            Line::Depth { .. } => Due::Solid,
-            Line::Solid { .. } | Line::Front(_) | Line::Back(_) | Line::Side(_) => Due::Plane,
-            Line::Show(_) => Due::End,
-            Line::End => Due::Nothing,
+            Statement::Header(_) => Due::Picture,
+            Statement::Picture { .. } => Due::Depth,
+            Statement::Depth { .. } => Due::Solid,
+            Statement::Solid { .. }
+            | Statement::Front(_)
+            | Statement::Back(_)
+            | Statement::Side(_) => Due::Plane,
+            Statement::Show(_) => Due::End,
+            Statement::End => Due::Nothing,
         }
     }
 }
 
-fn header<'t>(words: &'t [&'t [u8]]) -> Result<Line<'t>, Cause>
+fn header<'t>(words: &'t [&'t [u8]]) -> Result<Statement<'t>, Cause>
     ensures { HeaderForms (now_of words.now) result }
 {
     match Version::of(words) {
-        Some(version) => Ok(Line::Header(version)),
+        Some(version) => Ok(Statement::Header(version)),
         None => Err(Cause::NotHeader),
     }
 }
 
-fn picture<'t>(words: &'t [&'t [u8]]) -> Result<Line<'t>, Cause>
+fn picture<'t>(words: &'t [&'t [u8]]) -> Result<Statement<'t>, Cause>
     ensures { (version : AnyVersion) → IsParsed version Kind.Picture (now_of words.now) result }
 {
     match words {
         [width, height] => match (number_of(width), number_of(height)) {
-            (Some(width), Some(height)) => Ok(Line::Picture { width, height }),
+            (Some(width), Some(height)) => Ok(Statement::Picture { width, height }),
             _ => Err(Cause::NotNumber),
         },
         _ => Err(Cause::WordCount),
     }
 }
 
-fn depth<'t>(version: Version, words: &'t [&'t [u8]]) -> Result<Line<'t>, Cause>
+fn depth<'t>(version: Version, words: &'t [&'t [u8]]) -> Result<Statement<'t>, Cause>
     ensures { IsParsed version Kind.Depth (now_of words.now) result }
 {
     match version {
@@ -114,12 +118,12 @@ fn depth<'t>(version: Version, words: &'t [&'t [u8]]) -> Result<Line<'t>, Cause>
     }
 }
 
-fn depth_alone<'t>(words: &'t [&'t [u8]]) -> Result<Line<'t>, Cause>
+fn depth_alone<'t>(words: &'t [&'t [u8]]) -> Result<Statement<'t>, Cause>
     ensures { DepthForms 1 (now_of words.now) result }
 {
     match words {
         [bits] => match number_of(bits) {
-            Some(bits) => Ok(Line::Depth {
+            Some(bits) => Ok(Statement::Depth {
                 bits,
                 fraction: None,
             }),
@@ -129,12 +133,12 @@ fn depth_alone<'t>(words: &'t [&'t [u8]]) -> Result<Line<'t>, Cause>
     }
 }
 
-fn depth_and_fraction<'t>(words: &'t [&'t [u8]]) -> Result<Line<'t>, Cause>
+fn depth_and_fraction<'t>(words: &'t [&'t [u8]]) -> Result<Statement<'t>, Cause>
     ensures { DepthForms 2 (now_of words.now) result }
 {
     match words {
         [bits, fraction] => match (number_of(bits), number_of(fraction)) {
-            (Some(bits), Some(fraction)) => Ok(Line::Depth {
+            (Some(bits), Some(fraction)) => Ok(Statement::Depth {
                 bits,
                 fraction: Some(fraction),
             }),
@@ -144,7 +148,7 @@ fn depth_and_fraction<'t>(words: &'t [&'t [u8]]) -> Result<Line<'t>, Cause>
     }
 }
 
-fn solid<'t>(words: &'t [&'t [u8]]) -> Result<Line<'t>, Cause>
+fn solid<'t>(words: &'t [&'t [u8]]) -> Result<Statement<'t>, Cause>
     ensures { (version : AnyVersion) → IsParsed version Kind.Solid (now_of words.now) result }
 {
     match words {
@@ -153,7 +157,7 @@ fn solid<'t>(words: &'t [&'t [u8]]) -> Result<Line<'t>, Cause>
                 return Err(Cause::BadName);
             }
             match paint_of(red, green, blue) {
-                Some(paint) => Ok(Line::Solid { name, paint }),
+                Some(paint) => Ok(Statement::Solid { name, paint }),
                 None => Err(Cause::NotNumber),
             }
         }
@@ -161,41 +165,41 @@ fn solid<'t>(words: &'t [&'t [u8]]) -> Result<Line<'t>, Cause>
     }
 }
 
-fn front<'t>(words: &'t [&'t [u8]]) -> Result<Line<'t>, Cause>
+fn front<'t>(words: &'t [&'t [u8]]) -> Result<Statement<'t>, Cause>
     ensures { (version : AnyVersion) → IsParsed version Kind.Front (now_of words.now) result }
 {
     match face(words) {
-        Ok(face) => Ok(Line::Front(face)),
+        Ok(face) => Ok(Statement::Front(face)),
         Err(cause) => Err(cause),
     }
 }
 
-fn back<'t>(words: &'t [&'t [u8]]) -> Result<Line<'t>, Cause>
+fn back<'t>(words: &'t [&'t [u8]]) -> Result<Statement<'t>, Cause>
     ensures { (version : AnyVersion) → IsParsed version Kind.Back (now_of words.now) result }
 {
     match face(words) {
-        Ok(face) => Ok(Line::Back(face)),
+        Ok(face) => Ok(Statement::Back(face)),
         Err(cause) => Err(cause),
     }
 }
 
-fn side<'t>(words: &'t [&'t [u8]]) -> Result<Line<'t>, Cause>
+fn side<'t>(words: &'t [&'t [u8]]) -> Result<Statement<'t>, Cause>
     ensures { (version : AnyVersion) → IsParsed version Kind.Side (now_of words.now) result }
 {
     match words {
         [a, b, c] => match linear_of(a, b, c) {
-            Some(form) => Ok(Line::Side(form)),
+            Some(form) => Ok(Statement::Side(form)),
             None => Err(Cause::NotNumber),
         },
         _ => Err(Cause::WordCount),
     }
 }
 
-fn end<'t>(words: &'t [&'t [u8]]) -> Result<Line<'t>, Cause>
+fn end<'t>(words: &'t [&'t [u8]]) -> Result<Statement<'t>, Cause>
     ensures { (version : AnyVersion) → IsParsed version Kind.End (now_of words.now) result }
 {
     match words {
-        [] => Ok(Line::End),
+        [] => Ok(Statement::End),
         _ => Err(Cause::WordCount),
     }
 }

@@ -1,5 +1,5 @@
 //! The texts of samples, of which `sample N` prints numbers alone.
-use px_scene::sample_text;
+use px_sample::sample_text;
 use std::test::Fail;
 
 /// The sample of one block, and the expression of that of seven.

@@ -21,6 +21,7 @@ use crate::tile::make_tiled;
 use arrayvec::ArrayString;
 use px_answers::{cost_text, plan_text};
 use px_asm::Operating;
+use px_canonical::write_scene;
 use px_command::Work;
 use px_control::cost;
 use px_deliver::deliver_images;
@@ -28,7 +29,7 @@ use px_frame::Plane;
 use px_io::{Sink, Source};
 use px_normal::count_products;
 use px_outcome::{Stop, drawing_of, kept_of, open_job, read_text, scene_in, write_finished};
-use px_scene::{Scene, write_scene};
+use px_scene::Scene;
 use std::alloc::Global;
 
 /// Reads the input to its end, and makes of its scene what is wanted.

@@ -1,5 +1,6 @@
 use Rattle.px_scene.specs.DraftViews.{view_of}
-use Rattle.px_scene.proofs.ReadLemmas.{read_start, short}
+use Rattle.px_scene.proofs.ReadLemmas.{read_start}
+use Rattle.px_scene.proofs.DraftLaws.{short}
 use Rattle.px_scene.proofs.read.read_scene.Goals as goal
 
 pub read_text-requires-clause-start : goal.read_text-requires-clause-start

@@ -7,6 +7,6 @@ use Rattle.px_scene.proofs.draft.Draft.add.Goals as goal
 pub returns-clause-lawful : goal.returns-clause-lawful
 returns-clause-lawful c =
     lawful_with (view_of c.args.self.now) (view_of c.take.new.self) c.due_after-self.result c.args.word.now
-    (now_of c.args.arguments.now) c.in_ok-line.line c.requires c.in_ok-line.ensures (sym c.fault.ensures
+    (now_of c.args.arguments.now) c.in_ok-statement.statement c.requires c.in_ok-statement.ensures (sym c.fault.ensures
     ∙ c.in_default.is)
     c.in_ok-take.ensures.good c.in_ok-take.ensures.taken c.due_after-self.ensures

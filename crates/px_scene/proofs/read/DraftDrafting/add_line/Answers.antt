@@ -1,7 +1,8 @@
 use Rattle.std.proofs.Common.{◌∙◌}
 use Rattle.px_text.specs.LentWords.{now_of}
 use Rattle.px_scene.specs.DraftViews.{view_of}
-use Rattle.px_scene.proofs.ReadLemmas.{read_next, told}
+use Rattle.px_scene.proofs.ReadLemmas.{read_next}
+use Rattle.px_scene.proofs.DraftLaws.{told}
 use Rattle.px_scene.proofs.read.DraftDrafting.add_line.Goals as goal
 
 pub add_words-requires : goal.add_words-requires

@@ -1,0 +1,115 @@
+-- The lines of a solid's faces, in the order of their numbers.
+use Rattle.std.proofs.Common.{◌≡◌, ℕ, ◌+◌, ◌<◌, ◌≤◌, List, [], ◌∷◌, ◌++◌, length, Bool, true, false, not, codes, map}
+use Rattle.std.proofs.Common.{refl, ap, subst, ◌∙◌, arith, append-nil, length-append}
+use Prim.Native.Nat.{zero, suc}
+use Rattle.std.specs.List.{All, flat_map, range_with_len}
+use Rattle.px_model.specs.declared.solid.Face.{Face}
+use Rattle.px_text.specs.Text.{Words}
+use Rattle.px_model.specs.Scenes.{SolidView, IsColour, IsLawfulSolid, IsPlane, AreFaces, has_number}
+use Rattle.px_scene.specs.Drafts.{DraftView}
+use Rattle.px_canonical.proofs.CutLemmas.{below, at_number, HasOne, cut, few_below}
+use Rattle.px_canonical.proofs.WalkLaws.{Walk, walk_both}
+use Rattle.px_canonical.proofs.RoundLaws.{open_solid, face_words, IsWritableFace, front_walk, back_walk}
+
+-- a solid with its faces below a number, and no side
+abbrev pub part : SolidView → ℕ → SolidView
+part s m = record {
+  name = s.name;
+  colour = s.colour;
+  near_number = s.near_number;
+  fronts = below m s.fronts;
+  backs =
+      below m s.backs;
+  sides = [];
+}
+
+abbrev pub words_at : List ℕ → List Face → ℕ → List Words
+words_at kind faces m = map (λ f. kind ∷ face_words f) (at_number m faces)
+
+abbrev pub words_of_number : SolidView → ℕ → List Words
+words_of_number s m = words_at (codes "front") s.fronts m ++ words_at (codes "back") s.backs m
+
+writable : (near m : ℕ) (faces : List Face) → AreFaces near faces → All (λ f. IsColour f.colour) faces
+    → (one : HasOne m faces) → IsWritableFace one.face
+writable near m faces are colours one =
+    let plane = are.planes one.place one.face one.within
+    in let colour = colours one.place one.face one.within
+    in record {
+      plane = subst (λ (f : Face). IsPlane f.plane) (one.read one.face) plane;
+      colour = subst (λ (f : Face). IsColour f.colour) (one.read one.face) colour;
+    }
+
+-- the words of one number's line
+face_walk : (start : DraftView) (done : List SolidView) (s : SolidView) (n : ℕ) (is : Bool) → IsLawfulSolid s
+    → n < 4095
+    → has_number s.fronts (n + 1) ≡ is → has_number s.backs (n + 1) ≡ not is
+    → Walk (open_solid start done (part s (n + 1)) n) (words_of_number s (n + 1))
+    (open_solid start done (part s (n + 1 + 1)) (n + 1))
+face_walk start done s n true ok more front back =
+    let fronts = cut (n + 1) s.fronts ok.fronts.order
+    in let backs = cut (n + 1) s.backs ok.backs.order
+    in let one = fronts.present front
+    in let none = backs.absent back
+    in let grown : below (n + 1 + 1) s.fronts ≡ below (n + 1) s.fronts ++ one.face ∷ [] = fronts.grown
+    ∙ ap (λ fs. below (n + 1) s.fronts ++ fs) one.only
+    in let kept : below (n + 1 + 1) s.backs ≡ below (n + 1) s.backs = backs.grown
+    ∙ ap (λ fs. below (n + 1) s.backs ++ fs) none ∙ append-nil (below (n + 1) s.backs)
+    in let room : length (below (n + 1) s.fronts) < 32 = let few = ok.fronts.few
+    in omega (
+      arith,
+      ap length grown,
+      length-append (below (n + 1) s.fronts) (one.face ∷ []),
+      few_below (n + 1 + 1) s.fronts,
+    )
+    in rw (one.only, none, grown, kept)
+    (front_walk start done (part s (n + 1)) n one.face
+    (writable s.near_number (n + 1) s.fronts ok.fronts ok.fronts.colours one) one.number room more)
+face_walk start done s n false ok more front back =
+    let fronts = cut (n + 1) s.fronts ok.fronts.order
+    in let backs = cut (n + 1) s.backs ok.backs.order
+    in let one = backs.present back
+    in let none = fronts.absent front
+    in let grown : below (n + 1 + 1) s.backs ≡ below (n + 1) s.backs ++ one.face ∷ [] = backs.grown
+    ∙ ap (λ fs. below (n + 1) s.backs ++ fs) one.only
+    in let kept : below (n + 1 + 1) s.fronts ≡ below (n + 1) s.fronts = fronts.grown
+    ∙ ap (λ fs. below (n + 1) s.fronts ++ fs) none ∙ append-nil (below (n + 1) s.fronts)
+    in let room : length (below (n + 1) s.backs) < 32 = let few = ok.backs.few
+    in omega (
+      arith,
+      ap length grown,
+      length-append (below (n + 1) s.backs) (one.face ∷ []),
+      few_below (n + 1 + 1) s.backs,
+    )
+    in rw (one.only, none, grown, kept)
+    (back_walk start done (part s (n + 1)) n one.face
+    (writable s.near_number (n + 1) s.backs ok.backs ok.backs.colours one) one.number room more)
+
+-- so many numbers from one on, each of which some face has
+pub faces_walk : (start : DraftView) (done : List SolidView) (s : SolidView) (count n : ℕ) → IsLawfulSolid s
+    → n + count ≤ 4095
+    → ((m : ℕ) → n < m → m ≤ n + count → has_number s.fronts m ≡ not (has_number s.backs m))
+    → Walk (open_solid start done (part s (n + 1)) n)
+    (flat_map (words_of_number s) (range_with_len (n + 1) count))
+    (open_solid start done (part s (n + count + 1)) (n + count))
+faces_walk start done s zero n ok most once =
+    let same : n ≡ n + 0 = omega arith
+    in ap (λ m. open_solid start done (part s (m + 1)) m) same
+faces_walk start done s (suc count) n ok most once =
+    let first = face_walk start done s n (has_number s.fronts (n + 1)) ok (omega arith) refl
+    (other (has_number s.fronts (n + 1)) (has_number s.backs (n + 1)) (once (n + 1) (omega arith) (omega arith)))
+    in let later = faces_walk start done s count (n + 1) ok (omega arith)
+    (λ m over under. once m (omega arith) (omega arith))
+    in let same : n + 1 + count ≡ n + suc count = omega arith
+    in subst (λ (m : ℕ). Walk (open_solid start done (part s (n + 1)) n)
+    (flat_map (words_of_number s) (range_with_len (n + 1) (suc count)))
+    (open_solid start done (part s (m + 1)) m)) same
+    (walk_both (open_solid start done (part s (n + 1)) n)
+    (open_solid start done (part s (n + 1 + 1)) (n + 1))
+    (open_solid start done (part s (n + 1 + count + 1)) (n + 1 + count)) (words_of_number s (n + 1))
+    (flat_map (words_of_number s) (range_with_len (n + 1 + 1) count)) first later)
+  where
+    other : (a b : Bool) → a ≡ not b → b ≡ not a
+    other true false e = refl
+    other false true e = refl
+    other true true e = cc
+    other false false e = cc

@@ -1,0 +1,13 @@
+pub mod CanonicalLemmas
+pub mod CutLemmas
+pub mod FaceWalkLemmas
+pub mod LastLemmas
+pub mod LengthLaws
+pub mod LengthLemmas
+pub mod RoundLaws
+pub mod SceneWalkLemmas
+pub mod ShownLaws
+pub mod TextWalkLemmas
+pub mod WalkLaws
+pub mod WriteLaws
+pub mod WrittenLaws

@@ -1,0 +1,11 @@
+use Rattle.std.proofs.Common.{◌≡◌, ◌++◌, take}
+use Rattle.std.specs.List.{All, flat_map}
+use Rattle.px_model.specs.Scenes.{IsLawfulSolid}
+use Rattle.px_canonical.specs.Canonical.{first_lines, solid_lines}
+use Rattle.px_canonical.proofs.write.write_scene.Given as goal
+
+abbrev pub invariant-loop-solid : goal.invariant-loop-solid
+invariant-loop-solid l = record {
+  text : l.text.items ≡ first_lines l.scene ++ flat_map solid_lines (take l.solid-index l.scene.solids);
+  lawful : All IsLawfulSolid (take l.solid-index l.scene.solids);
+}

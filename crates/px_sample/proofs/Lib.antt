@@ -1,0 +1,5 @@
+pub mod SampleLemmas
+pub mod SampleSolidLemmas
+pub mod SampleTextLemmas
+pub mod SampleTreeLemmas
+pub mod SampleWalkLemmas

@@ -1,0 +1,23 @@
+-- What lines say with one more, why the next one is bad, and a text within its limit.
+use Rattle.std.proofs.Common.{◌≡◌, ℕ, ◌≤◌, ◌^◌, List, [], ◌∷◌, ◌++◌, length, nat_lt, false, ap, sym, ◌∙◌, arith}
+use Rattle.std.proofs.lemmas.Bool.Decides.{nat_tests}
+use Rattle.std.proofs.lemmas.List.Sums.{fold-append}
+use Rattle.px_text.specs.Text.{Words}
+use Rattle.px_scene.specs.Drafts.{DraftView, blank, draft_of, fault_in, taken}
+use Rattle.px_scene.specs.Reading.{fault_behind}
+
+pub draft_more : (before : List Words) (l : Words) → draft_of (before ++ l ∷ []) ≡ taken (draft_of before) l
+draft_more before l = fold-append taken blank before (l ∷ [])
+
+-- the draft of the lines before judges a line
+pub told : (draft : DraftView) (before : List Words) (l : Words) → draft ≡ draft_of before
+    → fault_behind before l ≡ fault_in draft l
+told draft before l says = ap (λ (d : DraftView). fault_in d l) (sym says)
+
+pub says_more : (draft : DraftView) (before : List Words) (l : Words) → draft ≡ draft_of before
+    → taken draft l ≡ draft_of (before ++ l ∷ [])
+says_more draft before l says = ap (λ (d : DraftView). taken d l) says ∙ sym (draft_more before l)
+
+-- a text within its limit is judged by its lines
+pub short : (text : List ℕ) → length text ≤ 2 ^ 20 → nat_lt (2 ^ 20) (length text) ≡ false
+short text le = grind (arith, nat_tests)

@@ -1,5 +1,0 @@
-use Rattle.std.proofs.Common.{◌-◌}
-use Rattle.px_scene.proofs.sample.+put_union.Given as goal
-
-abbrev pub decreases-put_union : goal.decreases-put_union
-decreases-put_union l = l.end - l.first

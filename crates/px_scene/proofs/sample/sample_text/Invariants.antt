@@ -1,7 +1,0 @@
-use Rattle.std.proofs.Common.{◌≡◌, ◌++◌}
-use Rattle.std.specs.List.{flat_map, range_with_len}
-use Rattle.px_scene.specs.Sample.{block_lines, sample_start}
-use Rattle.px_scene.proofs.sample.sample_text.Given as goal
-
-abbrev pub invariant-loop-i : goal.invariant-loop-i
-invariant-loop-i l = l.text.items ≡ sample_start l.n ++ flat_map block_lines (range_with_len 0 l.i)
