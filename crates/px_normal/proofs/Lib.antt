@@ -1,10 +1,10 @@
 pub mod BitsLemmas
 pub mod BoxLaws
 pub mod BuildingLemmas
-pub mod CountingLemmas
 pub mod CrossedLemmas
 pub mod CrowdLemmas
 pub mod EndLemmas
+pub mod LengthLaws
 pub mod LiveLemmas
 pub mod MeetsLemmas
 pub mod NormalLemmas

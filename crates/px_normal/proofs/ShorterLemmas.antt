@@ -20,7 +20,7 @@ use Rattle.px_normal.specs.Live.{is_live}
 use Rattle.px_normal.specs.Crowd.{both_lists, crowd, first_past_limit, of_left, of_right, of_root, wanted_forms}
 use Rattle.px_normal.specs.Crowd.{left_when, right_when, wanted_in, wanted_lists, where_wanted}
 use Rattle.px_normal.specs.CrowdLaw.{HasNoDiffer}
-use Rattle.px_normal.proofs.CountingLemmas.{at_least, length-crossed}
+use Rattle.px_normal.proofs.LengthLaws.{at_least, length-crossed}
 use Rattle.px_normal.specs.declared.product.TheConstants.{MAX_PRODUCTS}
 
 left_appended : (n : ℕ) (ps qs : List Product) → length (ps ++ qs) ≤ n → length ps ≤ n

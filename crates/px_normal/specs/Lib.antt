@@ -7,7 +7,5 @@ pub mod Live
 pub mod LiveLaw
 pub mod Crowd
 pub mod CrowdLaw
-pub mod Counting
-pub mod FormCounts
 pub mod Boxed
 pub mod Building

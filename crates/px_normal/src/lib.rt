@@ -2,7 +2,6 @@
 #![tactic(auto)]
 
 mod cell_box;
-mod count;
 mod fault;
 mod live;
 mod normal;
@@ -12,7 +11,6 @@ mod step;
 mod sums;
 
 pub use cell_box::CellBox;
-pub use count::count_products;
 pub use fault::NormalFault;
 pub use normal::{laws_of_live_products, laws_of_normal_forms, normalise};
 pub use product::{MAX_PRODUCTS, Product, Products};

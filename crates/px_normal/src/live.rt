@@ -31,7 +31,7 @@ impl Product {
 }
 
 /// A product, and the common part of its plain solids' boxes.
-#[derive(Clone, Copy, Debug)]
+#[derive(Clone, Copy)]
 pub(crate) struct Boxed {
     product: Product,
     part: Option<CellBox>,

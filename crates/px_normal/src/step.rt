@@ -7,14 +7,14 @@ use px_expr::{Combination, Expr, Op, Sense, Shape};
 use std::alloc::{AllocError, Global};
 
 /// Which lists of a node are wanted: its products, and those of its complement.
-#[derive(Clone, Copy, Debug, PartialEq, Eq)]
+#[derive(Clone, Copy)]
 pub(crate) struct Wanted {
     pub(crate) products: bool,
     pub(crate) complement: bool,
 }
 
 /// Makes the lists of a solid, or of two sides.
-#[derive(Clone, Copy, Debug, PartialEq, Eq)]
+#[derive(Clone, Copy)]
 pub(crate) enum Step {
     Leaf(u8, Wanted),
     Join(Op, Wanted),

@@ -15,7 +15,7 @@ use std::marker::Model;
 
 /// The live products of an expression and of its complement, each at most `MAX_PRODUCTS`. A list that is not
 /// wanted is empty. Contracts see both lists.
-#[derive(Debug, Drop)]
+#[derive(Drop)]
 pub(crate) struct Sums {
     products: Vec<Product>,
     complement: Vec<Product>,

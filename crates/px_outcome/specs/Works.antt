@@ -5,7 +5,7 @@ use Rattle.px_canonical.specs.Canonical.{canonical_text}
 use Rattle.px_scene.specs.Text.{worded}
 use Rattle.px_scene.specs.Reading.{scene_of}
 use Rattle.px_normal.specs.Forms.{sum_of_products}
-use Rattle.px_normal.specs.Counting.{capped}
+use Rattle.px_count.specs.Counting.{capped}
 use Rattle.px_prune.specs.Kept.{plan_of}
 use Rattle.px_sched.specs.Passes.{passes}
 use Rattle.px_control.specs.Program.{total}

@@ -10,12 +10,12 @@ use Rattle.px_expr.specs.Shapes.{op_node}
 use Rattle.px_expr.specs.Tree.{Tree, leaf, join}
 use Rattle.px_expr.specs.declared.node.Op.{Op}
 use Rattle.px_expr.specs.declared.node.Op.TheVariants as o
-use Rattle.px_normal.specs.Counting.{capped}
 use Rattle.px_normal.specs.Crowd.{crowd}
 use Rattle.px_normal.specs.CrowdLaw.{CrowdLaw, HasNoDiffer}
 use Rattle.px_normal.specs.Forms.{sum_of_products}
 use Rattle.px_normal.specs.declared.cell_box.CellBox.{CellBox}
 use Rattle.px_normal.specs.declared.product.TheConstants.{MAX_PRODUCTS}
+use Rattle.px_count.specs.Counting.{capped}
 use Rattle.px_tile.specs.Operators.{is_no_differ}
 
 both_true : (a b : Bool) → (a && b) ≡ true → (a ≡ true) × (b ≡ true)

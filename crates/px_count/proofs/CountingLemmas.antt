@@ -1,9 +1,8 @@
 -- Counts are the lengths of normal forms.
-use Rattle.std.proofs.Common.{ℕ, suc, zero, ◌≡◌, ◌≤◌, ◌+◌, ◌*◌, ◌^◌, min, List, [], ◌∷◌, ◌++◌, length, refl, ap, sym}
-use Rattle.std.proofs.Common.{◌∙◌, arith, inl, inr, map, length-append, lit≤}
-use Rattle.std.proofs.Math.Nat.{mul-le-mul, mul_comm}
+use Rattle.std.proofs.Common.{ℕ, suc, zero, ◌≡◌, ◌≤◌, ◌+◌, ◌*◌, ◌^◌, min, List, ◌++◌, length, refl, ap, sym, ◌∙◌}
+use Rattle.std.proofs.Common.{arith, inl, inr, length-append, lit≤}
+use Rattle.std.proofs.Math.Nat.{mul_comm}
 use Rattle.std.proofs.lemmas.Bool.{cases_lt}
-use Rattle.std.proofs.lemmas.List.{length-map}
 use Rattle.px_expr.specs.Tree.{Tree, join}
 use Rattle.px_expr.specs.declared.node.Op.{Op}
 use Rattle.px_expr.specs.Cells.{combination_of, complement_of, opposite}
@@ -12,18 +11,11 @@ use Rattle.px_expr.specs.declared.node.Sense.TheVariants.{Plain, Complement}
 use Rattle.px_expr.specs.declared.node.Combination.{Combination}
 use Rattle.px_expr.specs.declared.node.Combination.TheVariants.{Both, Either, EitherWay}
 use Rattle.px_normal.specs.declared.product.Product.{Product}
-use Rattle.px_normal.specs.Forms.{forms, both, crossed, sum_in, sum_when}
-use Rattle.px_normal.specs.Counting.{capped}
-use Rattle.px_normal.specs.FormCounts.{counts_of, combined_counts, counted_in, count_when}
-use Rattle.px_normal.specs.declared.count.Counts.{Counts}
-
-pub length-crossed : (ps qs : List Product) → length (crossed ps qs) ≡ length ps * length qs
-length-crossed [] qs = grind arith
-length-crossed (p ∷ ps) qs =
-    grind (arith, length-append (map (both p) qs) (crossed ps qs), length-map qs (both p), length-crossed ps qs)
-
-pub at_least : (k x y : ℕ) → k ≤ x → 1 ≤ y → k ≤ x * y
-at_least k x y p q = omega (arith, mul-le-mul {n₁ = k} {m₁ = 1} {n₂ = x} {m₂ = y} p q)
+use Rattle.px_normal.specs.Forms.{forms, crossed, sum_in, sum_when}
+use Rattle.px_normal.proofs.LengthLaws.{at_least, length-crossed}
+use Rattle.px_count.specs.Counting.{capped}
+use Rattle.px_count.specs.FormCounts.{counts_of, combined_counts, counted_in, count_when}
+use Rattle.px_count.specs.declared.count.Counts.{Counts}
 
 past_both : (k a b : ℕ) → 1 ≤ k → k ≤ a * b → k ≤ min a k * min b k → min (min a k * min b k) k ≡ min (a * b) k
 past_both k a b one x y = omega arith

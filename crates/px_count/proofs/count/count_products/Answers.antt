@@ -3,9 +3,9 @@ use Rattle.std.proofs.lemmas.List.{length-reverse}
 use Rattle.px_expr.specs.Shapes.{put}
 use Rattle.px_expr.proofs.StackLaws.{values_more, values_last, values_length, value_popped}
 use Rattle.px_expr.specs.declared.node.Node.TheVariants as n
-use Rattle.px_normal.specs.FormCounts.{counts_of, leaf_counts, combined_counts}
-use Rattle.px_normal.proofs.CountingLemmas.{counts_join}
-use Rattle.px_normal.proofs.count.count_products.Goals as goal
+use Rattle.px_count.specs.FormCounts.{counts_of, leaf_counts, combined_counts}
+use Rattle.px_count.proofs.CountingLemmas.{counts_join}
+use Rattle.px_count.proofs.count.count_products.Goals as goal
 
 pub count-requires : goal.count-requires
 count-requires c = rw (c.shape.ensures, values_length counts_of _ _ c.loop-node.invariant)

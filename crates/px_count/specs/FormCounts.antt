@@ -7,9 +7,9 @@ use Rattle.px_expr.specs.declared.node.Sense.{Sense}
 use Rattle.px_expr.specs.declared.node.Sense.TheVariants.{Plain, Complement}
 use Rattle.px_expr.specs.declared.node.Combination.{Combination}
 use Rattle.px_expr.specs.declared.node.Combination.TheVariants.{Both, Either, EitherWay}
-use Rattle.px_normal.specs.declared.count.Counts.{Counts}
 use Rattle.px_normal.specs.Forms.{forms}
-use Rattle.px_normal.specs.Counting.{capped}
+use Rattle.px_count.specs.declared.count.Counts.{Counts}
+use Rattle.px_count.specs.Counting.{capped}
 
 abbrev pub counts_of : Tree → Counts
 counts_of tree = record {

@@ -2,15 +2,15 @@
 ghost use Rattle.std.specs.Prelude.{◌≡◌, ◌≤◌, ◌+◌, ◌*◌, length, reverse};
 ghost use Rattle.arrayvec.specs.ArrayVec.{array_vec_len};
 ghost use Rattle.px_expr.specs.Shapes.{joined, put, CanPlace};
-ghost use Rattle.px_normal.specs.Counting.{capped};
-ghost use Rattle.px_normal.specs.FormCounts.{leaf_counts, combined_counts, counted_in, count_when};
 ghost use Rattle.px_normal.specs.Forms.{sum_of_products};
+ghost use Rattle.px_count.specs.Counting.{capped};
+ghost use Rattle.px_count.specs.FormCounts.{leaf_counts, combined_counts, counted_in, count_when};
 
 use arrayvec::ArrayVec;
 use px_expr::{Combination, Expr, MAX_WAITING, Op, Sense, Shape};
 
 /// How many products an expression and its complement have, each at most `2^32`.
-#[derive(Clone, Copy, Debug, Default, PartialEq, Eq)]
+#[derive(Clone, Copy, Default)]
 struct Counts {
     products: u64,
     complement: u64,
