@@ -50,40 +50,35 @@ pub(crate) fn build(
     ensures many { (count : ℕ) → result ≡ Err (NormalFault.TooMany count) → first_past_limit
         (newest_lists (built (boxes_in boxes.now) (reverse stack.old.items) step)) ≡ Some count }
 {
-    match step {
-        Step::Leaf(solid, wanted) => {
-            let sums = Sums::of_solid(alloc, boxes, solid, wanted)?;
-            stack.reserve(1)?;
-            stack.push(sums).unwrap();
-        }
-        Step::Join(op, wanted) => join(alloc, boxes, stack, op, wanted)?,
-    }
-    Ok(())
-}
-
-/// The lists of a node in place of its two sides'.
-fn join(
-    alloc: Global,
-    boxes: &[Option<CellBox>],
-    stack: &mut Vec<Sums>,
-    op: Op,
-    wanted: Wanted,
-) -> Result<(), NormalFault>
-    requires { 2 ≤ vec_len stack.old }
-    ensures lists { OnOk result (reverse stack.new.items
-        ≡ built (boxes_in boxes.now) (reverse stack.old.items) (Step.Join op wanted)) }
-    ensures few { OnOk result (first_past_limit (newest_lists (reverse stack.new.items)) ≡ None) }
-    ensures small { (count : ℕ) → result ≡ Err (NormalFault.TooMany count) → count ≤ 2 ^ 21 }
-    ensures many { (count : ℕ) → result ≡ Err (NormalFault.TooMany count) → first_past_limit
-        (newest_lists (built (boxes_in boxes.now) (reverse stack.old.items) (Step.Join op wanted)))
-        ≡ Some count }
-{
-    let right = stack.pop().unwrap();
-    let left = stack.pop().unwrap();
-    let sums = Sums::of_sides(alloc, boxes, op, wanted, &left, &right)?;
+    let sums = sums_of(alloc, boxes, stack, step)?;
     stack.reserve(1)?;
     stack.push(sums).unwrap();
     Ok(())
+}
+
+/// The lists of a step's node. Its two sides' are taken from the stack.
+fn sums_of(
+    alloc: Global,
+    boxes: &[Option<CellBox>],
+    stack: &mut Vec<Sums>,
+    step: Step,
+) -> Result<Sums, NormalFault>
+    requires { CanBuild (vec_len stack.old) step }
+    ensures lists { IfOk result (λ sums. sums ∷ reverse stack.new.items
+        ≡ built (boxes_in boxes.now) (reverse stack.old.items) step) }
+    ensures few { IfOk result (λ sums. first_past_limit (both_lists sums) ≡ None) }
+    ensures small { (count : ℕ) → result ≡ Err (NormalFault.TooMany count) → count ≤ 2 ^ 21 }
+    ensures many { (count : ℕ) → result ≡ Err (NormalFault.TooMany count) → first_past_limit
+        (newest_lists (built (boxes_in boxes.now) (reverse stack.old.items) step)) ≡ Some count }
+{
+    match step {
+        Step::Leaf(solid, wanted) => Ok(Sums::of_solid(alloc, boxes, solid, wanted)?),
+        Step::Join(op, wanted) => {
+            let right = stack.pop().unwrap();
+            let left = stack.pop().unwrap();
+            Ok(Sums::of_sides(alloc, boxes, op, wanted, &left, &right)?)
+        }
+    }
 }
 
 impl Sums {
@@ -204,98 +199,76 @@ fn list_of(
         (filter (is_live (boxes_in boxes.now)) (sum_when combination left.now right.now))
         ∷ []) ≡ Some count }
 {
+    let mut list = Vec::new(alloc);
     if !wanted {
-        return Ok(Vec::new(alloc));
+        return Ok(list);
     }
+    check_limit(count_of(alloc, boxes, combination, left, right)?)?;
+    push_all(alloc, &mut list, boxes, combination, left, right)?;
+    Ok(list)
+}
+
+/// How many live products a combination makes of those of two sides: none is kept.
+fn count_of(
+    alloc: Global,
+    boxes: &[Option<CellBox>],
+    combination: Combination,
+    left: &Sums,
+    right: &Sums,
+) -> Result<u32, AllocError>
+    ensures count { IfOk result (λ count. count ≡ length
+        (filter (is_live (boxes_in boxes.now)) (sum_when combination left.now right.now))) }
+    ensures most { IfOk result (λ count. count ≤ 2 ^ 21) }
+{
     match combination {
         Combination::Both(first, second) => {
-            both(alloc, boxes, left.in_sense(first), right.in_sense(second))
+            count_crossed(alloc, boxes, left.in_sense(first), right.in_sense(second))
         }
         Combination::Either(first, second) => {
-            either(alloc, boxes, left.in_sense(first), right.in_sense(second))
+            Ok(count_live(boxes, left.in_sense(first)) + count_live(boxes, right.in_sense(second)))
         }
-        Combination::EitherWay(sense) => either_way(
-            alloc,
-            boxes,
-            left,
-            right.in_sense(sense),
-            right.in_sense(sense.opposite()),
-        ),
+        Combination::EitherWay(sense) => {
+            let own = right.in_sense(sense);
+            let others = right.in_sense(sense.opposite());
+            let count = count_crossed(alloc, boxes, left.products(), own)?;
+            Ok(count + count_crossed(alloc, boxes, left.complement(), others)?)
+        }
     }
 }
 
-/// The live products of either list.
-fn either(
+/// Adds the live products that a combination makes of those of two sides.
+fn push_all(
     alloc: Global,
+    list: &mut Vec<Product>,
     boxes: &[Option<CellBox>],
-    first: &[Product],
-    second: &[Product],
-) -> Result<Vec<Product>, NormalFault>
-    requires first { length first.now ≤ MAX_PRODUCTS }
-    requires second { length second.now ≤ MAX_PRODUCTS }
-    ensures list { IfOk result (λ list.
-        list.items ≡ filter (is_live (boxes_in boxes.now)) (first.now ++ second.now)) }
-    ensures few { IfOk result (λ list. length list.items ≤ MAX_PRODUCTS) }
-    ensures small { (count : ℕ) → result ≡ Err (NormalFault.TooMany count) → count ≤ 2 ^ 21 }
-    ensures many { (count : ℕ) → result ≡ Err (NormalFault.TooMany count) → first_past_limit
-        (filter (is_live (boxes_in boxes.now)) (first.now ++ second.now) ∷ []) ≡ Some count }
-{
-    check_limit(count_live(boxes, first) + count_live(boxes, second))?;
-    let mut list = Vec::new(alloc);
-    push_live(&mut list, boxes, first)?;
-    push_live(&mut list, boxes, second)?;
-    Ok(list)
-}
-
-/// The live products of one list, each with each of another: they are counted before any is kept.
-fn both(
-    alloc: Global,
-    boxes: &[Option<CellBox>],
-    first: &[Product],
-    second: &[Product],
-) -> Result<Vec<Product>, NormalFault>
-    requires first { length first.now ≤ MAX_PRODUCTS }
-    requires second { length second.now ≤ MAX_PRODUCTS }
-    ensures list { IfOk result (λ list.
-        list.items ≡ filter (is_live (boxes_in boxes.now)) (crossed first.now second.now)) }
-    ensures few { IfOk result (λ list. length list.items ≤ MAX_PRODUCTS) }
-    ensures small { (count : ℕ) → result ≡ Err (NormalFault.TooMany count) → count ≤ 2 ^ 21 }
-    ensures many { (count : ℕ) → result ≡ Err (NormalFault.TooMany count) → first_past_limit
-        (filter (is_live (boxes_in boxes.now)) (crossed first.now second.now) ∷ []) ≡ Some count }
-{
-    check_limit(count_crossed(alloc, boxes, first, second)?)?;
-    let mut list = Vec::new(alloc);
-    push_crossed(alloc, &mut list, boxes, first, second)?;
-    Ok(list)
-}
-
-/// The live products of the left side's own each with each of a list, and then of its complement's
-/// with another.
-fn either_way(
-    alloc: Global,
-    boxes: &[Option<CellBox>],
+    combination: Combination,
     left: &Sums,
-    first: &[Product],
-    second: &[Product],
-) -> Result<Vec<Product>, NormalFault>
-    requires first { length first.now ≤ MAX_PRODUCTS }
-    requires second { length second.now ≤ MAX_PRODUCTS }
-    ensures list { IfOk result (λ list. list.items ≡ filter (is_live (boxes_in boxes.now))
-        (crossed left.now.products first.now ++ crossed left.now.complement second.now)) }
-    ensures few { IfOk result (λ list. length list.items ≤ MAX_PRODUCTS) }
-    ensures small { (count : ℕ) → result ≡ Err (NormalFault.TooMany count) → count ≤ 2 ^ 21 }
-    ensures many { (count : ℕ) → result ≡ Err (NormalFault.TooMany count) → first_past_limit
-        (filter (is_live (boxes_in boxes.now))
-        (crossed left.now.products first.now ++ crossed left.now.complement second.now) ∷ [])
-        ≡ Some count }
+    right: &Sums,
+) -> Result<(), AllocError>
+    ensures { OnOk result (list.new.items ≡ list.old.items
+        ++ filter (is_live (boxes_in boxes.now)) (sum_when combination left.now right.now)) }
 {
-    let own = count_crossed(alloc, boxes, left.products(), first)?;
-    let others = count_crossed(alloc, boxes, left.complement(), second)?;
-    check_limit(own + others)?;
-    let mut list = Vec::new(alloc);
-    push_crossed(alloc, &mut list, boxes, left.products(), first)?;
-    push_crossed(alloc, &mut list, boxes, left.complement(), second)?;
-    Ok(list)
+    match combination {
+        Combination::Both(first, second) => {
+            push_crossed(
+                alloc,
+                list,
+                boxes,
+                left.in_sense(first),
+                right.in_sense(second),
+            )
+        }
+        Combination::Either(first, second) => {
+            push_live(list, boxes, left.in_sense(first))?;
+            push_live(list, boxes, right.in_sense(second))
+        }
+        Combination::EitherWay(sense) => {
+            let own = right.in_sense(sense);
+            let others = right.in_sense(sense.opposite());
+            push_crossed(alloc, list, boxes, left.products(), own)?;
+            push_crossed(alloc, list, boxes, left.complement(), others)
+        }
+    }
 }
 
 /// Whether a list can have so many products.
