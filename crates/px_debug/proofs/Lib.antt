@@ -1,5 +1,4 @@
 pub mod FittingLemmas
-pub mod GridLemmas
 pub mod JumpLemmas
 pub mod MarkingLemmas
 pub mod TraceLemmas

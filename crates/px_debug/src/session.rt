@@ -5,18 +5,19 @@ ghost use Rattle.px_io.specs.Told.{TakesAll, TakesFront};
 ghost use Rattle.px_array.specs.Slots.{after_save};
 ghost use Rattle.px_control.specs.Program.{IsAt};
 ghost use Rattle.px_debug.specs.Answers.{answer, answer_in};
-ghost use Rattle.px_debug.specs.Commands.{line_command};
+ghost use Rattle.px_debug_text.specs.Commands.{line_command};
 ghost use Rattle.px_debug.specs.Moves.{Fits, SessionView, going, most_clocks, moved};
 
-use crate::command::{Command, command_of};
 use crate::course::Course;
-use crate::machine_text::{field_answer, pixel_answer, tree_answer};
-use crate::text::{Text, number_line, place_line, unknown_line};
-use crate::trace_text::trace_text;
+use crate::place_text::place_line;
 use circular_buffer::HeapCircularBuffer;
 use px_array::Array;
 use px_asm::Operating;
 use px_control::{Job, law_of_grids, law_of_sizes};
+use px_debug_text::{
+    Command, Text, command_of, field_answer, number_line, pixel_answer, trace_text, tree_answer,
+    unknown_line,
+};
 use px_io::{Failed, Sink, write_whole};
 use px_num::Memory;
 use std::alloc::Global;
@@ -27,6 +28,18 @@ use std::marker::Model;
 pub enum Going {
     More,
     Quit,
+}
+
+impl Going {
+    /// Whether a session goes on after a command.
+    fn after(command: Command) -> Going
+        ensures { result ≡ going command }
+    {
+        match command {
+            Command::Quit => Going::Quit,
+            _ => Going::More,
+        }
+    }
 }
 
 /// A session over the broadcasts of a scene, on an array that it is lent (docs/DEBUGGER.md).
@@ -111,7 +124,7 @@ impl<'s> Session<'s> {
         let command = command_of(line);
         self.obey(array, command);
         self.speak(array, command, out)?;
-        Ok(command.going())
+        Ok(Going::after(command))
     }
 
     /// Goes where a command leads, and counts its line.

@@ -10,7 +10,7 @@ use Rattle.px_num.proofs.TruthLaws.{neither_left, neither_right}
 use Rattle.px_io.specs.Told.{SinkState, TakesAll, TakesFirst, TakesFront}
 use Rattle.px_io.proofs.ToldLaws.{appends_both, takes_both, takes_none, reopens_both}
 use Rattle.px_debug.specs.Answers.{answer}
-use Rattle.px_debug.specs.Commands.{line_command}
+use Rattle.px_debug_text.specs.Commands.{line_command}
 use Rattle.px_debug.specs.Moves.{SessionView, going, most_clocks, moved}
 use Rattle.px_debug.specs.declared.session.Going.{Going}
 use Rattle.px_debug.specs.declared.session.Going.TheVariants as g

@@ -5,7 +5,7 @@ use Rattle.std.proofs.Common.{if◌then◌else◌}
 use Rattle.std.proofs.lemmas.Bool.{cases_lt}
 use Rattle.std.proofs.lemmas.List.{length-map, take_all, take-append-le, take-map}
 use Rattle.px_num.proofs.TruthLaws.{lt_true}
-use Rattle.px_debug.specs.Commands.{line_command}
+use Rattle.px_debug_text.specs.Commands.{line_command}
 use Rattle.px_debug.specs.Moves.{SessionView}
 use Rattle.px_lines.specs.Lines.{ended, last_of, left}
 use Rattle.px_session.specs.Buffers.{held_with, short_ended, short_left}

@@ -1,6 +1,6 @@
 use Rattle.std.proofs.Common.{◌≡◌, ◌-◌, ◌*◌, ◌≤◌, length, take}
-use Rattle.px_debug.specs.Answers.{trace_lines}
-use Rattle.px_debug.proofs.trace_text.trace_text.Given as goal
+use Rattle.px_debug_text.specs.Lines.{trace_lines}
+use Rattle.px_debug_text.proofs.trace.trace_text.Given as goal
 
 abbrev pub invariant-loop-i : goal.invariant-loop-i
 invariant-loop-i l = record {

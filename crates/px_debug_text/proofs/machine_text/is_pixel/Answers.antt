@@ -1,7 +1,7 @@
 use Rattle.std.proofs.Common.{◌<◌, ◌^◌, ap, arith}
 use Rattle.std.proofs.lemmas.Bool.Decides.{nat_tests}
-use Rattle.px_debug.proofs.GridLemmas.{below_power}
-use Rattle.px_debug.proofs.machine_text.is_pixel.Goals as goal
+use Rattle.px_debug_text.proofs.GridLemmas.{below_power}
+use Rattle.px_debug_text.proofs.machine_text.is_pixel.Goals as goal
 
 pub returns-then-x-power-clause-small : goal.returns-then-x-power-clause-small
 returns-then-x-power-clause-small g c low =

@@ -1,7 +1,6 @@
 //! What a command line asks for.
 ghost use Rattle.std.specs.Prelude.{◌≡◌, ◌^◌, ◌<◌, IfSome, map};
-ghost use Rattle.px_debug.specs.Moves.{going};
-ghost use Rattle.px_debug.specs.Commands.{
+ghost use Rattle.px_debug_text.specs.Commands.{
   command_in,
   line_command,
   of_word,
@@ -10,7 +9,6 @@ ghost use Rattle.px_debug.specs.Commands.{
   plain_number,
 };
 
-use crate::session::Going;
 use px_text::{few_words, size_of};
 
 /// A longer line is none of the commands.
@@ -21,7 +19,7 @@ const MOST_DIGITS: usize = 18;
 
 /// What a command line asks for (docs/DEBUGGER.md, "Lines").
 #[derive(Clone, Copy, Debug, PartialEq, Eq)]
-pub(crate) enum Command {
+pub enum Command {
     /// So many clocks forward.
     Step(u64),
     /// So many times to the end of the operation that runs.
@@ -50,20 +48,8 @@ pub(crate) enum Command {
     Unknown,
 }
 
-impl Command {
-    /// Whether a session goes on after it.
-    pub(crate) fn going(self) -> Going
-        ensures { result ≡ going self }
-    {
-        match self {
-            Command::Quit => Going::Quit,
-            _ => Going::More,
-        }
-    }
-}
-
-/// What a command line asks for.
-pub(crate) fn command_of(line: &[u8]) -> Command
+/// What a command line, without its line feed, asks for (docs/DEBUGGER.md, "Lines").
+pub fn command_of(line: &[u8]) -> Command
     ensures { result ≡ line_command line.now }
 {
     if line.len() > MOST_BYTES {

@@ -1,6 +1,6 @@
 //! The answer that shows the last broadcasts.
 ghost use Rattle.std.specs.Prelude.{◌≡◌, ◌-◌, ◌≤◌, ◌++◌, ◌^◌, ◌<◌, Some, codes, decimal, length, slice_get};
-ghost use Rattle.px_debug.specs.Answers.{act_text, flag, trace_line, trace_lines, tree_text};
+ghost use Rattle.px_debug_text.specs.Lines.{act_text, flag, trace_line, trace_lines, tree_text};
 
 use crate::text::{Text, digit};
 use arrayvec::ArrayString;
@@ -9,8 +9,11 @@ use itoa::Buffer;
 use px_array::{Micro, TreeOp};
 use px_pixel::Act;
 
-/// A line for each of the last broadcasts, of which there are at most 32.
-pub(crate) fn trace_text(trace: &HeapCircularBuffer<Micro>, now: u64) -> Text
+/// The answer to `trace` (docs/DEBUGGER.md, "Answers"): a line for each of the last broadcasts, of
+/// which there are at most 32, oldest first.
+///
+/// `now` broadcasts were made, these last. Their clocks are counted from 0.
+pub fn trace_text(trace: &HeapCircularBuffer<Micro>, now: u64) -> Text
     requires few { length trace.now.items ≤ 32 }
     requires made { length trace.now.items ≤ now }
     ensures { result.bytes ≡ trace_lines (now - length trace.now.items) trace.now.items }

@@ -1,7 +1,7 @@
 use Rattle.std.proofs.Common.{◌+◌, ◌-◌, ◌++◌, ◌∙◌, ap, arith, length, sym, take}
-use Rattle.px_debug.specs.Answers.{trace_line, trace_lines}
-use Rattle.px_debug.proofs.TracingLemmas.{line_more}
-use Rattle.px_debug.proofs.trace_text.trace_text.Goals as goal
+use Rattle.px_debug_text.specs.Lines.{trace_line, trace_lines}
+use Rattle.px_debug_text.proofs.TraceLineLemmas.{line_more}
+use Rattle.px_debug_text.proofs.trace.trace_text.Goals as goal
 
 pub loop-i-preserved : goal.loop-i-preserved
 loop-i-preserved c =

@@ -3,7 +3,7 @@ ghost use Rattle.std.specs.Prelude.{◌≡◌, ◌+◌, ◌<◌, ◌≤◌, ◌^
 ghost use Rattle.px_array.specs.Arrays.{HasPixel, IsOpen, levels_of, pixel_of};
 ghost use Rattle.px_macro.specs.Fields.{number_in};
 ghost use Rattle.px_sched.specs.Layouts.{need_of};
-ghost use Rattle.px_debug.specs.Answers.{digit as digit_of, field_line, is_node, is_pixel, pixel_line, tree_line, unknown_line};
+ghost use Rattle.px_debug_text.specs.Lines.{digit as digit_of, field_line, is_node, is_pixel, pixel_line, tree_line, unknown_line};
 ghost use Rattle.px_array.specs.Arrays.{HasGrid};
 ghost use Rattle.px_tree.specs.Nodes.{IsGrid};
 
@@ -16,8 +16,12 @@ use px_macro::Field;
 use px_num::power;
 use px_sched::Layout;
 
-/// The answer that shows a pixel, where there is one.
-pub(crate) fn pixel_answer<A: Array>(array: &A, x: u64, y: u64, number: u64) -> Text
+/// The answer to `pixel x y` (docs/DEBUGGER.md, "Lines"): the memory bits of a pixel from bit 0 on,
+/// and its registers.
+///
+/// `x` counts pixels from the left, and `y` from the top; both may be any number. Where the grid
+/// has no such pixel it is `? line` with the number of the line.
+pub fn pixel_answer<A: Array>(array: &A, x: u64, y: u64, number: u64) -> Text
     requires few { A.BITS ≤ 256 }
     requires grid { IsGrid (A.device array.now).state.tree.nx (A.device array.now).state.tree.ny }
     requires pixels { HasGrid A.BITS (A.device array.now).state.tree.nx
@@ -32,14 +36,11 @@ pub(crate) fn pixel_answer<A: Array>(array: &A, x: u64, y: u64, number: u64) -> 
     }
 }
 
-/// The answer that shows the keys of a pixel, where there is one.
-pub(crate) fn field_answer<A: Array>(
-    array: &A,
-    layout: &Layout,
-    x: u64,
-    y: u64,
-    number: u64,
-) -> Text
+/// The answer to `field x y` (docs/DEBUGGER.md, "Lines"): depth and face number of the best key and
+/// of the candidate's, and the bits alive and par, where `layout` has them in a pixel's memory.
+///
+/// `x` and `y`, and a pixel that is not there, are as in `pixel_answer`.
+pub fn field_answer<A: Array>(array: &A, layout: &Layout, x: u64, y: u64, number: u64) -> Text
     requires room { need_of layout.now ≤ A.BITS }
     requires grid { IsGrid (A.device array.now).state.tree.nx (A.device array.now).state.tree.ny }
     ensures { result.bytes ≡ (if is_pixel (A.device array.now).state x y
@@ -52,8 +53,11 @@ pub(crate) fn field_answer<A: Array>(
     }
 }
 
-/// The answer that shows a node, where there is one.
-pub(crate) fn tree_answer<A: Array>(array: &A, level: u64, index: u64, number: u64) -> Text
+/// The answer to `tree level index` (docs/DEBUGGER.md, "Lines"): output and carry of a node.
+///
+/// Levels are counted from 1, below the root, and the nodes of a level from 0. Where the tree has
+/// no such node it is `? line` with the number of the line.
+pub fn tree_answer<A: Array>(array: &A, level: u64, index: u64, number: u64) -> Text
     requires grid { IsGrid (A.device array.now).state.tree.nx (A.device array.now).state.tree.ny }
     ensures { result.bytes ≡ (if is_node (A.device array.now).state level index
         then tree_line (A.device array.now).state level index else unknown_line number) }
@@ -100,7 +104,7 @@ fn is_level(level: u64, levels: u32) -> bool
 }
 
 /// The memory bits of a pixel, and its registers.
-pub(crate) fn pixel_line<A: Array>(array: &A, x: u32, y: u32) -> Text
+fn pixel_line<A: Array>(array: &A, x: u32, y: u32) -> Text
     requires pixel { HasPixel (A.device array.now) x y }
     requires few { A.BITS ≤ 256 }
     requires memory { length (pixel_of (A.device array.now).state x y).memory ≡ A.BITS }
@@ -142,7 +146,7 @@ fn memory_text<A: Array>(array: &A, x: u32, y: u32) -> ArrayString<256>
 }
 
 /// The keys of a pixel, and its two bits behind them.
-pub(crate) fn field_line<A: Array>(array: &A, layout: &Layout, x: u32, y: u32) -> Text
+fn field_line<A: Array>(array: &A, layout: &Layout, x: u32, y: u32) -> Text
     requires pixel { HasPixel (A.device array.now) x y }
     requires room { need_of layout.now ≤ A.BITS }
     ensures { result.bytes ≡ field_line layout.now (A.device array.now).state x y }
@@ -185,7 +189,7 @@ fn key_text<A: Array>(array: &A, depth: Field, number: Field, x: u32, y: u32) ->
 }
 
 /// The two latches of a node.
-pub(crate) fn tree_line<A: Array>(array: &A, level: u32, index: u32) -> Text
+fn tree_line<A: Array>(array: &A, level: u32, index: u32) -> Text
     requires is_open { IsOpen (A.device array.now) }
     requires from_one { 1 ≤ level }
     requires in_tree { level ≤ levels_of (A.device array.now).state.tree }

@@ -1,7 +1,7 @@
 use Rattle.std.proofs.Common.{◌≡◌, map, take}
 use Rattle.px_array.specs.Arrays.{pixel_of}
-use Rattle.px_debug.specs.Answers.{digit}
-use Rattle.px_debug.proofs.machine_text.memory_text.Given as goal
+use Rattle.px_debug_text.specs.Lines.{digit}
+use Rattle.px_debug_text.proofs.machine_text.memory_text.Given as goal
 
 abbrev pub invariant-loop-at : goal.invariant-loop-at
 invariant-loop-at g l = l.text.bytes ≡ map digit (take l.at (pixel_of (g.A.Array.device l.array).state l.x l.y).memory)

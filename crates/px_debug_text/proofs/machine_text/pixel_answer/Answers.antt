@@ -1,5 +1,5 @@
-use Rattle.px_debug.proofs.GridLemmas.{memory_long}
-use Rattle.px_debug.proofs.machine_text.pixel_answer.Goals as goal
+use Rattle.px_debug_text.proofs.GridLemmas.{memory_long}
+use Rattle.px_debug_text.proofs.machine_text.pixel_answer.Goals as goal
 
 pub pixel_line-requires-clause-memory : goal.pixel_line-requires-clause-memory
 pixel_line-requires-clause-memory g c =

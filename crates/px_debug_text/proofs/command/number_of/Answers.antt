@@ -1,6 +1,6 @@
 use Rattle.std.proofs.Common.{◌<◌, ◌^◌, IfSome, subst, sym}
 use Rattle.px_text.proofs.LineLaws.{size_low}
-use Rattle.px_debug.proofs.command.number_of.Goals as goal
+use Rattle.px_debug_text.proofs.command.number_of.Goals as goal
 
 pub returns-then-word-le-MOST_DIGITS-clause-small : goal.returns-then-word-le-MOST_DIGITS-clause-small
 returns-then-word-le-MOST_DIGITS-clause-small c =
