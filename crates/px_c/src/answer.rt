@@ -14,7 +14,7 @@ use px_scene::{LimitKind, SceneFault};
 use px_state::StateFault;
 
 /// What a call answers.
-#[derive(Clone, Copy, Debug, PartialEq, Eq)]
+#[derive(Clone, Copy)]
 pub(crate) struct Answer {
     pub(crate) status: u32,
     pub(crate) found: Found,

@@ -13,7 +13,7 @@ use px_model::{Scene, laws_of_scenes};
 use px_sched::{Layout, Step, laws_of_passes};
 
 /// What is counted of operations.
-#[derive(Clone, Copy, Debug, PartialEq, Eq)]
+#[derive(Clone, Copy)]
 pub(crate) enum Measure {
     /// How many they are.
     Operations,

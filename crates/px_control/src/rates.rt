@@ -12,7 +12,7 @@ use px_num::Linear;
 use px_sched::{Layout, Step};
 
 /// What each kind of step comes to in a scene: a face's apart from the edges of its solid, each of which is the same.
-#[derive(Clone, Copy, Debug, PartialEq, Eq)]
+#[derive(Clone, Copy)]
 pub(crate) struct Rates {
     pub(crate) start: u64,
     pub(crate) opening: u64,

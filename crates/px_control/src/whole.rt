@@ -14,7 +14,7 @@ use px_asm::{Operating, latest, law_of_renewal, make_micros, renewal_of};
 use px_macro::Macro;
 
 /// Operations that begin tree, carry and latch anew.
-#[derive(Clone, Copy, Debug, PartialEq, Eq)]
+#[derive(Clone, Copy)]
 struct Stretch {
     /// The first of them.
     first: u64,

@@ -6,7 +6,7 @@ ghost use Rattle.px_lines.specs.Searches.{HasSeen};
 use crate::end_line::is_end_line;
 
 /// How far a text was searched: where the line begins that is not whole yet, and the next byte.
-#[derive(Clone, Copy, Debug, PartialEq, Eq)]
+#[derive(Clone, Copy)]
 pub(crate) struct Search {
     pub(crate) line: usize,
     pub(crate) at: usize,

@@ -6,7 +6,7 @@ ghost use Rattle.px_listing.specs.Keywords.{operand_count, due_after, is_due, is
 use crate::kind::Kind;
 
 /// What the first word of a line begins.
-#[derive(Clone, Copy, Debug, PartialEq, Eq)]
+#[derive(Clone, Copy)]
 pub(crate) enum Keyword {
     Pxlist,
     Grid,
@@ -16,7 +16,7 @@ pub(crate) enum Keyword {
 }
 
 /// What is due on a line, by the line before it.
-#[derive(Clone, Copy, Debug, PartialEq, Eq)]
+#[derive(Clone, Copy, PartialEq, Eq)]
 pub(crate) enum Due {
     Header,
     Grid,

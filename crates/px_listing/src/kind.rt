@@ -14,7 +14,7 @@ use crate::numbers::{
 use px_macro::Macro;
 
 /// An operation, whatever its numbers are.
-#[derive(Clone, Copy, Debug, PartialEq, Eq)]
+#[derive(Clone, Copy)]
 pub(crate) enum Kind {
     All,
     KeepSign,
@@ -30,7 +30,7 @@ pub(crate) enum Kind {
 }
 
 /// What the numbers of an operation write.
-#[derive(Clone, Copy, Debug, PartialEq, Eq)]
+#[derive(Clone, Copy)]
 pub(crate) enum Shape {
     Nothing,
     /// The coefficients of a form.

@@ -5,7 +5,7 @@ ghost use Rattle.px_model.specs.declared.limits.TheConstants.{MAX_PICTURE_SIZE};
 use px_num::Linear;
 
 /// The pixels `x0` to `x1` of the rows `y0` to `y1`, both ends included.
-#[derive(Clone, Copy, Debug)]
+#[derive(Clone, Copy)]
 pub(crate) struct Block {
     pub x0: u32,
     pub x1: u32,

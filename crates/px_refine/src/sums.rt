@@ -6,7 +6,7 @@ use crate::finer::parts;
 use px_model::Colour;
 
 /// Sums of the samples of some pixels.
-#[derive(Clone, Copy, Debug, PartialEq, Eq)]
+#[derive(Clone, Copy)]
 pub(crate) struct Sums {
     red: u32,
     green: u32,

@@ -34,7 +34,7 @@ use px_sched::Layout;
 use std::alloc::Global;
 
 /// The pixels of a picture that show a face.
-#[derive(Clone, Copy, Debug, PartialEq, Eq)]
+#[derive(Clone, Copy)]
 struct Shown {
     /// How many they are.
     pixels: u64,

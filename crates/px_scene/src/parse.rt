@@ -13,7 +13,7 @@ use px_show::{Cause, Version};
 use px_text::{is_name, number_of};
 
 /// The numbers of a colour, which no limit holds yet.
-#[derive(Clone, Copy, Debug)]
+#[derive(Clone, Copy)]
 pub(crate) struct Paint {
     pub red: i64,
     pub green: i64,
@@ -21,7 +21,7 @@ pub(crate) struct Paint {
 }
 
 /// The numbers of a front or a back, its colour's too where it has its own.
-#[derive(Clone, Copy, Debug)]
+#[derive(Clone, Copy)]
 pub(crate) struct Plane {
     pub form: Linear,
     pub paint: Option<Paint>,
@@ -29,7 +29,7 @@ pub(crate) struct Plane {
 
 /// What a line says that is due and of good form, with its numbers; what stands before it is not
 /// asked yet.
-#[derive(Clone, Copy, Debug)]
+#[derive(Clone, Copy)]
 pub(crate) enum Statement<'t> {
     Header(Version),
     Picture { width: i64, height: i64 },

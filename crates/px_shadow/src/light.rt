@@ -134,7 +134,7 @@ fn add_light(
 }
 
 /// What the words of a line say so far.
-#[derive(Clone, Copy, Debug)]
+#[derive(Clone, Copy)]
 enum Said {
     /// There is no word.
     Nothing,

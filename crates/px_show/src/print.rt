@@ -21,7 +21,7 @@ use px_num::Memory;
 use std::alloc::Global;
 
 /// What stands before a side that waits: a sign, where it is a right side, and opening brackets.
-#[derive(Clone, Copy, Debug)]
+#[derive(Clone, Copy)]
 struct Gap {
     sign: Option<Op>,
     opens: u32,

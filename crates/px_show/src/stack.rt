@@ -19,7 +19,7 @@ use std::alloc::{AllocError, Global};
 /// What stands on the stack: a side, which is a whole expression, or a token that is in none yet.
 ///
 /// A side's nesting is below the number of steps that build it, so that it never stops short.
-#[derive(Clone, Copy, Debug, PartialEq, Eq)]
+#[derive(Clone, Copy)]
 enum Part {
     Side { nesting: usize },
     Opens,
@@ -28,7 +28,7 @@ enum Part {
 }
 
 /// How an expression is built: a leaf by its solid's place, or the last two sides become one.
-#[derive(Clone, Copy, Debug, PartialEq, Eq)]
+#[derive(Clone, Copy)]
 pub(crate) enum Step {
     Leaf(u8),
     Join(Op),

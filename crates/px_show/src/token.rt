@@ -13,7 +13,7 @@ use px_text::is_name_byte;
 use std::alloc::{AllocError, Global};
 
 /// A longest run of bytes of names, a bracket, a sign of the version, or another byte.
-#[derive(Clone, Copy, Debug)]
+#[derive(Clone, Copy)]
 pub(crate) enum Token<'t> {
     Name(&'t [u8]),
     Opens,

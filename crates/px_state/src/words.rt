@@ -46,7 +46,7 @@ fn node_words(nx: u32, ny: u32) -> usize
 }
 
 /// Where a word of a state stands.
-#[derive(Clone, Copy, Debug, PartialEq, Eq)]
+#[derive(Clone, Copy)]
 enum Part {
     /// A plane, its row, and the first column of the word.
     Plane { plane: u32, y: u32, column: u32 },

@@ -23,7 +23,7 @@ const PIECE: usize = 512;
 const PIECE_BYTES: usize = 3 * PIECE;
 
 /// What an image shows of each number.
-#[derive(Clone, Copy, Debug, PartialEq, Eq)]
+#[derive(Clone, Copy)]
 pub(crate) enum Part {
     Depth,
     Face,

@@ -14,7 +14,7 @@ ghost use Rattle.px_tile.specs.Tilings.{
 use px_model::Scene;
 
 /// A tile: its first pixel in the wide picture, and its size.
-#[derive(Clone, Copy, Debug, PartialEq, Eq)]
+#[derive(Clone, Copy)]
 pub(crate) struct Tile {
     pub x0: u32,
     pub y0: u32,
