@@ -9,8 +9,6 @@ mod mem_source;
 mod reading;
 mod sink;
 mod source;
-#[cfg(test)]
-mod tests;
 mod writing;
 
 pub use calm::{CalmSink, CalmSource};

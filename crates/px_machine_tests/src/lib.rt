@@ -1,4 +1,4 @@
-//! Arrays clocked by hand: what each clock and each operation leaves in their pixels and nodes.
+//! Pixels, trees and arrays clocked by hand: what each clock and each operation leaves in them.
 #![tactic(auto)]
 
 #[cfg(test)]
@@ -10,8 +10,14 @@ mod compared;
 #[cfg(test)]
 mod drawn;
 #[cfg(test)]
+mod macros;
+#[cfg(test)]
 mod numbers;
 #[cfg(test)]
 mod operations;
+#[cfg(test)]
+mod pixels;
+#[cfg(test)]
+mod trees;
 #[cfg(test)]
 mod words;

@@ -4,8 +4,6 @@
 mod field;
 mod limits;
 mod operation;
-#[cfg(test)]
-mod tests;
 
 pub use field::{Field, laws_of_fields};
 pub use limits::lawful;

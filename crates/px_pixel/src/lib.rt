@@ -4,8 +4,6 @@
 mod act;
 mod memory;
 mod pixel;
-#[cfg(test)]
-mod tests;
 
 pub use act::Act;
 pub use memory::PixelMemory;

@@ -1,5 +1,6 @@
-//! The bounds of what is lawful.
-use crate::{Field, Macro, lawful};
+//! The bounds of which operations are lawful.
+
+use px_macro::{Field, Macro, lawful};
 use px_num::Linear;
 
 #[test]

@@ -1,8 +1,8 @@
-//! The act table, worked by hand.
+//! One pixel: the table of acts, worked by hand.
 ghost use Rattle.std.specs.Prelude.{◌<◌, ◌≤◌, ℕ};
 ghost use Rattle.px_pixel.specs.Acts.{HasPlace};
 
-use crate::{Act, Pixel};
+use px_pixel::{Act, Pixel};
 use std::process::Abort;
 
 /// An act and the bit of the tree; then enable, carry, latch and the bit of memory that the act
