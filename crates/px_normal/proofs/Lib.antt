@@ -4,6 +4,7 @@ pub mod BuildingLemmas
 pub mod CrossedLemmas
 pub mod CrowdLemmas
 pub mod EndLemmas
+pub mod KeptLemmas
 pub mod LengthLaws
 pub mod LiveLemmas
 pub mod MeetsLemmas

@@ -1,0 +1,47 @@
+-- What is kept of a list with one element more, and of what is crossed with it.
+use Rattle.std.proofs.Common.{ℕ, ◌≡◌, ◌<◌, ◌+◌, Bool, List, [], ◌∷◌, ◌++◌, append_assoc, ap, sym, ◌∙◌, get_or, length}
+use Rattle.std.proofs.Common.{map, take}
+use Rattle.std.specs.List.{filter}
+use Rattle.std.proofs.lemmas.List.{map-append, take_more}
+use Rattle.std.proofs.lemmas.List.Elements.{filter-append}
+use Rattle.px_normal.specs.declared.product.Product.{Product}
+use Rattle.px_normal.specs.declared.live.Boxed.{Boxed}
+use Rattle.px_normal.specs.Forms.{both}
+use Rattle.px_normal.specs.Boxed.{products_in}
+
+module _ (test : Product → Bool) where
+  kept_more : (products : List Product) (i : ℕ) (product : Product) → i < length products
+      → filter test (take (i + 1) products)
+      ≡ filter test (take i products) ++ filter test (get_or products i product ∷ [])
+  kept_more products i product within =
+      ap (filter test) (take_more products i product within)
+      ∙ filter-append test (take i products) (get_or products i product ∷ [])
+
+  kept_more_with : (p : Product) (list : List Boxed) (i : ℕ) (q : Boxed) → i < length list
+      → filter test (map (both p) (products_in (take (i + 1) list)))
+      ≡ filter test (map (both p) (products_in (take i list))) ++ filter test (both p (get_or list i q).product ∷ [])
+  kept_more_with p list i q within =
+      ap (λ boxed. filter test (map (both p) (products_in boxed))) (take_more list i q within)
+      ∙ ap (λ products. filter test (map (both p) products))
+      (map-append (λ b. b.product) (take i list) (get_or list i q ∷ []))
+      ∙ ap (filter test) (map-append (both p) (products_in (take i list)) ((get_or list i q).product ∷ []))
+      ∙ filter-append test (map (both p) (products_in (take i list))) (both p (get_or list i q).product ∷ [])
+
+  appended : (start before now kept one all : List Product) → now ≡ before ++ one → before ≡ start ++ kept
+      → all ≡ kept ++ one → now ≡ start ++ all
+  appended start before now kept one all added known more =
+      added ∙ rw known (append_assoc start kept one) ∙ ap (λ list. start ++ list) (sym more)
+
+  -- the step of a loop that adds what is kept
+  pub added : (start before now products : List Product) (i : ℕ) (product : Product) → i < length products
+      → now ≡ before ++ filter test (get_or products i product ∷ [])
+      → before ≡ start ++ filter test (take i products) → now ≡ start ++ filter test (take (i + 1) products)
+  added start before now products i product within one known =
+      appended start before now _ _ _ one known (kept_more products i product within)
+
+  pub added_with : (start before now : List Product) (p : Product) (list : List Boxed) (i : ℕ) (q : Boxed)
+      → i < length list → now ≡ before ++ filter test (both p (get_or list i q).product ∷ [])
+      → before ≡ start ++ filter test (map (both p) (products_in (take i list)))
+      → now ≡ start ++ filter test (map (both p) (products_in (take (i + 1) list)))
+  added_with start before now p list i q within one known =
+      appended start before now _ _ _ one known (kept_more_with p list i q within)
