@@ -1,5 +1,5 @@
 //! The text of `cost`: how many operations and clocks a scene takes.
-ghost use Rattle.std.specs.Prelude.{◌≡◌, codes};
+ghost use Rattle.std.specs.Prelude.{◌≡◌};
 ghost use Rattle.px_answers.specs.CostText.{cost_text};
 
 use arrayvec::ArrayString;

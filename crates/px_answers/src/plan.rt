@@ -1,6 +1,5 @@
 //! The text of `plan`: the products of the shown expression that can show anything.
-ghost use Rattle.std.specs.Prelude.{◌≡◌, ◌++◌, ◌≤◌, codes, length, OnOk, IfOk};
-ghost use Rattle.std.specs.List.{flat_map};
+ghost use Rattle.std.specs.Prelude.{◌≡◌, ◌++◌, ◌≤◌, length, OnOk, IfOk};
 ghost use Rattle.px_normal.specs.Sets.{solids};
 ghost use Rattle.px_model.specs.Scenes.{names_of};
 ghost use Rattle.px_answers.specs.Plans.{kept_line, name_at, signed, starred, product_line, plan_text};

@@ -1,5 +1,5 @@
 //! The text of `sample`: four numbers of a scene and its picture.
-ghost use Rattle.std.specs.Prelude.{◌≡◌, codes};
+ghost use Rattle.std.specs.Prelude.{◌≡◌};
 ghost use Rattle.px_answers.specs.SampleText.{four_lines};
 
 use arrayvec::ArrayString;

@@ -1,6 +1,5 @@
 //! Grids that keep a memory bit of 64 pixels in a word.
-ghost use Rattle.std.specs.Prelude.{◌≡◌, ◌<◌, ◌≤◌, ◌*◌, ◌^◌, ℕ, false, if◌then◌else◌, length};
-ghost use Rattle.std.specs.Prelude.{nat_lt};
+ghost use Rattle.std.specs.Prelude.{◌≡◌, ◌<◌, ◌^◌, length};
 ghost use Rattle.px_array.specs.Arrays.{IsOpen, levels_of};
 ghost use Rattle.px_array.specs.Words.{memory_bit};
 ghost use Rattle.px_rows.specs.Rows.{EachBit, words_for};

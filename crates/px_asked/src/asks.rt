@@ -1,5 +1,5 @@
 //! Where bytes come from, by a source that notes what a sink had taken each time that it was asked.
-ghost use Rattle.std.specs.Prelude.{◌<◌, ℕ, List, Option, None, length};
+ghost use Rattle.std.specs.Prelude.{◌<◌, List, Option, None, length};
 ghost use Rattle.std.specs.Io.{ReadsAtMost};
 ghost use Rattle.std.specs.Io.KnownBytes.{ReadConsumes};
 ghost use Rattle.px_io.specs.Counts.{HasCause};

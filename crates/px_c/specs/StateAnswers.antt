@@ -13,7 +13,6 @@ use Rattle.px_state.specs.declared.fault.StateFault.TheVariants as f
 use Rattle.px_c.specs.Answers.{nothing, refused, scene_fault}
 use Rattle.px_c.specs.Numbers.{cause_number, list_number}
 use Rattle.px_c.specs.declared.answer.Answer.{Answer}
-use Rattle.px_c.specs.declared.found.Found.{Found}
 use Rattle.px_c.specs.declared.state.State.{State}
 use Rattle.px_c.specs.declared.status.TheConstants.{BITS, LIMIT, MALFORMED, NO_CLOCK, NO_ROOM, OK}
 

@@ -1,8 +1,5 @@
 //! `pxplanes_check`: what a text asks, before anything is drawn.
-ghost use Rattle.std.specs.Prelude.{◌≡◌, ◌⊎◌, ◌≤◌, IfErr, IfOk, None, OnOk, Some, length};
-ghost use Rattle.px_normal.specs.declared.product.TheConstants.{MAX_PRODUCTS};
-ghost use Rattle.px_scene.specs.Reading.{scene_of};
-ghost use Rattle.px_scene.specs.Text.{worded};
+ghost use Rattle.std.specs.Prelude.{◌≡◌, ◌⊎◌, IfErr, IfOk, None, Some};
 ghost use Rattle.px_show.specs.declared.fault.TextFault.TheVariants as TextFault;
 ghost use Rattle.px_c.specs.Answers.{Answers, Tells, check_answer, cost_found, drawn_answer, refused, undrawn};
 ghost use Rattle.px_c.specs.declared.status.TheConstants.{OK};

@@ -1,5 +1,5 @@
 //! `pxplanes_cause_name`, `pxplanes_kind_name` and `pxplanes_version`: words for numbers.
-ghost use Rattle.std.specs.Prelude.{◌≡◌, ◌≤◌, codes, length};
+ghost use Rattle.std.specs.Prelude.{◌≡◌, codes};
 ghost use Rattle.px_show.specs.declared.fault.Cause.{Cause};
 ghost use Rattle.px_show.specs.declared.fault.LimitKind.{LimitKind};
 ghost use Rattle.px_listing.specs.declared.limit.ListKind.{ListKind};

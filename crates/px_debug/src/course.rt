@@ -2,7 +2,7 @@
 ghost use Rattle.std.specs.Prelude.{◌≡◌, [], ◌+◌, ◌-◌, ◌*◌, ◌^◌, ◌<◌, ◌≤◌, ◌⊎◌, ◌++◌, length, min, take, drop};
 ghost use Rattle.std.specs.Bool.{MatchBool};
 ghost use Rattle.circular_buffer.specs.Buffer.{buffer, keep_last};
-ghost use Rattle.px_control.specs.Program.{IsAt, program, total};
+ghost use Rattle.px_control.specs.Program.{program, total};
 ghost use Rattle.px_debug.specs.Courses.{IsAlmostOnCourse, IsKeptBySession, IsOnCourse, IsSameCourse, IsTraced};
 
 use circular_buffer::HeapCircularBuffer;

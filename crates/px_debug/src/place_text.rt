@@ -1,5 +1,5 @@
 //! The answer that shows where a session stands.
-ghost use Rattle.std.specs.Prelude.{◌≡◌, ◌+◌, ◌<◌, ◌≤◌, ◌^◌, ◌++◌, codes, decimal, length};
+ghost use Rattle.std.specs.Prelude.{◌≡◌, ◌<◌};
 ghost use Rattle.px_debug.specs.Answers.{place_line};
 
 use arrayvec::ArrayString;

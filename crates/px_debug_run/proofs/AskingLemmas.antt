@@ -14,7 +14,7 @@ use Rattle.px_session.specs.Prompts.{Moment, Prompt, Prompts}
 use Rattle.px_session.specs.Servings.{seen}
 use Rattle.px_session.specs.Sessions.{Stand, answers, session_opened}
 use Rattle.px_debug_run.specs.Askings.{AnswersInTime, InTime, due}
-use Rattle.px_outcome.specs.Debugs.{command_text, has_part, session_of, whole_commands, within_limit}
+use Rattle.px_debug_run.specs.Debugs.{command_text, has_part, session_of, whole_commands, within_limit}
 use Rattle.px_debug_run.proofs.DebugLemmas.{Holds, Laws, Seated, grown, holds, more_than}
 use Rattle.px_debug_run.proofs.OpenLemmas.{no_part}
 

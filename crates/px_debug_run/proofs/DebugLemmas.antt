@@ -22,17 +22,16 @@ use Rattle.px_session.specs.Sessions.{Obeyed, Stand, after, answers, clocks_over
 use Rattle.px_session.specs.Sessions.{until_quit}
 use Rattle.px_session.specs.declared.serving.Ending.{Ending}
 use Rattle.px_session.specs.declared.serving.Ending.TheVariants as e
-use Rattle.px_command.specs.declared.command.Command.TheVariants as c
 use Rattle.px_outcome.specs.declared.refusal.Kind.TheVariants as k
 use Rattle.px_outcome.specs.declared.stop.Stop.{Stop}
-use Rattle.px_outcome.specs.Debugs.{IsAfter, IsAnswered, IsBroken, admitted, all_commands, answered, command_text}
-use Rattle.px_outcome.specs.Debugs.{debugged, has_part, is_long, scene_part_of, part_scene, scene_written, session_of}
-use Rattle.px_outcome.specs.Debugs.{whole_commands, within_limit}
+use Rattle.px_debug_run.specs.Debugs.{IsAfter, IsAnswered, IsBroken, admitted, all_commands, answered, command_text}
+use Rattle.px_debug_run.specs.Debugs.{debugged, has_part, scene_part_of, part_scene, scene_written, session_of}
+use Rattle.px_debug_run.specs.Debugs.{PerformsSession, whole_commands, within_limit}
 use Rattle.px_outcome.specs.Ends.{Ends}
 use Rattle.px_outcome.specs.Outcomes.{Outcome, cut, done, drawable, has_output, unless_refused}
-use Rattle.px_outcome.specs.Refusals.{text_refusal, too_long}
+use Rattle.px_outcome.specs.Refusals.{is_long, text_refusal, too_long}
 use Rattle.px_outcome.specs.Results.{HasCauses}
-use Rattle.px_outcome.specs.Runs.{IsInput, Performs}
+use Rattle.px_outcome.specs.Inputs.{IsInput}
 use Rattle.px_debug_run.specs.Sittings.{Sits, result_of}
 use Rattle.px_outcome.proofs.LimitLaws.{long_is, short_is}
 
@@ -260,7 +259,7 @@ ServedAs ending =
     (bits n : ℕ) (text z : List ℕ) (scene : SceneView) (from now : Stand) (before after : Ends)
     → Sat bits n text z scene from now before after → HasRead ending z (more_than text) after.rest
     → HasServed ending true bits from now (lines_in (command_text (text ++ z)))
-    → Performs (result_of ending) (Some c.Debug) bits before after
+    → PerformsSession (result_of ending) bits before after
 
 served_as : (ending : Ending) → ServedAs ending
 served_as e.Quit bits n text z scene from now before after sat read served =
@@ -372,7 +371,7 @@ pub performs_sat : (laws : Laws) (result : Result (Unit {0}) Stop) (bits n : ℕ
     → was.at.session ≡ session_opened scene → IsLent bits was.at now.at after.array
     → was.at.out ≡ before.out → now.at.out ≡ after.out → now.rest ≡ after.rest
     → read ≡ command_text text → more ≡ more_than text → Sits result bits read more was now
-    → Performs result (Some c.Debug) bits before after
+    → PerformsSession result bits before after
 performs_sat laws result bits n text read more scene was now before after seated few opens start fits old new rest
     behind left sits =
     let serves = sits.serves in

@@ -15,20 +15,18 @@ use Rattle.px_lines.specs.Parts.{holds_part, part_end}
 use Rattle.px_lines.specs.declared.reading.Opening.{Opening}
 use Rattle.px_lines.specs.Lines.{all_lines}
 use Rattle.px_session.specs.Sessions.{answers, session_opened, until_quit}
-use Rattle.px_command.specs.declared.command.Command.TheVariants as c
 use Rattle.px_outcome.specs.declared.refusal.Refusal.{Refusal}
 use Rattle.px_outcome.specs.declared.refusal.Refusal.TheVariants as r
 use Rattle.px_outcome.specs.declared.stop.Stop.{Stop}
 use Rattle.px_outcome.specs.declared.stop.Stop.TheVariants as s
-use Rattle.px_outcome.specs.Debugs.{IsAfter, IsAnswered, IsKeptOrOpened, LeavesAtMemory, LeavesSession, admitted}
-use Rattle.px_outcome.specs.Debugs.{all_commands, answered, command_text, debugged, has_part, is_long, scene_part_of}
-use Rattle.px_outcome.specs.Debugs.{scene_written, session_of, within_limit}
+use Rattle.px_debug_run.specs.Debugs.{IsAfter, IsAnswered, IsKeptOrOpened, LeavesAtMemory, LeavesSession, admitted}
+use Rattle.px_debug_run.specs.Debugs.{all_commands, answered, command_text, debugged, has_part, scene_part_of}
+use Rattle.px_debug_run.specs.Debugs.{PerformsSession, scene_written, session_of, within_limit}
 use Rattle.px_outcome.specs.Ends.{Ends, IsUntouched}
 use Rattle.px_outcome.specs.Outcomes.{Outcome, done, drawable, has_output, output, refusal, refused, refused_past}
 use Rattle.px_outcome.specs.Outcomes.{unless_refused}
-use Rattle.px_outcome.specs.Refusals.{short_of_bits, text_refusal, too_long}
+use Rattle.px_outcome.specs.Refusals.{is_long, short_of_bits, text_refusal, too_long}
 use Rattle.px_outcome.specs.Results.{HasCauses, Meets, status_of}
-use Rattle.px_outcome.specs.Runs.{Performs}
 use Rattle.px_debug_run.specs.Sittings.{Finishes, IsOpenStop, IsPartStop, LeavesClosed, Opens, OpensOn}
 use Rattle.px_outcome.specs.Stops.{StopsAt}
 use Rattle.px_debug_run.proofs.DebugLemmas.{Extends, Laws, admits_is, and_not, answered_end, debugged_is, extends}
@@ -40,7 +38,7 @@ pub performs_debug : (result : Result (Unit {0}) Stop) (bits : ℕ) (before afte
     → Consumes before.rest after.rest taken → (ext : Extends before.rest after.rest taken)
     → Meets result (debugged ext.bytes bits)
     → LeavesSession result bits (record { bytes = ext.bytes; taken = taken }) before after
-    → Performs result (Some c.Debug) bits before after
+    → PerformsSession result bits before after
 performs_debug result bits before after taken consumed ext meets leaves = record {
   input = record { bytes = ext.bytes; taken = taken };
   known = ext.input;
@@ -53,7 +51,7 @@ performs_debug result bits before after taken consumed ext meets leaves = record
 -- a refusal before any output
 refused_by : (reason : Refusal) (bits : ℕ) (taken : List ℕ) (before after : Ends)
     → (ext : Extends before.rest after.rest taken) → Consumes before.rest after.rest taken → IsUntouched before after
-    → debugged ext.bytes bits ≡ refused reason → Performs (Err (s.Refused reason)) (Some c.Debug) bits before after
+    → debugged ext.bytes bits ≡ refused reason → PerformsSession (Err (s.Refused reason)) bits before after
 refused_by (r.Malformed line cause) bits taken before after ext consumed idle is =
     performs_debug (Err (s.Refused (r.Malformed line cause))) bits before after taken consumed ext (ap refusal is) idle
 refused_by (r.Limit line kind found) bits taken before after ext consumed idle is =
@@ -63,7 +61,7 @@ refused_by (r.Limit line kind found) bits taken before after ext consumed idle i
 -- want of memory
 no_memory : (bits : ℕ) (taken : List ℕ) (before after : Ends) → Consumes before.rest after.rest taken
     → TakesNone before.out after.out → LeavesAtMemory bits taken before.array after.array
-    → Performs (Err s.Memory) (Some c.Debug) bits before after
+    → PerformsSession (Err s.Memory) bits before after
 no_memory bits taken before after consumed idle kept =
     performs_debug (Err s.Memory) bits before after taken consumed (extends before.rest after.rest taken consumed) tt
     (idle, kept)
@@ -75,10 +73,10 @@ no_part bytes none part = (let two : false ≡ true = sym (ap is_some none) ∙ 
 -- the input was not read as far as the scene part
 pub performs_open : (result : Result (Unit {0}) Stop) (bits : ℕ) (stop : Stop) (before after : Ends)
     → result ≡ Err stop → IsOpenStop stop before.rest after.rest → ConsumesAtMost before.rest after.rest 1048577
-    → IsUntouched before after → Performs result (Some c.Debug) bits before after
+    → IsUntouched before after → PerformsSession result bits before after
 performs_open result bits stop before after is why most idle = rw is (by_stop stop why)
   where
-    by_stop : (stop : Stop) → IsOpenStop stop before.rest after.rest → Performs (Err stop) (Some c.Debug) bits before after
+    by_stop : (stop : Stop) → IsOpenStop stop before.rest after.rest → PerformsSession (Err stop) bits before after
     by_stop s.ReadFault (taken, consumed, few, none) =
         performs_debug (Err s.ReadFault) bits before after taken consumed (extends before.rest after.rest taken consumed) tt
         (record { whole = λ part. absurd (no_part taken none part); other = λ part. idle })
@@ -139,13 +137,13 @@ refused_long text more bits none full =
 
 pub performs_part : (laws : Laws) (result : Result (Unit {0}) Stop) (bits : ℕ) (stop : Stop) (o : Opening)
     (before after : Ends) → result ≡ Err stop → Opens o before.rest after.rest → IsPartStop stop o → IsUntouched before after
-    → Performs result (Some c.Debug) bits before after
+    → PerformsSession result bits before after
 performs_part laws result bits stop o before after is opens part idle = rw is (by_stop stop part)
   where
     ext : Extends before.rest after.rest o.text.items
     ext = extends before.rest after.rest o.text.items opens.taken
 
-    by_stop : (stop : Stop) → IsPartStop stop o → Performs (Err stop) (Some c.Debug) bits before after
+    by_stop : (stop : Stop) → IsPartStop stop o → PerformsSession (Err stop) bits before after
     by_stop (s.Refused reason) (inl (bad, short)) =
         refused_by reason bits o.text.items before after ext opens.taken idle
         (refused_part o.text.items ext.bytes bits reason (judged laws o.text.items before.rest after.rest o.part ext
@@ -182,7 +180,7 @@ closed_by part bits scene o reason good same meets =
 pub performs_closed : (laws : Laws) (result : Result (Unit {0}) Stop) (bits : ℕ) (stop : Stop) (o : Opening)
     (scene : SceneView) (before after : Ends) → result ≡ Err stop → Opens o before.rest after.rest → OpensOn o scene
     → StopsAt (drawable bits scene) stop → LeavesClosed (status_of stop) bits scene before.array after.array
-    → TakesNone before.out after.out → Performs result (Some c.Debug) bits before after
+    → TakesNone before.out after.out → PerformsSession result bits before after
 performs_closed laws result bits stop o scene before after is opens on stops leaves idle =
     rw is (by_stop stop stops leaves)
   where
@@ -202,7 +200,7 @@ performs_closed laws result bits stop o scene before after is opens on stops lea
 
     by_stop : (stop : Stop) → StopsAt (drawable bits scene) stop
         → LeavesClosed (status_of stop) bits scene before.array after.array
-        → Performs (Err stop) (Some c.Debug) bits before after
+        → PerformsSession (Err stop) bits before after
     by_stop (s.Refused (r.Malformed line cause)) stops same =
         refused_by (r.Malformed line cause) bits o.text.items before after ext opens.taken
         (record { out = idle; array = same }) (refusal_is (r.Malformed line cause) stops)
@@ -228,7 +226,7 @@ pub performs_empty : (laws : Laws) (result : Result (Unit {0}) Stop) (bits : ℕ
     → ((outcome : Outcome) → drawable bits scene outcome ≡ outcome)
     → Fits bits (session_opened scene) after.array.device after.array.slots → after.array.work ≡ 0
     → Keeps before.out.written after.out.written → Finishes result before.out after.out
-    → Performs result (Some c.Debug) bits before after
+    → PerformsSession result bits before after
 performs_empty laws result bits o scene before after opens on none draws fits none_made kept finishes =
     by_result result finishes
   where
@@ -261,7 +259,7 @@ performs_empty laws result bits o scene before after opens on none draws fits no
     }
 
     by_result : (result : Result (Unit {0}) Stop) → Finishes result before.out after.out
-        → Performs result (Some c.Debug) bits before after
+        → PerformsSession result bits before after
     by_result (Ok u) end =
         performs_debug (Ok u) bits before after text opens.taken ext
         (subst (λ t. debugged t bits ≡ done (output (debugged t bits))) (sym same) (rw is refl))

@@ -10,7 +10,7 @@ use Rattle.px_lines.specs.PartLaws.{PartIsWithin}
 use Rattle.px_lines.specs.declared.reading.Opening.{Opening}
 use Rattle.px_outcome.specs.declared.stop.Stop.{Stop}
 use Rattle.px_outcome.specs.declared.stop.Stop.TheVariants as s
-use Rattle.px_outcome.specs.Debugs.{command_text, scene_part_of, scene_written, within_limit}
+use Rattle.px_debug_run.specs.Debugs.{command_text, scene_part_of, scene_written, within_limit}
 use Rattle.px_outcome.specs.Refusals.{text_refusal}
 use Rattle.px_debug_run.specs.Sittings.{IsPartStop, OpensOn}
 use Rattle.px_outcome.specs.Stops.{IsTextStop}

@@ -3,7 +3,7 @@ use Rattle.std.specs.Prelude.{◌≡◌, ℕ, List, [], ◌∷◌, ◌++◌, ⊤
 use Rattle.std.specs.Io.KnownBytes.{Appends, Consumes}
 use Rattle.px_asked.specs.Asks.{Ask, Asked, all_given}
 use Rattle.px_session.specs.Sessions.{answers, has_quit}
-use Rattle.px_outcome.specs.Debugs.{Admits, has_part, session_of, whole_commands}
+use Rattle.px_debug_run.specs.Debugs.{Admits, has_part, session_of, whole_commands}
 
 -- what is to be written before more is asked for behind these bytes: nothing until the scene part is whole, and then the
 -- answers to all command lines that line feeds end

@@ -1,2 +1,3 @@
 pub mod Askings
+pub mod Debugs
 pub mod Sittings

@@ -17,7 +17,7 @@ use Rattle.px_outcome.specs.declared.status.Status.{Status}
 use Rattle.px_outcome.specs.declared.status.Status.TheVariants as status
 use Rattle.px_outcome.specs.declared.stop.Stop.{Stop}
 use Rattle.px_outcome.specs.declared.stop.Stop.TheVariants as s
-use Rattle.px_outcome.specs.Debugs.{IsKeptOrOpened, scene_part_of, part_scene, within_limit}
+use Rattle.px_debug_run.specs.Debugs.{IsKeptOrOpened, scene_part_of, part_scene, within_limit}
 use Rattle.px_outcome.specs.Refusals.{text_refusal, too_long}
 
 -- an input was read until its scene part was whole, or to its end or its limit

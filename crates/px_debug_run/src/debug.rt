@@ -8,14 +8,12 @@ ghost use Rattle.px_lines.specs.Listenings.{ListenedTo, Listens};
 ghost use Rattle.px_lines.specs.Parts.{part_end};
 ghost use Rattle.px_session.specs.Prompts.{moment};
 ghost use Rattle.px_session.specs.Sessions.{session_opened};
-ghost use Rattle.px_command.specs.declared.command.Command.{Command};
 ghost use Rattle.px_outcome.specs.declared.stop.Stop.{Stop};
 ghost use Rattle.px_debug_run.specs.Askings.{AnswersInTime};
-ghost use Rattle.px_outcome.specs.Debugs.{command_text, within_limit};
+ghost use Rattle.px_debug_run.specs.Debugs.{PerformsSession, command_text, within_limit};
 ghost use Rattle.px_outcome.specs.Outcomes.{Outcome, drawable};
 ghost use Rattle.px_outcome.specs.Ends.{ends};
-ghost use Rattle.px_outcome.specs.Results.{HasCauses, status_in, status_of};
-ghost use Rattle.px_outcome.specs.Runs.{Performs, Took};
+ghost use Rattle.px_outcome.specs.Results.{HasCauses, status_of};
 ghost use Rattle.px_debug_run.specs.Sittings.{Finishes, IsOpenStop, IsPartStop, LeavesClosed, Opens, OpensOn, Sits};
 ghost use Rattle.px_outcome.specs.Stops.{IsReadStop, StopsAt};
 
@@ -39,15 +37,14 @@ pub fn debug_input<S: Asks<O>, O: Sink, A: Operating>(
     array: &mut A,
 ) -> Result<(), Stop>
     requires bits { A.BITS ≤ 256 }
-    ensures performs { Performs result (Some Command.Debug) A.BITS
+    ensures performs { PerformsSession result A.BITS
         (ends (S.rest input.old) (S.faults input.old) (O.state out.old)
         (A.device array.old) (A.slots array.old) (A.work array.old))
         (ends (S.rest input.new) (S.faults input.new) (O.state out.new)
         (A.device array.new) (A.slots array.new) (A.work array.new)) }
     ensures causes { HasCauses result (S.faults input.old) (S.faults input.new) (O.state out.old).faults
         (O.state out.new).faults }
-    ensures took { Took (Some Command.Debug) (status_in result) (S.rest input.old)
-        (S.rest input.new) }
+    ensures took { ConsumesAtMost (S.rest input.old) (S.rest input.new) READ_LIMIT }
     ensures worded { result ≢ Err Stop.Usage }
     ensures in_time { AnswersInTime A.BITS (S.asks input.old) (S.asks input.new)
         (S.rest input.old) (S.rest input.new) (O.state out.old).written }

@@ -1,5 +1,5 @@
 //! The answers, in fixed room (docs/DEBUGGER.md, "Answers").
-ghost use Rattle.std.specs.Prelude.{◌≡◌, ◌+◌, ◌<◌, ◌≤◌, ◌^◌, ◌++◌, codes, decimal, length};
+ghost use Rattle.std.specs.Prelude.{◌≡◌, ◌<◌, ◌≤◌, length};
 ghost use Rattle.px_debug_text.specs.Lines.{flag, line_with_number, unknown_line};
 
 use arrayvec::ArrayString;

@@ -1,5 +1,5 @@
 //! The answer that shows the last broadcasts.
-ghost use Rattle.std.specs.Prelude.{◌≡◌, ◌-◌, ◌≤◌, ◌++◌, ◌^◌, ◌<◌, Some, codes, decimal, length, slice_get};
+ghost use Rattle.std.specs.Prelude.{◌≡◌, ◌-◌, ◌≤◌, ◌++◌, ◌<◌, Some, codes, decimal, length, slice_get};
 ghost use Rattle.px_debug_text.specs.Lines.{act_text, flag, trace_line, trace_lines, tree_text};
 
 use crate::text::{Text, digit};

@@ -21,7 +21,7 @@ use Rattle.px_show.specs.declared.fault.TextFault.TheVariants as f
 use Rattle.px_outcome.specs.declared.refusal.Refusal.{Refusal}
 use Rattle.px_draw.specs.ListedScenes.{DoneShowsThePicture, IsListed, ListedPassesArePlayed}
 use Rattle.px_draw.specs.ListedScenes.{ListedPassesShowThePicture}
-use Rattle.px_outcome.specs.Listings.{list_refusal, list_refusal_by, listing_written}
+use Rattle.px_play_run.specs.Listings.{list_refusal, list_refusal_by, listing_written}
 use Rattle.px_outcome.specs.Outcomes.{Outcome, done, refused, refused_past, unless_refused}
 use Rattle.px_outcome.specs.Refusals.{short_of_bits, too_long}
 use Rattle.px_outcome.proofs.LimitLaws.{at_most}

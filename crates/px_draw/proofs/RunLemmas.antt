@@ -11,11 +11,11 @@ use Rattle.px_command.specs.Commands.{command_of}
 use Rattle.px_outcome.specs.Ends.{Ends, with_notes}
 use Rattle.px_outcome.specs.Notes.{IsTold, note_of}
 use Rattle.px_outcome.specs.Results.{HasCauses, status_of, status_in}
-use Rattle.px_outcome.specs.Runs.{IsRunOf, Performs}
+use Rattle.px_draw.specs.Runs.{IsRunOf, Leaves, Performs, commanded}
 use Rattle.px_outcome.proofs.RunLaws.{performs_over, still}
 use Rattle.px_command.specs.declared.command.Command.TheVariants as c
 use Rattle.px_outcome.specs.Arrays.{Draws}
-use Rattle.px_outcome.specs.Samples.{sample_scene, sampled}
+use Rattle.px_sample_run.specs.Samples.{sample_scene, sampled}
 use Rattle.px_outcome.specs.Stops.{DoesWork}
 
 -- a run that did its work tells nothing
@@ -40,7 +40,8 @@ pub performs_usage : (command : Option Command) (bits : ℕ) (ends : Ends) → c
     → Performs (Err s.Usage) command bits ends ends
 performs_usage (Some command) bits ends none = cc
 performs_usage None bits ends none =
-    performs_over (Err s.Usage) None bits ends ends [] (consumes_none ends.rest) refl (still ends ends refl refl)
+    performs_over (Err s.Usage) (λ bytes. commanded None bytes bits)
+    (λ input. Leaves None (Err s.Usage) bits input ends ends) ends ends [] (consumes_none ends.rest) refl (still ends ends refl refl)
 
 -- what is done for the outcome of the sample is what the command does
 pub performs_sample : (result : Result (Unit {0}) Stop) (command : Option Command) (n bits : ℕ) (before after : Ends)
@@ -48,5 +49,6 @@ pub performs_sample : (result : Result (Unit {0}) Stop) (command : Option Comman
     → Draws (status_in result) bits (sample_scene n) before.array after.array → Performs result command bits before after
 performs_sample result command n bits before after is same serves array =
     subst (λ x. Performs result x bits before after) (sym is)
-    (performs_over result (Some (c.Sample n)) bits before after [] (rw same (consumes_none before.rest)) serves.meets
+    (performs_over result (λ bytes. commanded (Some (c.Sample n)) bytes bits)
+    (λ input. Leaves (Some (c.Sample n)) result bits input before after) before after [] (rw same (consumes_none before.rest)) serves.meets
     (record { wrote = serves.writes; array = (serves.reads, array) }))

@@ -8,7 +8,7 @@ use Rattle.px_scene.specs.Text.{worded}
 use Rattle.px_scene.specs.Reading.{refusal_of, scene_of}
 use Rattle.px_deliver.specs.Refusals.{job_refusal}
 use Rattle.px_outcome.specs.Outcomes.{done}
-use Rattle.px_outcome.specs.Runs.{outcome}
+use Rattle.px_draw.specs.Runs.{outcome}
 
 -- two pixel maps: at each pixel the depth of its first cell that belongs to the scene's expression, and the lowest-numbered face
 -- shown there; the background where no cell belongs

@@ -7,7 +7,7 @@ ghost use Rattle.px_command.specs.declared.command.Command.{Command};
 ghost use Rattle.px_debug_run.specs.Askings.{AnswersInTime};
 ghost use Rattle.px_outcome.specs.Ends.{ends, with_notes};
 ghost use Rattle.px_outcome.specs.Results.{HasCauses, status_in};
-ghost use Rattle.px_outcome.specs.Runs.{IsRunOf, Performs, Took};
+ghost use Rattle.px_draw.specs.Runs.{IsRunOf, Performs, Took};
 
 use px_asked::Asks;
 use px_asm::Operating;

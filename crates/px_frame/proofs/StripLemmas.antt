@@ -3,10 +3,10 @@ use Rattle.std.proofs.Common.{◌≡◌, ℕ, zero, suc, ◌+◌, ◌*◌, ◌/�
 use Rattle.std.proofs.Common.{if◌then◌else◌, List, ◌++◌, get_or, length, ap, sym, subst, ◌∙◌, arith, inl, inr, length-append}
 use Rattle.std.proofs.lemmas.Bool.{cases_lt}
 use Rattle.std.proofs.lemmas.List.{get_or_append_left, get_or-append-add}
-use Rattle.std.proofs.lemmas.Nat.{pow-add, shr-shr}
+use Rattle.std.proofs.lemmas.Nat.{shr-shr}
 use Rattle.px_num.specs.Bits.{bit_at, nat_bit}
 use Rattle.px_num.proofs.TruthLaws.{double_pow, lt_true, power_grows}
-use Rattle.px_array.specs.Arrays.{State, pixel_at, pixel_of}
+use Rattle.px_array.specs.Arrays.{State, pixel_of}
 use Rattle.px_array.specs.Words.{IsMemoryWord, memory_bit}
 use Rattle.px_tree.proofs.PlaceLaws.{index_below, power_next}
 use Rattle.px_macro.specs.Fields.{number_from_bits, number_in}

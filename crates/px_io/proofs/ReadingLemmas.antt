@@ -1,5 +1,5 @@
 -- What left a source, at an error.
-use Rattle.std.proofs.Common.{ℕ, ◌≤◌, List, length, Option, Result, Ok, Err, OnErr, arith}
+use Rattle.std.proofs.Common.{ℕ, ◌≤◌, List, length, Option, Result, Ok, Err, OnErr}
 use Rattle.std.specs.Io.KnownBytes.{Consumes}
 use Rattle.px_io.specs.Told.{ConsumesAtMost}
 

@@ -1,7 +1,7 @@
 -- Listening on.
 use Rattle.std.proofs.Common.{◌≡◌, ℕ, ◌-◌, List, [], ◌∷◌, ◌++◌, Option, None, refl, ap, ◌∙◌, append-nil, append_assoc, take}
 use Rattle.std.specs.Io.KnownBytes.{Consumes}
-use Rattle.px_io.proofs.ToldLaws.{consumes_both, consumes_none}
+use Rattle.px_io.proofs.ToldLaws.{consumes_both}
 use Rattle.px_asked.specs.Asks.{Ask, Notes, all_given}
 use Rattle.px_asked.proofs.AskLaws.{asked_both, asked_none, given-append}
 use Rattle.px_lines.specs.Hearings.{Begun, Heard, Waits}

@@ -1,9 +1,8 @@
 //! Reading an input until its scene part is whole.
-ghost use Rattle.std.specs.Prelude.{◌≡◌, ◌+◌, ◌-◌, ◌<◌, ◌≤◌, ℕ, List, Option, None, length, take, OnOk, OnErr, IfOk, IsErrOf, vec_len};
+ghost use Rattle.std.specs.Prelude.{◌≡◌, ◌+◌, ◌-◌, ◌<◌, ◌≤◌, Option, None, length, take, OnOk, OnErr, IfOk, IsErrOf, vec_len};
 ghost use Rattle.std.specs.Io.KnownBytes.{Consumes, IsAtEnd};
 ghost use Rattle.px_io.specs.Counts.{Rose};
 ghost use Rattle.px_io.specs.Told.{ConsumesAtMost};
-ghost use Rattle.px_asked.specs.Asks.{Ask};
 ghost use Rattle.px_lines.specs.Hearings.{Begun, Heard, Waits};
 ghost use Rattle.px_lines.specs.Listenings.{ListenedTo, Listens};
 ghost use Rattle.px_lines.specs.Parts.{part_end};

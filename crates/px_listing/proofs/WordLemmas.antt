@@ -5,7 +5,7 @@ use Rattle.std.proofs.Common.{◌++◌, ◌&&◌, List, Bool, Option, Some, None
 use Rattle.std.proofs.Common.{unwrap_or, refl, ap, subst, ◌∙◌, arith, codes, ◌≤◌, Bor}
 use Rattle.std.specs.Int.Digits.{number_from_digits}
 use Rattle.std.specs.List.{list_all}
-use Rattle.std.proofs.lemmas.List.Folds.{list_all_at, list_all_more}
+use Rattle.std.proofs.lemmas.List.Folds.{list_all_more}
 use Rattle.std.proofs.lemmas.Int.{ints}
 use Rattle.std.proofs.lemmas.List.{get_or-map, length-map, take_all, take_more}
 use Rattle.px_num.specs.Forms.{IsWithin}

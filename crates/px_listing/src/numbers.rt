@@ -1,5 +1,5 @@
 //! The numbers of an operation, as they are written and as they are read.
-ghost use Rattle.std.specs.Prelude.{◌≡◌, ◌<◌, ◌≤◌, ◌^◌, ◌≤ℤ◌, pos, [], ◌∷◌, length, IfSome, None};
+ghost use Rattle.std.specs.Prelude.{◌≡◌, ◌<◌, ◌≤◌, ◌^◌, pos, [], ◌∷◌, length, IfSome, None};
 ghost use Rattle.px_macro.specs.Macros.{IsField, IsLawful};
 ghost use Rattle.px_num.specs.Forms.{IsInTreeRange};
 ghost use Rattle.px_scene.specs.Lines.{plane_of, size_of};

@@ -1,9 +1,8 @@
 //! Writing a listing.
-ghost use Rattle.std.specs.Prelude.{◌≡◌, ◌≤◌, pos, [], ◌∷◌, ◌++◌, codes, length, OnErr, OnOk};
+ghost use Rattle.std.specs.Prelude.{◌≡◌, ◌≤◌, [], ◌++◌, length, OnErr, OnOk};
 ghost use Rattle.px_io.specs.Counts.{HasCause};
 ghost use Rattle.px_io.specs.Told.{TakesAll, TakesFront};
 ghost use Rattle.px_macro.specs.Macros.{IsLawful};
-ghost use Rattle.px_listing.specs.Lines.{number_line};
 ghost use Rattle.px_listing.specs.Listings.{canonical_text, end_line, first_lines, grid_line, header_line, macro_line};
 ghost use Rattle.px_listing.specs.Pieces.{Puts};
 

@@ -1,5 +1,5 @@
 //! Words worked out by hand, and both arrays side by side.
-ghost use Rattle.std.specs.Prelude.{◌≡◌, ◌<◌, ◌≤◌};
+ghost use Rattle.std.specs.Prelude.{◌≡◌, ◌<◌};
 ghost use Rattle.px_pixel.specs.Acts.{HasPlace};
 ghost use Rattle.px_machine_tests.specs.Ready.{IsReady};
 

@@ -1,5 +1,5 @@
 //! A scene: its picture's size and depth, its solids, and the expression that is shown.
-ghost use Rattle.std.specs.Prelude.{◌≡◌, ◌-◌, ◌^◌, ◌<◌, ◌≤◌, All, length};
+ghost use Rattle.std.specs.Prelude.{◌≡◌, ◌-◌, ◌^◌, ◌<◌, ◌≤◌, All};
 ghost use Rattle.px_model.specs.Scenes.{IsLawfulSolid};
 ghost use Rattle.px_model.specs.Cells.{depths_of, end_of};
 ghost use Rattle.px_model.specs.Grids.{exponent_of};

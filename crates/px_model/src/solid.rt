@@ -1,5 +1,5 @@
 //! One convex solid: the planes that bound it, with its limits kept in its type.
-ghost use Rattle.std.specs.Prelude.{◌≡◌, ◌<◌, ◌≤◌, ◌++◌, ◌∷◌, [], length, OnOk, OnErr, All};
+ghost use Rattle.std.specs.Prelude.{◌≡◌, ◌<◌, ◌++◌, ◌∷◌, [], length, OnOk, OnErr, All};
 ghost use Rattle.px_model.specs.Scenes.{SolidView, IsLawfulSolid, IsPlane, AreFaces, colour_in, colour_among, faces_in};
 
 use crate::MAX_PLANES_OF_A_KIND;

@@ -1,5 +1,5 @@
 //! The normal form of an expression.
-ghost use Rattle.std.specs.Prelude.{◌≡◌, ◌<◌, ◌≤◌, ◌^◌, ℕ, All, List, Option, Some, None, length, IfOk};
+ghost use Rattle.std.specs.Prelude.{◌≡◌, ◌<◌, ◌≤◌, ◌^◌, ℕ, All, Option, Some, None, length, IfOk};
 ghost use Rattle.px_expr.specs.Tree.{Tree, HasLeavesBelow};
 ghost use Rattle.px_expr.specs.Cells.{Cell, cell};
 ghost use Rattle.px_normal.specs.declared.cell_box.CellBox.{CellBox as AnyBox};

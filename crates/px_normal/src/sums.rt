@@ -1,7 +1,7 @@
 //! The live products of a node and of its complement.
 ghost use Rattle.std.specs.Prelude.{◌≡◌, ◌<◌, ◌≤◌, ◌^◌, ◌∷◌, ◌++◌, [], ℕ, Some, None, filter, length, reverse, vec_len, OnOk, OnErr, IfOk};
 ghost use Rattle.px_expr.specs.Tree.{leaf};
-ghost use Rattle.px_normal.specs.Forms.{forms, combined, crossed, sum_in, sum_when};
+ghost use Rattle.px_normal.specs.Forms.{forms, combined, sum_in, sum_when};
 ghost use Rattle.px_normal.specs.Live.{boxes_in, is_live};
 ghost use Rattle.px_normal.specs.Crowd.{both_lists, first_past_limit, wanted_forms, where_wanted};
 ghost use Rattle.px_normal.specs.Building.{built, newest_lists, CanBuild};

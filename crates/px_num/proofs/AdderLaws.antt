@@ -4,7 +4,7 @@ use Rattle.std.proofs.Common.{true, false, nat_le, not, refl, ap, ◌∙◌, ari
 use Rattle.std.proofs.lemmas.Int.{ints}
 use Rattle.std.proofs.lemmas.Bool.Decides.{nat_tests}
 use Rattle.std.proofs.lemmas.Nat.Bits.{bit_at-suc}
-use Rattle.std.proofs.lemmas.Nat.{pow-add, mod-pow-add}
+use Rattle.std.proofs.lemmas.Nat.{mod-pow-add}
 use Rattle.px_num.proofs.BitLaws.{modulo_below}
 use Rattle.px_num.specs.Bits.{bit_of, carry_from, majority, modulo, nat_bit, xor}
 use Rattle.px_num.proofs.TruthLaws.{double_pow}

@@ -3,7 +3,7 @@ use Rattle.std.proofs.Common.{ℕ, ◌≡◌, ◌<◌, ◌≤◌, true, false, n
 use Rattle.std.proofs.lemmas.Bool.Decides.{nat_tests}
 use Rattle.px_text.specs.declared.text.TheConstants.{MAX_TEXT_BYTES}
 use Rattle.px_outcome.specs.declared.refusal.TheConstants.{READ_LIMIT}
-use Rattle.px_outcome.specs.Debugs.{is_long}
+use Rattle.px_outcome.specs.Refusals.{is_long}
 
 over : (n : ℕ) → 1048577 ≤ n → nat_lt 1048576 n ≡ true
 over n filled = grind (arith, nat_tests)

@@ -6,13 +6,12 @@ use Rattle.std.specs.Io.KnownBytes.{Appends, Consumes}
 use Rattle.px_io.specs.Counts.{Rose}
 use Rattle.px_io.specs.Told.{IsFrontOf, SinkState, TakesFront, Tells}
 use Rattle.px_io.proofs.ToldLaws.{stays}
-use Rattle.px_command.specs.declared.command.Command.{Command}
 use Rattle.px_outcome.specs.declared.stop.Stop.{Stop}
 use Rattle.px_outcome.specs.declared.stop.Stop.TheVariants as s
 use Rattle.px_outcome.specs.Outcomes.{Outcome, done}
 use Rattle.px_outcome.specs.Ends.{Ends, Input, IsUntouched}
+use Rattle.px_outcome.specs.Inputs.{BeginsWith, IsInput, IsRestBehind, PerformsOver}
 use Rattle.px_outcome.specs.Results.{Meets}
-use Rattle.px_outcome.specs.Runs.{BeginsWith, IsInput, IsRestBehind, Leaves, Performs, commanded}
 use Rattle.px_outcome.specs.Stops.{DoesWork}
 
 -- the bytes of an input that tells them, and those taken of another
@@ -33,11 +32,11 @@ begins (Some bytes) (Some rest) taken consumed = (rest, consumed)
 abbrev pub input_of : Option (List ℕ) → (taken : List ℕ) → Input
 input_of known taken = record { bytes = bytes_of known taken; taken = taken }
 
--- what is so of the bytes of an input is what its command does
-pub performs_over : (result : Result (Unit {0}) Stop) (command : Option Command) (bits : ℕ) (before after : Ends) (taken : List ℕ)
-    → Consumes before.rest after.rest taken → Meets result (commanded command (bytes_of before.rest taken) bits)
-    → Leaves command result bits (input_of before.rest taken) before after → Performs result command bits before after
-performs_over result command bits before after taken consumed meets leaves = record {
+-- what is so of the bytes of an input is what a command does over it
+pub performs_over : (result : Result (Unit {0}) Stop) (answer : List ℕ → Outcome) (Leaves : Input → Type 0) (before after : Ends)
+    (taken : List ℕ) → Consumes before.rest after.rest taken → Meets result (answer (bytes_of before.rest taken))
+    → Leaves (input_of before.rest taken) → PerformsOver result answer Leaves before after
+performs_over result answer Leaves before after taken consumed meets leaves = record {
   input = input_of before.rest taken;
   known = is_input before.rest taken;
   consumed = consumed;

@@ -1,9 +1,14 @@
--- Why a text is refused. Clauses of public calls stand on it.
-use Rattle.std.specs.Prelude.{ℕ, pos, List, Option, Some, None}
+-- Why a text is refused, or what it asks of an array. Clauses of public calls stand on it.
+use Rattle.std.specs.Prelude.{ℕ, ℤ, pos, Bool, List, Option, Some, None, length, nat_lt}
+use Rattle.px_text.specs.declared.text.TheConstants.{MAX_TEXT_BYTES}
+use Rattle.px_show.specs.declared.fault.LimitKind.{LimitKind}
 use Rattle.px_show.specs.declared.fault.LimitKind.TheVariants as kind
 use Rattle.px_show.specs.Judged.{SceneFault}
 use Rattle.px_show.specs.declared.fault.TextFault.TheVariants as f
 use Rattle.px_scene.specs.Reading.{refusal_of}
+use Rattle.px_refine.specs.declared.fault.FineFault.{FineFault}
+use Rattle.px_refine.specs.declared.fault.FineFault.TheVariants as fault
+use Rattle.px_listing.specs.Reading.{ListFault}
 use Rattle.px_outcome.specs.declared.refusal.TheConstants.{READ_LIMIT}
 use Rattle.px_outcome.specs.declared.refusal.Kind.TheVariants as k
 use Rattle.px_outcome.specs.declared.refusal.Refusal.{Refusal}
@@ -34,3 +39,23 @@ short_of_bits need = r.Limit 0 (k.Scene kind.PixelMemory) (pos need)
 -- more bytes than a text may have
 abbrev pub too_long : Refusal
 too_long = r.Limit 0 (k.Scene kind.Text) (pos READ_LIMIT)
+
+-- whether a text has more
+unfoldable pub is_long : List ℕ → Bool
+is_long bytes = nat_lt MAX_TEXT_BYTES (length bytes)
+
+-- the refusal of a listing's fault; the want of memory is none
+abbrev pub list_refusal_in : ListFault → Option Refusal
+list_refusal_in (f.Malformed line cause) = Some (r.Malformed line cause)
+list_refusal_in (f.Limit line kind found) = Some (r.Limit line (k.List kind) found)
+list_refusal_in f.Memory = None
+
+-- and of a finer scene's
+abbrev pub scene_limit : LimitKind → (found : ℤ) → Refusal
+scene_limit kind found = r.Limit 0 (k.Scene kind) found
+
+abbrev pub fault_refusal : FineFault → Option Refusal
+fault_refusal (fault.Fraction found) = Some (scene_limit kind.Fraction (pos found))
+fault_refusal (fault.Picture found) = Some (scene_limit kind.Picture (pos found))
+fault_refusal (fault.Coefficient found) = Some (scene_limit kind.Coefficient found)
+fault_refusal fault.Memory = None

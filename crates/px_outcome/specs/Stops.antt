@@ -10,10 +10,8 @@ use Rattle.px_listing.specs.Reading.{ListFault}
 use Rattle.px_outcome.specs.declared.refusal.Refusal.{Refusal}
 use Rattle.px_outcome.specs.declared.stop.Stop.{Stop}
 use Rattle.px_outcome.specs.declared.stop.Stop.TheVariants as s
-use Rattle.px_outcome.specs.Listings.{list_refusal_in}
 use Rattle.px_outcome.specs.Outcomes.{Outcome, output}
-use Rattle.px_outcome.specs.Refining.{fault_refusal}
-use Rattle.px_outcome.specs.Refusals.{refusal_in, text_refusal}
+use Rattle.px_outcome.specs.Refusals.{fault_refusal, list_refusal_in, refusal_in, text_refusal}
 use Rattle.px_outcome.specs.Results.{HasCauses, Meets, Wrote}
 
 -- a refusal, or the want of memory where there is none

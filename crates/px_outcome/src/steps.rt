@@ -14,7 +14,7 @@ ghost use Rattle.px_outcome.specs.Arrays.{Draws};
 ghost use Rattle.px_outcome.specs.Outcomes.{Outcome, drawable, within_products};
 ghost use Rattle.px_outcome.specs.Refusals.{text_refusal};
 ghost use Rattle.px_outcome.specs.Results.{status_of};
-ghost use Rattle.px_outcome.specs.Runs.{IsRestBehind};
+ghost use Rattle.px_outcome.specs.Inputs.{IsRestBehind};
 ghost use Rattle.px_outcome.specs.Stops.{IsReadStop, IsTextStop, StopsAt};
 
 use crate::refusal::READ_LIMIT;

@@ -3,7 +3,7 @@ ghost use Rattle.std.specs.Prelude.{◌≡◌, ◌≤◌, ◌^◌, ℕ};
 ghost use Rattle.px_control.specs.declared.fault.JobFault.{JobFault};
 ghost use Rattle.px_normal.specs.declared.fault.NormalFault.{NormalFault};
 ghost use Rattle.px_outcome.specs.declared.stop.Stop.{Stop};
-ghost use Rattle.px_outcome.specs.Refining.{scene_limit};
+ghost use Rattle.px_outcome.specs.Refusals.{scene_limit};
 ghost use Rattle.px_outcome.specs.Results.{status_of};
 ghost use Rattle.px_outcome.specs.JobStops.{job_stop, products_stop};
 

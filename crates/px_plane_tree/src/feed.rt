@@ -1,6 +1,6 @@
 //! One feed of words in heap order: the children of the nodes in word h stand in the words 2h and 2h + 1.
 ghost use Rattle.std.specs.Prelude.{◌≡◌, ℕ, ◌<◌, ◌≤◌, ◌+◌, ◌*◌, ◌%◌, length, slice_index, nat_lt};
-ghost use Rattle.std.specs.Prelude.{eqb, cond, ◌&&◌, Bool};
+ghost use Rattle.std.specs.Prelude.{eqb, cond, ◌&&◌};
 ghost use Rattle.px_num.specs.Bits.{nat_bit};
 ghost use Rattle.px_plane_tree.specs.Lanes.{IsOdd, IsNext};
 ghost use Rattle.px_plane_tree.specs.Heap.{HasOdd, IsFed, IsFedTwo, IsFedFirst};

@@ -1,7 +1,7 @@
 //! The multiplier tree with 64 nodes in a word.
-ghost use Rattle.std.specs.Prelude.{◌≡◌, ℕ, ◌<◌, ◌≤◌, ◌+◌, ◌*◌, ◌/◌, ◌^◌, length, IfOk, cond};
-ghost use Rattle.std.specs.Prelude.{nat_lt, false};
-ghost use Rattle.px_tree.specs.Nodes.{IsGrid, cleared, node_at};
+ghost use Rattle.std.specs.Prelude.{◌≡◌, ◌<◌, ◌≤◌, ◌+◌, ◌*◌, ◌/◌, ◌^◌, length, IfOk};
+ghost use Rattle.std.specs.Prelude.{false};
+ghost use Rattle.px_tree.specs.Nodes.{IsGrid, cleared};
 ghost use Rattle.px_rows.specs.Rows.{EachBit};
 ghost use Rattle.px_plane_tree.specs.Lent.{output_bit};
 ghost use Rattle.px_plane_tree.specs.Trees.{heights as heights_of};

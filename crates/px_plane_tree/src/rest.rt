@@ -1,7 +1,6 @@
 //! Whether a feed would leave words in heap order as they are.
 ghost use Rattle.std.specs.Prelude.{◌≡◌, ℕ, ◌<◌, ◌≤◌, ◌+◌, ◌*◌, ◌%◌, IsTrue, length, slice_index};
 ghost use Rattle.px_plane_tree.specs.Heap.{HasOdd, IsAtRest, IsFedTwo};
-ghost use Rattle.px_plane_tree.specs.Lanes.{IsOdd};
 
 use crate::doubling::doubled_pair;
 use crate::feed::next_of;

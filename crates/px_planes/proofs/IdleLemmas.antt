@@ -1,6 +1,6 @@
 -- Operations where no pixel is enabled, and grids after an operation.
-use Rattle.std.proofs.Common.{◌≡◌, ◌≢◌, ℕ, ◌+◌, ◌*◌, ◌/◌, ◌^◌, ◌<◌, ◌≤◌, ◌%◌, Bool, true, false, ◌&&◌, List, length, get_or}
-use Rattle.std.proofs.Common.{refl, sym, ap, ◌∙◌, arith}
+use Rattle.std.proofs.Common.{◌≡◌, ◌≢◌, ℕ, ◌+◌, ◌*◌, ◌/◌, ◌^◌, ◌<◌, ◌≤◌, ◌%◌, Bool, true, false, ◌&&◌, List, length}
+use Rattle.std.proofs.Common.{refl, ap, ◌∙◌, arith}
 use Rattle.std.proofs.Common.{inl, inr}
 use Rattle.std.proofs.Math.Nat.{one-le-pow, pow-le-pow_right}
 use Rattle.std.proofs.lemmas.Bool.{cases_lt, le-ltb, lt-ltb}
@@ -14,9 +14,8 @@ use Rattle.px_macro.specs.declared.operation.Macro.TheVariants as m
 use Rattle.px_num.specs.Bits.{nat_bit}
 use Rattle.px_pixel.specs.Pixels.{PixelState, zero_pixel}
 use Rattle.px_rows.specs.Rows.{row_bit, words_for}
-use Rattle.px_rows.proofs.BitLaws.{bit_of_zero}
-use Rattle.px_planes.specs.Operations.{IsDone, IsEnabled, IsLike, IsPartial, IsWordDone}
-use Rattle.px_planes.specs.Pixels.{HasPixels, HasWords, pixel_in}
+use Rattle.px_planes.specs.Operations.{IsDone, IsEnabled, IsLike, IsPartial}
+use Rattle.px_planes.specs.Pixels.{HasPixels, pixel_in}
 use Rattle.px_planes.specs.declared.planes.Planes.{Planes}
 
 idle_keep : (test : Bool) (p : PixelBits) → p.enable ≡ false → keep test p ≡ p

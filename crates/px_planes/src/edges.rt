@@ -1,8 +1,7 @@
 //! `KeepSign`, made at once: most words lie on one side of an edge whole.
-ghost use Rattle.std.specs.Prelude.{◌≡◌, ℕ, ℤ, ◌<◌, ◌≤◌, ◌+◌, ◌*◌, ◌/◌, ◌%◌, ◌^◌, ◌+ℤ◌, true, length};
-ghost use Rattle.px_lanes.specs.Lanes.{offset};
+ghost use Rattle.std.specs.Prelude.{◌≡◌, ◌<◌, ◌≤◌, ◌+◌, ◌*◌, ◌^◌, true, length};
 ghost use Rattle.px_macro.specs.declared.operation.Macro.TheVariants.{KeepSign};
-ghost use Rattle.px_num.specs.Forms.{IsInTreeRange, IsWithin, value_at};
+ghost use Rattle.px_num.specs.Forms.{IsInTreeRange};
 ghost use Rattle.px_planes.specs.Operations.{IsDone, IsEdge, IsReach, IsWordDone};
 ghost use Rattle.px_planes.specs.Pixels.{HasWords};
 

@@ -1,5 +1,5 @@
 //! Operations of one clock, made in whole rows.
-ghost use Rattle.std.specs.Prelude.{◌≡◌, ◌<◌, ℕ, length};
+ghost use Rattle.std.specs.Prelude.{◌<◌, length};
 ghost use Rattle.px_macro.specs.declared.operation.Macro.TheVariants.{KeepBit, SetBit, Toggle};
 ghost use Rattle.px_planes.specs.Operations.{IsDone, IsEnabled};
 ghost use Rattle.px_planes.specs.Pixels.{HasWords};

@@ -1,8 +1,8 @@
 //! Operations, made at once in the 64 pixels of one word.
-ghost use Rattle.std.specs.Prelude.{◌≡◌, ℕ, ℤ, ◌<◌, ◌≤◌, ◌+◌, ◌*◌, ◌/◌, ◌%◌, ◌^◌, length, nat_le, nat_lt, not};
+ghost use Rattle.std.specs.Prelude.{◌≡◌, ℕ, ℤ, ◌<◌, ◌≤◌, ◌+◌, ◌*◌, ◌/◌, ◌%◌, ◌^◌, length, nat_le};
 ghost use Rattle.px_lanes.specs.Lanes.{HasValue, offset};
 ghost use Rattle.px_macro.specs.Fields.{number_in};
-ghost use Rattle.px_macro.specs.Macros.{AreApart, AreOfOneLength, IsField};
+ghost use Rattle.px_macro.specs.Macros.{AreOfOneLength, IsField};
 ghost use Rattle.px_macro.specs.declared.operation.Macro.TheVariants.{
   AddLinear,
   Copy,
@@ -11,8 +11,8 @@ ghost use Rattle.px_macro.specs.declared.operation.Macro.TheVariants.{
   LoadConst,
   LoadLinear,
 };
-ghost use Rattle.px_num.specs.Bits.{bit_at, modulo, nat_bit};
-ghost use Rattle.px_num.specs.Forms.{IsInTreeRange, value_at};
+ghost use Rattle.px_num.specs.Bits.{modulo, nat_bit};
+ghost use Rattle.px_num.specs.Forms.{IsInTreeRange};
 ghost use Rattle.px_planes.specs.Operations.{IsWordDone};
 ghost use Rattle.px_planes.specs.Pixels.{HasWords, pixel_in};
 

@@ -2,7 +2,7 @@
 use Rattle.std.proofs.Common.{ℕ, ◌≡◌, ◌⊎◌, ◌<◌, inl, inr, List, Some, length, refl}
 use Rattle.px_listing.specs.Reading.{ListFault, refusal_of}
 use Rattle.px_show.specs.declared.fault.TextFault.TheVariants as fault
-use Rattle.px_outcome.specs.Listings.{list_refusal}
+use Rattle.px_play_run.specs.Listings.{list_refusal}
 use Rattle.px_play_run.specs.Playings.{IsListStop}
 use Rattle.px_outcome.specs.Stops.{list_stop}
 use Rattle.px_outcome.proofs.LimitLaws.{not_filled}

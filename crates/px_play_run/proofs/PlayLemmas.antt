@@ -8,17 +8,15 @@ use Rattle.px_io.specs.Told.{ConsumesAtMost, IsFrontOf}
 use Rattle.px_array.specs.Slots.{ArrayView}
 use Rattle.px_listing.specs.Listings.{ListingView}
 use Rattle.px_listing.specs.Memories.{played_text}
-use Rattle.px_command.specs.declared.command.Command.TheVariants as c
 use Rattle.px_outcome.specs.declared.refusal.Refusal.{Refusal}
 use Rattle.px_outcome.specs.declared.refusal.Refusal.TheVariants as r
 use Rattle.px_outcome.specs.declared.stop.Stop.{Stop}
 use Rattle.px_outcome.specs.declared.stop.Stop.TheVariants as s
-use Rattle.px_outcome.specs.Listings.{Plays, list_refusal, listing_written, played_out}
+use Rattle.px_play_run.specs.Listings.{LeavesPlayed, PerformsPlay, Plays, list_refusal, listing_written, played_out}
 use Rattle.px_outcome.specs.Ends.{Ends, IsUntouched}
 use Rattle.px_outcome.specs.Outcomes.{Outcome, done, output, refusal, refused, unless_refused}
 use Rattle.px_outcome.specs.Refusals.{too_long}
 use Rattle.px_outcome.specs.Results.{Meets, Wrote, status_in}
-use Rattle.px_outcome.specs.Runs.{Performs}
 use Rattle.px_outcome.specs.Stops.{DoesWork, IsReadStop}
 use Rattle.px_play_run.specs.Playings.{IsListStop, PlaysOn}
 use Rattle.px_outcome.proofs.RunLaws.{bytes_of, of_known, performs_over}
@@ -96,15 +94,16 @@ plays_front result bits before after bytes plays = by_refusal (list_refusal bits
 -- what is played of the whole input is what the command does
 performs : (result : Result (Unit {0}) Stop) (taken : List ℕ) (bits : ℕ) (before after : Ends)
     → Consumes before.rest after.rest taken → PlaysOn result (bytes_of before.rest taken) bits before after
-    → Performs result (Some c.Play) bits before after
+    → PerformsPlay result bits before after
 performs result taken bits before after consumed plays =
-    performs_over result (Some c.Play) bits before after taken consumed plays.meets
+    performs_over result (λ bytes. played_out bytes bits) (λ input. LeavesPlayed result bits input.bytes before after)
+    before after taken consumed plays.meets
     (record { wrote = plays.writes; array = plays.array })
 
 -- a text that was read answers for the input
 pub performs_played : (result : Result (Unit {0}) Stop) (text : List ℕ) (bits : ℕ) (before after : Ends)
     → IsFrontOf before.rest 1048577 text → Consumes before.rest after.rest text
-    → PlaysOn result text bits before after → Performs result (Some c.Play) bits before after
+    → PlaysOn result text bits before after → PerformsPlay result bits before after
 performs_played result text bits before after front consumed plays =
     performs result text bits before after consumed
     (of_known (λ bytes. PlaysOn result bytes bits before after) before.rest text (plays_front result bits before after)
@@ -124,7 +123,7 @@ read_plays bytes bits s.WriteFault before after m n read idle = absurd read
 -- the work stops at a read
 pub performs_unread : (result : Result (Unit {0}) Stop) (bits : ℕ) (stop : Stop) (before after : Ends) (m n : ℕ)
     → result ≡ Err stop → IsReadStop stop m n → IsUntouched before after → ConsumesAtMost before.rest after.rest 1048577
-    → Performs result (Some c.Play) bits before after
+    → PerformsPlay result bits before after
 performs_unread result bits stop before after m n is read idle (taken, consumed, few) =
     performs result taken bits before after consumed
     (subst (λ (x : Result (Unit {0}) Stop). PlaysOn x (bytes_of before.rest taken) bits before after) (sym is)

@@ -2,7 +2,7 @@
 use Rattle.std.specs.Prelude.{ℕ, ◌≡◌, List, ⊤, Some, Result}
 use Rattle.px_outcome.specs.declared.stop.Stop.{Stop}
 use Rattle.px_outcome.specs.declared.stop.Stop.TheVariants as s
-use Rattle.px_outcome.specs.Listings.{Plays, list_refusal, listing_written, played_out}
+use Rattle.px_play_run.specs.Listings.{Plays, list_refusal, listing_written, played_out}
 use Rattle.px_outcome.specs.Ends.{Ends}
 use Rattle.px_outcome.specs.Outcomes.{output}
 use Rattle.px_outcome.specs.Results.{Meets, Wrote, status_in}

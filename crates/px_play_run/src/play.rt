@@ -1,5 +1,5 @@
 //! The command `play`: a listing on the array.
-ghost use Rattle.std.specs.Prelude.{◌≡◌, ◌≢◌, ◌≤◌, All, Err, IfErr, IfOk, None, OnErr, OnOk, Some, true};
+ghost use Rattle.std.specs.Prelude.{◌≡◌, ◌≢◌, ◌≤◌, All, Err, IfErr, IfOk, None, OnErr, OnOk, true};
 ghost use Rattle.std.specs.Io.KnownBytes.{Appends};
 ghost use Rattle.px_array.specs.Arrays.{IsOpen};
 ghost use Rattle.px_io.specs.Counts.{HasCause};
@@ -7,13 +7,12 @@ ghost use Rattle.px_io.specs.Told.{TakesFront, Tells};
 ghost use Rattle.px_array.specs.Slots.{array_view};
 ghost use Rattle.px_macro.specs.Macros.{IsLawful};
 ghost use Rattle.px_listing.specs.Memories.{memory_text, played_text};
-ghost use Rattle.px_command.specs.declared.command.Command.{Command};
 ghost use Rattle.px_outcome.specs.declared.stop.Stop.{Stop};
-ghost use Rattle.px_outcome.specs.Listings.{Plays, list_refusal, listing_written};
+ghost use Rattle.px_play_run.specs.Listings.{PerformsPlay, Plays, list_refusal, listing_written};
 ghost use Rattle.px_outcome.specs.Outcomes.{done};
 ghost use Rattle.px_outcome.specs.Ends.{ends};
 ghost use Rattle.px_outcome.specs.Results.{HasCauses, status_in};
-ghost use Rattle.px_outcome.specs.Runs.{Performs, Took};
+ghost use Rattle.px_outcome.specs.Inputs.{TookText};
 ghost use Rattle.px_outcome.specs.Stops.{DoesWork};
 ghost use Rattle.px_play_run.specs.Playings.{IsListStop};
 
@@ -33,14 +32,14 @@ pub fn play_input<S: Source, O: Sink, A: Operating>(
     array: &mut A,
 ) -> Result<(), Stop>
     requires bits { A.BITS ≤ 256 }
-    ensures performs { Performs result (Some Command.Play) A.BITS
+    ensures performs { PerformsPlay result A.BITS
         (ends (S.rest input.old) (S.faults input.old) (O.state out.old)
         (A.device array.old) (A.slots array.old) (A.work array.old))
         (ends (S.rest input.new) (S.faults input.new) (O.state out.new)
         (A.device array.new) (A.slots array.new) (A.work array.new)) }
     ensures causes { HasCauses result (S.faults input.old) (S.faults input.new) (O.state out.old).faults
         (O.state out.new).faults }
-    ensures took { Took (Some Command.Play) (status_in result)
+    ensures took { TookText (status_in result)
         (S.rest input.old) (S.rest input.new) }
     ensures worded { result ≢ Err Stop.Usage }
 {
@@ -50,7 +49,7 @@ pub fn play_input<S: Source, O: Sink, A: Operating>(
 }
 
 /// The listing that a text writes, for pixels of so many memory bits.
-#[tactic(auto, unfolding(px_outcome::specs::Listings::list_refusal, px_outcome::specs::Listings::listing_written))]
+#[tactic(auto, unfolding(crate::specs::Listings::list_refusal, crate::specs::Listings::listing_written))]
 fn listing_in(alloc: Global, text: &[u8], bits: u32) -> Result<Listing, Stop>
     requires bits { bits ≤ 256 }
     ensures ok { IfOk result (λ listing.

@@ -1,5 +1,5 @@
 //! Sums of the samples of pixels.
-ghost use Rattle.std.specs.Prelude.{◌≡◌, ◌*◌, ◌/◌, ◌^◌, ◌<◌, ◌≤◌};
+ghost use Rattle.std.specs.Prelude.{◌≡◌, ◌*◌, ◌/◌, ◌^◌, ◌≤◌};
 ghost use Rattle.px_refine.specs.Sums.{AreSumsAtMost, mean_of, no_sums, together, with_colour};
 
 use crate::finer::parts;

@@ -1,7 +1,7 @@
 //! The four calls on whole rows, for rows of any length.
 //!
 //! Each takes eight words at once on the lanes of a vector, and then the rest one by one.
-ghost use Rattle.std.specs.Prelude.{◌≡◌, ◌&&◌, cond, length, not};
+ghost use Rattle.std.specs.Prelude.{◌≡◌, ◌&&◌, cond, length};
 ghost use Rattle.std.specs.Bool.{beq};
 ghost use Rattle.px_num.specs.Bits.{majority, xor};
 ghost use Rattle.px_rows.specs.Rows.{EachBit, row_bit};

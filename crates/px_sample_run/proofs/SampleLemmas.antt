@@ -16,7 +16,7 @@ use Rattle.px_outcome.specs.Arrays.{Draws}
 use Rattle.px_sample_run.specs.Countings.{IsShownAtMost, shown_at, shown_within, shown_in_row, shown_together}
 use Rattle.px_outcome.specs.Outcomes.{Outcome, unless_refused}
 use Rattle.px_outcome.specs.Refusals.{text_refusal}
-use Rattle.px_outcome.specs.Samples.{measured, one_at, row_sum, sample_scene, sampled, shown_depth_at, text_measured}
+use Rattle.px_sample_run.specs.Samples.{measured, one_at, row_sum, sample_scene, sampled, shown_depth_at, text_measured}
 use Rattle.px_outcome.specs.Results.{Meets, status_in, status_of}
 use Rattle.px_outcome.specs.Stops.{DoesWork, IsSceneStop, IsTextStop}
 use Rattle.px_outcome.proofs.StopLaws.{not_read, not_usage, stop_causes, stop_writes}

@@ -2,7 +2,7 @@
 use Rattle.std.specs.Prelude.{ℕ, ◌+◌, ◌≤◌}
 use Rattle.px_scene.specs.Scenes.{SceneView}
 use Rattle.px_sample_run.specs.declared.sample.Shown.{Shown}
-use Rattle.px_outcome.specs.Samples.{one_at, row_sum, shown_depth_at, sum_over}
+use Rattle.px_sample_run.specs.Samples.{one_at, row_sum, shown_depth_at, sum_over}
 
 abbrev pub none_shown : Shown
 none_shown = record { pixels = 0; depths = 0 }

@@ -14,7 +14,7 @@ ghost use Rattle.px_deliver.specs.Drawn.{IsDrawn};
 ghost use Rattle.px_outcome.specs.Arrays.{Draws};
 ghost use Rattle.px_sample_run.specs.Countings.{IsShownAtMost, none_shown, shown_at, shown_within, shown_in_row, shown_together};
 ghost use Rattle.px_outcome.specs.Outcomes.{drawable};
-ghost use Rattle.px_outcome.specs.Samples.{measured, measures, sample_scene, sampled, text_measured, where_shown};
+ghost use Rattle.px_sample_run.specs.Samples.{measured, measures, sample_scene, sampled, text_measured, where_shown};
 ghost use Rattle.px_outcome.specs.Results.{status_in};
 ghost use Rattle.px_outcome.specs.Stops.{DoesWork, StopsAt};
 

@@ -18,7 +18,7 @@ use Rattle.px_scene.specs.declared.line.Due.TheVariants as d
 use Rattle.px_scene.specs.declared.line.Keyword.{Keyword}
 use Rattle.px_scene.specs.declared.line.Keyword.TheVariants as k
 use Rattle.px_scene.specs.declared.line.Tally.{Tally}
-use Rattle.px_scene.specs.AcceptedLaw.{AcceptedIsLawful, IsWhollyLawful}
+use Rattle.px_scene.specs.AcceptedLaw.{AcceptedIsLawful}
 use Rattle.px_scene.specs.Drafts.{DraftView, blank, draft_of, drawn, fault_in, first_word, fresh_solid, tally_of}
 use Rattle.px_scene.specs.Drafts.{taken, with_line, with_picture}
 use Rattle.px_scene.specs.LawfulDrafts.{IsGoodForm, IsLawfulDraft, is_ended}

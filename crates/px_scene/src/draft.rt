@@ -1,5 +1,5 @@
 //! What the lines of a scene text have said so far.
-ghost use Rattle.std.specs.Prelude.{◌≡◌, false, ◌<◌, ◌≤◌, ◌+◌, ◌++◌, ◌∷◌, [], length, pos, None, Some, IfSome, IfOk, IfErr, vec_len, slice_get, ◌-◌, OnOk, OnErr, IsErrOf, All, true, is_some};
+ghost use Rattle.std.specs.Prelude.{◌≡◌, ◌<◌, ◌≤◌, ◌+◌, ◌++◌, ◌∷◌, [], length, None, Some, IfSome, vec_len, ◌-◌, OnOk, OnErr, IsErrOf, true, is_some};
 ghost use Rattle.std.specs.Str.{bytes_eq};
 ghost use Rattle.std.specs.List.{list_any};
 ghost use Rattle.px_text.specs.LentWords.{now_of};
@@ -9,7 +9,7 @@ ghost use Rattle.px_scene.specs.Lines.{colour_of, size_of};
 ghost use Rattle.px_scene.specs.Lines.{is_due, limit_of, face_past, plane_past, colour_past, picture_past, depth_past};
 ghost use Rattle.px_scene.specs.Parsed.{keyword_in, name_in, kept_words, numbers_in, face_numbers, depth_numbers, second_name, fault_left, fault_shown};
 ghost use Rattle.px_model.specs.declared.limits.TheConstants.{MAX_FACES, MAX_PLANES_OF_A_KIND};
-ghost use Rattle.px_model.specs.Scenes.{IsPlane, SolidView, faces_in, names_of, AreNumberedFrom, faces_of};
+ghost use Rattle.px_model.specs.Scenes.{names_of};
 ghost use Rattle.px_scene.specs.Drafts.{fresh_solid, with_line, with_depth, taken, with_last, in_last, with_front, with_back, with_side, tally_of, fault_in, drawn};
 ghost use Rattle.px_scene.specs.LawfulDrafts.{CanTakeFace, CanBeTaken, IsLawfulDraft};
 ghost use Rattle.px_scene.specs.declared.line.Due.TheVariants as Due;

@@ -1,6 +1,6 @@
 //! What the numbers of a line write, once they are within their limits: a face and a colour.
 ghost use Rattle.std.specs.Prelude.{◌≡◌, ◌≤ℤ◌, pos, None, Some};
-ghost use Rattle.px_scene.specs.Lines.{face_past, colour_past, plane_past, size_of, colour_of, face_of};
+ghost use Rattle.px_scene.specs.Lines.{face_past, colour_past, size_of, colour_of, face_of};
 ghost use Rattle.px_model.specs.Scenes.{IsPlane};
 ghost use Rattle.px_scene.specs.Parsed.{face_numbers};
 

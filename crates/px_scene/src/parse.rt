@@ -1,6 +1,6 @@
 //! One line of a scene text, parsed: what its words say, where it is due and its form is good
 //! (docs/SCENES.md, "Lines that are due").
-ghost use Rattle.std.specs.Prelude.{◌≡◌, Some, true, false, ◌∷◌, [], IfSome, IfNone};
+ghost use Rattle.std.specs.Prelude.{◌≡◌, Some, false, ◌∷◌, [], IfSome, IfNone};
 ghost use Rattle.px_text.specs.LentWords.{now_of};
 ghost use Rattle.px_scene.specs.Lines.{are_numbers, due_after};
 ghost use Rattle.px_scene.specs.Parsed.{keyword_in, WriteThree, ParsesTo, IsParsed, FaceForms, HeaderForms, DepthForms};

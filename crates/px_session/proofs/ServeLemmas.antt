@@ -1,6 +1,6 @@
 -- From lines in a buffer to lines, and from the last answer to the end of the output.
 use Rattle.std.proofs.Common.{◌≡◌, ℕ, ◌-◌, true, false, List, [], ◌∷◌, ◌++◌, length, take, map}
-use Rattle.std.proofs.Common.{refl, sym, ap, subst, ◌∙◌, ◌⊎◌, inl, inr, ◌≢◌, append_assoc, append-nil, arith}
+use Rattle.std.proofs.Common.{refl, sym, ap, subst, ◌∙◌, ◌⊎◌, inl, inr, append_assoc, append-nil, arith}
 use Rattle.std.specs.Io.KnownBytes.{Keeps}
 use Rattle.std.proofs.lemmas.List.{take_all}
 use Rattle.std.proofs.lemmas.List.{map-append}
@@ -15,7 +15,7 @@ use Rattle.px_session.specs.Sessions.{Obeyed, Stand, answers, has_quit, until_qu
 use Rattle.px_session.specs.Turns.{Ended, Place, Stopped, lines_seen}
 use Rattle.px_session.specs.declared.serving.Ending.{Ending}
 use Rattle.px_session.specs.declared.serving.Ending.TheVariants as e
-use Rattle.px_session.proofs.FeedingLemmas.{answers_grow, broke_ending, broke_until_more, ended-append, left-append}
+use Rattle.px_session.proofs.FeedingLemmas.{answers_grow, broke_until_more, ended-append, left-append}
 use Rattle.px_session.proofs.FeedingLemmas.{until_more, until_quiet}
 use Rattle.px_session.proofs.TurningLemmas.{behind, seen_none, served_behind}
 use Rattle.px_session.proofs.ShorteningLemmas.{answered_short, broke_short, ended_short, last_short, left_short}

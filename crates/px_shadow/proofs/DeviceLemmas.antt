@@ -19,7 +19,7 @@ use Rattle.px_asm.specs.Micros.{all_micros, cycles, micro_at, micros}
 use Rattle.px_macro.specs.Macros.{IsLawful}
 use Rattle.px_macro.specs.declared.operation.Macro.{Macro}
 use Rattle.px_control.specs.GridLaw.{IsSizedArray}
-use Rattle.px_asm.specs.Operations.{CanMake, all_made}
+use Rattle.px_asm.specs.Operations.{all_made}
 use Rattle.px_shadow.specs.Carrying.{CanCarryOut, CarriesOut, IsRestOf, carried_out}
 
 pub carried_none : (d : Device) → carried_out [] d ≡ d

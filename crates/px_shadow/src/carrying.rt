@@ -1,6 +1,4 @@
 //! Operations that are carried out on an array, one after another.
-ghost use Rattle.std.specs.Prelude.{◌≡◌, ◌-◌};
-ghost use Rattle.px_array.specs.Slots.{worked};
 ghost use Rattle.px_shadow.specs.Carrying.{CanCarryOut, CarriesOut};
 
 use px_asm::{Operating, make_operations};

@@ -4,7 +4,6 @@ ghost use Rattle.px_array.specs.Slots.{IsRunOnce, array_view, worked};
 ghost use Rattle.px_face.specs.Edges.{edge_count};
 ghost use Rattle.px_face.specs.Faces.{face_count};
 ghost use Rattle.px_normal.specs.Sets.{IsBelow};
-ghost use Rattle.px_model.specs.Cells.{depths_of, end_of};
 ghost use Rattle.px_prune.specs.Kept.{plan_of};
 ghost use Rattle.px_sched.specs.Layouts.{layout_of};
 ghost use Rattle.px_control.specs.GridLaw.{CoversThePicture};

@@ -1,5 +1,5 @@
 -- What is found of the shadows of a text that was read is found of the input, and what stops it.
-use Rattle.std.proofs.Common.{ℕ, ◌≡◌, ◌<◌, ◌≤◌, inl, inr, List, length, take, drop, unwrap_or, Some, None, Result, Ok}
+use Rattle.std.proofs.Common.{ℕ, ◌≡◌, ◌<◌, ◌≤◌, inl, inr, List, length, take, drop, unwrap_or, None, Result, Ok}
 use Rattle.std.proofs.Common.{Err, refl, ap, sym, subst, ◌∙◌, arith, length-take}
 use Rattle.std.proofs.lemmas.Bool.{cases_lt}
 use Rattle.std.proofs.lemmas.List.{take_all}
@@ -16,7 +16,6 @@ use Rattle.px_sched.specs.Layouts.{LayoutView}
 use Rattle.px_shadow.specs.Lights.{mask_image}
 use Rattle.px_shadow.specs.ShadowLaws.{MaskLaw}
 use Rattle.px_shadow.specs.Stored.{StoresTheLights, stored_masks}
-use Rattle.px_command.specs.declared.command.Command.TheVariants as c
 use Rattle.px_outcome.specs.declared.refusal.Refusal.{Refusal}
 use Rattle.px_outcome.specs.declared.refusal.Refusal.TheVariants as r
 use Rattle.px_outcome.specs.declared.stop.Stop.{Stop}
@@ -25,9 +24,8 @@ use Rattle.px_outcome.specs.Ends.{Ends, IsUntouched}
 use Rattle.px_outcome.specs.Outcomes.{Outcome, done, refusal, refused, unless_refused}
 use Rattle.px_outcome.specs.Refusals.{text_refusal, too_long}
 use Rattle.px_outcome.specs.Results.{Meets, status_in}
-use Rattle.px_outcome.specs.Runs.{Performs}
-use Rattle.px_outcome.specs.Shadows.{Shades, lights_in, lights_refusal, line_behind, lit, lit_by_lines, lit_drawable}
-use Rattle.px_outcome.specs.Shadows.{parts_lit, shadowed}
+use Rattle.px_shadow_run.specs.Shadows.{Shades, lights_in, lights_refusal, line_behind, lit, lit_by_lines, lit_drawable}
+use Rattle.px_shadow_run.specs.Shadows.{LeavesShadows, PerformsShadow, parts_lit, shadowed}
 use Rattle.px_outcome.specs.Stops.{DoesWork, IsReadStop, IsSceneStop}
 use Rattle.px_outcome.proofs.LimitLaws.{long_is, short_is}
 use Rattle.px_outcome.proofs.StopLaws.{not_read, not_usage, stop_causes, stop_writes}
@@ -80,28 +78,31 @@ shades_front result bits before after bytes shades = elim (cases_lt (length byte
 
 performs : (result : Result (Unit {0}) Stop) (taken : List ℕ) (bits : ℕ) (before after : Ends)
     → Consumes before.rest after.rest taken → ShadesText result bits before after (bytes_of before.rest taken)
-    → Performs result (Some c.Shadow) bits before after
+    → PerformsShadow result bits before after
 performs result taken bits before after consumed shades =
-    performs_over result (Some c.Shadow) bits before after taken consumed shades.serves.meets
+    performs_over result (λ bytes. shadowed bytes bits) (λ input. LeavesShadows result bits input.bytes before after)
+    before after taken consumed shades.serves.meets
     (record { wrote = shades.serves.writes; array = shades.array })
 
 -- a text that was read answers for the input
 pub performs_shades : (result : Result (Unit {0}) Stop) (text lent : List ℕ) (bits : ℕ) (before after : Ends)
     → IsFrontOf before.rest 1048577 text → Consumes before.rest after.rest text → lent ≡ text
     → DoesWork result (shadowed lent bits) before.out after.out
-    → Shades (status_in result) bits lent before.array after.array → Performs result (Some c.Shadow) bits before after
+    → Shades (status_in result) bits lent before.array after.array → PerformsShadow result bits before after
 performs_shades result text lent bits before after front consumed same serves array =
     performs result text bits before after consumed
     (of_known (ShadesText result bits before after) before.rest text (shades_front result bits before after) front
     (subst (λ t. ShadesText result bits before after t) same (record { serves = serves; array = array })))
 
 read_performs : (stop : Stop) (bits : ℕ) (before after : Ends) (m n : ℕ) → IsReadStop stop m n → IsUntouched before after
-    → ConsumesAtMost before.rest after.rest 1048577 → Performs (Err stop) (Some c.Shadow) bits before after
+    → ConsumesAtMost before.rest after.rest 1048577 → PerformsShadow (Err stop) bits before after
 read_performs s.ReadFault bits before after m n is idle (taken, consumed, few) =
-    performs_over (Err s.ReadFault) (Some c.Shadow) bits before after taken consumed tt
+    performs_over (Err s.ReadFault) (λ bytes. shadowed bytes bits) (λ input. LeavesShadows (Err s.ReadFault) bits input.bytes before after)
+    before after taken consumed tt
     (record { wrote = idle.out; array = idle.array })
 read_performs s.Memory bits before after m n is idle (taken, consumed, few) =
-    performs_over (Err s.Memory) (Some c.Shadow) bits before after taken consumed tt
+    performs_over (Err s.Memory) (λ bytes. shadowed bytes bits) (λ input. LeavesShadows (Err s.Memory) bits input.bytes before after)
+    before after taken consumed tt
     (record { wrote = idle.out; array = inl idle.array })
 read_performs s.Usage bits before after m n is idle consumed = absurd is
 read_performs (s.Refused reason) bits before after m n is idle consumed = absurd is
@@ -110,9 +111,9 @@ read_performs s.WriteFault bits before after m n is idle consumed = absurd is
 -- the work stops at a read
 pub performs_unread : (result : Result (Unit {0}) Stop) (stop : Stop) (bits : ℕ) (before after : Ends) (m n : ℕ)
     → result ≡ Err stop → IsReadStop stop m n → IsUntouched before after → ConsumesAtMost before.rest after.rest 1048577
-    → Performs result (Some c.Shadow) bits before after
+    → PerformsShadow result bits before after
 performs_unread result stop bits before after m n at is idle most =
-    subst (λ (r : Result (Unit {0}) Stop). Performs r (Some c.Shadow) bits before after) (sym at)
+    subst (λ (r : Result (Unit {0}) Stop). PerformsShadow r bits before after) (sym at)
     (read_performs stop bits before after m n is idle most)
 
 -- a stop that comes for want of memory or by what the input is

@@ -13,14 +13,13 @@ ghost use Rattle.px_shadow.specs.Lights.{mask_image};
 ghost use Rattle.px_shadow.specs.Shaded.{IsShaded};
 ghost use Rattle.px_shadow.specs.ShadowPasses.{need_with};
 ghost use Rattle.px_shadow.specs.Stored.{StoresTheLights};
-ghost use Rattle.px_command.specs.declared.command.Command.{Command};
 ghost use Rattle.px_outcome.specs.declared.stop.Stop.{Stop};
 ghost use Rattle.px_outcome.specs.Arrays.{Draws};
 ghost use Rattle.px_outcome.specs.Outcomes.{Outcome, unless_refused};
 ghost use Rattle.px_outcome.specs.Ends.{ends};
 ghost use Rattle.px_outcome.specs.Results.{HasCauses, status_in, status_of};
-ghost use Rattle.px_outcome.specs.Runs.{Performs, Took};
-ghost use Rattle.px_outcome.specs.Shadows.{Shades, ShadesBy, ShadesParts, light_refusal, lights_in, lights_refusal, line_behind, lit, lit_drawable, parts_lit, shadowed};
+ghost use Rattle.px_outcome.specs.Inputs.{TookText};
+ghost use Rattle.px_shadow_run.specs.Shadows.{PerformsShadow, Shades, ShadesBy, ShadesParts, light_refusal, lights_in, lights_refusal, line_behind, lit, lit_drawable, parts_lit, shadowed};
 ghost use Rattle.px_outcome.specs.Stops.{DoesWork, StopsAt};
 
 use arrayvec::ArrayVec;
@@ -49,14 +48,14 @@ pub fn shadow_input<S: Source, O: Sink, A: Operating>(
     array: &mut A,
 ) -> Result<(), Stop>
     requires bits { A.BITS ≤ 256 }
-    ensures performs { Performs result (Some Command.Shadow) A.BITS
+    ensures performs { PerformsShadow result A.BITS
         (ends (S.rest input.old) (S.faults input.old) (O.state out.old)
         (A.device array.old) (A.slots array.old) (A.work array.old))
         (ends (S.rest input.new) (S.faults input.new) (O.state out.new)
         (A.device array.new) (A.slots array.new) (A.work array.new)) }
     ensures causes { HasCauses result (S.faults input.old) (S.faults input.new) (O.state out.old).faults
         (O.state out.new).faults }
-    ensures took { Took (Some Command.Shadow) (status_in result)
+    ensures took { TookText (status_in result)
         (S.rest input.old) (S.rest input.new) }
     ensures worded { result ≢ Err Stop.Usage }
 {

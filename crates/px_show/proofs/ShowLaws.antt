@@ -1,23 +1,20 @@
 -- A line of an expression with no fault has a lawful one, over the solids that stand before it.
 use Rattle.std.proofs.Common.{◌≡◌, ℕ, ◌+◌, ◌<◌, ◌≤◌, List, [], ◌∷◌, length, Bool, true, false, ◌||◌, if◌then◌else◌}
-use Rattle.std.proofs.Common.{Option, Some, None, IsSomeAnd, refl, ap, sym, ◌∙◌, arith}
+use Rattle.std.proofs.Common.{Option, Some, None, IsSomeAnd, refl, ap, arith}
 use Rattle.std.specs.Option.{option_map}
 use Rattle.std.specs.Str.{bytes_eq}
 use Rattle.std.proofs.lemmas.Bool.Decides.{nat_tests}
-use Rattle.px_num.proofs.TruthLaws.{none_first, none_second}
-use Rattle.px_expr.specs.Tree.{Tree, leaf_count, HasLeavesBelow, IsLawfulTree}
+use Rattle.px_expr.specs.Tree.{Tree, leaf_count, HasLeavesBelow}
 use Rattle.px_expr.specs.Tree as shown
 use Rattle.px_text.specs.Text.{Words}
 use Rattle.px_show.specs.Expressions.{is_among, tokens_of, Named, leaf, join, leaves, nesting, expression_of}
-use Rattle.px_show.specs.Expressions.{place_of, over_places, are_known, cause_in, limit_in, count_past, counts_past}
+use Rattle.px_show.specs.Expressions.{place_of, over_places, are_known, cause_in, count_past}
 use Rattle.px_show.specs.Expressions.{show_cause}
-use Rattle.px_show.specs.Expressions.{show_fault, show_tree}
+use Rattle.px_show.specs.Expressions.{show_tree}
 use Rattle.px_show.specs.declared.scene_version.Version.{Version}
 use Rattle.px_show.specs.declared.fault.Cause.TheVariants as cause
 use Rattle.px_show.specs.declared.fault.LimitKind.{LimitKind}
-use Rattle.px_show.specs.declared.fault.LimitKind.TheVariants as kind
 use Rattle.px_text.proofs.PlainLaws.{both}
-use Rattle.px_show.proofs.FaultLaws.{good_form, within_limits}
 
 place_below : (names : Words) (name : List ℕ) → is_among names name ≡ true → place_of names name < length names
 place_below [] name e = cc

@@ -1,5 +1,5 @@
 //! Printing an expression, from its last byte to its first.
-ghost use Rattle.std.specs.Prelude.{◌≡◌, ◌<◌, ◌≤◌, ◌++◌, ◌∷◌, [], List, OnErr, OnOk, IfOk, All, length, reverse};
+ghost use Rattle.std.specs.Prelude.{◌≡◌, ◌<◌, ◌++◌, ◌∷◌, OnErr, OnOk, IfOk, All, length, reverse};
 ghost use Rattle.px_expr.specs.Tree.{HasLeavesBelow, IsLawfulTree};
 ghost use Rattle.px_expr.specs.Shapes.{IsLeafBelow};
 ghost use Rattle.px_model.specs.Scenes.{names_of};

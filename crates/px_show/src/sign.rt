@@ -1,7 +1,6 @@
 //! The signs of operators, and which of them a version has (docs/SCENES.md, "Expressions").
 ghost use Rattle.std.specs.Prelude.{◌≡◌};
 ghost use Rattle.std.specs.List.{list_any};
-ghost use Rattle.px_expr.specs.Shapes.{shape_of};
 ghost use Rattle.px_show.specs.Versions.{sign_byte, op_of, is_differ, is_sign, has_difference};
 ghost use Rattle.px_show.specs.Differences.{has_differ_sign, is_difference};
 

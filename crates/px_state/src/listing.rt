@@ -1,5 +1,5 @@
 //! The state of a listing after so many clocks.
-ghost use Rattle.std.specs.Prelude.{◌≡◌, ◌⊎◌, ◌≤◌, ◌<◌, ◌^◌, All, IfErr, IfOk, IfSome, IfNone, None, OnErr, OnOk, Some, length};
+ghost use Rattle.std.specs.Prelude.{◌≡◌, ◌≤◌, ◌<◌, ◌^◌, All, IfErr, IfOk, IfSome, IfNone, None, OnErr, OnOk, Some, length};
 ghost use Rattle.px_array.specs.Arrays.{opened};
 ghost use Rattle.px_macro.specs.Macros.{IsLawful};
 ghost use Rattle.px_state.specs.Courses.{IsNext, device_after, total};

@@ -1,5 +1,5 @@
 //! The micros of a stretch of clocks, packed.
-ghost use Rattle.std.specs.Prelude.{◌≡◌, ℕ, ◌⊎◌, ◌+◌, ◌-◌, ◌≤◌, ◌<◌, ◌^◌, All, get_or, IfErr, IfOk, None, OnErr, OnOk, Some, length};
+ghost use Rattle.std.specs.Prelude.{◌≡◌, ℕ, ◌+◌, ◌-◌, ◌≤◌, ◌<◌, ◌^◌, get_or, IfErr, IfOk, None, OnErr, OnOk, Some, length};
 ghost use Rattle.std.specs.Option.{option_or};
 ghost use Rattle.px_asm.specs.Micros.{cycles as cycles_of, micro_at as micro_of};
 ghost use Rattle.px_normal.specs.declared.product.TheConstants.{MAX_PRODUCTS};

@@ -1,5 +1,5 @@
 //! What a state and micros are refused for, once the text is read.
-ghost use Rattle.std.specs.Prelude.{◌≡◌, ◌+◌, ◌^◌, ◌<◌, ◌≤◌, ℕ, IfErr, None, OnOk, Some, nat_lt};
+ghost use Rattle.std.specs.Prelude.{◌≡◌, ◌+◌, ◌<◌, ◌≤◌, ℕ, IfErr, None, OnOk, Some, nat_lt};
 ghost use Rattle.px_array.specs.Slots.{ArrayView};
 ghost use Rattle.px_listing.specs.Listings.{ListingView};
 ghost use Rattle.px_state.specs.Refusals.{HasSmallCount, refused_by, refused_where};

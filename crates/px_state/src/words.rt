@@ -4,7 +4,7 @@ ghost use Rattle.px_num.specs.Bits.{nat_bit};
 ghost use Rattle.px_array.specs.Arrays.{HasPixel, IsOpen, levels_of};
 ghost use Rattle.px_tree.specs.Nodes.{IsGrid, at_place};
 ghost use Rattle.px_state.specs.Parts.{IsInGrid, IsPart, part_bit};
-ghost use Rattle.px_state.specs.Words.{HasWords, column_bit, node_words, plane_bit, plane_words, room_of, row_words, state_bit};
+ghost use Rattle.px_state.specs.Words.{HasWords, node_words, plane_bit, plane_words, room_of, row_words};
 
 use px_array::Array;
 use px_num::power;

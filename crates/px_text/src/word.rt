@@ -1,5 +1,5 @@
 //! Numbers and names among words (docs/SCENES.md, "Lines and words").
-ghost use Rattle.std.specs.Prelude.{◌≡◌, ◌^◌, ◌≤◌, ◌-◌, true, min, map};
+ghost use Rattle.std.specs.Prelude.{◌≡◌, ◌^◌, ◌-◌, true, min, map};
 ghost use Rattle.std.specs.List.{list_all};
 ghost use Rattle.std.specs.Int.Digits.{number_from_digits};
 ghost use Rattle.px_text.specs.Text.{size_of_digits, number_of, is_digit, is_letter, is_name_byte, is_name};

@@ -1,5 +1,5 @@
 //! Drawing a wide picture tile by tile on one array.
-ghost use Rattle.std.specs.Prelude.{◌≡◌, ◌*◌, ◌^◌, ◌<◌, ◌≤◌, ◌⊎◌, ℕ, Err, IfErr, IfOk, None, OnErr, OnOk, Some, length, vec_len};
+ghost use Rattle.std.specs.Prelude.{◌≡◌, ◌*◌, ◌^◌, ◌<◌, ◌≤◌, ◌⊎◌, ℕ, Err, IfErr, IfOk, None, OnErr, OnOk, Some, length};
 ghost use Rattle.std.specs.Option.{option_map};
 ghost use Rattle.px_array.specs.Slots.{array_view, none_open};
 ghost use Rattle.px_model.specs.Planes.{first_past};

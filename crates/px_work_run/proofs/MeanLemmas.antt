@@ -11,7 +11,7 @@ use Rattle.px_refine.specs.RefinedLaw.{MeansAreRefined}
 use Rattle.px_outcome.specs.declared.refusal.Refusal.{Refusal}
 use Rattle.px_outcome.specs.declared.stop.Stop.{Stop}
 use Rattle.px_outcome.specs.Outcomes.{done, drawable, unless_refused}
-use Rattle.px_outcome.specs.Refining.{fine_refusal, refined}
+use Rattle.px_work_run.specs.Refining.{fine_refusal, refined}
 use Rattle.px_outcome.specs.Stops.{DoesWork, StopsAt, fine_stop}
 use Rattle.px_refine.specs.FineFaults.{IsRefusal, fine_fault}
 use Rattle.px_refine.specs.declared.fault.FineFault.{FineFault}

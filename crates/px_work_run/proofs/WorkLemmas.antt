@@ -12,7 +12,6 @@ use Rattle.px_scene.specs.Text.{worded}
 use Rattle.px_scene.specs.Reading.{scene_of}
 use Rattle.px_refine.specs.Finer.{fine_scene}
 use Rattle.px_command.specs.Commands.{doublings}
-use Rattle.px_command.specs.declared.command.Command.TheVariants as c
 use Rattle.px_command.specs.declared.command.Size.{Size}
 use Rattle.px_command.specs.declared.command.Work.{Work}
 use Rattle.px_command.specs.declared.command.Work.TheVariants as w
@@ -20,15 +19,14 @@ use Rattle.px_outcome.specs.declared.refusal.Refusal.{Refusal}
 use Rattle.px_outcome.specs.declared.refusal.Refusal.TheVariants as r
 use Rattle.px_outcome.specs.declared.stop.Stop.{Stop}
 use Rattle.px_outcome.specs.declared.stop.Stop.TheVariants as s
-use Rattle.px_outcome.specs.Arrays.{Draws, LeavesArray}
+use Rattle.px_outcome.specs.Arrays.{Draws}
 use Rattle.px_outcome.specs.Refusals.{text_refusal}
 use Rattle.px_outcome.specs.Ends.{Ends, IsUntouched}
 use Rattle.px_outcome.specs.Results.{Meets, Wrote, status_in, status_of}
-use Rattle.px_outcome.specs.Runs.{Performs}
 use Rattle.px_outcome.specs.Stops.{DoesWork, IsReadStop, IsTextStop}
 use Rattle.px_work_run.specs.Workings.{WorksOn}
-use Rattle.px_outcome.specs.Tiling.{DrawsTiles}
-use Rattle.px_outcome.specs.Works.{made, worked_out}
+use Rattle.px_work_run.specs.Tiling.{DrawsTiles}
+use Rattle.px_work_run.specs.Works.{LeavesArray, LeavesWork, PerformsWork, made, worked_out}
 use Rattle.px_outcome.proofs.RunLaws.{bytes_of, of_known, performs_over}
 
 long : (text : List ℕ) → 1048577 ≤ length text → nat_lt (2 ^ 20) (length text) ≡ true
@@ -81,15 +79,16 @@ works_front result work bits before after bytes works = record {
 -- what is made of the whole input is what the command does
 performs : (result : Result (Unit {0}) Stop) (work : Work) (taken : List ℕ) (bits : ℕ) (before after : Ends)
     → Consumes before.rest after.rest taken → WorksOn result work (bytes_of before.rest taken) bits before after
-    → Performs result (Some (c.Make work)) bits before after
+    → PerformsWork work result bits before after
 performs result work taken bits before after consumed works =
-    performs_over result (Some (c.Make work)) bits before after taken consumed works.meets
+    performs_over result (λ bytes. worked_out work bytes bits) (λ input. LeavesWork work result bits input.bytes before after)
+    before after taken consumed works.meets
     (record { wrote = works.writes; array = works.array })
 
 -- a text that was read answers for the input
 pub performs_text : (result : Result (Unit {0}) Stop) (work : Work) (text : List ℕ) (bits : ℕ) (before after : Ends)
     → IsFrontOf before.rest 1048577 text → Consumes before.rest after.rest text
-    → WorksOn result work text bits before after → Performs result (Some (c.Make work)) bits before after
+    → WorksOn result work text bits before after → PerformsWork work result bits before after
 performs_text result work text bits before after front consumed works =
     performs result work text bits before after consumed
     (of_known (λ bytes. WorksOn result work bytes bits before after) before.rest text
@@ -148,7 +147,7 @@ read_works work bytes bits s.WriteFault before after m n read idle = absurd read
 -- the work stops at a read
 pub performs_read : (result : Result (Unit {0}) Stop) (work : Work) (bits : ℕ) (stop : Stop) (before after : Ends) (m n : ℕ)
     → result ≡ Err stop → IsReadStop stop m n → IsUntouched before after → ConsumesAtMost before.rest after.rest 1048577
-    → Performs result (Some (c.Make work)) bits before after
+    → PerformsWork work result bits before after
 performs_read result work bits stop before after m n is read idle (taken, consumed, few) =
     performs result work taken bits before after consumed
     (rw is (read_works work (bytes_of before.rest taken) bits stop before after m n read idle))

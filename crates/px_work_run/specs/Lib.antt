@@ -1,1 +1,4 @@
+pub mod Refining
+pub mod Tiling
 pub mod Workings
+pub mod Works

@@ -6,12 +6,11 @@ use Rattle.px_scene.specs.Scenes.{SceneView}
 use Rattle.px_command.specs.declared.command.Work.{Work}
 use Rattle.px_outcome.specs.declared.refusal.Refusal.{Refusal}
 use Rattle.px_outcome.specs.declared.stop.Stop.{Stop}
-use Rattle.px_outcome.specs.Arrays.{LeavesArray}
 use Rattle.px_outcome.specs.Ends.{Ends}
 use Rattle.px_outcome.specs.Outcomes.{output}
 use Rattle.px_outcome.specs.Refusals.{text_refusal}
 use Rattle.px_outcome.specs.Results.{Meets, Wrote, status_in}
-use Rattle.px_outcome.specs.Works.{worked_out}
+use Rattle.px_work_run.specs.Works.{LeavesArray, worked_out}
 
 -- what is made of a scene, where these bytes were read; a refused text leaves what it would of any scene
 pub record WorksOn (result : Result (Unit {0}) Stop) (work : Work) (bytes : List ℕ) (bits : ℕ) (before after : Ends)

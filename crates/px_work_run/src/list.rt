@@ -8,7 +8,7 @@ ghost use Rattle.px_sched.specs.Layouts.{layout_of};
 ghost use Rattle.px_listing.specs.Listings.{canonical_text};
 ghost use Rattle.px_listing.specs.PassesText.{passes_listing};
 ghost use Rattle.px_outcome.specs.declared.stop.Stop.{Stop};
-ghost use Rattle.px_outcome.specs.Listings.{listed};
+ghost use Rattle.px_work_run.specs.Works.{listed};
 ghost use Rattle.px_outcome.specs.Stops.{DoesWork};
 
 use px_io::{Failed, Sink};

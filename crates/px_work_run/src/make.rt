@@ -1,19 +1,18 @@
 //! What is made of the scene that is the whole input.
-ghost use Rattle.std.specs.Prelude.{◌≡◌, ◌≢◌, ◌≤◌, IfErr, IfOk, Err, Some};
+ghost use Rattle.std.specs.Prelude.{◌≡◌, ◌≢◌, ◌≤◌, IfErr, IfOk, Err};
 ghost use Rattle.px_array.specs.Slots.{array_view};
 ghost use Rattle.px_scene.specs.Text.{worded};
 ghost use Rattle.px_command.specs.Commands.{HasSize};
-ghost use Rattle.px_command.specs.declared.command.Command.{Command};
 ghost use Rattle.px_command.specs.declared.command.Work.{Work};
 ghost use Rattle.px_outcome.specs.declared.stop.Stop.{Stop};
-ghost use Rattle.px_outcome.specs.Arrays.{Draws, LeavesArray};
+ghost use Rattle.px_outcome.specs.Arrays.{Draws};
 ghost use Rattle.px_outcome.specs.Outcomes.{done, drawable};
 ghost use Rattle.px_outcome.specs.Ends.{ends};
 ghost use Rattle.px_outcome.specs.Results.{HasCauses, status_in};
-ghost use Rattle.px_outcome.specs.Runs.{Performs, Took};
+ghost use Rattle.px_outcome.specs.Inputs.{TookText};
 ghost use Rattle.px_outcome.specs.Stops.{DoesWork, StopsAt};
 ghost use Rattle.px_deliver.specs.Images.{images};
-ghost use Rattle.px_outcome.specs.Works.{made, planned, tidied};
+ghost use Rattle.px_work_run.specs.Works.{LeavesArray, PerformsWork, made, planned, tidied};
 
 use crate::list::make_list;
 use crate::refine::make_refined;
@@ -42,14 +41,14 @@ pub fn make_of_input<S: Source, O: Sink, A: Operating>(
 ) -> Result<(), Stop>
     requires bits { A.BITS ≤ 256 }
     requires size { HasSize work }
-    ensures performs { Performs result (Some (Command.Make work)) A.BITS
+    ensures performs { PerformsWork work result A.BITS
         (ends (S.rest input.old) (S.faults input.old) (O.state out.old)
         (A.device array.old) (A.slots array.old) (A.work array.old))
         (ends (S.rest input.new) (S.faults input.new) (O.state out.new)
         (A.device array.new) (A.slots array.new) (A.work array.new)) }
     ensures causes { HasCauses result (S.faults input.old) (S.faults input.new) (O.state out.old).faults
         (O.state out.new).faults }
-    ensures took { Took (Some (Command.Make work)) (status_in result)
+    ensures took { TookText (status_in result)
         (S.rest input.old) (S.rest input.new) }
     ensures worded { result ≢ Err Stop.Usage }
 {

@@ -12,7 +12,7 @@ ghost use Rattle.px_deliver.specs.Drawn.{IsDrawn};
 ghost use Rattle.px_outcome.specs.Arrays.{Draws};
 ghost use Rattle.px_outcome.specs.Outcomes.{done, drawable, unless_refused};
 ghost use Rattle.px_command.specs.Commands.{doublings};
-ghost use Rattle.px_outcome.specs.Refining.{fine_refusal, refined};
+ghost use Rattle.px_work_run.specs.Refining.{fine_refusal, refined};
 ghost use Rattle.px_outcome.specs.Results.{status_in};
 ghost use Rattle.px_outcome.specs.Stops.{DoesWork, StopsAt};
 

@@ -10,7 +10,7 @@ ghost use Rattle.px_tile.specs.Tilings.{IsWideSize};
 ghost use Rattle.px_outcome.specs.Outcomes.{unless_refused};
 ghost use Rattle.px_outcome.specs.Results.{status_in, status_of};
 ghost use Rattle.px_outcome.specs.Stops.{DoesWork, StopsAt, stop_at};
-ghost use Rattle.px_outcome.specs.Tiling.{DrawsTiles, tiled, tiles_refusal, wide_fault_refusal, wide_images};
+ghost use Rattle.px_work_run.specs.Tiling.{DrawsTiles, tiled, tiles_refusal, wide_fault_refusal, wide_images};
 ghost use Rattle.px_outcome.specs.declared.stop.Stop.{Stop};
 ghost use Rattle.px_outcome.specs.declared.refusal.Refusal.{Refusal};
 

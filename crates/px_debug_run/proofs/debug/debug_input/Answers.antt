@@ -2,7 +2,7 @@ use Rattle.std.proofs.Common.{◌≡◌, ◌-◌, Err, ap, arith, length, refl, 
 use Rattle.px_debug.specs.Moves.{Fits}
 use Rattle.px_session.specs.Sessions.{session_opened}
 use Rattle.px_io.proofs.ToldLaws.{stays}
-use Rattle.px_outcome.specs.Debugs.{command_text}
+use Rattle.px_debug_run.specs.Debugs.{command_text}
 use Rattle.px_outcome.proofs.RunLaws.{still}
 use Rattle.px_debug_run.proofs.AskingLemmas.{answers_listened, answers_served, answers_unread}
 use Rattle.px_debug_run.proofs.DebugLemmas.{Laws, Seated, performs_sat, sat_causes, took_sat}

@@ -1,6 +1,6 @@
 use Rattle.std.proofs.Common.{◌≡◌, Err, rules}
 use Rattle.px_outcome.specs.Outcomes.{done}
-use Rattle.px_outcome.specs.Samples.{measures}
+use Rattle.px_sample_run.specs.Samples.{measures}
 use Rattle.px_sample_run.proofs.SampleLemmas.{stop_array}
 use Rattle.px_outcome.proofs.RunLaws.{serves_front, serves_whole}
 use Rattle.px_sample_run.proofs.sample.measure.Goals as goal

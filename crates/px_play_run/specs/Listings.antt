@@ -1,38 +1,28 @@
--- What `list` and `play` answer, and what `play` leaves of the array. Clauses of public calls stand on it.
-use Rattle.std.specs.Prelude.{◌≡◌, ℕ, List, length, nat_lt, if◌then◌else◌, Option, Some, None}
+-- What `play` answers, and what it leaves of the array. Clauses of public calls stand on it.
+use Rattle.std.specs.Prelude.{◌≡◌, ℕ, List, length, nat_lt, if◌then◌else◌, Option, Some, None, Result}
 use Rattle.std.specs.List.{sum_by}
 use Rattle.px_text.specs.declared.text.TheConstants.{MAX_TEXT_BYTES}
 use Rattle.px_array.specs.Arrays.{Device}
 use Rattle.px_array.specs.Slots.{ArrayView, IsRunOnce}
 use Rattle.px_asm.specs.Micros.{cycles}
 use Rattle.px_text.specs.Text.{worded}
-use Rattle.px_scene.specs.Scenes.{SceneView}
-use Rattle.px_listing.specs.Listings.{ListingView, canonical_text}
+use Rattle.px_listing.specs.Listings.{ListingView}
 use Rattle.px_listing.specs.Memories.{played_text}
-use Rattle.px_listing.specs.PassesText.{passes_listing}
 use Rattle.px_listing.specs.Played.{HasPlayed, played_on}
 use Rattle.px_listing.specs.Reading.{listing_of, refusal_of}
 use Rattle.px_listing.specs.Reading.{ListFault}
-use Rattle.px_show.specs.declared.fault.TextFault.TheVariants as f
-use Rattle.px_outcome.specs.declared.refusal.Kind.TheVariants as k
 use Rattle.px_outcome.specs.declared.refusal.Refusal.{Refusal}
-use Rattle.px_outcome.specs.declared.refusal.Refusal.TheVariants as r
+use Rattle.px_outcome.specs.declared.stop.Stop.{Stop}
 use Rattle.px_outcome.specs.declared.status.Status.{Status}
 use Rattle.px_outcome.specs.declared.status.Status.TheVariants as status
 use Rattle.px_outcome.specs.Arrays.{IsKeptOrClosed}
-use Rattle.px_outcome.specs.Outcomes.{Outcome, done, drawable, unless_refused}
-use Rattle.px_outcome.specs.Refusals.{too_long}
+use Rattle.px_outcome.specs.Ends.{Ends}
+use Rattle.px_outcome.specs.Inputs.{PerformsOver, WritesAndLeaves}
+use Rattle.px_outcome.specs.Outcomes.{Outcome, done, unless_refused}
+use Rattle.px_outcome.specs.Refusals.{list_refusal_in, too_long}
+use Rattle.px_outcome.specs.Results.{status_in}
 
--- the text of a scene's grid and passes, where an array with pixels of so many bits can draw the scene
-abbrev pub listed : SceneView → (bits : ℕ) → Outcome
-listed scene bits = drawable bits scene (done (canonical_text (passes_listing scene)))
-
--- the refusal of a fault; the want of memory is none
-abbrev pub list_refusal_in : ListFault → Option Refusal
-list_refusal_in (f.Malformed line cause) = Some (r.Malformed line cause)
-list_refusal_in (f.Limit line kind found) = Some (r.Limit line (k.List kind) found)
-list_refusal_in f.Memory = None
-
+-- the refusal of a fault, where there is one
 abbrev pub list_refusal_by : Option ListFault → Option Refusal
 list_refusal_by None = None
 list_refusal_by (Some fault) = list_refusal_in fault
@@ -63,3 +53,13 @@ Plays status.Done bits l before now = IsPlayed bits l now.device × IsRunOnce no
 Plays status.WriteFault bits l before now = IsPlayed bits l now.device × IsRunOnce now
 Plays status.Memory bits l before now = IsKeptOrClosed before now
 Plays status bits l before now = now ≡ before
+
+-- what is written, and what is left of the array
+abbrev pub LeavesPlayed : Result (Unit {0}) Stop → (bits : ℕ) → (bytes : List ℕ) → (before after : Ends) → Type 0
+LeavesPlayed result bits bytes before after =
+    WritesAndLeaves result (played_out bytes bits) (λ old new. Plays (status_in result) bits (listing_written bytes) old new) before after
+
+-- what the command does over an input
+abbrev pub PerformsPlay : Result (Unit {0}) Stop → (bits : ℕ) → (before after : Ends) → Type 0
+PerformsPlay result bits before after =
+    PerformsOver result (λ bytes. played_out bytes bits) (λ input. LeavesPlayed result bits input.bytes before after) before after

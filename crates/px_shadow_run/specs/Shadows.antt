@@ -1,7 +1,7 @@
 -- What `shadow` answers and leaves: by which lights each pixel is lit, where the lines behind the scene part name the lights.
 -- Clauses of public calls stand on it.
 use Rattle.std.specs.Prelude.{◌≡◌, ℕ, ◌+◌, ◌==◌, pos, List, length, nat_lt, count_by, if◌then◌else◌, Option, Some}
-use Rattle.std.specs.Prelude.{None}
+use Rattle.std.specs.Prelude.{None, Result}
 use Rattle.px_array.specs.Slots.{ArrayView, IsRunOnce}
 use Rattle.px_scene.specs.Scenes.{SceneView}
 use Rattle.px_scene.specs.Text.{worded}
@@ -18,12 +18,15 @@ use Rattle.px_shadow.specs.ShadowPasses.{need_with}
 use Rattle.px_outcome.specs.declared.refusal.Kind.TheVariants as k
 use Rattle.px_outcome.specs.declared.refusal.Refusal.{Refusal}
 use Rattle.px_outcome.specs.declared.refusal.Refusal.TheVariants as r
+use Rattle.px_outcome.specs.declared.stop.Stop.{Stop}
 use Rattle.px_outcome.specs.declared.status.Status.{Status}
 use Rattle.px_outcome.specs.declared.status.Status.TheVariants as status
 use Rattle.px_outcome.specs.Arrays.{IsKeptOrClosed}
-use Rattle.px_outcome.specs.Debugs.{is_long}
+use Rattle.px_outcome.specs.Ends.{Ends}
+use Rattle.px_outcome.specs.Inputs.{PerformsOver, WritesAndLeaves}
 use Rattle.px_outcome.specs.Outcomes.{Outcome, done, refused, unless_refused, within_products}
-use Rattle.px_outcome.specs.Refusals.{short_of_bits, text_refusal, too_long}
+use Rattle.px_outcome.specs.Refusals.{is_long, short_of_bits, text_refusal, too_long}
+use Rattle.px_outcome.specs.Results.{status_in}
 
 -- the refusal of a light line
 abbrev pub light_refusal : LightFault → Refusal
@@ -89,3 +92,13 @@ ShadesParts found bits part behind before now =
 
 abbrev pub Shades : Status → (bits : ℕ) → (bytes : List ℕ) → (before now : ArrayView) → Type 0
 Shades found bits bytes before now = ShadesParts found bits (scene_part bytes) (behind_part bytes) before now
+
+-- what is written, and what is left of the array
+abbrev pub LeavesShadows : Result (Unit {0}) Stop → (bits : ℕ) → (bytes : List ℕ) → (before after : Ends) → Type 0
+LeavesShadows result bits bytes before after =
+    WritesAndLeaves result (shadowed bytes bits) (λ old new. Shades (status_in result) bits bytes old new) before after
+
+-- what the command does over an input
+abbrev pub PerformsShadow : Result (Unit {0}) Stop → (bits : ℕ) → (before after : Ends) → Type 0
+PerformsShadow result bits before after =
+    PerformsOver result (λ bytes. shadowed bytes bits) (λ input. LeavesShadows result bits input.bytes before after) before after

@@ -1,6 +1,6 @@
 -- What `debug` answers and leaves: a session over the bytes of an input. Clauses of public calls stand on it.
 use Rattle.std.specs.Prelude.{◌≡◌, ◌⊎◌, ℕ, ◌-◌, ◌≤◌, List, [], Bool, true, false, ◌&&◌, not, if◌then◌else◌, length}
-use Rattle.std.specs.Prelude.{nat_lt, take, None, Result, Ok, Err}
+use Rattle.std.specs.Prelude.{take, None, Result, Ok, Err}
 use Rattle.px_io.specs.Told.{TakesFirst, TakesNone}
 use Rattle.px_text.specs.declared.text.TheConstants.{MAX_TEXT_BYTES}
 use Rattle.px_array.specs.Slots.{ArrayView, IsRunOnce, none_open}
@@ -17,15 +17,13 @@ use Rattle.px_outcome.specs.declared.refusal.Refusal.TheVariants as r
 use Rattle.px_outcome.specs.declared.stop.Stop.{Stop}
 use Rattle.px_outcome.specs.declared.stop.Stop.TheVariants as s
 use Rattle.px_outcome.specs.Ends.{Ends, Input, IsUntouched}
+use Rattle.px_outcome.specs.Inputs.{PerformsOver}
 use Rattle.px_outcome.specs.Outcomes.{Outcome, cut, done, drawable, refused, unless_refused}
-use Rattle.px_outcome.specs.Refusals.{text_refusal, too_long}
+use Rattle.px_outcome.specs.Refusals.{is_long, text_refusal, too_long}
 
 -- the bytes that count: as many as a text may have
 abbrev pub within_limit : List ℕ → List ℕ
 within_limit bytes = take MAX_TEXT_BYTES bytes
-
-unfoldable pub is_long : List ℕ → Bool
-is_long bytes = nat_lt MAX_TEXT_BYTES (length bytes)
 
 -- the scene part
 unfoldable pub scene_part_of : List ℕ → List ℕ
@@ -142,3 +140,8 @@ LeavesSession (Err s.WriteFault) bits input before after = IsBrokenOff bits inpu
 LeavesSession (Err s.Memory) bits input before after =
     TakesNone before.out after.out × LeavesAtMemory bits input.taken before.array after.array
 LeavesSession (Err stop) bits input before after = IsUntouched before after
+
+-- what a session does over an input
+abbrev pub PerformsSession : Result (Unit {0}) Stop → (bits : ℕ) → (before after : Ends) → Type 0
+PerformsSession result bits before after =
+    PerformsOver result (λ bytes. debugged bytes bits) (λ input. LeavesSession result bits input before after) before after

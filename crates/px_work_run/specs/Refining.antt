@@ -1,28 +1,15 @@
 -- What is made of the finer scene. Clauses of public calls stand on it.
-use Rattle.std.specs.Prelude.{ℕ, ℤ, pos, Option, Some, None}
+use Rattle.std.specs.Prelude.{ℕ, Option, Some, None}
 use Rattle.px_scene.specs.Scenes.{SceneView}
-use Rattle.px_show.specs.declared.fault.LimitKind.{LimitKind}
-use Rattle.px_show.specs.declared.fault.LimitKind.TheVariants as kind
 use Rattle.px_refine.specs.declared.fault.FineFault.{FineFault}
-use Rattle.px_refine.specs.declared.fault.FineFault.TheVariants as fault
 use Rattle.px_refine.specs.FineFaults.{fine_fault}
 use Rattle.px_refine.specs.Finer.{fine_scene}
 use Rattle.px_refine.specs.Refined.{refined_image}
-use Rattle.px_outcome.specs.declared.refusal.Kind.TheVariants as k
 use Rattle.px_outcome.specs.declared.refusal.Refusal.{Refusal}
-use Rattle.px_outcome.specs.declared.refusal.Refusal.TheVariants as r
 use Rattle.px_outcome.specs.Outcomes.{Outcome, done, drawable, unless_refused}
+use Rattle.px_outcome.specs.Refusals.{fault_refusal}
 
-abbrev pub scene_limit : LimitKind → (found : ℤ) → Refusal
-scene_limit kind found = r.Limit 0 (k.Scene kind) found
-
--- the refusal of a fault; the want of memory is none
-abbrev pub fault_refusal : FineFault → Option Refusal
-fault_refusal (fault.Fraction found) = Some (scene_limit kind.Fraction (pos found))
-fault_refusal (fault.Picture found) = Some (scene_limit kind.Picture (pos found))
-fault_refusal (fault.Coefficient found) = Some (scene_limit kind.Coefficient found)
-fault_refusal fault.Memory = None
-
+-- the refusal of a fault, where there is one
 abbrev pub fault_refused : Option FineFault → Option Refusal
 fault_refused None = None
 fault_refused (Some found) = fault_refusal found
