@@ -2,7 +2,7 @@
 use Rattle.std.specs.Prelude.{ℕ, List, [], ◌∷◌, ◌++◌, length, codes, decimal, slice_get, unwrap_or}
 use Rattle.std.specs.List.{flat_map}
 use Rattle.px_normal.specs.declared.product.Product.{Product}
-use Rattle.px_normal.specs.Sets.{solids}
+use Rattle.px_sets.specs.Sets.{solids}
 
 unfoldable pub kept_line : ℕ → ℕ → List ℕ
 kept_line kept all = codes "kept " ++ decimal kept ++ codes " of " ++ decimal all ++ codes "\n"

@@ -1,6 +1,6 @@
 //! The text of `plan`: the products of the shown expression that can show anything.
 ghost use Rattle.std.specs.Prelude.{◌≡◌, ◌++◌, ◌≤◌, length, OnOk, IfOk};
-ghost use Rattle.px_normal.specs.Sets.{solids};
+ghost use Rattle.px_sets.specs.Sets.{solids};
 ghost use Rattle.px_model.specs.Scenes.{names_of};
 ghost use Rattle.px_answers.specs.Plans.{kept_line, name_at, signed, starred, product_line, plan_text};
 

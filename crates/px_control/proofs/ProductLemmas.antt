@@ -9,10 +9,10 @@ use Rattle.std.proofs.lemmas.List.Folds.{fold-map}
 use Rattle.std.proofs.lemmas.List.Sums.{sum_by-append, sum_by-cons, sum_by-drop_more, sum_by_push}
 use Rattle.px_num.proofs.TruthLaws.{itself_true, other_false}
 use Rattle.px_normal.specs.declared.product.Product.{Product}
-use Rattle.px_normal.specs.declared.set.SolidSet.{SolidSet}
+use Rattle.px_sets.specs.declared.set.SolidSet.{SolidSet}
 use Rattle.px_normal.specs.Forms.{HasSolidsBelow}
 use Rattle.px_normal.specs.Live.{is_void}
-use Rattle.px_normal.specs.Sets.{below, has, solids}
+use Rattle.px_sets.specs.Sets.{below, has, solids}
 use Rattle.px_model.specs.Scenes.{SceneView, SolidView}
 use Rattle.px_sched.specs.declared.literal.Literal.{Literal}
 use Rattle.px_sched.specs.declared.step.Step.{Step}

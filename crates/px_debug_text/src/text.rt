@@ -8,7 +8,8 @@ use itoa::Buffer;
 /// Room for the longest answer: the trace has 32 lines of at most 64 bytes.
 pub type Text = ArrayString<2048>;
 
-/// A text, a number in decimal behind it, and a line feed, as `at 50` (docs/DEBUGGER.md, "Lines").
+/// A text of at most 20 bytes, a number in decimal behind it, and a line feed, as `at 50` (docs/DEBUGGER.md,
+/// "Lines").
 pub fn number_line(text: &str, n: u64) -> Text
     requires { length text.now ≤ 20 }
     ensures { result.bytes ≡ line_with_number text.now n }

@@ -11,9 +11,9 @@ use Rattle.px_sched.specs.PassesFacts.{PassesAreLawful}
 use Rattle.px_sched.proofs.LawfulLaws.{passes_lawful}
 use Rattle.px_listing.specs.AcceptedLaw.{AcceptedIsLawful, MemoryIsNoRefusal}
 use Rattle.px_listing.specs.Listings.{ListingView, canonical_text}
-use Rattle.px_listing.specs.Memories.{played_text}
-use Rattle.px_listing.specs.PassesText.{CanPlay, PassesAreReadBack, PlayedPassesShowThePicture, passes_listing}
-use Rattle.px_listing.specs.Played.{HasPlayed}
+use Rattle.px_playing.specs.Memories.{played_text}
+use Rattle.px_playing.specs.PassesText.{CanPlay, PassesAreReadBack, PlayedPassesShowThePicture, passes_listing}
+use Rattle.px_playing.specs.Played.{HasPlayed}
 use Rattle.px_listing.specs.Reading.{refusal_of}
 use Rattle.px_listing.specs.RoundTrip.{IsReadAs}
 use Rattle.px_listing.specs.Reading.{ListFault}

@@ -3,6 +3,7 @@ ghost use Rattle.px_draw.specs.ListedScenes.{DoneShowsThePicture, ListedPassesAr
 
 use px_listing::laws_of_listings;
 use px_macro::laws_of_operations;
+use px_playing::laws_of_playing;
 use px_sched::laws_of_passes;
 
 /// The laws that join `list` and `play`, for whoever hands the output of one to the other.
@@ -18,4 +19,5 @@ pub fn laws_of_listed_scenes()
     laws_of_operations();
     laws_of_passes();
     laws_of_listings();
+    laws_of_playing();
 }

@@ -1,13 +1,9 @@
 pub mod AcceptedLemmas
 pub mod LimitLemmas
-pub mod MemoryLemmas
-pub mod PaddingLemmas
-pub mod PassesLemmas
-pub mod PieceLemmas
+pub mod PieceLaws
 pub mod PlainLemmas
-pub mod PlayLemmas
 pub mod ReadLemmas
 pub mod RoundLemmas
-pub mod RowLemmas
+pub mod RowLaws
 pub mod TextLemmas
 pub mod WordLemmas

@@ -1,4 +1,4 @@
--- Bytes that wait to be written in larger pieces. Only proofs and private functions stand on it.
+-- Bytes that wait to be written in larger pieces. Clauses of public calls stand on it.
 use Rattle.std.specs.Prelude.{◌≡◌, ℕ, List, ◌++◌}
 use Rattle.px_io.specs.Told.{SinkState, TakesAll}
 

@@ -10,7 +10,7 @@ ghost use Rattle.px_listing.specs.Lines.{cause_of, form_of};
 use crate::keyword::{Due, Keyword, count_of, is_due, is_header};
 use crate::numbers::Numbers;
 use arrayvec::ArrayVec;
-use px_scene::Cause;
+use px_show::Cause;
 use px_text::number_of;
 
 /// The numbers behind the first word of a line, or why the words of the line are bad

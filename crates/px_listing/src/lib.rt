@@ -1,4 +1,4 @@
-//! Listings: broadcasts as text, which an array plays.
+//! Listings: broadcasts as text, both ways.
 #![tactic(auto)]
 
 mod draft;
@@ -9,19 +9,15 @@ mod law;
 mod limit;
 mod line;
 mod listing;
-mod memory;
 mod numbers;
-mod passes;
 mod piece;
-mod playing;
 mod read;
 mod write;
 
 pub use law::laws_of_listings;
 pub use limit::ListKind;
+pub use line::Line;
 pub use listing::{Listing, MAX_OPERATIONS};
-pub use memory::write_memory;
-pub use passes::write_passes;
-pub use playing::play;
+pub use piece::{PIECE_BYTES, Piece, flush, put};
 pub use read::{ListFault, read_listing};
-pub use write::write_listing;
+pub use write::{macro_line, put_end, put_first_lines, write_listing};

@@ -6,7 +6,7 @@ use arrayvec::ArrayString;
 use itoa::Buffer;
 
 /// Room for a word of 12 letters, five numbers of 20 digits, and what stands between them.
-pub(crate) type Line = ArrayString<128>;
+pub type Line = ArrayString<128>;
 
 /// A word, the numbers behind it, and the end of the line (docs/LISTINGS.md, "Canonical text").
 #[tactic(auto, unfolding(crate::specs::Lines::number_line))]

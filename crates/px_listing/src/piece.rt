@@ -9,13 +9,13 @@ use arrayvec::ArrayString;
 use px_io::{Failed, Sink, write_whole};
 
 /// How many bytes a write has at most.
-const PIECE_BYTES: usize = 4096;
+pub const PIECE_BYTES: usize = 4096;
 
 /// Bytes that wait to be written.
-pub(crate) type Piece = ArrayString<PIECE_BYTES>;
+pub type Piece = ArrayString<PIECE_BYTES>;
 
 /// Writes a line, once enough of them wait.
-pub(crate) fn put<O: Sink>(out: &mut O, piece: &mut Piece, line: &str) -> Result<(), Failed>
+pub fn put<O: Sink>(out: &mut O, piece: &mut Piece, line: &str) -> Result<(), Failed>
     requires short { length line.now ≤ 4096 }
     ensures ok { OnOk result (Puts (O.state out.old) (O.state out.new) piece.old.bytes line.now piece.new.bytes) }
     ensures err { OnErr result (TakesFront (O.state out.old) (O.state out.new) (piece.old.bytes ++ line.now)) }
@@ -42,7 +42,7 @@ fn make_room<O: Sink>(out: &mut O, piece: &mut Piece, count: usize) -> Result<()
 }
 
 /// Writes what waits.
-pub(crate) fn flush<O: Sink>(out: &mut O, piece: &mut Piece) -> Result<(), Failed>
+pub fn flush<O: Sink>(out: &mut O, piece: &mut Piece) -> Result<(), Failed>
     ensures ok { OnOk result (Puts (O.state out.old) (O.state out.new) piece.old.bytes [] piece.new.bytes) }
     ensures empty { OnOk result (piece.new.bytes ≡ []) }
     ensures err { OnErr result (TakesFront (O.state out.old) (O.state out.new) piece.old.bytes) }

@@ -30,7 +30,7 @@ pub fn write_listing<O: Sink>(listing: &Listing, out: &mut O) -> Result<(), Fail
 }
 
 /// The header and the grid.
-pub(crate) fn put_first_lines<O: Sink>(
+pub fn put_first_lines<O: Sink>(
     out: &mut O,
     piece: &mut Piece,
     nx: u32,
@@ -59,7 +59,7 @@ fn grid_line(nx: u32, ny: u32) -> Line
 }
 
 /// The end of a listing, with which all of it is written.
-pub(crate) fn put_end<O: Sink>(out: &mut O, piece: &mut Piece) -> Result<(), Failed>
+pub fn put_end<O: Sink>(out: &mut O, piece: &mut Piece) -> Result<(), Failed>
     ensures ok { OnOk result (TakesAll (O.state out.old) (O.state out.new) (piece.old.bytes ++ end_line)) }
     ensures err { OnErr result (TakesFront (O.state out.old) (O.state out.new) (piece.old.bytes ++ end_line)) }
     ensures cause { HasCause (O.state out.old).faults (O.state out.new).faults result }
@@ -69,7 +69,7 @@ pub(crate) fn put_end<O: Sink>(out: &mut O, piece: &mut Piece) -> Result<(), Fai
 }
 
 /// The line of an operation (docs/LISTINGS.md, "Operations").
-pub(crate) fn macro_line(m: &Macro) -> Line
+pub fn macro_line(m: &Macro) -> Line
     requires lawful { IsLawful m.now 256 }
     ensures { result.bytes ≡ macro_line m.now }
 {

@@ -8,7 +8,7 @@ use Rattle.px_expr.proofs.OperatorLaws.{shape_of_op}
 use Rattle.px_expr.specs.Postorder.{size, nodes_behind, nodes_of}
 use Rattle.px_expr.specs.declared.node.Node.{Node}
 use Rattle.px_expr.specs.declared.node.Op.{Op}
-use Rattle.px_normal.specs.declared.cell_box.CellBox.{CellBox}
+use Rattle.px_sets.specs.declared.cell_box.CellBox.{CellBox}
 use Rattle.px_normal.specs.declared.product.Product.{Product}
 use Rattle.px_normal.specs.declared.step.Step.{Step}
 use Rattle.px_normal.specs.declared.step.Step.TheVariants as s

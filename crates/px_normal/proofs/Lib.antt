@@ -1,13 +1,8 @@
-pub mod BitsLemmas
-pub mod BoxLaws
 pub mod BuildingLemmas
 pub mod CrossedLemmas
 pub mod CrowdLemmas
-pub mod EndLemmas
 pub mod KeptLemmas
 pub mod LengthLaws
 pub mod LiveLemmas
-pub mod MeetsLemmas
 pub mod NormalLemmas
 pub mod ShorterLemmas
-pub mod SolidsLaws

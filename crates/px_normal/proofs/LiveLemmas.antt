@@ -11,19 +11,19 @@ use Rattle.px_expr.specs.declared.node.Sense.{Sense}
 use Rattle.px_expr.specs.declared.node.Sense.TheVariants.{Plain, Complement}
 use Rattle.px_expr.specs.declared.node.Combination.{Combination}
 use Rattle.px_expr.specs.declared.node.Combination.TheVariants.{Both, Either, EitherWay}
-use Rattle.px_normal.specs.declared.cell_box.CellBox.{CellBox}
-use Rattle.px_normal.specs.declared.set.SolidSet.{SolidSet}
+use Rattle.px_sets.specs.declared.cell_box.CellBox.{CellBox}
+use Rattle.px_sets.specs.declared.set.SolidSet.{SolidSet}
 use Rattle.px_normal.specs.declared.product.Product.{Product}
-use Rattle.px_normal.specs.Sets.{has, sets_joined, solids}
-use Rattle.px_normal.specs.Boxes.{lies_in, has_cell, common_part, everything, narrowed, is_in_box}
+use Rattle.px_sets.specs.Sets.{has, sets_joined, solids}
+use Rattle.px_sets.specs.Boxes.{lies_in, has_cell, common_part, everything, narrowed, is_in_box}
 use Rattle.px_normal.specs.Forms.{Forms, both, crossed, combined, sum_in, sum_when}
 use Rattle.px_normal.specs.NormalLaw.{holds, shows}
 use Rattle.px_normal.specs.Live.{is_void, box_of_all, has_some_cell, is_live, live}
 use Rattle.px_normal.specs.LiveLaw.{IsPlaceInBoxes, ShowTheSame}
-use Rattle.px_normal.proofs.BoxLaws.{in_everything, in_narrowed}
-use Rattle.px_normal.proofs.BitsLemmas.{has-joined}
-use Rattle.px_normal.proofs.MeetsLemmas.{no_void}
-use Rattle.px_normal.proofs.SolidsLaws.{all-each, all-joined}
+use Rattle.px_sets.proofs.BoxLaws.{in_everything, in_narrowed}
+use Rattle.px_sets.proofs.BitsLaws.{has-joined}
+use Rattle.px_sets.proofs.MeetsLaws.{no_void}
+use Rattle.px_sets.proofs.SolidsLaws.{all-each, all-joined}
 
 and_mono : {a b c d : Bool} → (a ≡ true → c ≡ true) → (b ≡ true → d ≡ true) → a && b ≡ true → c && d ≡ true
 and_mono {a = a} {b = b} first second e = rw (first (and_left a b e), second (and_right a b e)) refl

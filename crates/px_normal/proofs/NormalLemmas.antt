@@ -17,15 +17,15 @@ use Rattle.px_expr.specs.declared.node.Sense.{Sense}
 use Rattle.px_expr.specs.declared.node.Sense.TheVariants.{Plain, Complement}
 use Rattle.px_expr.specs.declared.node.Combination.{Combination}
 use Rattle.px_expr.specs.declared.node.Combination.TheVariants.{Both, Either, EitherWay}
-use Rattle.px_normal.specs.declared.set.SolidSet.{SolidSet}
+use Rattle.px_sets.specs.declared.set.SolidSet.{SolidSet}
 use Rattle.px_normal.specs.declared.product.Product.{Product}
-use Rattle.px_normal.specs.Sets.{has, empty, one, sets_joined, solids, IsBelow}
+use Rattle.px_sets.specs.Sets.{has, empty, one, sets_joined, solids, IsBelow}
 use Rattle.px_normal.specs.Forms.{Forms, forms, combined, both, crossed, sum_in, sum_when}
 use Rattle.px_normal.specs.Forms.{sum_of_products, plain_one, barred_one, HasPlain, HasSolidsBelow}
 use Rattle.px_normal.specs.NormalLaw.{holds, shows, IsNormalForm}
-use Rattle.px_normal.proofs.BitsLemmas.{has-joined, has-one, has-empty}
+use Rattle.px_sets.proofs.BitsLaws.{has-joined, has-one, has-empty}
 use Rattle.px_normal.proofs.CrossedLemmas.{any_crossed, shown_crossed, each_crossed}
-use Rattle.px_normal.proofs.SolidsLaws.{all-joined, any-joined, all-empty, any-empty, all-one, any-one}
+use Rattle.px_sets.proofs.SolidsLaws.{all-joined, any-joined, all-empty, any-empty, all-one, any-one}
 
 holds_both : (at : ℕ → Cell) (p q : Product) → holds at (both p q) ≡ holds at p && holds at q
 holds_both at p q = rw (

@@ -12,7 +12,7 @@ use Rattle.px_expr.specs.declared.node.Sense.{Sense}
 use Rattle.px_expr.specs.declared.node.Sense.TheVariants.{Plain, Complement}
 use Rattle.px_expr.specs.declared.node.Combination.{Combination}
 use Rattle.px_expr.specs.declared.node.Combination.TheVariants.{Both, Either, EitherWay}
-use Rattle.px_normal.specs.declared.cell_box.CellBox.{CellBox}
+use Rattle.px_sets.specs.declared.cell_box.CellBox.{CellBox}
 use Rattle.px_normal.specs.declared.product.Product.{Product}
 use Rattle.px_normal.specs.declared.step.Wanted.{Wanted}
 use Rattle.px_normal.specs.Forms.{Forms, crossed, forms, sum_in, sum_when, sum_of_products}

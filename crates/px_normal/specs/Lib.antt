@@ -1,8 +1,5 @@
-pub mod Sets
-pub mod SetLaws
 pub mod Forms
 pub mod NormalLaw
-pub mod Boxes
 pub mod Live
 pub mod LiveLaw
 pub mod Crowd

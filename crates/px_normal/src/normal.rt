@@ -2,7 +2,7 @@
 ghost use Rattle.std.specs.Prelude.{◌≡◌, ◌<◌, ◌≤◌, ◌^◌, ℕ, All, Option, Some, None, length, IfOk};
 ghost use Rattle.px_expr.specs.Tree.{Tree, HasLeavesBelow};
 ghost use Rattle.px_expr.specs.Cells.{Cell, cell};
-ghost use Rattle.px_normal.specs.declared.cell_box.CellBox.{CellBox as AnyBox};
+ghost use Rattle.px_sets.specs.declared.cell_box.CellBox.{CellBox as AnyBox};
 ghost use Rattle.px_normal.specs.Forms.{forms, sum_of_products, HasPlain, HasSolidsBelow};
 ghost use Rattle.px_normal.specs.NormalLaw.{IsNormalForm};
 ghost use Rattle.px_normal.specs.Live.{boxes_in, live_products};
@@ -12,8 +12,9 @@ ghost use Rattle.px_normal.specs.CrowdLaw.{CrowdLaw};
 
 use crate::step::steps;
 use crate::sums::{Sums, build};
-use crate::{CellBox, MAX_PRODUCTS, NormalFault, Product, Products};
+use crate::{MAX_PRODUCTS, NormalFault, Product, Products};
 use px_expr::Expr;
+use px_sets::CellBox;
 use std::alloc::Global;
 
 /// The live products of an expression, by the boxes of its solids, repeats included

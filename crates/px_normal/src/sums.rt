@@ -8,8 +8,9 @@ ghost use Rattle.px_normal.specs.Building.{built, newest_lists, CanBuild};
 
 use crate::live::{count_crossed, count_live, is_live, push_crossed, push_live};
 use crate::step::{Step, Wanted};
-use crate::{CellBox, MAX_PRODUCTS, NormalFault, Product};
+use crate::{MAX_PRODUCTS, NormalFault, Product};
 use px_expr::{Combination, Op, Sense};
+use px_sets::CellBox;
 use std::alloc::{AllocError, Global};
 use std::marker::Model;
 

@@ -7,7 +7,7 @@ use Rattle.std.specs.Io.KnownBytes.{Consumes}
 use Rattle.px_io.specs.Told.{ConsumesAtMost, IsFrontOf}
 use Rattle.px_array.specs.Slots.{ArrayView}
 use Rattle.px_listing.specs.Listings.{ListingView}
-use Rattle.px_listing.specs.Memories.{played_text}
+use Rattle.px_playing.specs.Memories.{played_text}
 use Rattle.px_outcome.specs.declared.refusal.Refusal.{Refusal}
 use Rattle.px_outcome.specs.declared.refusal.Refusal.TheVariants as r
 use Rattle.px_outcome.specs.declared.stop.Stop.{Stop}

@@ -6,7 +6,7 @@ ghost use Rattle.px_io.specs.Counts.{HasCause};
 ghost use Rattle.px_io.specs.Told.{TakesFront, Tells};
 ghost use Rattle.px_array.specs.Slots.{array_view};
 ghost use Rattle.px_macro.specs.Macros.{IsLawful};
-ghost use Rattle.px_listing.specs.Memories.{memory_text, played_text};
+ghost use Rattle.px_playing.specs.Memories.{memory_text, played_text};
 ghost use Rattle.px_outcome.specs.declared.stop.Stop.{Stop};
 ghost use Rattle.px_play_run.specs.Listings.{PerformsPlay, Plays, list_refusal, listing_written};
 ghost use Rattle.px_outcome.specs.Outcomes.{done};
@@ -19,8 +19,9 @@ ghost use Rattle.px_play_run.specs.Playings.{IsListStop};
 use px_array::Array;
 use px_asm::Operating;
 use px_io::{Failed, Sink, Source};
-use px_listing::{Listing, laws_of_listings, play, read_listing, write_memory};
+use px_listing::{Listing, read_listing};
 use px_outcome::{READ_LIMIT, Stop, read_text, too_long};
+use px_playing::{laws_of_playing, play, write_memory};
 use std::alloc::Global;
 
 /// Reads the input to its end, plays the listing that it writes, and prints every pixel's memory
@@ -83,7 +84,7 @@ fn play_listing<O: Sink, A: Operating>(
     let Ok(()) = play(listing, array) else {
         return Err(Stop::Memory);
     };
-    laws_of_listings();
+    laws_of_playing();
     match deliver_memory(array, out) {
         Ok(()) => Ok(()),
         Err(_) => Err(Stop::WriteFault),

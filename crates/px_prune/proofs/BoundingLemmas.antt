@@ -6,7 +6,7 @@ use Rattle.std.specs.Option.{option_map_or}
 use Rattle.px_model.specs.Cells.{Depths, depths_of, far_of, leaf_cell, no_cell, solid_cell}
 use Rattle.px_model.proofs.CellLaws.{before_end}
 use Rattle.px_model.specs.Scenes.{SceneView, SolidView}
-use Rattle.px_normal.specs.declared.cell_box.CellBox.{CellBox}
+use Rattle.px_sets.specs.declared.cell_box.CellBox.{CellBox}
 use Rattle.px_prune.specs.Boxes.{is_part}
 use Rattle.px_prune.specs.Bounding.{IsBoxOf, IsBoundingBox, in_rows, cells_of, cell_box, pixel_hull, row_hull}
 use Rattle.px_prune.specs.Bounding.{rows_hull, bounding_box}

@@ -2,8 +2,8 @@
 use Rattle.std.proofs.Common.{ℕ, ◌≡◌, ◌<◌, ◌≤◌, ◌+◌, ◌-◌, ◌==◌, ◌||◌, ◌&&◌, nat_le, nat_lt, Bool, true, false, refl}
 use Rattle.std.proofs.Common.{sym, ◌∙◌, arith, inl, inr, Option, Some, None}
 use Rattle.px_num.proofs.TruthLaws.{or_cases, or_left, or_right}
-use Rattle.px_normal.specs.declared.cell_box.CellBox.{CellBox}
-use Rattle.px_normal.specs.Boxes.{lies_in, is_in_box}
+use Rattle.px_sets.specs.declared.cell_box.CellBox.{CellBox}
+use Rattle.px_sets.specs.Boxes.{lies_in, is_in_box}
 use Rattle.px_prune.specs.Boxes.{hull, is_part}
 use Rattle.px_prune.specs.Bounding.{IsBoxOf, in_rows}
 

@@ -12,8 +12,8 @@ use Rattle.px_expr.specs.Cells.{has_face}
 use Rattle.px_model.specs.Cells.{Depths, cell_of, depths, depths_of, end_of, faces_at, far_of, is_inside, leaf_cell}
 use Rattle.px_model.specs.Cells.{leaves_at, no_cell, solid_cell}
 use Rattle.px_model.specs.Scenes.{SceneView, SolidView}
-use Rattle.px_normal.specs.declared.cell_box.CellBox.{CellBox}
-use Rattle.px_normal.specs.Boxes.{is_in_box}
+use Rattle.px_sets.specs.declared.cell_box.CellBox.{CellBox}
+use Rattle.px_sets.specs.Boxes.{is_in_box}
 use Rattle.px_normal.specs.declared.product.Product.{Product}
 use Rattle.px_prune.specs.Kept.{kept_of, kept_products}
 use Rattle.px_prune.specs.declared.block.Block.{Block}

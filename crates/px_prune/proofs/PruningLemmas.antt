@@ -5,13 +5,13 @@ use Rattle.std.specs.List.{list_all, list_any, filter, filter_map, cons_option}
 use Rattle.px_num.proofs.TruthLaws.{filtered_few}
 use Rattle.px_expr.specs.Cells.{Cell, has_face}
 use Rattle.px_normal.specs.declared.product.Product.{Product}
-use Rattle.px_normal.specs.Sets.{solids}
-use Rattle.px_normal.specs.SetLaws.{LawsOfSets}
+use Rattle.px_sets.specs.Sets.{solids}
+use Rattle.px_sets.specs.SetLaws.{LawsOfSets}
 use Rattle.px_normal.specs.NormalLaw.{holds, shows, some_holds, some_shows}
-use Rattle.px_normal.specs.declared.cell_box.CellBox.{CellBox}
-use Rattle.px_normal.specs.Boxes.{lies_in, has_cell, everything, is_in_box}
+use Rattle.px_sets.specs.declared.cell_box.CellBox.{CellBox}
+use Rattle.px_sets.specs.Boxes.{lies_in, has_cell, everything, is_in_box}
 use Rattle.px_normal.specs.Live.{box_of_all, has_some_cell, is_live, is_void}
-use Rattle.px_normal.proofs.BoxLaws.{in_everything}
+use Rattle.px_sets.proofs.BoxLaws.{in_everything}
 use Rattle.px_prune.specs.Kept.{meets, set_of, staying, pruned, pruned_within, kept_products}
 use Rattle.px_prune.proofs.BehindLemmas.{HasCells}
 use Rattle.px_prune.proofs.WithinLemmas.{in_fold, inside_has, in_or_behind, meets_cell, all_filter}

@@ -9,8 +9,8 @@ use Rattle.px_num.proofs.MostLaws.{all_same}
 use Rattle.px_model.specs.Scenes.{SolidView}
 use Rattle.px_model.specs.Cells.{Depths, end_of, is_inside, value_of}
 use Rattle.px_prune.specs.declared.block.Block.{Block}
-use Rattle.px_normal.specs.declared.cell_box.CellBox.{CellBox}
-use Rattle.px_normal.specs.Boxes.{is_in_box, lies_in}
+use Rattle.px_sets.specs.declared.cell_box.CellBox.{CellBox}
+use Rattle.px_sets.specs.Boxes.{is_in_box, lies_in}
 use Rattle.px_prune.specs.Boxes.{hull}
 use Rattle.px_prune.specs.Covered.{is_covered}
 use Rattle.px_prune.specs.Blocks.{IsReachOf, greatest_in, has_pixel, in_block, is_one_pixel, least_in, with_block}

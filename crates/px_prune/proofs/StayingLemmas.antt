@@ -8,15 +8,15 @@ use Rattle.std.proofs.lemmas.Bool.Decides.{nat_tests}
 use Rattle.std.proofs.lemmas.List.Elements.{All-cons, All-nil, filter-append}
 use Rattle.std.proofs.lemmas.List.Folds.{list_all-append}
 use Rattle.px_num.proofs.TruthLaws.{and_right}
-use Rattle.px_normal.specs.declared.set.SolidSet.{SolidSet}
+use Rattle.px_sets.specs.declared.set.SolidSet.{SolidSet}
 use Rattle.px_normal.specs.declared.product.Product.{Product}
-use Rattle.px_normal.specs.Sets.{has, solids, below}
+use Rattle.px_sets.specs.Sets.{has, solids, below}
 use Rattle.px_normal.specs.Forms.{HasPlain, HasSolidsBelow}
-use Rattle.px_normal.specs.SetLaws.{LawsOfSets}
-use Rattle.px_normal.specs.declared.cell_box.CellBox.{CellBox}
-use Rattle.px_normal.specs.Boxes.{has_cell}
+use Rattle.px_sets.specs.SetLaws.{LawsOfSets}
+use Rattle.px_sets.specs.declared.cell_box.CellBox.{CellBox}
+use Rattle.px_sets.specs.Boxes.{has_cell}
 use Rattle.px_normal.specs.Live.{box_of_all, is_void}
-use Rattle.px_normal.proofs.SolidsLaws.{any_last}
+use Rattle.px_sets.proofs.SolidsLaws.{any_last}
 use Rattle.px_prune.specs.Kept.{kept_products, meets, pruned, pruned_within, set_of, staying}
 use Rattle.px_prune.proofs.WithinLemmas.{any-set_of, filtered_solids, is_solid}
 

@@ -3,12 +3,12 @@ use Rattle.std.proofs.Common.{ℕ, ◌≡◌, ◌<◌, ◌||◌, ◌&&◌, not, 
 use Rattle.std.proofs.Common.{sym, ◌∙◌, arith, Option, Some, None, fold}
 use Rattle.std.specs.List.{list_all, list_any, filter}
 use Rattle.px_num.proofs.TruthLaws.{and_both, and_left, and_right, and_true, not_both, or_false}
-use Rattle.px_normal.specs.declared.set.SolidSet.{SolidSet}
-use Rattle.px_normal.specs.Sets.{has, empty, one, sets_joined, solids}
-use Rattle.px_normal.specs.SetLaws.{LawsOfSets}
-use Rattle.px_normal.specs.declared.cell_box.CellBox.{CellBox}
-use Rattle.px_normal.specs.Boxes.{lies_in, has_cell, common_part, narrowed, is_in_box}
-use Rattle.px_normal.proofs.BoxLaws.{in_common_part, in_narrowed}
+use Rattle.px_sets.specs.declared.set.SolidSet.{SolidSet}
+use Rattle.px_sets.specs.Sets.{has, empty, one, sets_joined, solids}
+use Rattle.px_sets.specs.SetLaws.{LawsOfSets}
+use Rattle.px_sets.specs.declared.cell_box.CellBox.{CellBox}
+use Rattle.px_sets.specs.Boxes.{lies_in, has_cell, common_part, narrowed, is_in_box}
+use Rattle.px_sets.proofs.BoxLaws.{in_common_part, in_narrowed}
 use Rattle.px_prune.specs.Boxes.{with_cells_behind}
 use Rattle.px_prune.proofs.BehindLemmas.{is_in_or_behind}
 use Rattle.px_prune.specs.Kept.{meets, set_of}

@@ -8,4 +8,5 @@ mod plan;
 
 pub use bounds::{box_of, boxes_of};
 pub use plan::{Plan, laws_of_pruning, plan_of, prune};
-pub use px_normal::{CellBox, MAX_PRODUCTS};
+pub use px_normal::MAX_PRODUCTS;
+pub use px_sets::CellBox;

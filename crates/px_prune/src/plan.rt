@@ -1,7 +1,7 @@
 //! The products that can show anything.
 ghost use Rattle.std.specs.Prelude.{◌≡◌, ◌≤◌, ◌^◌, ℕ, false, All, List, Option, Some, None, filter, IfOk, length};
 ghost use Rattle.px_normal.specs.Forms.{HasSolidsBelow};
-ghost use Rattle.px_normal.specs.Sets.{empty, solids};
+ghost use Rattle.px_sets.specs.Sets.{empty, solids};
 ghost use Rattle.px_prune.specs.Kept.{crowd_of, kept_of, kept_products, meets, plan_of, pruned, staying};
 ghost use Rattle.px_normal.specs.Live.{boxes_in, is_live, is_void};
 ghost use Rattle.px_prune.specs.Bounding.{bounding_box};
@@ -12,8 +12,9 @@ ghost use Rattle.px_model.specs.Scenes.{SceneView, IsLawfulScene};
 use crate::bounds::boxes_of;
 use crate::{CellBox, MAX_PRODUCTS};
 use px_model::Scene;
-use px_normal::{NormalFault, Product, Products, SolidSet, laws_of_sets, normalise};
+use px_normal::{NormalFault, Product, Products, normalise};
 use px_num::Memory;
+use px_sets::{SolidSet, laws_of_sets};
 use std::alloc::{AllocError, Global};
 
 /// The products of a scene that can show anything.

@@ -1,7 +1,8 @@
 //! Listings for pixels of other bits than the program's, with values that were worked out by hand.
 use px_array::{Array, PixelArray};
 use px_io::MemSink;
-use px_listing::{play, read_listing, write_listing, write_memory};
+use px_listing::{read_listing, write_listing};
+use px_playing::{play, write_memory};
 use std::test::Fail;
 
 /// The passes of a scene of one solid.

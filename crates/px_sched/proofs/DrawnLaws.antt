@@ -7,7 +7,7 @@ use Rattle.px_expr.specs.Tree.{HasLeavesBelow, Tree}
 use Rattle.px_expr.proofs.LeafLaws.{leaves_below}
 use Rattle.px_normal.specs.declared.product.Product.{Product}
 use Rattle.px_normal.specs.Forms.{HasPlain, HasSolidsBelow, sum_of_products}
-use Rattle.px_normal.specs.Sets.{solids}
+use Rattle.px_sets.specs.Sets.{solids}
 use Rattle.px_prune.specs.Kept.{kept_of}
 use Rattle.px_prune.specs.PruningLaw.{PlainIsKept}
 use Rattle.px_model.specs.Scenes.{IsLawfulScene, SceneView}

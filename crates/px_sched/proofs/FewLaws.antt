@@ -11,8 +11,8 @@ use Rattle.std.proofs.lemmas.List.Sums.{count_by-le-length, length-filter, sum_b
 use Rattle.px_face.specs.EdgeLaws.{EdgesAreCounted}
 use Rattle.px_face.specs.Edges.{edge_count}
 use Rattle.px_normal.specs.declared.product.Product.{Product}
-use Rattle.px_normal.specs.declared.set.SolidSet.{SolidSet}
-use Rattle.px_normal.specs.Sets.{below, has, solids}
+use Rattle.px_sets.specs.declared.set.SolidSet.{SolidSet}
+use Rattle.px_sets.specs.Sets.{below, has, solids}
 use Rattle.px_model.specs.Cells.{depths_of}
 use Rattle.px_model.specs.Scenes.{SceneView, IsLawfulSolid, SolidView}
 use Rattle.px_sched.specs.declared.literal.Literal.{Literal}

@@ -10,9 +10,9 @@ use Rattle.px_num.proofs.TruthLaws.{and_left, and_right, or_left, or_right}
 use Rattle.px_expr.specs.Cells.{Cell, has_face}
 use Rattle.px_model.specs.Scenes.{AreNumberedFrom, IsNumberedFrom, SceneView, faces_of, SolidView, faces_in}
 use Rattle.px_model.specs.Cells.{Depths, backs_at, depths_of, fronts_at, leaf_cell, no_cell, solid_cell}
-use Rattle.px_normal.specs.declared.set.SolidSet.{SolidSet}
+use Rattle.px_sets.specs.declared.set.SolidSet.{SolidSet}
 use Rattle.px_normal.specs.declared.product.Product.{Product}
-use Rattle.px_normal.specs.Sets.{below, has, solids}
+use Rattle.px_sets.specs.Sets.{below, has, solids}
 use Rattle.px_normal.specs.Forms.{HasSolidsBelow}
 use Rattle.px_normal.specs.NormalLaw.{holds, shows}
 use Rattle.px_normal.specs.Live.{is_void}

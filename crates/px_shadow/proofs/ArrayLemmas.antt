@@ -9,7 +9,7 @@ use Rattle.px_asm.specs.Micros.{all_micros}
 use Rattle.px_asm.specs.Microprograms.{LeaveTheMeanings, bits_of}
 use Rattle.px_num.specs.Bits.{bit_at}
 use Rattle.px_macro.specs.Macros.{IsLawful, IsLawfulInMore, PixelBits}
-use Rattle.px_normal.specs.declared.set.SolidSet.{SolidSet}
+use Rattle.px_sets.specs.declared.set.SolidSet.{SolidSet}
 use Rattle.px_model.specs.Scenes.{IsLawfulScene, SceneView, IsLawfulSolid}
 use Rattle.px_sched.specs.Layouts.{layout_of}
 use Rattle.px_control.specs.GridLaw.{GridLaw, SizeLaw}
@@ -23,7 +23,7 @@ use Rattle.px_shadow.specs.Shaded.{IsShaded, shaded, shadow_program}
 use Rattle.px_shadow.specs.Carrying.{CanCarryOut, carried_out}
 use Rattle.px_shadow.specs.Passing.{ShadowPassesAreFew}
 use Rattle.px_control.specs.ClockLaw.{ClockBound}
-use Rattle.px_normal.specs.Sets.{IsBelow}
+use Rattle.px_sets.specs.Sets.{IsBelow}
 use Rattle.px_prune.specs.Kept.{plan_of}
 use Rattle.px_sched.specs.PassesFacts.{LayoutsAreLawful}
 use Rattle.px_shadow.specs.ShadowPasses.{light_bit, need_with, shadow_passes}

@@ -9,8 +9,8 @@ use Rattle.std.proofs.lemmas.List.Elements.{All-head, All-tail, All-weaker}
 use Rattle.px_num.proofs.RangeLaws.{range_all}
 use Rattle.px_macro.specs.declared.operation.Macro.{Macro}
 use Rattle.px_macro.specs.declared.operation.Macro.TheVariants as m
-use Rattle.px_normal.specs.declared.set.SolidSet.{SolidSet}
-use Rattle.px_normal.specs.Sets.{IsBelow, below, has, solids}
+use Rattle.px_sets.specs.declared.set.SolidSet.{SolidSet}
+use Rattle.px_sets.specs.Sets.{IsBelow, below, has, solids}
 use Rattle.px_model.specs.Scenes.{SceneView, IsLawfulSolid, SolidView}
 use Rattle.px_model.specs.Cells.{depths_of, end_of}
 use Rattle.px_face.specs.Edges.{edges}

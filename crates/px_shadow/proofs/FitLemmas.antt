@@ -8,9 +8,9 @@ use Rattle.px_num.proofs.RangeLaws.{range_all}
 use Rattle.px_macro.specs.declared.operation.Macro.{Macro}
 use Rattle.px_macro.specs.declared.operation.Macro.TheVariants as m
 use Rattle.px_macro.specs.Macros.{IsField, IsLawful}
-use Rattle.px_normal.specs.declared.set.SolidSet.{SolidSet}
-use Rattle.px_normal.specs.SetLaws.{LawsOfSets}
-use Rattle.px_normal.specs.Sets.{IsBelow, solids}
+use Rattle.px_sets.specs.declared.set.SolidSet.{SolidSet}
+use Rattle.px_sets.specs.SetLaws.{LawsOfSets}
+use Rattle.px_sets.specs.Sets.{IsBelow, solids}
 use Rattle.px_model.specs.Scenes.{IsLawfulScene, SceneView, IsLawfulSolid, SolidView}
 use Rattle.px_model.specs.Cells.{depths_of, end_of}
 use Rattle.px_model.proofs.CellLaws.{end_is_within}

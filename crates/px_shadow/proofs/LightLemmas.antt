@@ -14,8 +14,8 @@ use Rattle.px_num.specs.Bits.{bit_at}
 use Rattle.px_num.proofs.RangeLaws.{range_more}
 use Rattle.px_num.proofs.TruthLaws.{and_both, and_true}
 use Rattle.px_macro.specs.Macros.{PixelBits, after_macros}
-use Rattle.px_normal.specs.declared.set.SolidSet.{SolidSet}
-use Rattle.px_normal.specs.Sets.{solids}
+use Rattle.px_sets.specs.declared.set.SolidSet.{SolidSet}
+use Rattle.px_sets.specs.Sets.{solids}
 use Rattle.px_model.specs.Scenes.{SceneView}
 use Rattle.px_model.specs.Cells.{depths_of, end_of, is_inside_at}
 use Rattle.px_sched.specs.Layouts.{LayoutView, deep_part, number_part}

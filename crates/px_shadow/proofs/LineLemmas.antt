@@ -7,9 +7,9 @@ use Rattle.std.specs.Option.{option_map}
 use Rattle.std.proofs.lemmas.List.{get_or-map, take_all, take_more}
 use Rattle.std.proofs.lemmas.List.Elements.{All-append, All-cons, All-nil, filter_map-append}
 use Rattle.px_text.specs.Text.{Words, words_of, is_name}
-use Rattle.px_normal.specs.declared.set.SolidSet.{SolidSet}
-use Rattle.px_normal.specs.SetLaws.{LawsOfSets}
-use Rattle.px_normal.specs.Sets.{IsBelow, empty, sets_joined, one, solids}
+use Rattle.px_sets.specs.declared.set.SolidSet.{SolidSet}
+use Rattle.px_sets.specs.SetLaws.{LawsOfSets}
+use Rattle.px_sets.specs.Sets.{IsBelow, empty, sets_joined, one, solids}
 use Rattle.px_model.specs.Scenes.{SolidView}
 use Rattle.px_prune.specs.Kept.{set_of}
 use Rattle.px_shadow.specs.declared.light.LightFault.{LightFault}

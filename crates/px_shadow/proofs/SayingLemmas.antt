@@ -9,8 +9,8 @@ use Rattle.std.proofs.lemmas.List.Folds.{list_all-append}
 use Rattle.std.proofs.lemmas.List.Sums.{fold-append}
 use Rattle.px_num.proofs.TruthLaws.{and_true}
 use Rattle.px_text.specs.Text.{Words, is_name}
-use Rattle.px_normal.specs.declared.set.SolidSet.{SolidSet}
-use Rattle.px_normal.specs.Sets.{empty, sets_joined, one}
+use Rattle.px_sets.specs.declared.set.SolidSet.{SolidSet}
+use Rattle.px_sets.specs.Sets.{empty, sets_joined, one}
 use Rattle.px_model.specs.Scenes.{SolidView}
 use Rattle.px_prune.specs.Kept.{set_of}
 use Rattle.px_shadow.specs.declared.light.Said.TheVariants as s

@@ -5,8 +5,8 @@ use Rattle.std.proofs.lemmas.Bool.Decides.{nat_tests}
 use Rattle.px_num.proofs.TruthLaws.{and_false, and_true}
 use Rattle.px_macro.specs.Fields.{number_in}
 use Rattle.px_macro.specs.FieldLaws.{NumberOfParts}
-use Rattle.px_normal.specs.declared.set.SolidSet.{SolidSet}
-use Rattle.px_normal.specs.Sets.{solids}
+use Rattle.px_sets.specs.declared.set.SolidSet.{SolidSet}
+use Rattle.px_sets.specs.Sets.{solids}
 use Rattle.px_model.specs.Scenes.{SceneView}
 use Rattle.px_model.specs.Cells.{depths_of, end_of, first_cell, picture, sight_at, value_of}
 use Rattle.px_model.proofs.CellLaws.{end_is_small}

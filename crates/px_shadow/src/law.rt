@@ -12,8 +12,8 @@ use px_asm::law_of_microprograms;
 use px_control::{law_of_grids, law_of_pictures, law_of_sizes};
 use px_face::{laws_of_covering, laws_of_edges, laws_of_surfaces};
 use px_macro::{laws_of_fields, laws_of_operations};
-use px_normal::laws_of_sets;
 use px_sched::laws_of_passes;
+use px_sets::laws_of_sets;
 
 /// The laws of shadows, for any number of fraction bits.
 ///

@@ -3,7 +3,7 @@ ghost use Rattle.std.specs.Prelude.{◌≡◌, ◌+◌, ◌-◌, ◌<◌, ◌≤
 ghost use Rattle.px_array.specs.Slots.{IsRunOnce, array_view, worked};
 ghost use Rattle.px_face.specs.Edges.{edge_count};
 ghost use Rattle.px_face.specs.Faces.{face_count};
-ghost use Rattle.px_normal.specs.Sets.{IsBelow};
+ghost use Rattle.px_sets.specs.Sets.{IsBelow};
 ghost use Rattle.px_prune.specs.Kept.{plan_of};
 ghost use Rattle.px_sched.specs.Layouts.{layout_of};
 ghost use Rattle.px_control.specs.GridLaw.{CoversThePicture};
@@ -31,8 +31,9 @@ use px_control::{law_of_clocks, law_of_sizes};
 use px_face::{edge_at, edge_count, face_count, laws_of_edges, plane_of};
 use px_macro::{Macro, laws_of_operations};
 use px_model::{Scene, Solid, laws_of_scenes};
-use px_normal::{MAX_PRODUCTS, SolidSet, laws_of_sets};
+use px_normal::MAX_PRODUCTS;
 use px_sched::{Layout, laws_of_passes};
+use px_sets::{SolidSet, laws_of_sets};
 
 /// A scene is lit by at most so many lights.
 pub const MAX_LIGHTS: usize = 8;

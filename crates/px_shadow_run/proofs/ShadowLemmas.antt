@@ -10,7 +10,7 @@ use Rattle.px_array.specs.Slots.{ArrayView}
 use Rattle.px_scene.specs.Scenes.{SceneView}
 use Rattle.px_scene.specs.Text.{worded}
 use Rattle.px_scene.specs.Reading.{scene_of}
-use Rattle.px_normal.specs.declared.set.SolidSet.{SolidSet}
+use Rattle.px_sets.specs.declared.set.SolidSet.{SolidSet}
 use Rattle.px_lines.specs.Parts.{behind_part, part_end, scene_part}
 use Rattle.px_sched.specs.Layouts.{LayoutView}
 use Rattle.px_shadow.specs.Lights.{mask_image}

@@ -7,7 +7,7 @@ ghost use Rattle.px_array.specs.Slots.{IsRunOnce, array_view};
 ghost use Rattle.px_control.specs.GridLaw.{CoversThePicture};
 ghost use Rattle.px_control.specs.Program.{IsAt};
 ghost use Rattle.px_lines.specs.Parts.{part_end};
-ghost use Rattle.px_normal.specs.Sets.{IsBelow};
+ghost use Rattle.px_sets.specs.Sets.{IsBelow};
 ghost use Rattle.px_sched.specs.Layouts.{layout_of};
 ghost use Rattle.px_shadow.specs.Lights.{mask_image};
 ghost use Rattle.px_shadow.specs.Shaded.{IsShaded};
@@ -29,12 +29,12 @@ use px_control::Job;
 use px_deliver::draw;
 use px_io::{Failed, Sink, Source};
 use px_lines::{laws_of_parts, part_end};
-use px_normal::SolidSet;
 use px_outcome::{
     Kind, READ_LIMIT, Refusal, Stop, behind, open_job, read_text, scene_in, short_of_bits, too_long,
 };
 use px_scene::{Scene, laws_of_scenes};
 use px_sched::{Layout, NeedBits, laws_of_passes};
+use px_sets::SolidSet;
 use px_shadow::{LightFault, laws_of_shadows, need, read_lights, shade, write_masks};
 use px_text::MAX_TEXT_BYTES;
 use std::alloc::Global;

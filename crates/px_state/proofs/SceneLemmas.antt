@@ -10,7 +10,7 @@ use Rattle.px_control.specs.Program as program
 use Rattle.px_control.specs.Standing.{StandsFor}
 use Rattle.px_control.specs.declared.place.Place.{Place}
 use Rattle.px_control.proofs.PlaceLemmas.{at_end, micro_is, operation_is}
-use Rattle.px_listing.specs.PassesText.{passes_listing}
+use Rattle.px_playing.specs.PassesText.{passes_listing}
 use Rattle.px_state.specs.Courses.{HasCycle, IsNext, device_after, total}
 
 pub same_total : (scene : SceneView) → program.total scene ≡ total (passes_listing scene)

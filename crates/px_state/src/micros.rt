@@ -7,7 +7,7 @@ ghost use Rattle.px_prune.specs.Kept.{plan_of};
 ghost use Rattle.px_sched.specs.Layouts.{layout_of};
 ghost use Rattle.px_state.specs.Courses.{total};
 ghost use Rattle.px_state.specs.Packing.{packed};
-ghost use Rattle.px_listing.specs.PassesText.{passes_listing};
+ghost use Rattle.px_playing.specs.PassesText.{passes_listing};
 ghost use Rattle.px_macro.specs.Macros.{IsLawful};
 ghost use Rattle.px_tree.specs.Nodes.{IsGrid};
 ghost use Rattle.px_state.specs.Packed.{HasMicros};

@@ -1,6 +1,6 @@
 //! The state of a scene after so many clocks.
 ghost use Rattle.std.specs.Prelude.{◌≡◌, ◌≤◌, ◌<◌, IfErr, IfOk, IfSome, IfNone, None, OnErr, OnOk, Some, length};
-ghost use Rattle.px_listing.specs.PassesText.{passes_listing};
+ghost use Rattle.px_playing.specs.PassesText.{passes_listing};
 ghost use Rattle.px_control.specs.Program.{IsAt, total};
 ghost use Rattle.px_state.specs.Courses.{IsNext, device_after};
 ghost use Rattle.px_state.specs.Refusals.{HasSmallCount, IsRefusedBy, course_refusal, job_refusal};

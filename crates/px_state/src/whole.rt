@@ -1,7 +1,7 @@
 //! The state and the micros of a text.
 ghost use Rattle.std.specs.Prelude.{◌≡◌, ◌≤◌, ℕ, All, true, false, IfErr, IfOk, None, OnErr, OnOk, length};
 ghost use Rattle.px_state.specs.Courses.{device_after};
-ghost use Rattle.px_listing.specs.PassesText.{passes_listing};
+ghost use Rattle.px_playing.specs.PassesText.{passes_listing};
 ghost use Rattle.px_macro.specs.Macros.{IsLawful};
 ghost use Rattle.px_text.specs.declared.text.TheConstants.{MAX_TEXT_BYTES};
 ghost use Rattle.px_state.specs.Packed.{HasMicros};

@@ -3,7 +3,7 @@ ghost use Rattle.std.specs.Bool.{OnTrue};
 ghost use Rattle.std.specs.Prelude.{◌≡◌, ℕ, Option, None};
 ghost use Rattle.std.specs.List.{list_all};
 ghost use Rattle.px_expr.specs.Postorder.{nodes_of};
-ghost use Rattle.px_normal.specs.declared.cell_box.CellBox.{CellBox as AnyBox};
+ghost use Rattle.px_sets.specs.declared.cell_box.CellBox.{CellBox as AnyBox};
 ghost use Rattle.px_normal.specs.Crowd.{crowd};
 ghost use Rattle.px_tile.specs.Operators.{is_no_differ};
 

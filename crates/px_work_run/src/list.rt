@@ -6,14 +6,14 @@ ghost use Rattle.px_io.specs.Told.{TakesFront, Tells};
 ghost use Rattle.px_prune.specs.Kept.{plan_of};
 ghost use Rattle.px_sched.specs.Layouts.{layout_of};
 ghost use Rattle.px_listing.specs.Listings.{canonical_text};
-ghost use Rattle.px_listing.specs.PassesText.{passes_listing};
+ghost use Rattle.px_playing.specs.PassesText.{passes_listing};
 ghost use Rattle.px_outcome.specs.declared.stop.Stop.{Stop};
 ghost use Rattle.px_work_run.specs.Works.{listed};
 ghost use Rattle.px_outcome.specs.Stops.{DoesWork};
 
 use px_io::{Failed, Sink};
-use px_listing::write_passes;
 use px_outcome::{Stop, drawing_of};
+use px_playing::write_passes;
 use px_prune::{MAX_PRODUCTS, Plan};
 use px_scene::Scene;
 use px_sched::Layout;

@@ -6,10 +6,10 @@ returns-clause-played c =
     let laws : Laws = record {
       more = c.laws_of_operations.ensures.more;
       lawful = c.laws_of_passes.ensures.lawful;
-      read = c.laws_of_listings.ensures.passes;
+      read = c.laws_of_playing.ensures.passes;
       accepted = c.laws_of_listings.ensures.accepted;
       refusals = c.laws_of_listings.ensures.refusals;
-      picture = c.laws_of_listings.ensures.picture;
+      picture = c.laws_of_playing.ensures.picture;
     } in
     passes_played laws
 
@@ -18,10 +18,10 @@ returns-clause-picture c =
     let laws : Laws = record {
       more = c.laws_of_operations.ensures.more;
       lawful = c.laws_of_passes.ensures.lawful;
-      read = c.laws_of_listings.ensures.passes;
+      read = c.laws_of_playing.ensures.passes;
       accepted = c.laws_of_listings.ensures.accepted;
       refusals = c.laws_of_listings.ensures.refusals;
-      picture = c.laws_of_listings.ensures.picture;
+      picture = c.laws_of_playing.ensures.picture;
     } in
     passes_shown laws
 
@@ -30,9 +30,9 @@ returns-clause-done c =
     let laws : Laws = record {
       more = c.laws_of_operations.ensures.more;
       lawful = c.laws_of_passes.ensures.lawful;
-      read = c.laws_of_listings.ensures.passes;
+      read = c.laws_of_playing.ensures.passes;
       accepted = c.laws_of_listings.ensures.accepted;
       refusals = c.laws_of_listings.ensures.refusals;
-      picture = c.laws_of_listings.ensures.picture;
+      picture = c.laws_of_playing.ensures.picture;
     } in
     done_shown laws

@@ -1,7 +1,7 @@
 use Rattle.std.proofs.Common.{◌∙◌, [], sym}
 use Rattle.std.proofs.lemmas.List.{append-nil}
 use Rattle.px_listing.specs.Listings.{end_line}
-use Rattle.px_listing.proofs.PieceLemmas.{err_cut}
+use Rattle.px_listing.proofs.PieceLaws.{err_cut}
 use Rattle.px_listing.proofs.write.put_end.Goals as goal
 
 pub returns-clause-err : goal.returns-clause-err

@@ -1,7 +1,7 @@
 use Rattle.std.proofs.Common.{◌++◌, ◌∙◌, [], ap}
 use Rattle.std.proofs.lemmas.List.{append-nil}
 use Rattle.px_listing.specs.Listings.{first_lines, grid_line, header_line}
-use Rattle.px_listing.proofs.PieceLemmas.{err_cut, ok_both}
+use Rattle.px_listing.proofs.PieceLaws.{err_cut, ok_both}
 use Rattle.px_listing.proofs.write.put_first_lines.Goals as goal
 
 pub returns-clause-ok : goal.returns-clause-ok

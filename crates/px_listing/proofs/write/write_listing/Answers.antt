@@ -4,8 +4,8 @@ use Rattle.std.specs.List.{flat_map}
 use Rattle.std.proofs.lemmas.List.{append-nil, take_all}
 use Rattle.px_macro.specs.declared.operation.Macro.TheVariants as m
 use Rattle.px_listing.specs.Listings.{ListingView, canonical_text, end_line, first_lines, macro_line}
-use Rattle.px_listing.proofs.PieceLemmas.{err_cut, ok_all, puts_both, puts_cut}
-use Rattle.px_listing.proofs.RowLemmas.{behind, listed_cut, listed_more}
+use Rattle.px_listing.proofs.PieceLaws.{err_cut, ok_all, puts_both, puts_cut}
+use Rattle.px_listing.proofs.RowLaws.{behind, listed_cut, listed_more}
 use Rattle.px_io.proofs.ToldLaws.{on_err}
 use Rattle.px_listing.proofs.write.write_listing.Goals as goal
 

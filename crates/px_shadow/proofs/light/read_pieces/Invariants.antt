@@ -1,5 +1,5 @@
 use Rattle.std.proofs.Common.{◌≡◌, ◌+◌, All, length, take}
-use Rattle.px_normal.specs.Sets.{IsBelow}
+use Rattle.px_sets.specs.Sets.{IsBelow}
 use Rattle.px_show.proofs.JudgedLaws.{AreGood}
 use Rattle.px_shadow.specs.LightLines.{fault_behind, lights_of}
 use Rattle.px_shadow.specs.Saying.{pieces_of}

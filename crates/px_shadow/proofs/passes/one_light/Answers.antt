@@ -1,7 +1,7 @@
 use Rattle.std.proofs.Common.{◌<◌, ◌≤◌, true, [], ◌∷◌, ℕ, List, length, get_or, ap, subst, sym, arith, ◌∙◌}
 use Rattle.px_macro.specs.declared.operation.Macro.{Macro}
 use Rattle.px_macro.specs.declared.operation.Macro.TheVariants as m
-use Rattle.px_normal.specs.Sets.{solids}
+use Rattle.px_sets.specs.Sets.{solids}
 use Rattle.px_model.specs.Cells.{depths_of, end_of}
 use Rattle.px_sched.specs.Passes.{solid_of}
 use Rattle.px_shadow.specs.Carrying.{CanCarryOut, CarriesOut}

@@ -1,7 +1,7 @@
 use Rattle.std.proofs.Common.{◌≤◌, List, length, ap, subst, sym, arith, ◌∙◌}
 use Rattle.px_array.specs.Slots.{worked}
 use Rattle.px_array.proofs.WorkLaws.{still_once}
-use Rattle.px_normal.specs.declared.set.SolidSet.{SolidSet}
+use Rattle.px_sets.specs.declared.set.SolidSet.{SolidSet}
 use Rattle.px_sched.specs.Layouts.{layout_of}
 use Rattle.px_shadow.specs.declared.passes.TheConstants.{MAX_LIGHTS}
 use Rattle.px_shadow.specs.Carrying.{CanCarryOut, carried_out}

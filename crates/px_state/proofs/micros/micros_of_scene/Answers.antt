@@ -1,5 +1,5 @@
 use Rattle.std.proofs.Common.{◌∙◌, arith}
-use Rattle.px_listing.specs.PassesText.{passes_listing}
+use Rattle.px_playing.specs.PassesText.{passes_listing}
 use Rattle.px_state.proofs.RefusalLemmas.{both_none, clock_same, second_refused}
 use Rattle.px_state.proofs.SceneLemmas.{same_total}
 use Rattle.px_state.proofs.micros.micros_of_scene.Goals as goal

@@ -4,7 +4,7 @@ use Rattle.px_sched.specs.Passes.{passes}
 use Rattle.px_sched.specs.Layouts.{layout_of, need_of}
 use Rattle.px_control.proofs.ProgramLemmas.{good_program}
 use Rattle.px_control.proofs.StepLemmas.{lawful_here}
-use Rattle.px_listing.specs.PassesText.{passes_listing}
+use Rattle.px_playing.specs.PassesText.{passes_listing}
 use Rattle.px_state.specs.Courses.{start_of, total}
 use Rattle.px_state.proofs.CourseLemmas.{begins, begins_all, start_within}
 use Rattle.px_state.proofs.PutLemmas.{put_next}

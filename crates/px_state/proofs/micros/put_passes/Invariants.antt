@@ -1,7 +1,7 @@
 use Rattle.std.proofs.Common.{◌≡◌, ◌-◌, length}
 use Rattle.px_sched.specs.Cursors.{Stands}
 use Rattle.px_sched.specs.Passes.{passes}
-use Rattle.px_listing.specs.PassesText.{passes_listing}
+use Rattle.px_playing.specs.PassesText.{passes_listing}
 use Rattle.px_state.specs.Courses.{start_of}
 use Rattle.px_state.proofs.PutLemmas.{IsPutTo}
 use Rattle.px_state.proofs.micros.put_passes.Given as goal

@@ -1,5 +1,5 @@
 use Rattle.std.proofs.Common.{Err, ap}
-use Rattle.px_listing.specs.PassesText.{passes_listing}
+use Rattle.px_playing.specs.PassesText.{passes_listing}
 use Rattle.px_state.proofs.RefusalLemmas.{job_leaves, job_refused, job_small, not_refused}
 use Rattle.px_state.proofs.scene.open_job.Goals as goal
 

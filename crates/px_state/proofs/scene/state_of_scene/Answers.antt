@@ -4,7 +4,7 @@ use Rattle.px_sched.specs.Passes.{passes}
 use Rattle.px_control.specs.Program as program
 use Rattle.px_control.specs.Program.{IsAt}
 use Rattle.px_control.proofs.PictureLemmas.{scene_grid}
-use Rattle.px_listing.specs.PassesText.{passes_listing}
+use Rattle.px_playing.specs.PassesText.{passes_listing}
 use Rattle.px_state.specs.Courses.{total}
 use Rattle.px_state.specs.Words.{HasWords, room_of}
 use Rattle.px_state.proofs.CourseLemmas.{columns_are, rows_are}

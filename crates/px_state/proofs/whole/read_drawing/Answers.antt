@@ -2,7 +2,7 @@ use Rattle.std.proofs.Common.{ap, sym, ◌∙◌}
 use Rattle.std.specs.Option.{option_map, option_or}
 use Rattle.px_text.specs.Text.{worded}
 use Rattle.px_scene.specs.Reading.{scene_of}
-use Rattle.px_listing.specs.PassesText.{passes_listing}
+use Rattle.px_playing.specs.PassesText.{passes_listing}
 use Rattle.px_state.specs.Refusals.{job_refusal, scene_fault}
 use Rattle.px_state.proofs.TextLemmas.{scene_course, scene_keeps, scene_refused, scene_small, scene_text}
 use Rattle.px_state.proofs.whole.read_drawing.Goals as goal

@@ -1,0 +1,4 @@
+pub mod MemoryLemmas
+pub mod PaddingLemmas
+pub mod PassesLemmas
+pub mod PlayLemmas

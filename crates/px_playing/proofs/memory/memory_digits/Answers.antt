@@ -1,0 +1,18 @@
+use Rattle.std.proofs.Common.{◌++◌, ◌∙◌, ap, arith}
+use Rattle.px_array.specs.Arrays.{pixel_of}
+use Rattle.px_num.specs.Bits.{bit_at}
+use Rattle.px_playing.specs.Memories.{bit_digit, digits_of}
+use Rattle.px_listing.proofs.RowLaws.{made_more}
+use Rattle.px_playing.proofs.memory.memory_digits.Goals as goal
+
+pub loop-at-preserved : goal.loop-at-preserved
+loop-at-preserved g c =
+    let memory = (pixel_of (g.A.Array.device c.args.array.now).state c.args.x c.args.y).memory in
+    let at = c.loop-at.at in
+    let before = c.loop-at.invariant in
+    let one = c.digit.ensures ∙ ap bit_digit c.bit.ensures in
+    record {
+      digits = c.push_str.ensures.bytes ∙ (ap (λ t. t ++ c.digit.result.now) before.digits
+          ∙ (ap (λ t. digits_of at memory ++ t) one ∙ made_more (λ k. bit_digit (bit_at memory k)) at));
+      count = rw one at c.push_str.ensures.len ∙ omega (arith, before.count);
+    }

@@ -1,0 +1,10 @@
+use Rattle.std.proofs.Common.{◌≡◌, length}
+use Rattle.px_array.specs.Arrays.{pixel_of}
+use Rattle.px_playing.specs.Memories.{digits_of}
+use Rattle.px_playing.proofs.memory.memory_digits.Given as goal
+
+abbrev pub invariant-loop-at : goal.invariant-loop-at
+invariant-loop-at g l = record {
+  digits : l.text.bytes ≡ digits_of l.at (pixel_of (g.A.Array.device l.array).state l.x l.y).memory;
+  count : length l.text.bytes ≡ l.at;
+}

@@ -1,0 +1,15 @@
+use Rattle.std.proofs.Common.{◌≡◌}
+use Rattle.px_array.specs.Arrays.{pixel_of}
+use Rattle.px_asm.specs.Microprograms.{bits_of}
+use Rattle.px_playing.specs.Memories.{row_lines}
+use Rattle.px_listing.specs.Pieces.{Puts}
+use Rattle.px_playing.proofs.memory.put_row.Given as goal
+
+abbrev pub invariant-loop-x : goal.invariant-loop-x
+invariant-loop-x g l =
+    let state = (g.A.Array.device l.array).state in
+    record {
+      put : Puts (g.O.Sink.state l.fn.out) (g.O.Sink.state l.out) l.fn.piece.bytes
+          (row_lines g.A.Array.BITS l.x (λ x y. bits_of (pixel_of state x y)) l.y) l.piece.bytes;
+      calm : (g.O.Sink.state l.out).faults ≡ (g.O.Sink.state l.fn.out).faults;
+    }

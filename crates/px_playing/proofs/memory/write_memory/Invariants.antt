@@ -1,0 +1,17 @@
+use Rattle.std.proofs.Common.{◌≡◌, ◌^◌, []}
+use Rattle.std.specs.List.{flat_map, range_with_len}
+use Rattle.px_array.specs.Arrays.{pixel_of}
+use Rattle.px_asm.specs.Microprograms.{bits_of}
+use Rattle.px_playing.specs.Memories.{row_lines}
+use Rattle.px_listing.specs.Pieces.{Puts}
+use Rattle.px_playing.proofs.memory.write_memory.Given as goal
+
+abbrev pub invariant-loop-y : goal.invariant-loop-y
+invariant-loop-y g l =
+    let state = (g.A.Array.device l.array).state in
+    record {
+      put : Puts (g.O.Sink.state l.fn.out) (g.O.Sink.state l.out) []
+          (flat_map (row_lines g.A.Array.BITS (2 ^ l.nx) (λ x y. bits_of (pixel_of state x y)))
+          (range_with_len 0 l.y)) l.piece.bytes;
+      calm : (g.O.Sink.state l.out).faults ≡ (g.O.Sink.state l.fn.out).faults;
+    }

@@ -1,0 +1,34 @@
+use Rattle.std.proofs.Common.{◌∙◌, refl, sym}
+use Rattle.px_sched.specs.Passes.{passes}
+use Rattle.px_playing.proofs.PassesLemmas.{lawful_here, puts_next, puts_next_front, puts_start}
+use Rattle.px_io.proofs.ToldLaws.{on_err}
+use Rattle.px_playing.proofs.passes.put_passes.Goals as goal
+
+pub loop-m-init : goal.loop-m-init
+loop-m-init g c = record {
+  stands = c.start-cursor.ensures.stands c.args.scene.now c.requires.few;
+  put = puts_start _ _ (passes c.args.scene.now) _ c.start-cursor.ensures.given;
+  calm = refl;
+}
+
+pub macro_line-requires : goal.macro_line-requires
+macro_line-requires g c = record {
+  lawful = lawful_here 256 (passes c.args.scene.now) c.loop-m.cursor.given c.in-Some.m
+      (sym c.next_macro.ensures.operation ∙ c.in-Some.is) c.requires.lawful;
+}
+
+pub loop-m-preserved : goal.loop-m-preserved
+loop-m-preserved g c = record {
+  stands = c.next_macro.ensures.stands;
+  put = puts_next _ _ _ _ _ _ _ (passes c.args.scene.now) c.loop-m.cursor.given _ c.in-Some.m
+      (sym c.next_macro.ensures.operation ∙ c.in-Some.is)
+      c.in-Some.ensures.some (c.as_str.ensures.value ∙ c.macro_line.ensures) c.loop-m.invariant.put
+      c.in_ok-put.ensures.ok;
+  calm = c.in_ok-put.ensures.cause.calm ∙ c.loop-m.invariant.calm;
+}
+
+pub returns-in_err-put-clause-err : goal.returns-in_err-put-clause-err
+returns-in_err-put-clause-err g c =
+    on_err _ (puts_next_front _ _ _ _ _ _ (passes c.args.scene.now) c.loop-m.cursor.given c.in-Some.m
+    (sym c.next_macro.ensures.operation ∙ c.in-Some.is)
+    (c.as_str.ensures.value ∙ c.macro_line.ensures) c.loop-m.invariant.put c.in_err-put.ensures.err)

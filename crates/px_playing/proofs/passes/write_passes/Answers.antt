@@ -1,0 +1,52 @@
+use Rattle.std.proofs.Common.{arith}
+use Rattle.std.specs.List.{flat_map}
+use Rattle.px_model.specs.Grids.{exponent_of}
+use Rattle.px_sched.specs.Passes.{passes}
+use Rattle.px_listing.specs.Listings.{end_line, first_lines, macro_line}
+use Rattle.px_playing.proofs.PassesLemmas.{err_to_last, front_of_first, front_of_middle, ok_to_last}
+use Rattle.px_playing.proofs.PassesLemmas.{passes_lawful_in_all}
+use Rattle.px_io.proofs.ToldLaws.{on_err}
+use Rattle.px_playing.proofs.passes.write_passes.Goals as goal
+
+pub put_passes-requires-clause-few : goal.put_passes-requires-clause-few
+put_passes-requires-clause-few g c =
+    let few = c.laws_of_passes.ensures.few c.args.scene.now c.laws_of_scenes.ensures.solids c.requires.few in
+    omega (arith, few)
+
+pub put_passes-requires-clause-lawful : goal.put_passes-requires-clause-lawful
+put_passes-requires-clause-lawful g c =
+    let laws = c.laws_of_passes.ensures in
+    passes_lawful_in_all c.laws_of_operations.ensures.more laws.layout laws.lawful c.args.scene.now
+    c.laws_of_scenes.ensures.scene c.laws_of_scenes.ensures.solids
+
+pub returns-in_err-put_first_lines-clause-err : goal.returns-in_err-put_first_lines-clause-err
+returns-in_err-put_first_lines-clause-err g c =
+    let scene = c.args.scene.now in
+    let first = rw (c.grid-nx.ensures.columns, c.grid-nx.ensures.rows) at c.in_err-put_first_lines.ensures.err in
+    on_err _ (front_of_first _ _ _ (first_lines (exponent_of scene.width) (exponent_of scene.height))
+    (flat_map macro_line (passes scene)) end_line
+    c.new-piece.ensures first)
+
+pub returns-in_err-put_passes-clause-err : goal.returns-in_err-put_passes-clause-err
+returns-in_err-put_passes-clause-err g c =
+    let scene = c.args.scene.now in
+    let first = rw (c.grid-nx.ensures.columns, c.grid-nx.ensures.rows) at c.in_ok-put_first_lines.ensures.ok in
+    on_err _ (front_of_middle _ _ _ _ _ (first_lines (exponent_of scene.width) (exponent_of scene.height))
+    (flat_map macro_line (passes scene)) end_line
+    c.new-piece.ensures first c.in_err-put_passes.ensures.err)
+
+pub returns-clause-ok : goal.returns-clause-ok
+returns-clause-ok g c =
+    let scene = c.args.scene.now in
+    let first = rw (c.grid-nx.ensures.columns, c.grid-nx.ensures.rows) at c.in_ok-put_first_lines.ensures.ok in
+    ok_to_last _ _ _ _ _ _ _ _ (first_lines (exponent_of scene.width) (exponent_of scene.height))
+    (flat_map macro_line (passes scene)) end_line
+    c.new-piece.ensures first c.in_ok-put_passes.ensures.ok c.put_end.ensures.ok
+
+pub returns-clause-err : goal.returns-clause-err
+returns-clause-err g c =
+    let scene = c.args.scene.now in
+    let first = rw (c.grid-nx.ensures.columns, c.grid-nx.ensures.rows) at c.in_ok-put_first_lines.ensures.ok in
+    err_to_last _ _ _ _ _ _ _ _ (first_lines (exponent_of scene.width) (exponent_of scene.height))
+    (flat_map macro_line (passes scene)) end_line
+    c.new-piece.ensures first c.in_ok-put_passes.ensures.ok c.put_end.ensures.err

@@ -1,0 +1,4 @@
+pub mod Laws
+pub mod Memories
+pub mod PassesText
+pub mod Played

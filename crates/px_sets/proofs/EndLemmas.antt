@@ -1,0 +1,62 @@
+-- A set has no solid from its end on.
+use Rattle.std.proofs.Common.{ℕ, zero, suc, ◌≡◌, ◌<◌, ◌≤◌, ◌+◌, ◌-◌, ◌*◌, ◌/◌, ◌%◌, ◌^◌, ◌==◌, false}
+use Rattle.std.proofs.Common.{[], ◌∷◌, ap, sym, subst, ◌∙◌, arith, inl, inr, slice_index, add-one}
+use Rattle.std.specs.List.{filter}
+use Rattle.std.specs.Int.{bit_at}
+use Rattle.std.proofs.lemmas.Bool.{cases_eq}
+use Rattle.std.proofs.lemmas.Nat.Bits.{bit_at_above, bit_at-zero}
+use Rattle.std.proofs.lemmas.List.Elements.{filter-append}
+use Rattle.std.proofs.lemmas.List.{append-nil}
+use Rattle.px_sets.specs.declared.set.SolidSet.{SolidSet}
+use Rattle.px_sets.specs.Sets.{has, solids, below}
+
+module _ (s : SolidSet) where
+  abbrev word : ℕ → ℕ
+  word place = slice_index s.words place
+
+  -- no bit of the word at this place from the used ones on, and none of those above
+  pub none_past : (place used : ℕ) → ((k : ℕ) → place < k → k < 4 → word k ≡ 0) → word place < 2 ^ used
+      → (q : ℕ) → q < 256 → 64 * place + used ≤ q → has s q ≡ false
+  none_past place used above low q small past = elim (cases_eq (q / 64) place) [
+    | inl same ↦ ap (λ b. b == 1) (bit_at_above (word (q / 64)) used (q % 64) (rw same low) (omega (arith, same, past)))
+    | inr other ↦ ap (λ w. bit_at w (q % 64) == 1) (above (q / 64) (omega (arith, other, past)) (omega (arith, small)))
+        ∙ ap (λ b. b == 1) (bit_at-zero (q % 64))
+  ]
+
+  pub above_third : (k : ℕ) → 3 < k → k < 4 → word k ≡ 0
+  above_third k low high = absurd (omega (arith, low, high))
+
+  pub above_second : word 3 ≡ 0 → (k : ℕ) → 2 < k → k < 4 → word k ≡ 0
+  above_second last k low high = subst (λ j. word j ≡ 0) (omega (arith, low, high)) last
+
+  pub above_first : word 3 ≡ 0 → word 2 ≡ 0 → (k : ℕ) → 1 < k → k < 4 → word k ≡ 0
+  above_first last third k low high = elim (cases_eq k 2) [
+    | inl same ↦ rw same third
+    | inr other ↦ above_second last k (omega (arith, low, other)) high
+  ]
+
+  pub above_none : word 3 ≡ 0 → word 2 ≡ 0 → word 1 ≡ 0 → (k : ℕ) → 0 < k → k < 4 → word k ≡ 0
+  above_none last third second k low high = elim (cases_eq k 1) [
+    | inl same ↦ rw same second
+    | inr other ↦ above_first last third k (omega (arith, low, other)) high
+  ]
+
+  -- a further number that is not in the set
+  dropped : (n : ℕ) → has s n ≡ false → filter (has s) (below (n + 1)) ≡ filter (has s) (below n)
+  dropped n e = rw (add-one n) (filter-append (has s) (below n) (n ∷ [])
+      ∙ rw e (append-nil (filter (has s) (below n))))
+
+  -- those below the end are all
+  pub all_below : (end : ℕ) → end ≤ 256 → ((q : ℕ) → q < 256 → end ≤ q → has s q ≡ false)
+      → filter (has s) (below end) ≡ solids s
+  unfolding solids
+  all_below end most past =
+      let whole : end + (256 - end) ≡ 256 = omega (arith, most) in
+      sym (along (256 - end) (omega (arith, most))) ∙ ap (λ n. filter (has s) (below n)) whole where
+        along : (more : ℕ) → end + more ≤ 256 → filter (has s) (below (end + more)) ≡ filter (has s) (below end)
+        along zero le = let none : end + 0 ≡ end = omega arith in ap (λ n. filter (has s) (below n)) none
+        along (suc more) le =
+            let next : end + suc more ≡ end + more + 1 = omega arith in
+            ap (λ n. filter (has s) (below n)) next
+            ∙ dropped (end + more) (past (end + more) (omega (arith, le)) (omega arith))
+            ∙ along more (omega (arith, le))

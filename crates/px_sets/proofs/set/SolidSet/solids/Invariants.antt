@@ -1,0 +1,12 @@
+use Rattle.std.proofs.Common.{◌≡◌, ◌≤◌}
+use Rattle.std.specs.List.{filter}
+use Rattle.arrayvec.specs.ArrayVec.{array_vec_len}
+use Rattle.px_sets.specs.Sets.{has}
+use Rattle.px_sets.specs.Sets.{below}
+use Rattle.px_sets.proofs.set.SolidSet.solids.Given as goal
+
+abbrev pub invariant-loop-solid : goal.invariant-loop-solid
+invariant-loop-solid l = record {
+  solids : l.list.items ≡ filter (has l.self) (below l.solid);
+  room : array_vec_len l.list ≤ l.solid;
+}
