@@ -49,6 +49,8 @@ def unpacked(word: int) -> Optional[Micro]:
 def packed(micro: Micro) -> int:
     """The word of a microinstruction. Raises `ValueError` for an act or an operation of the tree that has no such name."""
     act, place, value, tree, lines = micro
+    if act not in ACTS or tree not in TREES:
+        raise ValueError("%r is no microinstruction" % (micro,))
     bits = [int(bit) & 1 for bit in lines] if tree == "feed" else [0, 0, 0]
     return (place & 0xffffffff | ACTS.index(act) + 1 << 32 | (int(value) & 1) << 40 | TREES.index(tree) << 48
             | bits[0] << 56 | bits[1] << 57 | bits[2] << 58)
