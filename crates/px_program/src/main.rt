@@ -21,9 +21,27 @@ use std::io::ErrorKind;
 use std::process::ExitCode;
 use std::{env, io};
 
+/// The code of `Status::Memory`.
+const OUT_OF_MEMORY: u8 = 7;
+
+/// Why there are no words.
+#[derive(Drop)]
+enum NoWords {
+    /// Memory was wanted for the list of words and not given.
+    Memory(Memory),
+    /// It was wanted for the arguments before that.
+    Arguments(io::Error),
+}
+
+impl From<Memory> for NoWords {
+    fn from(lack: Memory) -> Self {
+        NoWords::Memory(lack)
+    }
+}
+
 fn main(rt: HostRuntime) -> ExitCode {
     let Ok(words) = words_of(rt.alloc(), env::args(&rt)) else {
-        return exit_code(Status::Memory);
+        return ExitCode::from(OUT_OF_MEMORY);
     };
     let words = words.as_slice();
     let status = if needs_wide_pixels(words) {
@@ -65,7 +83,7 @@ fn exit_code(status: Status) -> ExitCode
 /// The words behind the program's name, or one empty word where they are no text.
 ///
 /// Without memory for the arguments there are no words.
-fn words_of(alloc: Global, arguments: io::Result<Args>) -> Result<Vec<String>, Memory>
+fn words_of(alloc: Global, arguments: io::Result<Args>) -> Result<Vec<String>, NoWords>
     ensures words { IfOk arguments (λ all. IfOk result (λ words. words.items ≡
         drop 1 (take (into_iter_len all) (into_iter_items all)))) }
     ensures no_text { IfErr arguments (λ error. IfOk result (λ words.
@@ -74,9 +92,9 @@ fn words_of(alloc: Global, arguments: io::Result<Args>) -> Result<Vec<String>, M
         error_kind error ≡ OutOfMemory → IsErr result) }
 {
     match arguments {
-        Ok(arguments) => behind_the_name(alloc, arguments),
-        Err(error) if error.kind() == ErrorKind::OutOfMemory => Err(Memory),
-        Err(_) => no_text(alloc),
+        Ok(arguments) => Ok(behind_the_name(alloc, arguments)?),
+        Err(error) if error.kind() == ErrorKind::OutOfMemory => Err(NoWords::Arguments(error)),
+        Err(_) => Ok(no_text(alloc)?),
     }
 }
 
