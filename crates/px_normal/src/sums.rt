@@ -284,8 +284,7 @@ fn check_limit(count: u32) -> Result<(), NormalFault>
     requires { count ≤ 2 ^ 21 }
     ensures ok { OnOk result (count ≤ MAX_PRODUCTS) }
     ensures err { OnErr result (MAX_PRODUCTS < count) }
-    ensures many { (n : ℕ) → result ≡ Err (NormalFault.TooMany n) → n ≡ count }
-    ensures small { (n : ℕ) → result ≡ Err (NormalFault.TooMany n) → n ≤ 2 ^ 21 }
+    ensures many { MAX_PRODUCTS < count → result ≡ Err (NormalFault.TooMany count) }
 {
     if count > MAX_PRODUCTS {
         return Err(NormalFault::TooMany {
