@@ -94,9 +94,9 @@ fn each_tile_is_opened_and_clocked(rt: HostRuntime) -> Result<(), Fail> {
         array: PixelArray::new(rt.alloc()),
         openings: ArrayVec::new(),
     };
-    let input = source_of(rt.alloc(), SLOPES, 4096, 0)?;
+    let mut input = source_of(rt.alloc(), SLOPES, 4096, 0)?;
     let out = sink_of(rt.alloc(), 0)?;
-    let left = run_words(rt.alloc(), &["tile", "5", "1"], input, out, 99, &mut array)?;
+    let left = run_words(rt.alloc(), &["tile", "5", "1"], &mut input, out, 99, &mut array)?;
     assert_eq!(rt; left.status, Status::Done);
     assert_eq!(rt;
         array.openings.as_slice(),
