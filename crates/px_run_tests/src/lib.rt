@@ -2,7 +2,7 @@
 #![tactic(auto)]
 
 #[cfg(test)]
-mod wide;
+mod arrays;
 #[cfg(test)]
 mod faults;
 #[cfg(test)]
