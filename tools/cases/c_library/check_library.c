@@ -203,7 +203,7 @@ static const struct {
 /* What the calls of the machine take beside: a clock, and where the state is told. */
 struct moment {
     uint64_t clock;
-    struct pxplanes_state state;
+    struct pxplanes_moment state;
 };
 
 /* The most bytes that a call may want at once: 64 for each byte of its text and a MiB, and 14 MiB where it opens an array,
@@ -439,7 +439,7 @@ static int is_listing(const struct text *text)
     return strncmp(at, "pxlist", 6) == 0 && strchr(" \t\r\n#", at[6]) != NULL;
 }
 
-static int is_no_state(const struct pxplanes_state *s)
+static int is_no_state(const struct pxplanes_moment *s)
 {
     return (s->grid_width | s->grid_height | s->words_per_row | s->bits | s->levels) == 0 &&
            (s->clock | s->clocks | s->operation | s->operation_clock | s->next_micro) == 0;
@@ -477,13 +477,13 @@ static void tried_at(enum call call, const struct text *text, uint64_t clock, si
 }
 
 /* A bit of a pixel in the words of a state. */
-static unsigned bit_of(const struct pxplanes_state *s, const uint64_t *words, size_t plane, size_t x, size_t y)
+static unsigned bit_of(const struct pxplanes_moment *s, const uint64_t *words, size_t plane, size_t x, size_t y)
 {
     return words[(plane * s->grid_height + y) * s->words_per_row + x / 64] >> x % 64 & 1;
 }
 
 /* The last state of a listing, beside the lines that `play` prints of its pixels. */
-static void compare_memory(const struct text *text, const struct pxplanes_state *s, const uint64_t *words)
+static void compare_memory(const struct text *text, const struct pxplanes_moment *s, const uint64_t *words)
 {
     const struct bytes *output = &text->answer[PLAY].output;
     const char *due = (const char *) output->at, *end = due + output->len;
@@ -508,7 +508,7 @@ static void compare_memory(const struct text *text, const struct pxplanes_state 
 static void compare_state(const struct text *text, const struct moment *moment, const struct buffer *buffer,
                           const struct pxplanes_found *found, const uint64_t *micros)
 {
-    const struct pxplanes_state *s = &moment->state;
+    const struct pxplanes_moment *s = &moment->state;
     const uint64_t *words = (const uint64_t *) buffer->at;
     size_t planes = (size_t) (s->bits + 4) * s->grid_height * s->words_per_row, nodes = ((2ull << s->levels) + 63) / 64;
     int ended = moment->clock == found->clocks;
@@ -709,7 +709,7 @@ static void compare_one_pixel(void)
     static const char scene[] = "pxscene 1\npicture 1 1\ndepth 4\nsolid a 200 100 50\nfront 0 0 5\nback 0 0 9\nshow a\nend\n";
     const uint8_t *text = (const uint8_t *) scene;
     uint64_t words[154], micros[317];
-    struct pxplanes_state state;
+    struct pxplanes_moment state;
     struct pxplanes_found found;
     if (pxplanes_state(text, sizeof scene - 1, 40, words, 154, &state, &found) != PXPLANES_OK || state.clocks != 317 ||
         found.operations != 22 || state.grid_width != 2 || state.grid_height != 2)
@@ -729,7 +729,7 @@ static void compare_small_listing(void)
     static const char listing[] = "pxlist 1\ngrid 2 1\nall\nload-linear 1 4 2 3 5\nadd-linear 1 1 0 3 5\nend\n";
     const uint8_t *text = (const uint8_t *) listing;
     uint64_t words[154], micros[19];
-    struct pxplanes_state state;
+    struct pxplanes_moment state;
     struct pxplanes_found found;
     if (pxplanes_state(text, sizeof listing - 1, 10, words, 154, &state, &found) != PXPLANES_OK || state.clocks != 19 ||
         state.grid_width != 4 || state.grid_height != 2)
