@@ -35,6 +35,10 @@ class Raster:
         """The first of its channels alone."""
         return Raster(self.width, self.height, 1, self.largest, self.samples[0::self.channels])
 
+    def plain(self):
+        """One number a pixel, with its parts."""
+        return self.grey().samples if self.largest is None else self.numbers()
+
     def numbers(self, times=1):
         """One number a pixel: a grey sample, or three bytes, highest byte first; the least whole
         number that is not before one with parts, but for its last bits, and None for what is not
