@@ -22,18 +22,20 @@ class Perspective:
         self.size, self.tree, self.eye = size, tree, eye
         self.rows = turns.rows_of(turn)
         self.has_common = views.shown(self.rows, tree) is not None
-        polygons = [(added, plane, self.cornered(solid, *plane))
+        polygons = [(solid, added, plane, self.cornered(solid, *plane))
                     for solid, added in solids.leaves(tree) for plane in solid.planes]
-        most = max((seen[1] for _, _, polygon in polygons for seen in polygon), default=0)
+        most = max((seen[1] for *_, polygon in polygons for seen in polygon), default=0)
         if most <= 0:
             raise Bad("the model is behind the eye")
         edges = edges_of(cameras.focal_of(fov, size), size)
-        own = [seen for added, _, polygon in polygons if added for seen in polygon]
+        own = [seen for _, added, _, polygon in polygons if added for seen in polygon]
         self.passed = [edge for edge, (normal, _) in zip(views.EDGES, edges)
                        if any(facets.dot(normal, seen) > ONE_PLANE * most for seen in own)]
-        before = edges + [((0, -1, 0), -NEAREST * most)]
-        polygons = [(added, plane, clipped(polygon, before)) for added, plane, polygon in polygons]
-        near, far = self.ends([seen[1] for added, _, polygon in polygons if added for seen in polygon] or [most], ends)
+        before, reached = edges + [((0, -1, 0), -NEAREST * most)], {}
+        polygons = [(solid, plane, clipped(polygon, before)) for solid, _, plane, polygon in polygons]
+        for solid, _, polygon in polygons:
+            reached.setdefault(id(solid), []).extend(seen[1] for seen in polygon)
+        near, far = self.ends(self.reach(tree, reached) or [most], ends)
         self.camera = cameras.Camera(eye, turn, fov, size, cameras.Distances(near, far, cells))
         self.boxes = {}
         for _, plane, polygon in polygons:
@@ -56,12 +58,20 @@ class Perspective:
         return [turns.turned(self.rows, [part - own for part, own in zip(corner, self.eye)])
                 for corner in facets.in_order(corners, normal)]
 
+    def reach(self, tree, reached):
+        """The distances at which a tree has corners in the picture, of what is taken away those within
+        the box of what it is taken from; `reached` has those of each solid."""
+        if not isinstance(tree, tuple):
+            return reached.get(id(tree), [])
+        parts = [self.reach(part, reached) for part in tree[1]]
+        box = views.shown(self.rows, tree)
+        if tree[0] == "+" or not box:
+            return [away for part in parts for away in part]
+        eye = turns.turned(self.rows, self.eye)[1]
+        return [min(max(away, box[0][1] - eye), box[1][1] - eye) for part in parts for away in part]
+
     def ends(self, reached, said):
-        """The nearest and the farthest distance: as said, or as what is added reaches from and to."""
-        box = views.shown(self.rows, self.tree)
-        if box:
-            own = turns.turned(self.rows, self.eye)[1]
-            reached = [min(max(away, box[0][1] - own), box[1][1] - own) for away in reached]
+        """The nearest and the farthest distance: as said, or as faces reach from and to."""
         near, far = said
         far = far or (1 + ROOM) * max(reached)
         near = near or (1 - ROOM) * max(min(reached), NEAREST * far)
