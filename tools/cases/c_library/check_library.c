@@ -9,10 +9,11 @@
  * Each buffer ends where a page begins that nobody may touch, and is filled before a call. For each text: check,
  * render, colour and products with buffers of no element, one too few, as many as are due, and one more; state and
  * micros so too, at the first, a middle and the last clock, and past it; each with each allocation refused in turn
- * (some of the later ones); and all of it in four threads at once. Linked
- * with --wrap for malloc, realloc and free. Prints a line for each difference, and last how much was compared.
+ * (some of the later ones); and all of it in four threads at once. No call may want more bytes at once than its text
+ * and, where it draws or clocks, its array explain. Linked with --wrap for malloc, realloc and free. Prints a line for each difference, and last how much was compared.
  */
 #define _DEFAULT_SOURCE
+#include <malloc.h>
 #include <pthread.h>
 #include <stdarg.h>
 #include <stdatomic.h>
@@ -35,22 +36,49 @@ void __real_free(void *old);
 
 static _Thread_local int inside;
 static _Thread_local long asked, refuse_at, held;
+static _Thread_local size_t live, most;
 
 static int is_refused(void)
 {
     return inside && ++asked == refuse_at;
 }
 
+/* Counts the bytes that are held when so many more are wanted, given or not. */
+static void want(size_t size)
+{
+    if (inside && live + size > most)
+        most = live + size;
+}
+
+static void hold(void *got)
+{
+    if (inside && got != NULL)
+        live += malloc_usable_size(got);
+}
+
+static void drop(void *old)
+{
+    if (inside && old != NULL)
+        live -= malloc_usable_size(old);
+}
+
 void *__wrap_malloc(size_t size)
 {
+    want(size);
     void *got = is_refused() ? NULL : __real_malloc(size);
     held += inside && got != NULL;
+    hold(got);
     return got;
 }
 
 void *__wrap_realloc(void *old, size_t size)
 {
-    void *got = is_refused() ? NULL : __real_realloc(old, size);
+    want(size);
+    if (is_refused())
+        return NULL;
+    drop(old);
+    void *got = __real_realloc(old, size);
+    hold(got == NULL ? old : got);
     held += inside && old == NULL && got != NULL;
     return got;
 }
@@ -58,6 +86,7 @@ void *__wrap_realloc(void *old, size_t size)
 void __wrap_free(void *old)
 {
     held -= inside && old != NULL;
+    drop(old);
     __real_free(old);
 }
 
@@ -177,6 +206,14 @@ struct moment {
     struct pxplanes_state state;
 };
 
+/* The most bytes that a call may want at once: 128 for each byte of its text and a MiB, and 14 MiB where it opens an array,
+ * which with its four slots has 75 rows of 32 KiB and a tree of 128 KiB, five times, for 512 by 512 pixels. */
+static size_t most_due(enum call call, const struct text *text, uint32_t status)
+{
+    int is_open = call == STATE || ((call == DRAW || call == PAINT) && (status == PXPLANES_OK || status == PXPLANES_MEMORY));
+    return 128 * text->bytes.len + (1 << 20) + (is_open ? 14 << 20 : 0);
+}
+
 static uint32_t called(enum call call, const struct text *text, struct buffer *b, struct moment *moment,
                        struct pxplanes_found *found, long refuse)
 {
@@ -184,6 +221,7 @@ static uint32_t called(enum call call, const struct text *text, struct buffer *b
     memset(found, FILL, sizeof *found);
     atomic_fetch_add(&calls, 1);
     asked = held = 0;
+    live = most = 0;
     refuse_at = refuse;
     inside = 1;
     switch (call) {
@@ -210,6 +248,8 @@ static uint32_t called(enum call call, const struct text *text, struct buffer *b
     inside = 0;
     if (held != 0)
         differs(text->name, "%s keeps %ld blocks of memory", kinds[call].name, held);
+    if (most > most_due(call, text, status))
+        differs(text->name, "%s wants %zu bytes at once (status %u)", kinds[call].name, most, (unsigned) status);
     return status;
 }
 
