@@ -1,6 +1,5 @@
-"""Looks at the machine on the studio's page in a browser: clocks forwards and back, planes, a pixel, keys, an exercise."""
+"""Looks at the machine on the page in a browser: clocks forwards and back, planes, a pixel, keys, an exercise."""
 import os
-import subprocess
 import sys
 
 sys.path.insert(0, os.path.join(os.getcwd(), "tools", "lib"))
@@ -8,7 +7,7 @@ import netpbm
 import program
 import sessions
 from browser import Browser
-from pages import go, pixels, point, text_of, view
+from pages import alone, asked, go, pixels, point, text_of, view
 
 BUILT, FIRST = os.environ["PROGRAM"], "docs/scenes/first.scene"
 TOLD = {"enable": lambda words: int(words[6]), "carry": lambda words: int(words[8]), "latch": lambda words: int(words[10]),
@@ -24,10 +23,9 @@ def plane_is_the_debuggers(page, text, clock, told):
     return [told(lines[0].split()) for lines in answers] == [int(shown[y * width + x] == WHITE) for x, y in places]
 
 
-def look(page, address):
+def look(page):
     text = open(FIRST, "rb").read()
-    page.open(address)
-    page.until("document.body.dataset.drawn === 'yes'")
+    alone(page)
     page.press("2")
     page.until("document.body.dataset.shown")
     clocks = (0, 59, 1200, 3000, 5396)
@@ -41,9 +39,9 @@ def look(page, address):
     go(page, 5396)
     view(page, "best face")
     faces = netpbm.images(program.answer(BUILT, ["render"], text)[1])[1].numbers()
-    hues = page.run("import('./palette.js').then(palette => [...Array(11).keys()].map(palette.hue))")
     width, _, shown = pixels(page, "array")
-    print("key B has the picture:", all(shown[y * width + x] == tuple(hues[faces[y * 48 + x]]) for y in range(32) for x in range(48)))
+    pairs = {(faces[y * 48 + x], shown[y * width + x]) for y in range(32) for x in range(48)}
+    print("key B has the picture:", len(pairs) == len(set(faces)) == len({colour for _, colour in pairs}))
     go(page, 3000)
     print(text_of(page, "#operation") + " | " + text_of(page, "#line") + " | " + text_of(page, "#micro"))
     point(page, "array", 24, 16)
@@ -68,13 +66,15 @@ def look(page, address):
     page.until("document.body.dataset.shown === '210'")
     print("nodes of the tree:", page.run("[...document.querySelectorAll('.nodes title')].slice(-16).map(each => each.textContent.match(/output (.)/)[1]).join('')"))
     print("the answer:", page.run("document.querySelector('#exercise-answer div').textContent"))
+    for word in ("12.5", "-1", "5397", "none"):
+        page.run("(() => { const field = document.getElementById('until'); field.value = %r; field.dispatchEvent(new Event('change')) })()" % word)
+        print("until %s: %s, and the clock is %s" % (word, text_of(page, "#notice"), page.run("document.getElementById('until').value")))
+    for name, words in (("state", {"clock": 5397}), ("state", {"clock": -1}), ("state", {"clock": 1.5}), ("state", {}),
+                        ("wave", {"x": 0, "y": 0, "first": 0, "last": 64}), ("wave", {"x": 0, "y": 0, "first": 9, "last": 8}),
+                        ("wave", {"x": 64, "y": 0, "first": 0, "last": 9}), ("ray", {"x": 48, "y": 0})):
+        print(name, words, asked(page, name, words, text.decode()).get("trouble"))
     print("faults of the page:", page.faults())
 
 
-server = subprocess.Popen(["tools/studio", "own.scene", "--no-browser"], stdout=subprocess.PIPE)
-try:
-    with Browser() as page:
-        look(page, server.stdout.readline().decode().strip())
-finally:
-    server.terminate()
-    server.wait()
+with Browser() as page:
+    look(page)
