@@ -1,16 +1,19 @@
 """The library as a module of WebAssembly, of the very module that is compiled to the library for C. It is no tool itself.
 
-`rt lib` hands that module, module.bc, to the kit's clang; behind a view of the kit whose clang keeps it, it is here. Its text gets
-the layout and the features of wasm64, and the one instruction of x86 that it names becomes the same one of WebAssembly; then the
-kit's clang and lld compile and link it with web/heap.c. web/README.md tells what that rests on."""
+`rt lib` hands that module, module.bc, to the kit's clang, and while it is compiled it is copied. Its text gets the layout and the
+features of wasm64, and the one instruction of x86 that it names becomes the same one of WebAssembly; then the kit's clang and lld
+compile and link it with web/heap.c. web/README.md tells what that rests on."""
 import os
 import re
 import shutil
+import signal
 import subprocess
 import tempfile
+import time
 
 import debian
 import ends
+import program
 from netpbm import Bad
 
 WEB = os.path.join(ends.TOP, "web")
@@ -25,7 +28,9 @@ SAME = {"@llvm.x86.ssse3.pshuf.b.128": "@llvm.wasm.swizzle"}
 FOREIGN = {"rattle_alloc", "rattle_realloc", "rattle_dealloc"}
 HEAP_CALLS = ("px_malloc", "px_free")
 STACK, LARGEST = 1 << 20, 1 << 30
-WRAPPER = '#!/usr/bin/env bash\nfor word in "$@"; do [ "$word" = module.bc ] && cp module.bc "%s"; done\nexec "%s" "$@"\n'
+MODULE = "module.bc"
+# The module is compiled for some seconds.
+LOOKED_AFTER = 0.02
 
 
 def done(words, name, **more):
@@ -45,40 +50,42 @@ def kit():
     return os.path.dirname(os.path.dirname(os.path.realpath(found)))
 
 
-def linked(folder, view, but=(), copied=()):
-    """Links of what is in a folder, but for some, of which some are copied."""
-    os.makedirs(view)
-    for leaf in os.listdir(folder):
-        path = os.path.join(folder, leaf)
-        if leaf in copied:
-            shutil.copy(path, view)
-        elif leaf not in but:
-            os.symlink(path, os.path.join(view, leaf))
+def handed(pid):
+    """The module that a compiler below a process reads, if there is one now."""
+    for child in program.descendants(pid):
+        try:
+            with open("/proc/%d/cmdline" % child, "rb") as file:
+                words = file.read().split(b"\0")
+            if os.path.basename(words[0]) == b"clang" and MODULE.encode() in words:
+                return os.path.join(os.readlink("/proc/%d/cwd" % child), MODULE)
+        except OSError:
+            continue
+    return None
 
 
 def keep(place):
     """Builds the library for C again, and keeps its module."""
-    own, view, kept = kit(), os.path.join(place, "kit"), os.path.join(place, "module.bc")
-    linked(own, view, ("bin", "toolchain"))
-    linked(os.path.join(own, "bin"), os.path.join(view, "bin"), copied=("rt", "rtlib.py", "rt-plant", "rt-plant-bodies", "rt-seed"))
-    linked(os.path.join(own, "toolchain"), os.path.join(view, "toolchain"), ("bin",))
-    tools = os.path.join(own, "toolchain", "bin")
-    linked(tools, os.path.join(view, "toolchain", "bin"), ("clang",))
-    clang = os.path.join(view, "toolchain", "bin", "clang")
-    with open(clang, "w") as file:
-        file.write(WRAPPER % (kept, os.path.join(tools, "clang")))
-    os.chmod(clang, 0o755)
-    library = os.path.join(CRATE, "out", "libpx_c.a")
-    if os.path.exists(library):
-        os.rename(library, os.path.join(place, "before.a"))
-    try:
-        done(["python3", os.path.join(view, "bin", "rt"), "lib"], "rt lib", cwd=CRATE)
-    finally:
-        if not os.path.exists(library) and os.path.exists(os.path.join(place, "before.a")):
-            shutil.copyfile(os.path.join(place, "before.a"), library)
-    if not os.path.exists(kept):
-        raise Bad("rt lib handed no module to its compiler; this is another kit than web/README.md tells of")
-    shutil.copyfile(kept, KEPT)
+    kit()
+    copy, kept = os.path.join(place, MODULE), False
+    with tempfile.TemporaryFile() as notes:
+        built = subprocess.Popen(["rt", "lib"], cwd=CRATE, stdin=subprocess.DEVNULL, stdout=notes, stderr=notes, start_new_session=True)
+        try:
+            while built.poll() is None:
+                path = None if kept else handed(built.pid)
+                if path:
+                    shutil.copyfile(path, copy)
+                    kept = True
+                time.sleep(LOOKED_AFTER)
+        finally:
+            if built.poll() is None:
+                os.killpg(built.pid, signal.SIGTERM)
+                built.wait()
+        notes.seek(0)
+        if built.returncode != 0:
+            raise Bad("rt lib: %s" % notes.read().decode("utf-8", "replace").strip().split("\n")[-1][:200])
+    if not kept:
+        raise Bad("rt lib handed no module to clang; this is another kit than web/README.md tells of")
+    shutil.copyfile(copy, KEPT)
     with open(KEPT_OF, "w", encoding="ascii") as file:
         file.write(debian.sum_crates())
 
