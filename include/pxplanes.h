@@ -5,7 +5,7 @@
  * belongs to the shown expression, and the number of the face that shows there (docs/PICTURE.md). These calls
  * read a scene and give its size, its cost, its picture, its colours, or the products that are drawn; and, of a
  * scene or of a listing of operations (docs/LISTINGS.md), the machine after any number of clocks, and what is
- * broadcast to it (docs/MACHINE.md). What each answers is proved (docs/PROMISES.md).
+ * broadcast to it; and they make clocks of a state (docs/MACHINE.md). What each answers is proved (docs/PROMISES.md).
  *
  * A whole program:
  *
@@ -78,6 +78,8 @@ extern "C" {
 #define PXPLANES_MEMORY 7    /* malloc or realloc gave no memory */
 #define PXPLANES_NO_ROOM 8   /* a buffer is too small: found.room is how many elements it needs. Nothing was drawn */
 #define PXPLANES_NO_CLOCK 9  /* what is asked lies past the last clock: found.clocks is how many there are */
+#define PXPLANES_NO_GRID 10  /* a grid has not so many columns or rows */
+#define PXPLANES_NO_MICRO 11 /* a word packs no microinstruction: found.number is its index */
 
 /* A text has at most so many bytes, and a picture at most so many columns and rows. */
 #define PXPLANES_MAX_TEXT 1048576
@@ -97,6 +99,13 @@ extern "C" {
  *   OK         operations, clocks
  *   NO_ROOM    room
  *   NO_CLOCK   clocks
+ *
+ * Of pxplanes_clocks, which reads no text:
+ *
+ *   OK         clocks, those that were made
+ *   NO_GRID    (none)
+ *   NO_ROOM    room
+ *   NO_MICRO   number
  */
 struct pxplanes_found {
     uint32_t width;      /* columns of the picture, 1 to 512 */
@@ -219,6 +228,24 @@ uint32_t pxplanes_state(const uint8_t *text, size_t text_len, uint64_t clock, ui
  */
 uint32_t pxplanes_micros(const uint8_t *text, size_t text_len, uint64_t first, uint64_t *micros, size_t micros_len,
                          struct pxplanes_found *found);
+
+/*
+ * The machine itself: makes a clock for each of micros_len microinstructions, in their order, on the state that the
+ * words hold. Words and microinstructions are as pxplanes_state and pxplanes_micros write them, or of your own: a
+ * state is yours, to copy and to keep, and going back is a copy that was kept. No memory is taken, and
+ * PXPLANES_MEMORY is never answered.
+ *
+ * words: the state of a grid of grid_width by grid_height pixels, 2, 4, .. 512 each, in found.room words of them or
+ *        more (with words_len 0 that is how to ask how many). With OK they hold the state behind the last clock; what
+ *        lies behind them stays. Words that no state has (a bit set where no pixel or node stands, or leaves that are not the
+ *        outputs of their nodes) give words of which nothing is promised.
+ * micros: each names a place below PXPLANES_BITS where its act names one.
+ *
+ * NO_GRID is answered where a side is none of these; else NO_ROOM; else NO_MICRO, where an element packs no
+ * microinstruction, or names a place past the memory, with the index of the first. Then no word is written.
+ */
+uint32_t pxplanes_clocks(uint64_t *words, size_t words_len, uint32_t grid_width, uint32_t grid_height,
+                         const uint64_t *micros, size_t micros_len, struct pxplanes_found *found);
 
 /*
  * The word of found.cause, as "unexpected"; of found.kind, as "solids"; and the version of the library, as

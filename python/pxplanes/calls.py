@@ -7,10 +7,10 @@ from ctypes import POINTER, c_char_p, c_int64, c_size_t, c_uint32, c_uint64, c_v
 from typing import Union
 
 from .arrays import Buffer
-from .errors import Limit, Malformed, NoClock, NoLibrary
+from .errors import Limit, Malformed, NoClock, NoLibrary, NoMicro
 from .finding import loaded
 
-OK, MALFORMED, LIMIT, MEMORY, NO_ROOM, NO_CLOCK = 0, 3, 4, 7, 8, 9
+OK, MALFORMED, LIMIT, MEMORY, NO_ROOM, NO_CLOCK, NO_GRID, NO_MICRO = 0, 3, 4, 7, 8, 9, 10, 11
 LONGEST_NAME = 64
 
 Text = Union[str, bytes, bytearray, memoryview]
@@ -34,7 +34,7 @@ LIST = [c_void_p, c_size_t]
 TEXT, FOUND = [c_char_p, c_size_t], [POINTER(Found)]
 CALLS = {"check": TEXT + FOUND, "render": TEXT + LIST + LIST + FOUND, "colour": TEXT + LIST + FOUND,
          "products": TEXT + LIST + FOUND, "state": TEXT + [c_uint64] + LIST + [POINTER(FoundState)] + FOUND,
-         "micros": TEXT + [c_uint64] + LIST + FOUND}
+         "micros": TEXT + [c_uint64] + LIST + FOUND, "clocks": LIST + [c_uint32] * 2 + LIST + FOUND}
 NAMES = {"cause_name": [c_uint32] + LIST, "kind_name": [c_uint32] + LIST, "version": LIST}
 
 library = functools.lru_cache(maxsize=None)(loaded)
@@ -57,9 +57,14 @@ def content(text: Text) -> bytes:
 
 
 def asked(name: str, text: bytes, *arguments) -> tuple[int, Found]:
-    """What a call finds, and its status: `OK` or `NO_ROOM`; the others are raised."""
+    """What a call of a text finds, and its status: `OK` or `NO_ROOM`; the others are raised."""
+    return answered(name, text, len(text), *arguments)
+
+
+def answered(name: str, *arguments) -> tuple[int, Found]:
+    """The same of any call."""
     found = Found()
-    status = call(name)(text, len(text), *arguments, ctypes.byref(found))
+    status = call(name)(*arguments, ctypes.byref(found))
     if status in (OK, NO_ROOM):
         return status, found
     raise refusal(status, found)
@@ -87,6 +92,8 @@ def refusal(status: int, found: Found) -> Exception:
         return MemoryError("pxplanes had no memory")
     if status == NO_CLOCK:
         return NoClock(found.clocks)
+    if status == NO_MICRO:
+        return NoMicro(found.number)
     return NoLibrary("the library answers the unknown status %d" % status)
 
 

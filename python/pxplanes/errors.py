@@ -44,3 +44,14 @@ class NoClock(IndexError):
 
     def __reduce__(self):
         return NoClock, (self.clocks,)
+
+
+class NoMicro(ValueError):
+    """An element is no microinstruction, or names a place past the memory. `index` is the first such one's."""
+
+    def __init__(self, index: int):
+        super().__init__("element %d is no microinstruction" % index)
+        self.index = index
+
+    def __reduce__(self):
+        return NoMicro, (self.index,)

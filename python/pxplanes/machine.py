@@ -1,11 +1,13 @@
 """The machine at any of its clocks."""
 from __future__ import annotations
 
+import array
+import copy
 import ctypes
-from typing import Any, Iterator, NamedTuple, Optional, Union
+from typing import Any, Iterable, Iterator, NamedTuple, Optional, Union
 
 from .arrays import Buffer, spread, weighed
-from .calls import FoundState, Text, asked, content, filled
+from .calls import FoundState, Text, answered, asked, content, filled
 from .errors import NoClock
 
 REGISTERS = ("enable", "carry", "latch", "leaf")
@@ -42,6 +44,16 @@ def unpacked(word: int) -> Optional[Micro]:
     lines = word >> 56
     return Micro(ACTS[(word >> 32 & 255) - 1], word & 0xffffffff, word >> 40 & 1, TREES[word >> 48 & 3],
                  (lines & 1, lines >> 1 & 1, lines >> 2 & 1))
+
+
+def packed(micro: Micro) -> int:
+    """The word of a microinstruction. Raises `ValueError` for an act or an operation of the tree that has no such name."""
+    act, place, value, tree, lines = micro
+    if act not in ACTS or tree not in TREES:
+        raise ValueError("%r is no microinstruction" % (micro,))
+    bits = [int(bit) & 1 for bit in lines] if tree == "feed" else [0, 0, 0]
+    return (place & 0xffffffff | ACTS.index(act) + 1 << 32 | (int(value) & 1) << 40 | TREES.index(tree) << 48
+            | bits[0] << 56 | bits[1] << 57 | bits[2] << 58)
 
 
 class Pixel(NamedTuple):
@@ -125,6 +137,24 @@ def state(text: Text, clock: int) -> State:
         raise NoClock(clocks_of(text))
     (words,), _ = filled("state", "Q", text, clock, behind=(ctypes.byref(found),))
     return State(found, memoryview(words.room).cast("B").cast("Q"))
+
+
+def clocked(before: State, micros: Iterable[Micro]) -> State:
+    """The state behind a clock of each of these microinstructions, which may be of one's own. `before` stays as it is; going back
+    is a state that was kept. What comes next is not known of it: `operation`, `operation_clock` and `next` are None.
+
+    Raises `NoMicro` for the first that names a place past the memory."""
+    count = list(micros)
+    words, given = Buffer("Q", len(before.words)), Buffer("Q", len(count))
+    memoryview(words.room).cast("B").cast("Q")[:] = before.words
+    if count:
+        memoryview(given.room).cast("B").cast("Q")[:] = array.array("Q", map(packed, count))
+    answered("clocks", *words.given(), before.grid_width, before.grid_height, *given.given())
+    after = copy.copy(before)
+    after.words = memoryview(words.room).cast("B").cast("Q")
+    after.clock += len(count)
+    after.operation = after.operation_clock = after.next = None
+    return after
 
 
 def micros(text: Text, first: int, count: int) -> list[Micro]:

@@ -4,6 +4,7 @@ pub use Rattle.px_frame.specs.Picture
 pub use Rattle.px_listing.specs.Listings
 pub use Rattle.px_prune.specs.Kept
 pub use Rattle.px_scene.specs.Reading
+pub use Rattle.px_state.specs.Clocking
 pub use Rattle.px_state.specs.Courses
 pub use Rattle.px_state.specs.Packed
 pub use Rattle.px_state.specs.Packing
@@ -12,6 +13,7 @@ pub use Rattle.px_state.specs.Words as StateWords
 pub use Rattle.px_words.specs.Words
 pub mod Answers
 pub mod Buffers
+pub mod ClocksAnswer
 pub mod Literals
 pub mod Names
 pub mod Numbers

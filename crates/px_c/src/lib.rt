@@ -3,6 +3,7 @@
 
 mod answer;
 mod check;
+mod clocks;
 mod colour;
 mod found;
 mod keys;
@@ -14,6 +15,7 @@ mod state;
 mod status;
 
 pub use check::pxplanes_check;
+pub use clocks::pxplanes_clocks;
 pub use colour::pxplanes_colour;
 pub use found::Found;
 pub use micros::pxplanes_micros;

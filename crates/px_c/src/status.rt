@@ -18,5 +18,11 @@ pub const NO_ROOM: u32 = 8;
 /// The clocks that are asked for lie past the last.
 pub const NO_CLOCK: u32 = 9;
 
+/// A grid has not so many columns or rows.
+pub const NO_GRID: u32 = 10;
+
+/// A word packs no microinstruction.
+pub const NO_MICRO: u32 = 11;
+
 /// The memory bits of a pixel of the array that draws, as of the program's own but for `shadow`.
 pub const BITS: usize = 72;

@@ -11,4 +11,6 @@ mod plane_tree;
 mod rest;
 mod small;
 
+pub use doubling::doubled_pair;
+pub use feed::rooted;
 pub use plane_tree::PlaneTree;

@@ -29,7 +29,7 @@ use Rattle.px_planes.proofs.StoredLemmas.{bit_of_rows}
 use Rattle.px_plane_tree.proofs.TreeLemmas.{zero_bit}
 
 -- inside the grid an act is that of the table
-acted_inside : (act : Act) (t : Bool) (p : PixelState) → acted_at true act t p ≡ after_act act t p
+pub acted_inside : (act : Act) (t : Bool) (p : PixelState) → acted_at true act t p ≡ after_act act t p
 acted_inside Nop t p = refl
 acted_inside EnableAll t p = refl
 acted_inside (EnableCarry v) t p = refl
@@ -52,7 +52,7 @@ no_bit bits at = elim (cases_lt at bits) [
 ]
 
 -- and in the padding nothing is set
-acted_outside : (bits : ℕ) (act : Act) → acted_at false act false (zero_pixel bits) ≡ zero_pixel bits
+pub acted_outside : (bits : ℕ) (act : Act) → acted_at false act false (zero_pixel bits) ≡ zero_pixel bits
 acted_outside bits Nop = refl
 acted_outside bits EnableAll = refl
 acted_outside bits (EnableCarry v) = refl

@@ -189,8 +189,8 @@ fn zero_planes<const N: usize>(alloc: Global, nx: u32, ny: u32) -> Result<Planes
     Ok(planes)
 }
 
-/// A word with 1 where the first of so many pixels stand.
-fn full_word(pixels: usize) -> u64
+/// A word whose first so many bits are 1.
+pub fn full_word(pixels: usize) -> u64
     ensures { (i : ℕ) → i < 64 → nat_bit result i ≡ nat_lt i pixels }
 {
     if pixels < 64 { (1 << pixels) - 1 } else { !0 }

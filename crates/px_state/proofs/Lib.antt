@@ -1,3 +1,7 @@
+pub mod ShapeLemmas
+pub mod ClockedLemmas
+pub mod FeedingLemmas
+pub mod ActingLemmas
 pub mod CourseLemmas
 pub mod PackingLemmas
 pub mod PlaceLemmas

@@ -1,17 +1,15 @@
 -- The fields of a packed micro tell it.
-use Rattle.std.proofs.Common.{◌≡◌, ℕ, ◌/◌, ◌%◌, ◌==◌, Bool, true, false, [], ◌∷◌, get_or, refl}
+use Rattle.std.proofs.Common.{◌≡◌, ℕ, ◌+◌, ◌*◌, ◌/◌, ◌%◌, ◌^◌, ◌<◌, ◌≤◌, ◌==◌, Bool, true, false, refl, arith}
+use Rattle.std.proofs.lemmas.Bool.Decides.{nat_tests}
+use Rattle.px_num.proofs.TruthLaws.{and_left, and_right, itself_true, lt_holds, lt_true}
+use Rattle.px_pixel.specs.Acts.{HasPlace}
 use Rattle.px_pixel.specs.declared.act.Act.{Act}
 use Rattle.px_pixel.specs.declared.act.Act.TheVariants as act
+use Rattle.px_array.specs.declared.micro.Micro.{Micro}
 use Rattle.px_array.specs.declared.micro.TreeOp.{TreeOp}
 use Rattle.px_array.specs.declared.micro.TreeOp.TheVariants as tree
-use Rattle.px_state.specs.Packing.{act_number, bit_number, lines_number, place_of, tree_number, value_of}
-
--- the act of a number, with its value and its place
-abbrev pub act_with : (number : ℕ) → (v : Bool) → (at : ℕ) → Act
-act_with number v at =
-    get_or (act.Nop ∷ act.Nop ∷ act.EnableAll ∷ act.EnableCarry v ∷ act.EnableTree v ∷ act.EnableBit at v
-    ∷ act.SetCarry v ∷ act.Fetch at ∷ act.StoreTree at ∷ act.StoreLatch at ∷ act.StoreConst at v ∷ act.Toggle at
-    ∷ act.CarryTree at ∷ act.CarryLatch at ∷ act.AddTree at ∷ []) number act.Nop
+use Rattle.px_state.specs.Packing.{HasFields, act_number, act_with, bit_number, is_micro, lines_number, micro_in, packed, place_of}
+use Rattle.px_state.specs.Packing.{tree_number, tree_with, value_of}
 
 pub act_back : (a : Act) → act_with (act_number a) (value_of a) (place_of a) ≡ a
 act_back act.Nop = refl
@@ -29,11 +27,6 @@ act_back (act.CarryTree at) = refl
 act_back (act.CarryLatch at) = refl
 act_back (act.AddTree at) = refl
 
--- the operation of the tree of a number, with its lines
-abbrev pub tree_with : (number lines : ℕ) → TreeOp
-tree_with number lines =
-    get_or (tree.Hold ∷ tree.Clear ∷ tree.Feed (lines % 2 == 1) (lines / 2 % 2 == 1) (lines / 4 == 1) ∷ []) number tree.Hold
-
 pub tree_back : (op : TreeOp) → tree_with (tree_number op) (lines_number op) ≡ op
 tree_back tree.Hold = refl
 tree_back tree.Clear = refl
@@ -50,3 +43,103 @@ tree_back (tree.Feed true true true) = refl
 pub bit_back : (v : Bool) → (bit_number v == 1) ≡ v
 bit_back true = refl
 bit_back false = refl
+
+act_below : (a : Act) → act_number a < 256
+act_below act.Nop = omega arith
+act_below act.EnableAll = omega arith
+act_below (act.EnableCarry v) = omega arith
+act_below (act.EnableTree v) = omega arith
+act_below (act.EnableBit at v) = omega arith
+act_below (act.SetCarry v) = omega arith
+act_below (act.Fetch at) = omega arith
+act_below (act.StoreTree at) = omega arith
+act_below (act.StoreLatch at) = omega arith
+act_below (act.StoreConst at v) = omega arith
+act_below (act.Toggle at) = omega arith
+act_below (act.CarryTree at) = omega arith
+act_below (act.CarryLatch at) = omega arith
+act_below (act.AddTree at) = omega arith
+
+bit_below : (v : Bool) → bit_number v < 2
+bit_below true = omega arith
+bit_below false = omega arith
+
+tree_below : (op : TreeOp) → tree_number op < 3
+tree_below tree.Hold = omega arith
+tree_below tree.Clear = omega arith
+tree_below (tree.Feed a b c) = omega arith
+
+-- the place of an act is one of the memory's, or none is named
+pub place_within : (bits : ℕ) (a : Act) → 1 ≤ bits → HasPlace bits a → place_of a < bits
+place_within bits act.Nop some h = some
+place_within bits act.EnableAll some h = some
+place_within bits (act.EnableCarry v) some h = some
+place_within bits (act.EnableTree v) some h = some
+place_within bits (act.EnableBit at v) some h = h
+place_within bits (act.SetCarry v) some h = some
+place_within bits (act.Fetch at) some h = h
+place_within bits (act.StoreTree at) some h = h
+place_within bits (act.StoreLatch at) some h = h
+place_within bits (act.StoreConst at v) some h = h
+place_within bits (act.Toggle at) some h = h
+place_within bits (act.CarryTree at) some h = h
+place_within bits (act.CarryLatch at) some h = h
+place_within bits (act.AddTree at) some h = h
+
+pub has_place : (bits : ℕ) (a : Act) → place_of a < bits → HasPlace bits a
+has_place bits act.Nop h = tt
+has_place bits act.EnableAll h = tt
+has_place bits (act.EnableCarry v) h = tt
+has_place bits (act.EnableTree v) h = tt
+has_place bits (act.EnableBit at v) h = h
+has_place bits (act.SetCarry v) h = tt
+has_place bits (act.Fetch at) h = h
+has_place bits (act.StoreTree at) h = h
+has_place bits (act.StoreLatch at) h = h
+has_place bits (act.StoreConst at v) h = h
+has_place bits (act.Toggle at) h = h
+has_place bits (act.CarryTree at) h = h
+has_place bits (act.CarryLatch at) h = h
+has_place bits (act.AddTree at) h = h
+
+-- each field in its bits
+pub fields_in : (at number value op lines : ℕ) → at < 2 ^ 32 → number < 256 → value < 2 → op < 3
+    → (word : ℕ) → word ≡ at + 2 ^ 32 * (number + 256 * (value + 256 * (op + 256 * lines)))
+    → (word % 2 ^ 32 ≡ at) × (word / 2 ^ 32 % 256 ≡ number) × (word / 2 ^ 40 % 256 ≡ value)
+    × (word / 2 ^ 48 % 256 ≡ op) × (word / 2 ^ 56 ≡ lines)
+fields_in at number value op lines a n v o word is =
+    (omega arith, omega arith, omega arith, omega arith, omega arith)
+
+-- the micro of the fields of a micro's word is it
+pub unpacked : (m : Micro) → place_of m.act < 2 ^ 32 → micro_in (packed m) ≡ m
+unfolding packed micro_in
+unpacked m small =
+    let fields = fields_in (place_of m.act) (act_number m.act) (bit_number (value_of m.act)) (tree_number m.tree)
+    (lines_number m.tree) small (act_below m.act) (bit_below (value_of m.act)) (tree_below m.tree) (packed m) refl in
+    rw (
+      fields.0,
+      fields.1,
+      fields.2,
+      fields.3,
+      fields.4,
+      bit_back (value_of m.act),
+      act_back m.act,
+      tree_back m.tree,
+    ) refl
+
+same_holds : (m n : ℕ) → (m == n) ≡ true → m ≡ n
+same_holds m n h = grind (arith, nat_tests)
+
+pub micro_back : (bits : ℕ) (m : Micro) → 1 ≤ bits → bits ≤ 2 ^ 32 → HasPlace bits m.act → is_micro bits (packed m) ≡ true
+unfolding is_micro
+micro_back bits m some few place =
+    let within = place_within bits m.act some place in
+    let same = unpacked m (omega (arith, within)) in
+    rw (same, itself_true (packed m), lt_true (place_of m.act) bits within) refl
+
+pub micro_only : (bits word : ℕ) → is_micro bits word ≡ true → HasPlace bits (micro_in word).act × (packed (micro_in word) ≡ word)
+unfolding is_micro
+micro_only bits word is = (
+  has_place bits (micro_in word).act (lt_holds _ _ (and_right (packed (micro_in word) == word) _ is)),
+  same_holds (packed (micro_in word)) word (and_left (packed (micro_in word) == word) _ is),
+)

@@ -2,6 +2,8 @@ pub use Rattle.px_array.specs.Arrays
 pub use Rattle.px_asm.specs.Micros
 pub use Rattle.px_listing.specs.Listings
 pub use Rattle.px_playing.specs.PassesText
+pub mod Cells
+pub mod Clocking
 pub mod Courses
 pub mod Keeping
 pub mod Packed

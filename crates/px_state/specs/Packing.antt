@@ -1,6 +1,7 @@
 -- A micro in one word: the place in its bits 0 to 31, then bytes: the act, its value, what the tree does, and the lines.
 -- Clauses of public calls stand on it.
-use Rattle.std.specs.Prelude.{◌≡◌, ℕ, ◌+◌, ◌*◌, ◌/◌, ◌%◌, ◌^◌, Bool, false, if◌then◌else◌}
+use Rattle.std.specs.Prelude.{◌≡◌, ℕ, ◌+◌, ◌*◌, ◌/◌, ◌%◌, ◌^◌, ◌≤◌, ◌==◌, ◌&&◌, nat_lt, Bool, false, true, if◌then◌else◌}
+use Rattle.px_pixel.specs.Acts.{HasPlace}
 use Rattle.px_pixel.specs.declared.act.Act.{Act}
 use Rattle.px_pixel.specs.declared.act.Act.TheVariants as act
 use Rattle.px_array.specs.declared.micro.Micro.{Micro}
@@ -90,3 +91,35 @@ pub record HasFields (word : ℕ) (m : Micro) : Type 0 where
 -- words that are the same have the fields of one micro alone
 abbrev pub FieldsTellTheMicro : Type 0
 FieldsTellTheMicro = (word : ℕ) (m n : Micro) → HasFields word m → HasFields word n → m ≡ n
+
+-- the act of a number, with its value and its place where it names them
+abbrev pub act_with : (number : ℕ) → (v : Bool) → (at : ℕ) → Act
+act_with number v at =
+    if number == 2 then act.EnableAll else if number == 3 then act.EnableCarry v else if number == 4 then act.EnableTree v else
+    if number == 5 then act.EnableBit at v else if number == 6 then act.SetCarry v else if number == 7 then act.Fetch at else
+    if number == 8 then act.StoreTree at else if number == 9 then act.StoreLatch at else
+    if number == 10 then act.StoreConst at v else if number == 11 then act.Toggle at else
+    if number == 12 then act.CarryTree at else if number == 13 then act.CarryLatch at else
+    if number == 14 then act.AddTree at else act.Nop
+
+-- what the tree does, by its number and its lines
+abbrev pub tree_with : (number lines : ℕ) → TreeOp
+tree_with number lines =
+    if number == 1 then tree.Clear else
+    if number == 2 then tree.Feed (lines % 2 == 1) (lines / 2 % 2 == 1) (lines / 4 % 2 == 1) else tree.Hold
+
+-- the micro whose fields stand in a word, if it is that of a micro
+unfoldable pub micro_in : (word : ℕ) → Micro
+micro_in word = record {
+  tree = tree_with (word / 2 ^ 48 % 256) (word / 2 ^ 56);
+  act = act_with (word / 2 ^ 32 % 256) (word / 2 ^ 40 % 256 == 1) (word % 2 ^ 32);
+}
+
+-- whether a word is that of a micro for pixels of so many memory bits
+unfoldable pub is_micro : (bits word : ℕ) → Bool
+is_micro bits word = (packed (micro_in word) == word) && nat_lt (place_of (micro_in word).act) bits
+
+-- the words of micros are those of the micros that are found in them, and no others are
+pub record AreUnpacked : Type 0 where
+  pub back : (bits : ℕ) (m : Micro) → 1 ≤ bits → bits ≤ 2 ^ 32 → HasPlace bits m.act → (is_micro bits (packed m) ≡ true) × (micro_in (packed m) ≡ m)
+  pub only : (bits word : ℕ) → is_micro bits word ≡ true → HasPlace bits (micro_in word).act × (packed (micro_in word) ≡ word)

@@ -1,19 +1,25 @@
 //! The state of a scene or of a listing after so many clocks, as data, and what is broadcast to it.
 #![tactic(auto)]
 
+mod acting;
+mod clocks;
 mod fault;
+mod feeding;
+mod leaves;
 mod listing;
 mod micros;
 mod packing;
 mod room;
 mod scene;
+mod shape;
 mod state;
 mod text;
 mod whole;
 mod words;
 
+pub use clocks::make_clocks;
 pub use fault::StateFault;
-pub use packing::{law_of_packing, packed};
+pub use packing::{law_of_packing, law_of_unpacking, packed};
 pub use state::{Course, Next, State};
 pub use text::is_listing;
 pub use whole::{write_micros, write_state};

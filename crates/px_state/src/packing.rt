@@ -1,14 +1,19 @@
 //! A micro in one word.
-ghost use Rattle.std.specs.Prelude.{◌≡◌};
+ghost use Rattle.std.specs.Prelude.{◌≡◌, ◌<◌, ◌≤◌};
 ghost use Rattle.px_state.specs.Packing.{
+  AreUnpacked,
   FieldsTellTheMicro,
   HasFields,
   act_number,
+  act_with,
   bit_number,
+  is_micro,
   lines_number,
+  micro_in,
   packed,
   place_of,
   tree_number,
+  tree_with,
   value_of,
 };
 
@@ -71,7 +76,7 @@ fn value_of(act: &Act) -> bool
 }
 
 /// The place of memory that an act names.
-fn place_of(act: &Act) -> u32
+pub(crate) fn place_of(act: &Act) -> u32
     ensures { result ≡ place_of act.now }
 {
     match act {
@@ -112,4 +117,67 @@ fn bit_number(v: bool) -> u64
     ensures { result ≡ bit_number v }
 {
     u64::from(v)
+}
+
+/// The micro whose fields stand in a word, if it is that of a micro.
+#[tactic(auto, unfolding(crate::specs::Packing::micro_in))]
+pub(crate) fn micro_in(word: u64) -> Micro
+    ensures { result ≡ micro_in word }
+{
+    let value = (word >> 40) % 256 == 1;
+    Micro {
+        tree: tree_with((word >> 48) % 256, word >> 56),
+        act: act_with((word >> 32) % 256, value, (word % (1 << 32)) as u32),
+    }
+}
+
+/// Whether a word is that of a micro for pixels of so many memory bits.
+#[tactic(auto, unfolding(crate::specs::Packing::is_micro))]
+pub(crate) fn is_micro(word: u64, bits: usize) -> bool
+    ensures { result ≡ is_micro bits word }
+{
+    let m = micro_in(word);
+    packed(&m) == word && (place_of(&m.act) as usize) < bits
+}
+
+/// The words of micros are those of the micros that are found in them, and no others are.
+pub fn law_of_unpacking()
+    ensures { AreUnpacked }
+{}
+
+/// The act of a number, with its value and its place where it names them.
+fn act_with(number: u64, v: bool, at: u32) -> Act
+    ensures { result ≡ act_with number v at }
+{
+    match number {
+        2 => Act::EnableAll,
+        3 => Act::EnableCarry(v),
+        4 => Act::EnableTree(v),
+        5 => Act::EnableBit(at, v),
+        6 => Act::SetCarry(v),
+        7 => Act::Fetch(at),
+        8 => Act::StoreTree(at),
+        9 => Act::StoreLatch(at),
+        10 => Act::StoreConst(at, v),
+        11 => Act::Toggle(at),
+        12 => Act::CarryTree(at),
+        13 => Act::CarryLatch(at),
+        14 => Act::AddTree(at),
+        _ => Act::Nop,
+    }
+}
+
+/// What the tree does, by its number and its lines.
+fn tree_with(number: u64, lines: u64) -> TreeOp
+    ensures { result ≡ tree_with number lines }
+{
+    match number {
+        1 => TreeOp::Clear,
+        2 => TreeOp::Feed {
+            a: lines % 2 == 1,
+            b: lines / 2 % 2 == 1,
+            c: lines / 4 % 2 == 1,
+        },
+        _ => TreeOp::Hold,
+    }
 }

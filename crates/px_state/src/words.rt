@@ -37,7 +37,7 @@ pub fn row_words(nx: u32) -> usize
     power(nx).div_ceil(64)
 }
 
-fn node_words(nx: u32, ny: u32) -> usize
+pub(crate) fn node_words(nx: u32, ny: u32) -> usize
     requires grid { IsGrid nx ny }
     ensures words { result ≡ node_words nx ny }
     ensures few { result ≤ 2 ^ 13 }

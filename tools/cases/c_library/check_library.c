@@ -488,6 +488,52 @@ static void compare_state(const struct text *text, const struct moment *moment, 
         compare_memory(text, s, words);
 }
 
+/* The state at one clock, moved by the micros up to another, beside the state there. Every other call is refused, and then no word
+   is written. */
+static void compare_clocks(const struct text *text, uint64_t from, uint64_t to, size_t due, const uint64_t *micros)
+{
+    struct pxplanes_found found;
+    struct moment moment = {.clock = from}, last = {.clock = to};
+    struct buffer moved = told(STATE, text, &moment, due, due, PXPLANES_OK, &found, 0);
+    struct buffer there = told(STATE, text, &last, due, due, PXPLANES_OK, &found, 0);
+    uint64_t *words = (uint64_t *) moved.at, wrong[3] = {micros[from], (uint64_t) PXPLANES_BITS | 8ull << 32, 0};
+    uint32_t width = moment.state.grid_width, height = moment.state.grid_height;
+    const struct refused {
+        size_t len;
+        uint32_t width, height;
+        const uint64_t *micros;
+        size_t count;
+        uint32_t status;
+        struct pxplanes_found found;
+    } refused[] = {
+        {due, width, height + 1, micros, 1, PXPLANES_NO_GRID, {0}},
+        {due, 1024, height, micros, 1, PXPLANES_NO_GRID, {0}},
+        {0, width, 1, wrong, 3, PXPLANES_NO_GRID, {0}},
+        {0, width, height, NULL, 0, PXPLANES_NO_ROOM, {.room = due}},
+        {due - 1, width, height, wrong, 3, PXPLANES_NO_ROOM, {.room = due}},
+        {due, width, height, wrong, 3, PXPLANES_NO_MICRO, {.number = 1}},
+        {due, width, height, wrong + 2, 1, PXPLANES_NO_MICRO, {.number = 0}},
+        {due, width, height, NULL, 0, PXPLANES_OK, {0}},
+    };
+    struct buffer before = made(due, 8);
+    memcpy(before.at, moved.at, due * 8);
+    for (size_t i = 0; i < sizeof refused / sizeof refused[0]; i++) {
+        const struct refused *r = &refused[i];
+        uint32_t status = pxplanes_clocks(r->len ? words : NULL, r->len, r->width, r->height, r->micros, r->count, &found);
+        if (status != r->status || memcmp(&found, &r->found, sizeof found) || memcmp(before.at, moved.at, due * 8))
+            differs(text->name, "call %zu of clocks gives status %u, or leaves other words", i, (unsigned) status);
+    }
+    asked = 0;
+    uint32_t status = pxplanes_clocks(words, due, width, height, micros + from, to - from, &found);
+    if (status != PXPLANES_OK || found.clocks != to - from || asked != 0)
+        differs(text->name, "clocks give status %u, or take memory", (unsigned) status);
+    if (memcmp(moved.at, there.at, due * 8) || !is_untouched(&moved, due * 8))
+        differs(text->name, "clocks %llu to %llu leave another state", (unsigned long long) from, (unsigned long long) to);
+    let_go(&before);
+    let_go(&moved);
+    let_go(&there);
+}
+
 /* Each state call of a text that is good: at the first, a middle and the last clock, and past it. */
 static void compare_states(const struct text *text, const struct pxplanes_found *found, const uint64_t *micros)
 {
@@ -512,6 +558,11 @@ static void compare_states(const struct text *text, const struct pxplanes_found 
     long all = asked;
     for (long at = 1; at <= all; at += 1 + at / 4)
         tried_at(STATE, text, found->clocks, due, 0, PXPLANES_MEMORY, (struct pxplanes_found){0}, at);
+    if (found->clocks > 0) {
+        uint64_t some = found->clocks < 400 ? found->clocks : 400;
+        compare_clocks(text, 0, some, due, micros);
+        compare_clocks(text, found->clocks - some / 2 - 1, found->clocks, due, micros);
+    }
 }
 
 static void compare_machine(const struct text *text)

@@ -1,6 +1,6 @@
 use Rattle.std.proofs.Common.{◌==◌, sym, ap, ◌∙◌}
-use Rattle.px_state.specs.Packing.{act_number, lines_number, place_of, tree_number, value_of}
-use Rattle.px_state.proofs.PackingLemmas.{act_back, act_with, bit_back, tree_back, tree_with}
+use Rattle.px_state.specs.Packing.{act_number, act_with, lines_number, place_of, tree_number, tree_with, value_of}
+use Rattle.px_state.proofs.PackingLemmas.{act_back, bit_back, tree_back}
 use Rattle.px_state.proofs.packing.law_of_packing.Goals as goal
 
 pub returns : goal.returns

@@ -1,0 +1,149 @@
+//! What an act does to the pixels of a state where its words stand.
+ghost use Rattle.std.specs.Prelude.{◌≡◌, ◌≢◌, ◌≤◌, ◌<◌, ◌+◌, ◌*◌, ℕ, ◌&&◌, cond, get_or, length};
+ghost use Rattle.std.specs.Bool.{beq};
+ghost use Rattle.px_num.specs.Bits.{nat_bit, xor};
+ghost use Rattle.px_pixel.specs.Acts.{HasPlace};
+ghost use Rattle.px_pixel.specs.Pixels.{PixelState};
+ghost use Rattle.px_planes.specs.Pixels.{acted_at};
+ghost use Rattle.px_state.specs.Cells.{IsCell, IsShape, leaf_in, pixel_in};
+ghost use Rattle.px_state.specs.Packing.{place_of};
+
+use crate::packing::place_of;
+use crate::shape::Shape;
+use px_lanes::{all_of, chosen_word, majority_word, turned};
+use px_pixel::Act;
+
+/// One word of each plane that an act reads: 64 pixels.
+#[derive(Clone, Copy)]
+pub(crate) struct Cells {
+    memory: u64,
+    enable: u64,
+    carry: u64,
+    latch: u64,
+    leaf: u64,
+}
+
+/// Makes every pixel do an act, by its leaf.
+pub(crate) fn act_all(words: &mut [u64], shape: &Shape, act: &Act)
+    requires shape { IsShape shape.now }
+    requires place { place_of act.now < shape.now.bits }
+    requires room { (shape.now.bits + 4) * shape.now.plane ≤ length words.old }
+    ensures acted { (k i : ℕ) → k < shape.now.plane → i < 64 → pixel_in shape.now.bits shape.now.plane words.new k i
+        ≡ acted_at (nat_bit shape.now.full i) act.now (leaf_in shape.now.bits shape.now.plane words.old k i)
+        (pixel_in shape.now.bits shape.now.plane words.old k i) }
+    ensures behind { (j : ℕ) → (shape.now.bits + 3) * shape.now.plane ≤ j → get_or words.new j 0 ≡ get_or words.old j 0 }
+    ensures length { length words.new ≡ length words.old }
+{
+    for k in 0..shape.plane {
+        act_word(words, shape, k, act);
+    }
+}
+
+/// The same of the pixels of word `k` of each plane.
+fn act_word(words: &mut [u64], shape: &Shape, k: usize, act: &Act)
+    requires shape { IsShape shape.now }
+    requires place { place_of act.now < shape.now.bits }
+    requires room { (shape.now.bits + 4) * shape.now.plane ≤ length words.old }
+    requires within { k < shape.now.plane }
+    ensures acted { (i : ℕ) → i < 64 → pixel_in shape.now.bits shape.now.plane words.new k i
+        ≡ acted_at (nat_bit shape.now.full i) act.now (leaf_in shape.now.bits shape.now.plane words.old k i)
+        (pixel_in shape.now.bits shape.now.plane words.old k i) }
+    ensures others { (j i : ℕ) → j < shape.now.plane → j ≢ k → pixel_in shape.now.bits shape.now.plane words.new j i
+        ≡ pixel_in shape.now.bits shape.now.plane words.old j i }
+    ensures behind { (j : ℕ) → (shape.now.bits + 3) * shape.now.plane ≤ j → get_or words.new j 0 ≡ get_or words.old j 0 }
+    ensures length { length words.new ≡ length words.old }
+{
+    let memory = shape.word(place_of(act) as usize, k);
+    let enable = shape.word(shape.bits, k);
+    let carry = shape.word(shape.bits + 1, k);
+    let latch = shape.word(shape.bits + 2, k);
+    let old = Cells {
+        memory: words[memory],
+        enable: words[enable],
+        carry: words[carry],
+        latch: words[latch],
+        leaf: words[shape.word(shape.bits + 3, k)],
+    };
+    let new = acted(act, old, shape.full);
+    words[memory] = new.memory;
+    words[enable] = new.enable;
+    words[carry] = new.carry;
+    words[latch] = new.latch;
+}
+
+/// What an act makes of 64 pixels; `full` is 1 where there is one.
+fn acted(act: &Act, old: Cells, full: u64) -> Cells
+    ensures { (i : ℕ) (p : PixelState) → i < 64 → place_of act.now < length p.memory → IsCell (place_of act.now) i old p
+        → IsCell (place_of act.now) i result (acted_at (nat_bit full i) act.now (nat_bit old.leaf i) p) }
+{
+    match act {
+        Act::Nop => old,
+        Act::EnableAll => Cells {
+            enable: full,
+            ..old
+        },
+        Act::EnableCarry(v) => keep(old, old.carry, *v),
+        Act::EnableTree(v) => keep(old, old.leaf, *v),
+        Act::EnableBit(_, v) => keep(old, old.memory, *v),
+        Act::SetCarry(v) => Cells {
+            carry: if *v { full } else { 0 },
+            ..old
+        },
+        Act::Fetch(_) => Cells {
+            latch: old.memory,
+            ..old
+        },
+        Act::StoreTree(_) => store(old, old.leaf),
+        Act::StoreLatch(_) => store(old, old.latch),
+        Act::StoreConst(_, v) => store(old, all_of(*v)),
+        Act::Toggle(_) => store(old, turned(old.memory)),
+        Act::CarryTree(_) => Cells {
+            carry: majority_word(turned(old.leaf), old.memory, old.carry),
+            ..old
+        },
+        Act::CarryLatch(_) => Cells {
+            carry: majority_word(turned(old.latch), old.memory, old.carry),
+            ..old
+        },
+        Act::AddTree(_) => Cells {
+            carry: majority_word(old.leaf, old.memory, old.carry),
+            ..store(old, xor_word(old.leaf, xor_word(old.memory, old.carry)))
+        },
+    }
+}
+
+/// The pixels stay enabled where a bit is the one that is wanted.
+fn keep(old: Cells, bits: u64, want: bool) -> Cells
+    ensures enable { (i : ℕ) → i < 64 → nat_bit result.enable i ≡ (nat_bit old.enable i && beq (nat_bit bits i) want) }
+    ensures memory { result.memory ≡ old.memory }
+    ensures carry { result.carry ≡ old.carry }
+    ensures latch { result.latch ≡ old.latch }
+{
+    let enable = if want {
+        chosen_word(0, old.enable, bits)
+    } else {
+        chosen_word(old.enable, 0, bits)
+    };
+    Cells { enable, ..old }
+}
+
+/// Where the pixels are enabled, the memory bit becomes another.
+fn store(old: Cells, bits: u64) -> Cells
+    ensures memory { (i : ℕ) → i < 64 → nat_bit result.memory i
+        ≡ cond (nat_bit old.enable i) (nat_bit bits i) (nat_bit old.memory i) }
+    ensures enable { result.enable ≡ old.enable }
+    ensures carry { result.carry ≡ old.carry }
+    ensures latch { result.latch ≡ old.latch }
+{
+    Cells {
+        memory: chosen_word(old.memory, bits, old.enable),
+        ..old
+    }
+}
+
+/// Exactly one of two.
+pub(crate) fn xor_word(a: u64, b: u64) -> u64
+    ensures { (i : ℕ) → i < 64 → nat_bit result i ≡ xor (nat_bit a i) (nat_bit b i) }
+{
+    chosen_word(b, turned(b), a)
+}

@@ -1,0 +1,94 @@
+//! Clocks of a state where its words stand.
+ghost use Rattle.std.specs.Prelude.{◌≡◌, ◌≤◌, ◌<◌, None, Some, IfErr, OnErr, OnOk, get_or, length, ℕ};
+ghost use Rattle.px_array.specs.Clocks.{after_clock};
+ghost use Rattle.px_array.specs.Arrays.{State};
+ghost use Rattle.px_tree.specs.Nodes.{IsGrid};
+ghost use Rattle.px_state.specs.Cells.{IsShape};
+ghost use Rattle.px_state.specs.Clocking.{AreClocked, HoldsState, first_stray};
+ghost use Rattle.px_state.specs.Packing.{place_of};
+ghost use Rattle.px_state.specs.Words.{room_of};
+
+use crate::acting::act_all;
+use crate::feeding::{clear_all, feed_all};
+use crate::leaves::write_leaves;
+use crate::packing::{is_micro, micro_in};
+use crate::shape::Shape;
+use px_array::{Micro, TreeOp};
+use px_tree::Lines;
+
+/// Makes a clock of each micro on the state of `2^nx` by `2^ny` pixels of so many memory bits that stands
+/// in the words.
+///
+/// Each micro is packed into a word. The first that is none, or that names a place past the memory, is
+/// the error, and then no clock is made.
+pub fn make_clocks(
+    words: &mut [u64],
+    bits: usize,
+    nx: u32,
+    ny: u32,
+    micros: &[u64],
+) -> Result<(), usize>
+    requires some { 1 ≤ bits }
+    requires bits { bits ≤ 256 }
+    requires grid { IsGrid nx ny }
+    requires room { room_of bits nx ny ≤ length words.old }
+    ensures clocked { OnOk result (AreClocked bits nx ny micros.now words.old words.new) }
+    ensures all { OnOk result (first_stray bits micros.now ≡ None) }
+    ensures stray { IfErr result (λ k. first_stray bits micros.now ≡ Some k) }
+    ensures kept { OnErr result (words.new ≡ words.old) }
+    ensures length { length words.new ≡ length words.old }
+{
+    match first_stray(micros, bits) {
+        Some(stray) => Err(stray),
+        None => {
+            clock_all(words, &Shape::of(bits, nx, ny), micros);
+            Ok(())
+        }
+    }
+}
+
+/// Makes a clock of each micro, of which each word is one.
+fn clock_all(words: &mut [u64], shape: &Shape, micros: &[u64])
+    requires shape { IsShape shape.now }
+    requires some { 1 ≤ shape.now.bits }
+    requires room { room_of shape.now.bits shape.now.nx shape.now.ny ≤ length words.old }
+    requires all { first_stray shape.now.bits micros.now ≡ None }
+    ensures clocked { AreClocked shape.now.bits shape.now.nx shape.now.ny micros.now words.old words.new }
+    ensures length { length words.new ≡ length words.old }
+{
+    for word in micros {
+        clock(words, shape, &micro_in(*word));
+    }
+}
+
+/// The first word that is no micro for pixels of so many memory bits.
+fn first_stray(micros: &[u64], bits: usize) -> Option<usize>
+    ensures { result ≡ first_stray bits micros.now }
+{
+    micros.iter().position(|word| !is_micro(*word, bits))
+}
+
+/// One clock.
+fn clock(words: &mut [u64], shape: &Shape, m: &Micro)
+    requires shape { IsShape shape.now }
+    requires place { place_of m.now.act < shape.now.bits }
+    requires room { room_of shape.now.bits shape.now.nx shape.now.ny ≤ length words.old }
+    ensures clocked { (s : State) → HoldsState shape.now.bits shape.now.nx shape.now.ny s words.old
+        → HoldsState shape.now.bits shape.now.nx shape.now.ny (after_clock m.now s) words.new }
+    ensures behind { (j : ℕ) → room_of shape.now.bits shape.now.nx shape.now.ny ≤ j
+        → get_or words.new j 0 ≡ get_or words.old j 0 }
+    ensures length { length words.new ≡ length words.old }
+{
+    act_all(words, shape, &m.act);
+    match m.tree {
+        TreeOp::Hold => {}
+        TreeOp::Clear => {
+            clear_all(words, shape);
+            write_leaves(words, shape);
+        }
+        TreeOp::Feed { a, b, c } => {
+            feed_all(words, shape, Lines { a, b, c });
+            write_leaves(words, shape);
+        }
+    }
+}
