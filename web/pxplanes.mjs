@@ -6,15 +6,15 @@
 //
 // A text is a string or bytes. What is not accepted is thrown as `Refused`. docs/LIBRARY.md has each call.
 
-const STATUS = {ok: 0, malformed: 3, limit: 4, memory: 7, room: 8, clock: 9};
+const STATUS = {ok: 0, malformed: 3, limit: 4, memory: 7, room: 8, clock: 9, grid: 10, micro: 11};
 const FOUND = 56, STATE = 64, WORD = 16, MICRO = 8;
 // A module with a memory of 64-bit places, and nothing else.
 const WIDE = Uint8Array.of(0, 97, 115, 109, 1, 0, 0, 0, 5, 3, 1, 4, 1);
 const ACTS = ["", "nop", "enable-all", "enable-carry", "enable-tree", "enable-bit", "set-carry", "fetch", "store-tree", "store-latch",
   "store-const", "toggle", "carry-tree", "carry-latch", "add-tree"];
 const HAVE_A_PLACE = new Set([5, 7, 8, 9, 10, 11, 12, 13, 14]), HAVE_A_VALUE = new Set([3, 4, 5, 6, 10]), TREES = ["hold", "clear", "feed"];
-// A machine keeps so many states: some all over its clocks, and the last ones that it came by.
-const SPREAD = 32, LATEST = 1000, KEPT_BYTES = 1 << 27, STRETCH = 4096;
+// A machine keeps so many states, and goes on from one that is so many clocks before at most; farther, a state of the text is faster.
+const LATEST = 1000, KEPT_BYTES = 1 << 27, NEAR = 24, STRETCH = 4096;
 
 // Why a text is refused, or a call not answered: `status` is the program's, `line` the first bad line, `cause` or `kind` the word of
 // why, `number` what was found there, and `clocks` how many there are, where a clock past the last was asked.
@@ -112,14 +112,14 @@ export class Library {
   // How many clocks a scene or a listing has, and how many operations.
   course(text) { return this.#ask("micros", text, [[0, MICRO]], ({operations, clocks}) => ({operations, clocks}), [0]); }
 
-  // The state behind some packed microinstructions; `operation` and what comes next are left as the caller knows them.
-  clocks(state, packed) {
-    const {words} = state, {pxplanes_clocks: call} = this.#calls;
+  // The words of the state behind some packed microinstructions, of a state or of what has its words, width and height.
+  clocks({words, width, height}, packed) {
+    const {pxplanes_clocks: call} = this.#calls, half = words.byteLength / 8;
+    if (!call) throw new Error("this module makes no clocks of a state");
     return this.#with([words.byteLength, packed.byteLength, FOUND], ([room, micros, found]) => {
       this.#put(room, words);
       this.#put(micros, packed);
-      const [width, height] = [state.width, state.height];
-      const status = call(BigInt(room), BigInt(words.byteLength / 8), width, height, BigInt(micros), BigInt(packed.length), BigInt(found));
+      const status = call(BigInt(room), BigInt(half), width, height, BigInt(micros), BigInt(packed.length), BigInt(found));
       if (status !== STATUS.ok) throw this.#refusal(status, this.#found(found));
       return this.#copy(Uint32Array, room, words.byteLength);
     });
@@ -202,6 +202,8 @@ export class Library {
       return new Refused(`limit line ${line}: ${kind} ${number}`, status, {line, kind, number});
     }
     if (status === STATUS.clock) return new Refused(`there are ${clocks} clocks`, status, {clocks});
+    if (status === STATUS.grid) return new Refused("a grid has not so many columns or rows", status);
+    if (status === STATUS.micro) return new Refused(`element ${number} is no microinstruction`, status, {number});
     if (status === STATUS.room) return new Refused(`${room} elements are due`, status, {number: room});
     return new Refused(status === STATUS.memory ? "out of memory" : `status ${status}`, status, {number});
   }
@@ -273,23 +275,19 @@ export class State {
   }
 }
 
-// A machine over a text: any of its states. Where `starts` has the first clock of each operation, and the library makes clocks of a
-// state, a state is made of the nearest one before it that is kept.
+// A machine over a text: any of its states. The last ones that it came by are kept, to go back to. Where `starts` has the first clock
+// of each operation, and the library makes clocks of a state, a state is made of one that is kept a few clocks before it.
 export class Machine {
   constructor(library, text, starts = null) {
     Object.assign(this, {library, text, starts, kept: new Map(), packed: [0, new BigUint64Array(0)]});
     this.first = library.state(text, 0);
     this.clocks = this.first.clocks;
-    this.spread = Math.max(1, Math.ceil(this.clocks / SPREAD));
-    this.most = Math.max(2 * SPREAD, Math.min(LATEST, Math.floor(KEPT_BYTES / this.first.words.byteLength)));
+    this.most = Math.max(2 * NEAR, Math.min(LATEST, Math.floor(KEPT_BYTES / this.first.words.byteLength)));
     this.canStep = library.hasClocks && starts !== null;
     this.#keep(this.first);
   }
 
-  state(clock) {
-    const known = this.kept.get(clock), isNear = this.canStep && clock <= this.clocks;
-    return this.#keep(known ?? (isNear ? this.#stepped(clock) : this.library.state(this.text, clock)));
-  }
+  state(clock) { return this.#keep(this.kept.get(clock) ?? this.#found(clock)); }
 
   // The microinstructions of so many clocks, from `first` on.
   micros(first, count) { return Array.from(this.#broadcast(first, count), word => new Micro(word)); }
@@ -304,12 +302,14 @@ export class Machine {
     return this.packed[1].subarray(first - this.packed[0], first - this.packed[0] + count);
   }
 
-  // Goes on from the nearest state before, by way of those that are kept all over the clocks.
-  #stepped(clock) {
-    let known = this.first;
-    for (const each of this.kept.values()) if (each.clock <= clock && each.clock > known.clock) known = each;
-    while (known.clock < clock)
-      known = this.#keep(this.#behind(known, Math.min(clock, (Math.floor(known.clock / this.spread) + 1) * this.spread)));
+  // Goes on from a state that is near; going back by a clock, from one a few clocks before, so that more steps back are there.
+  #found(clock) {
+    if (!this.canStep || clock > this.clocks) return this.library.state(this.text, clock);
+    for (let near = clock - 1; near >= Math.max(0, clock - NEAR); near--)
+      if (this.kept.has(near)) return this.#behind(this.kept.get(near), clock);
+    if (!this.kept.has(clock + 1) || clock < NEAR) return this.library.state(this.text, clock);
+    let known = this.#keep(this.library.state(this.text, clock - NEAR));
+    while (known.clock < clock) known = this.#keep(this.#behind(known, known.clock + 1));
     return known;
   }
 
@@ -329,16 +329,11 @@ export class Machine {
     return low - 1;
   }
 
-  // Keeps a state, and forgets the one that was wanted longest ago, but for those all over the clocks.
+  // Keeps a state, and forgets the one that was wanted longest ago.
   #keep(state) {
     this.kept.delete(state.clock);
     this.kept.set(state.clock, state);
-    if (this.kept.size > this.most)
-      for (const clock of this.kept.keys()) {
-        if (clock % this.spread === 0) continue;
-        this.kept.delete(clock);
-        break;
-      }
+    if (this.kept.size > this.most) this.kept.delete(this.kept.keys().next().value);
     return state;
   }
 }

@@ -63,6 +63,14 @@ def handed(pid):
     return None
 
 
+def copied(path, copy):
+    """Whether a file is there, and was copied."""
+    try:
+        return bool(path and shutil.copyfile(path, copy))
+    except OSError:
+        return False
+
+
 def keep(place):
     """Builds the library for C again, and keeps its module."""
     kit()
@@ -71,10 +79,7 @@ def keep(place):
         built = subprocess.Popen(["rt", "lib"], cwd=CRATE, stdin=subprocess.DEVNULL, stdout=notes, stderr=notes, start_new_session=True)
         try:
             while built.poll() is None:
-                path = None if kept else handed(built.pid)
-                if path:
-                    shutil.copyfile(path, copy)
-                    kept = True
+                kept = kept or copied(handed(built.pid), copy)
                 time.sleep(LOOKED_AFTER)
         finally:
             if built.poll() is None:

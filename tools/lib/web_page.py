@@ -24,7 +24,7 @@ IMPORT = re.compile(r'(?m)^import (\* as \w+|\{[^}]*\}) from "([^"]+)";\n')
 EXPORT = re.compile(r"(?m)^export ((?:async )?function|class|const) (\w+)")
 POLICY = ("default-src 'none'; script-src 'wasm-unsafe-eval' blob: '%s'; style-src '%s'; img-src blob: data:; worker-src blob:; "
           "connect-src 'self'")
-WASM = re.compile(r'<script type="text/plain" id="library" data-check="\d+">\n([A-Za-z0-9+/=\n]*)</script>')
+LIBRARY = re.compile(r'<script type="text/plain" id="library" data-of="(\w+)" data-check="\d+">\n([A-Za-z0-9+/=\n]*)</script>')
 LINE = 120
 
 
@@ -91,8 +91,8 @@ def sum_of(text):
     return "sha256-" + base64.b64encode(hashlib.sha256(text.encode("utf-8")).digest()).decode("ascii")
 
 
-def page(wasm):
-    """The page that holds a module of WebAssembly."""
+def page(wasm, crates):
+    """The page that holds a module of WebAssembly, which was made of crates with that checksum."""
     style, script = "\n" + read(os.path.join(SOURCES, "studio.css")), "\n" + code()
     given = {"version": installing.version(), "gallery": offered(), "lesson": lessons.exercises()}
     encoded = base64.b64encode(wasm).decode("ascii")
@@ -103,8 +103,8 @@ def page(wasm):
             POLICY % (sum_of(script), sum_of(style))),
         '<script type="module" src="main.js"></script>\n': "",
         "</body>": '<script type="application/json" id="given">%s</script>\n<script type="application/json" id="own">null</script>\n'
-                   '<script type="text/plain" id="library" data-check="%d">\n%s</script>\n<script type="module" id="code">%s</script>\n</body>' % (
-                       data(given), zlib.crc32(wasm), lines, script)}
+                   '<script type="text/plain" id="library" data-of="%s" data-check="%d">\n%s</script>\n<script type="module" id="code">%s</script>\n</body>' % (
+                       data(given), crates, zlib.crc32(wasm), lines, script)}
     text = read(os.path.join(SOURCES, "index.html"))
     for mark, part in parts.items():
         if text.count(mark) != 1:
@@ -116,8 +116,8 @@ def page(wasm):
 
 
 def library_in(text):
-    """The module of WebAssembly that a page holds."""
-    found = WASM.search(text)
+    """The module of WebAssembly that a page holds, and the checksum of the crates that it was made of."""
+    found = LIBRARY.search(text)
     if found is None:
         raise Bad("the page holds no library")
-    return base64.b64decode(found.group(1))
+    return base64.b64decode(found.group(2)), found.group(1)

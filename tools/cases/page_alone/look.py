@@ -235,10 +235,31 @@ def sizes(page):
     print("nothing lies over anything")
 
 
+def many_keys(page):
+    """Five hundred keys, one behind the other, over a scene that takes a while, and no other picture than that of the last."""
+    print("-- many keys")
+    page.run("localStorage.clear()")
+    alone(page)
+    click(page, "#scenes button:nth-of-type(3)")
+    page.until(DRAWN)
+    last = called(page, """async count => {
+      const s = document.getElementById("source"), found = /solid \\w+ (?=\\d{3} )/.exec(s.value), place = found.index + found[0].length;
+      for (let at = 0; at < count; at++) {
+        s.setRangeText(String(100 + at % 150), place, place + 3, "end");
+        s.dispatchEvent(new Event("input"));
+        if (at % 10 === 0) await new Promise(done => setTimeout(done, 4));
+      }
+      return s.value;
+    }""", 500)
+    page.until(DRAWN)
+    print("the last picture:", colours_are_the_programs(page, last.encode()), "| of its text:",
+          page.run("!document.getElementById('write').classList.contains('old')"))
+
+
 def lacking(page):
     print("-- what it lacks")
     content = open(pages.PAGE, encoding="utf-8").read()
-    wasm = re.search(r'id="library" data-check="\d+">\n([A-Za-z0-9+/=]+)', content).group(1)
+    wasm = re.search(r'id="library" data-of="\w+" data-check="\d+">\n([A-Za-z0-9+/=]+)', content).group(1)
     with open("flipped.html", "w", encoding="utf-8") as file:
         file.write(content.replace(wasm, wasm[:60] + ("A" if wasm[60] != "A" else "B") + wasm[61:]))
     told = lambda path: page.open("file://" + os.path.abspath(path)) or page.until(
@@ -266,5 +287,6 @@ with Browser() as page:
     drafts(page)
     linked(page, text)
     sizes(page)
+    many_keys(page)
     print("faults of the page:", page.faults())
     lacking(page)

@@ -42,6 +42,17 @@ ASKED = """async asked => {
 }"""
 
 
+GROWN = """texts => {
+  let before = 0;
+  for (let at = 0; at < 10000; at++) {
+    if (at === 100) before = px.bytes;
+    try { px.check(texts[at % texts.length]); px.products(texts[at % texts.length]); } catch (error) { if (!(error instanceof px.Refused)) throw error; }
+    try { if (at %% 20 === 0) px.render(texts[at %% texts.length]); } catch (error) { if (!(error instanceof px.Refused)) throw error; }
+  }
+  return px.bytes === before;
+}""".replace("%%", "%")
+
+
 def products_of(text, output):
     """The solid numbers of the kept products as `plan` prints them."""
     numbers = {solid.name: at for at, solid in enumerate(scenes.read(text).solids, 1)}
@@ -76,4 +87,6 @@ with Browser() as page:
                 print("%s: %s" % (name, answer))
     for word, count in sorted(counts.items()):
         print("%s: %s" % (word, "some" if count > 3 else count))
+    print("ten thousand scenes, and no more memory than behind the first hundred:", pages.called(page, GROWN, [
+        text.decode("latin-1") for _, word, text, wanted in chosen if word == "cost" and wanted[0] in (0, 3) and len(text) < 2000][:20]))
     print("faults of the page:", page.faults())
