@@ -170,7 +170,7 @@ uint32_t pxplanes_products(const uint8_t *text, size_t text_len, int32_t *litera
 #define PXPLANES_BITS 72
 
 /* Where the machine stands. pxplanes_state writes all fields on every return; with another status than OK each is 0. */
-struct pxplanes_state {
+struct pxplanes_moment {
     uint32_t grid_width;      /* columns of the grid of pixels: 2, 4, .. 512 */
     uint32_t grid_height;     /* its rows: 2, 4, .. 512 */
     uint32_t words_per_row;   /* words that a row of a plane has: one for each 64 columns */
@@ -201,14 +201,14 @@ struct pxplanes_state {
  * by kinds of its own. NO_CLOCK is answered where clock is past the last, and else NO_ROOM. The room does not depend
  * on the clock. So for the first words of a scene:
  *
- *     struct pxplanes_state state;
+ *     struct pxplanes_moment state;
  *     uint64_t *words = NULL;
  *     uint32_t status = pxplanes_state(text, text_len, 40, NULL, 0, &state, &found);
  *     if (status == PXPLANES_NO_ROOM && (words = malloc((size_t) found.room * sizeof *words)) != NULL)
  *         status = pxplanes_state(text, text_len, 40, words, (size_t) found.room, &state, &found);
  */
 uint32_t pxplanes_state(const uint8_t *text, size_t text_len, uint64_t clock, uint64_t *words, size_t words_len,
-                        struct pxplanes_state *state, struct pxplanes_found *found);
+                        struct pxplanes_moment *state, struct pxplanes_found *found);
 
 /*
  * Writes what is broadcast in micros_len clocks of a scene or of a listing, from clock `first` on, counted from 0: a

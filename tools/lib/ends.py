@@ -3,6 +3,7 @@ import argparse
 import importlib.machinery
 import importlib.util
 import os
+import shutil
 import sys
 
 import netpbm
@@ -23,6 +24,17 @@ def content(path):
         return sys.stdin.buffer.read()
     with open(path, "rb") as file:
         return file.read()
+
+
+def replaced(path, content):
+    """Puts a new content into a file at one stroke: written beside it, and then renamed."""
+    beside = os.path.realpath(path) + ".new"
+    with open(beside, "wb") as out:
+        out.write(content)
+        out.flush()
+        os.fsync(out.fileno())
+    shutil.copymode(path, beside)
+    os.replace(beside, os.path.realpath(path))
 
 
 def drop_output():

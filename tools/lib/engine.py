@@ -28,6 +28,7 @@ PARTS = ("in", "out", "note", "ended", "status")
 TERMINATE_WITH_PARENT = 1
 IN_A_TURN = 20
 TURNS_A_JOB = 8
+TURNS_OF_WAITING = 5
 
 
 class Piece:
@@ -51,13 +52,22 @@ class Engine:
             raise netpbm.Bad("there is no parallel; `apt-get install parallel` installs it, and --jobs 1 goes without it")
         os.makedirs(folder, exist_ok=True)
         self.lock = open(os.path.join(folder, "lock"), "w")
-        fcntl.flock(self.lock, fcntl.LOCK_EX)
+        self.take_turn()
         for leaf in os.listdir(folder):
             if leaf != "lock":
                 os.remove(os.path.join(folder, leaf))
         (shutil.copy if logins else os.symlink)(os.path.abspath(built), os.path.join(folder, "program"))
         self.write("words", "\n".join(words))
         self.write("worker", WORKER)
+
+    def take_turn(self):
+        """Takes the folder's lock. What a run that was killed had begun ends with it, so a moment is waited for that."""
+        for turn in range(TURNS_OF_WAITING):
+            try:
+                return fcntl.flock(self.lock, fcntl.LOCK_EX | fcntl.LOCK_NB)
+            except BlockingIOError:
+                time.sleep(0.1)
+        raise netpbm.Bad("another run works in %s" % os.path.dirname(self.folder))
 
     def write(self, leaf, text):
         with open(os.path.join(self.folder, leaf), "w") as file:

@@ -31,6 +31,9 @@ pub fn clock_both<A: Array, B: Array>(one: &mut A, other: &mut B, micros: &[Micr
     requires counted { (A.device one.old).clocks + length micros.now ≤ 2 ^ 64 - 1 }
     ensures same { B.device other.new ≡ A.device one.new }
     ensures device { A.device one.new ≡ all_clocked micros.now (A.device one.old) }
+    ensures slots { (A.slots one.new ≡ A.slots one.old) × (B.slots other.new ≡ B.slots other.old) }
+    ensures work { (A.work one.new ≡ worked (length micros.now) (A.work one.old))
+        × (B.work other.new ≡ worked (length micros.now) (B.work other.old)) }
 {
     clock_all(one, micros);
     clock_all(other, micros);

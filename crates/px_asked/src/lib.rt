@@ -5,4 +5,4 @@ mod asks;
 mod telling;
 
 pub use asks::Asks;
-pub use telling::TellingSource;
+pub use telling::{Note, TellingSource};

@@ -1,6 +1,7 @@
 -- What a call answers, step by step.
 use Rattle.std.proofs.Common.{ℕ, ◌≡◌, ◌⊎◌, ◌<◌, ◌≤◌, inl, inr, true, false, Option, Some, None, refl, arith, nat_lt}
 use Rattle.std.proofs.lemmas.Bool.Decides.{nat_tests}
+use Rattle.px_num.specs.Want.{want}
 use Rattle.px_show.specs.Judged.{SceneFault}
 use Rattle.px_show.specs.declared.fault.TextFault.TheVariants as f
 use Rattle.px_c.specs.declared.answer.Answer.{Answer}
@@ -10,7 +11,7 @@ use Rattle.px_c.specs.Answers.{Answers, refused, unless_refused, within_room}
 
 -- a fault that is want of memory, or the refusal that is due
 pub refuses : (refusal : Option SceneFault) (due : Answer) (fault : SceneFault)
-    → (fault ≡ f.Memory) ⊎ (refusal ≡ Some fault) → Answers (unless_refused refusal due) (refused fault)
+    → (fault ≡ f.Memory want) ⊎ (refusal ≡ Some fault) → Answers (unless_refused refusal due) (refused fault)
 refuses refusal due fault (inl none) = rw none (inr refl)
 refuses refusal due fault (inr is) = rw is (inl refl)
 

@@ -1,5 +1,6 @@
 -- What a call answers for a text: its status, and what it found. Clauses of public calls stand on it.
 use Rattle.std.specs.Prelude.{◌≡◌, ◌⊎◌, ℕ, ◌*◌, pos, List, length, min, nat_lt, if◌then◌else◌, Option, Some, None}
+use Rattle.px_num.specs.Want.{want}
 use Rattle.px_show.specs.declared.fault.LimitKind.TheVariants as kind
 use Rattle.px_show.specs.Judged.{SceneFault}
 use Rattle.px_show.specs.declared.fault.TextFault.TheVariants as f
@@ -44,13 +45,13 @@ cost_found scene = record (scene_found scene) { operations = length (passes scen
 abbrev pub refused : SceneFault → Answer
 refused (f.Malformed line cause) = record { status = MALFORMED; found = record nothing { line = line; cause = cause_number cause } }
 refused (f.Limit line limit found) = record { status = LIMIT; found = record nothing { line = line; kind = kind_number limit; number = found } }
-refused f.Memory = record { status = MEMORY; found = nothing }
+refused (f.Memory _) = record { status = MEMORY; found = nothing }
 
 -- a refusal of the array as one of the text: a limit of no one line
 abbrev pub scene_fault : JobFault → SceneFault
 scene_fault (job.PixelMemory need) = f.Limit 0 kind.PixelMemory (pos need)
 scene_fault (job.Products count) = f.Limit 0 kind.Products (pos count)
-scene_fault job.Memory = f.Memory
+scene_fault (job.Memory m) = f.Memory m
 
 abbrev pub by_job : Option JobFault → Option SceneFault
 by_job None = None
@@ -104,7 +105,7 @@ products_answer text room = unless_refused (refusal_of text) (listed_answer room
 
 -- a call answers this, or want of memory, with which it found nothing
 abbrev pub Answers : Answer → Answer → Type 0
-Answers due answer = (answer ≡ due) ⊎ (answer ≡ refused f.Memory)
+Answers due answer = (answer ≡ due) ⊎ (answer ≡ refused (f.Memory want))
 
 -- the status that a call returns, and what it wrote down as found, are such an answer
 abbrev pub Tells : Answer → (status : ℕ) → Found → Type 0

@@ -20,7 +20,7 @@ use Rattle.px_c.specs.declared.status.TheConstants.{BITS, LIMIT, MALFORMED, NO_C
 abbrev pub list_refused : ListFault → Answer
 list_refused (text_fault.Malformed line cause) = record { status = MALFORMED; found = record nothing { line = line; cause = cause_number cause } }
 list_refused (text_fault.Limit line limit found) = record { status = LIMIT; found = record nothing { line = line; kind = list_number limit; number = found } }
-list_refused text_fault.Memory = refused text_fault.Memory
+list_refused (text_fault.Memory m) = refused (text_fault.Memory m)
 
 -- why there is no state, or there are no micros: the text, its clocks, or too little room
 abbrev pub state_refused : StateFault → Answer
@@ -29,7 +29,7 @@ state_refused (f.Job fault) = refused (scene_fault fault)
 state_refused (f.Listing fault) = list_refused fault
 state_refused (f.NoClock clocks) = record { status = NO_CLOCK; found = record nothing { clocks = clocks } }
 state_refused (f.NoRoom room) = record { status = NO_ROOM; found = record nothing { room = room } }
-state_refused f.Memory = refused text_fault.Memory
+state_refused (f.Memory m) = refused (text_fault.Memory m)
 
 -- what a text broadcasts is found, where nothing is refused
 abbrev pub unless_faulty : Option StateFault → ListingView → Answer

@@ -53,7 +53,7 @@ pub(crate) fn refused(fault: SceneFault) -> Answer
                 ..nothing()
             },
         },
-        SceneFault::Memory => Answer {
+        SceneFault::Memory(_) => Answer {
             status: MEMORY,
             found: nothing(),
         },
@@ -76,7 +76,7 @@ pub(crate) fn scene_fault(fault: JobFault) -> SceneFault
             kind: LimitKind::Products,
             found: count as i64,
         },
-        JobFault::Memory => SceneFault::Memory,
+        JobFault::Memory(lack) => SceneFault::Memory(lack),
     }
 }
 
@@ -102,7 +102,7 @@ pub(crate) fn list_refused(fault: ListFault) -> Answer
                 ..nothing()
             },
         },
-        ListFault::Memory => refused(SceneFault::Memory),
+        ListFault::Memory(lack) => refused(SceneFault::Memory(lack)),
     }
 }
 
@@ -127,6 +127,6 @@ pub(crate) fn state_refused(fault: StateFault) -> Answer
             status: NO_ROOM,
             found: Found { room, ..nothing() },
         },
-        StateFault::Memory => refused(SceneFault::Memory),
+        StateFault::Memory(lack) => refused(SceneFault::Memory(lack)),
     }
 }

@@ -1,5 +1,6 @@
 //! `pxplanes_check`: what a text asks, before anything is drawn.
 ghost use Rattle.std.specs.Prelude.{◌≡◌, ◌⊎◌, IfErr, IfOk, None, Some};
+ghost use Rattle.px_num.specs.Want.{want};
 ghost use Rattle.px_show.specs.declared.fault.TextFault.TheVariants as TextFault;
 ghost use Rattle.px_c.specs.Answers.{Answers, Tells, check_answer, cost_found, drawn_answer, refused, undrawn};
 ghost use Rattle.px_c.specs.declared.status.TheConstants.{OK};
@@ -45,7 +46,7 @@ fn check_scene(alloc: Global, scene: &Scene) -> Answer
 /// What is found of a scene that can be drawn, with what its passes cost.
 pub(crate) fn found_in(alloc: Global, scene: &Scene) -> Result<Found, SceneFault>
     ensures ok { IfOk result (λ found. (undrawn scene.now ≡ None) × (found ≡ cost_found scene.now)) }
-    ensures err { IfErr result (λ fault. (fault ≡ TextFault.Memory) ⊎ (undrawn scene.now ≡ Some fault)) }
+    ensures err { IfErr result (λ fault. (fault ≡ TextFault.Memory want) ⊎ (undrawn scene.now ≡ Some fault)) }
 {
     let layout = match Layout::of(scene, BITS as u32) {
         Ok(layout) => layout,

@@ -13,9 +13,10 @@ use crate::found::{Found, scene_found};
 use crate::status::{NO_ROOM, OK};
 use px_control::JobFault;
 use px_normal::Product;
+use px_num::Memory;
 use px_prune::plan_of;
 use px_scene::{Scene, SceneFault, read_scene};
-use std::alloc::{AllocError, Global};
+use std::alloc::Global;
 
 /// Lists the products that can show anything, as the command `plan` does: for each the number of each
 /// plain solid, counted from 1, then the numbers of the barred ones, below 0, then a 0.
@@ -60,8 +61,9 @@ fn products_of(alloc: Global, scene: &Scene, literals: &mut [i32]) -> Answer
         Ok(plan) => plan,
         Err(fault) => return refused(scene_fault(JobFault::from(fault))),
     };
-    let Ok(all) = all_literals(alloc, plan.products.as_slice()) else {
-        return refused(SceneFault::Memory);
+    let all = match all_literals(alloc, plan.products.as_slice()) {
+        Ok(all) => all,
+        Err(lack) => return refused(SceneFault::Memory(lack)),
     };
     let found = scene_found(scene);
     if literals.len() < all.len() {
@@ -78,7 +80,7 @@ fn products_of(alloc: Global, scene: &Scene, literals: &mut [i32]) -> Answer
 }
 
 /// The literals of each product, and a 0 behind them.
-fn all_literals(alloc: Global, products: &[Product]) -> Result<Vec<i32>, AllocError>
+fn all_literals(alloc: Global, products: &[Product]) -> Result<Vec<i32>, Memory>
     ensures { IfOk result (λ all. all.items ≡ all_literals products.now) }
 {
     let mut all = Vec::new(alloc);
@@ -88,7 +90,7 @@ fn all_literals(alloc: Global, products: &[Product]) -> Result<Vec<i32>, AllocEr
     Ok(all)
 }
 
-fn push_product(all: &mut Vec<i32>, product: &Product) -> Result<(), AllocError>
+fn push_product(all: &mut Vec<i32>, product: &Product) -> Result<(), Memory>
     ensures { OnOk result (all.new.items ≡ all.old.items ++ literals_of product.now) }
 {
     push_plain(all, product.plain.solids().as_slice())?;
@@ -97,7 +99,7 @@ fn push_product(all: &mut Vec<i32>, product: &Product) -> Result<(), AllocError>
     Ok(())
 }
 
-fn push_plain(all: &mut Vec<i32>, solids: &[u8]) -> Result<(), AllocError>
+fn push_plain(all: &mut Vec<i32>, solids: &[u8]) -> Result<(), Memory>
     ensures { OnOk result (all.new.items ≡ all.old.items ++ map plain_literal solids.now) }
 {
     for solid in solids {
@@ -106,7 +108,7 @@ fn push_plain(all: &mut Vec<i32>, solids: &[u8]) -> Result<(), AllocError>
     Ok(())
 }
 
-fn push_barred(all: &mut Vec<i32>, solids: &[u8]) -> Result<(), AllocError>
+fn push_barred(all: &mut Vec<i32>, solids: &[u8]) -> Result<(), Memory>
     ensures { OnOk result (all.new.items ≡ all.old.items ++ map barred_literal solids.now) }
 {
     for solid in solids {

@@ -18,7 +18,7 @@ use px_planes::PlaneArray;
 use px_state::{packed, row_words, write_state};
 use std::alloc::Global;
 
-/// Where the machine stands (include/pxplanes.h, `struct pxplanes_state`).
+/// Where the machine stands (include/pxplanes.h, `struct pxplanes_moment`).
 #[repr(C)]
 #[derive(Clone, Copy, Debug, PartialEq, Eq)]
 pub struct State {

@@ -6,4 +6,4 @@ use Rattle.px_control.specs.declared.fault.JobFault.TheVariants as job
 
 abbrev pub job_fault : NormalFault → JobFault
 job_fault (normal.TooMany count) = job.Products count
-job_fault normal.Memory = job.Memory
+job_fault (normal.Memory m) = job.Memory m

@@ -33,4 +33,4 @@ pub record JobView : Type 0 where
 abbrev pub LeavesOnRefusal : JobFault → (before now : ArrayView) → Type 0
 LeavesOnRefusal (PixelMemory need) before now = now ≡ before
 LeavesOnRefusal (Products count) before now = now ≡ before
-LeavesOnRefusal Memory before now = (now ≡ before) ⊎ (now ≡ none_open)
+LeavesOnRefusal (Memory _) before now = (now ≡ before) ⊎ (now ≡ none_open)

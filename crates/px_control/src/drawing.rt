@@ -1,5 +1,6 @@
 //! What drawing a scene takes: the memory bits of a pixel, and the products that are drawn.
 ghost use Rattle.std.specs.Prelude.{◌≡◌, ◌^◌, ◌<◌, ◌≤◌, ℕ, nat_lt, Err, IfErr, IfOk, None, OnOk, Some, length};
+ghost use Rattle.px_num.specs.Want.{want};
 ghost use Rattle.px_prune.specs.Kept.{crowd_of, plan_of};
 ghost use Rattle.px_sched.specs.Layouts.{layout_of, need_of};
 ghost use Rattle.px_control.specs.Program.{CanRun};
@@ -29,7 +30,7 @@ pub fn drawing_of(alloc: Global, scene: &Scene, bits: u32) -> Result<(Layout, Pl
         (need_of (layout_of scene.now) ≤ bits)
         × (crowd_of scene.now ≡ Some count) × (count ≤ 2 ^ 21) }
     ensures memory { need_of (layout_of scene.now) ≤ bits → crowd_of scene.now ≡ None →
-        IfErr result (λ fault. fault ≡ JobFault.Memory) }
+        IfErr result (λ fault. fault ≡ JobFault.Memory want) }
 {
     laws_of_scenes(scene);
     let layout = match Layout::of(scene, bits) {

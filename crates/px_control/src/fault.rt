@@ -1,9 +1,10 @@
 //! Why a scene cannot be run on an array.
 use px_normal::NormalFault;
+use px_num::Memory;
 use thiserror::Error;
 
 /// Why a scene cannot be run on an array.
-#[derive(Clone, Copy, Debug, PartialEq, Eq, Error)]
+#[derive(Debug, Drop, PartialEq, Eq, Error)]
 pub enum JobFault {
     /// The passes need more memory bits than a pixel of the array has.
     #[error("{need} memory bits a pixel")]
@@ -19,7 +20,7 @@ pub enum JobFault {
     },
     /// Memory was wanted and not given.
     #[error("out of memory")]
-    Memory,
+    Memory(Memory),
 }
 
 impl From<NormalFault> for JobFault {
@@ -31,7 +32,7 @@ impl From<NormalFault> for JobFault {
     fn from(cause: NormalFault) -> Self {
         match cause {
             NormalFault::TooMany { count } => JobFault::Products { count },
-            NormalFault::Memory => JobFault::Memory,
+            NormalFault::Memory(lack) => JobFault::Memory(lack),
         }
     }
 }

@@ -1,5 +1,6 @@
 //! A scene's broadcasts, made on an array.
 ghost use Rattle.std.specs.Prelude.{◌≡◌, [], ◌∷◌, ◌+◌, ◌-◌, ◌^◌, ◌<◌, ◌≤◌, ℕ, Err, IfErr, IfOk, OnOk, Some, length, min, slice_get, None};
+ghost use Rattle.px_num.specs.Want.{want};
 ghost use Rattle.px_array.specs.Arrays.{pixel_of};
 ghost use Rattle.px_array.specs.Slots.{IsRunOnce, array_view, no_slots, worked};
 ghost use Rattle.px_prune.specs.Kept.{crowd_of};
@@ -80,7 +81,7 @@ impl<'s> Job<'s> {
             (need_of (layout_of scene.now) ≤ A.BITS)
             × (crowd_of scene.now ≡ Some count) × (count ≤ 2 ^ 21) }
         ensures memory { need_of (layout_of scene.now) ≤ A.BITS → crowd_of scene.now ≡ None →
-            IfErr result (λ fault. fault ≡ JobFault.Memory) }
+            IfErr result (λ fault. fault ≡ JobFault.Memory want) }
         ensures array { IfErr result (λ fault. LeavesOnRefusal fault
             (array_view (A.device array.old) (A.slots array.old) (A.work array.old))
             (array_view (A.device array.new) (A.slots array.new) (A.work array.new))) }
@@ -88,9 +89,10 @@ impl<'s> Job<'s> {
         let program = Program::new(alloc, scene, memory_bits::<A>(scene))?;
         program.laws();
         let (columns, rows) = program.grid();
-        let Ok(()) = array.open(columns, rows) else {
-            return Err(JobFault::Memory);
-        };
+        match array.open(columns, rows) {
+            Ok(()) => {}
+            Err(lack) => return Err(JobFault::Memory(lack)),
+        }
         let (operations, clocks) = program.cost();
         let place = program.first();
         Ok(Job {

@@ -1,5 +1,6 @@
 //! The program of a scene, given one operation at a time.
 ghost use Rattle.std.specs.Prelude.{◌≡◌, ◌∷◌, ◌+◌, ◌-◌, ◌^◌, ◌<◌, ◌≤◌, ℕ, Err, IfErr, IfNone, IfOk, OnOk, OnSome, Some, None, length, slice_get};
+ghost use Rattle.px_num.specs.Want.{want};
 ghost use Rattle.px_sched.specs.Cursors.{Stands};
 ghost use Rattle.px_asm.specs.Micros.{micro_at as micro_of};
 ghost use Rattle.px_array.specs.Slots.{worked};
@@ -68,7 +69,7 @@ impl<'s> Program<'s> {
             (need_of (layout_of scene.now) ≤ bits)
             × (crowd_of scene.now ≡ Some count) × (count ≤ 2 ^ 21) }
         ensures memory { need_of (layout_of scene.now) ≤ bits → crowd_of scene.now ≡ None →
-            IfErr result (λ fault. fault ≡ JobFault.Memory) }
+            IfErr result (λ fault. fault ≡ JobFault.Memory want) }
     {
         let (layout, plan) = drawing_of(alloc, scene, bits)?;
         let (columns, rows) = scene.grid();

@@ -85,9 +85,7 @@ impl<'s> Session<'s> {
         ensures err { OnErr result (A.slots array.new ≡ A.slots array.old) }
         ensures work { A.work array.new ≡ A.work array.old }
     {
-        let Ok(trace) = HeapCircularBuffer::with_capacity(alloc, 32) else {
-            return Err(Memory);
-        };
+        let trace = HeapCircularBuffer::with_capacity(alloc, 32)?;
         let _now = job.now();
         law_of_grids();
         array.save(0);

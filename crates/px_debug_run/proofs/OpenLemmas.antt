@@ -4,6 +4,7 @@ use Rattle.std.proofs.Common.{true, false, Option, Some, None, Result, Ok, Err, 
 use Rattle.std.proofs.Common.{append-nil, if◌then◌else◌, length-append, nat_lt}
 use Rattle.std.proofs.Math.Seq.{drop-length}
 use Rattle.std.specs.Io.KnownBytes.{Appends, Consumes, IsAtEnd, Keeps}
+use Rattle.px_num.specs.Want.{want}
 use Rattle.px_io.specs.Told.{ConsumesAtMost, SinkState, TakesNone}
 use Rattle.px_io.proofs.ToldLaws.{appends_kept, appends_none}
 use Rattle.px_prune.specs.Kept.{crowd_of}
@@ -61,9 +62,9 @@ refused_by (r.Limit line kind found) bits taken before after ext consumed idle i
 -- want of memory
 no_memory : (bits : ℕ) (taken : List ℕ) (before after : Ends) → Consumes before.rest after.rest taken
     → TakesNone before.out after.out → LeavesAtMemory bits taken before.array after.array
-    → PerformsSession (Err s.Memory) bits before after
+    → PerformsSession (Err (s.Memory want)) bits before after
 no_memory bits taken before after consumed idle kept =
-    performs_debug (Err s.Memory) bits before after taken consumed (extends before.rest after.rest taken consumed) tt
+    performs_debug (Err (s.Memory want)) bits before after taken consumed (extends before.rest after.rest taken consumed) tt
     (idle, kept)
 
 pub no_part : (bytes : List ℕ) → part_end (within_limit bytes) ≡ None → has_part bytes ≡ true → ⊥
@@ -80,7 +81,7 @@ performs_open result bits stop before after is why most idle = rw is (by_stop st
     by_stop s.ReadFault (taken, consumed, few, none) =
         performs_debug (Err s.ReadFault) bits before after taken consumed (extends before.rest after.rest taken consumed) tt
         (record { whole = λ part. absurd (no_part taken none part); other = λ part. idle })
-    by_stop s.Memory why = no_memory bits most.0 before after most.1 idle.out (inl idle.array)
+    by_stop (s.Memory _) why = no_memory bits most.0 before after most.1 idle.out (inl idle.array)
     by_stop s.Usage why = absurd why
     by_stop (s.Refused reason) why = absurd why
     by_stop s.WriteFault why = absurd why
@@ -151,7 +152,7 @@ performs_part laws result bits stop o before after is opens part idle = rw is (b
     by_stop (s.Refused reason) (inr (none, full, long)) =
         refused_by reason bits o.text.items before after ext opens.taken idle
         (rw (ext.whole, long) (refused_long o.text.items ext.more bits (sym opens.part ∙ none) full))
-    by_stop s.Memory part = no_memory bits o.text.items before after opens.taken idle.out (inl idle.array)
+    by_stop (s.Memory _) part = no_memory bits o.text.items before after opens.taken idle.out (inl idle.array)
     by_stop s.Usage part = absurd part
     by_stop s.ReadFault part = absurd part
     by_stop s.WriteFault part = absurd part
@@ -207,7 +208,7 @@ performs_closed laws result bits stop o scene before after is opens on stops lea
     by_stop (s.Refused (r.Limit line kind found)) stops same =
         refused_by (r.Limit line kind found) bits o.text.items before after ext opens.taken
         (record { out = idle; array = same }) (refusal_is (r.Limit line kind found) stops)
-    by_stop s.Memory stops kept = no_memory bits o.text.items before after opens.taken idle
+    by_stop (s.Memory _) stops kept = no_memory bits o.text.items before after opens.taken idle
         (inr (on.good, subst (λ s. IsKeptOrOpened bits s before.array after.array) on.scene kept))
     by_stop s.Usage stops leaves = absurd stops.scene
     by_stop s.ReadFault stops leaves = absurd stops.scene
@@ -287,7 +288,7 @@ performs_empty laws result bits o scene before after opens on none draws fits no
     by_result (Err s.Usage) end = absurd end
     by_result (Err (s.Refused reason)) end = absurd end
     by_result (Err s.ReadFault) end = absurd end
-    by_result (Err s.Memory) end = absurd end
+    by_result (Err (s.Memory _)) end = absurd end
 
 -- a piece that reads nothing, behind reads that left the count of faults
 pub causes_behind : (result : Result (Unit {0}) Stop) (m n k l : ℕ) → n ≡ m → ((i : ℕ) → HasCauses result i i k l)

@@ -10,4 +10,4 @@ use Rattle.px_outcome.specs.Stops.{read_stop}
 pub open_stops : (fault : ReadError) (old new : Option (List ℕ)) → (fault ≡ read.Failed → TookNoPart old new READ_LIMIT)
     → IsOpenStop (read_stop fault) old new
 open_stops read.Failed old new failed = failed refl
-open_stops read.Memory old new failed = tt
+open_stops (read.Memory _) old new failed = tt

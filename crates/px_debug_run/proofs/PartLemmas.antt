@@ -52,7 +52,7 @@ stop_is r o part is short err = if_err_by r err (λ stop bad. by_stop stop bad)
   where
     by_stop : (stop : Stop) → IsTextStop stop part → IsPartStop stop o
     by_stop (s.Refused reason) bad = inl (rw is bad, short)
-    by_stop s.Memory bad = tt
+    by_stop (s.Memory _) bad = tt
     by_stop s.Usage bad = absurd bad
     by_stop s.ReadFault bad = absurd bad
     by_stop s.WriteFault bad = absurd bad

@@ -1,6 +1,7 @@
 -- What `debug` answers and leaves: a session over the bytes of an input. Clauses of public calls stand on it.
 use Rattle.std.specs.Prelude.{◌≡◌, ◌⊎◌, ℕ, ◌-◌, ◌≤◌, List, [], Bool, true, false, ◌&&◌, not, if◌then◌else◌, length}
 use Rattle.std.specs.Prelude.{take, None, Result, Ok, Err}
+use Rattle.px_num.specs.Want.{want}
 use Rattle.px_io.specs.Told.{TakesFirst, TakesNone}
 use Rattle.px_text.specs.declared.text.TheConstants.{MAX_TEXT_BYTES}
 use Rattle.px_array.specs.Slots.{ArrayView, IsRunOnce, none_open}
@@ -137,7 +138,7 @@ LeavesSession (Err (s.Refused (r.Limit line kind found))) bits input before afte
     LeavesAtLimit (debugged input.bytes bits) bits input.bytes before after
 LeavesSession (Err s.ReadFault) bits input before after = LeavesAtReadFault bits input.taken before after
 LeavesSession (Err s.WriteFault) bits input before after = IsBrokenOff bits input.taken before after
-LeavesSession (Err s.Memory) bits input before after =
+LeavesSession (Err (s.Memory _)) bits input before after =
     TakesNone before.out after.out × LeavesAtMemory bits input.taken before.array after.array
 LeavesSession (Err stop) bits input before after = IsUntouched before after
 

@@ -30,7 +30,7 @@ pub record Opens (o : Opening) (known_old known_new : Option (List ℕ)) : Type 
 -- why it was not
 abbrev pub IsOpenStop : Stop → (known_old known_new : Option (List ℕ)) → Type 0
 IsOpenStop s.ReadFault known_old known_new = TookNoPart known_old known_new READ_LIMIT
-IsOpenStop s.Memory known_old known_new = ⊤
+IsOpenStop (s.Memory _) known_old known_new = ⊤
 IsOpenStop stop known_old known_new = ⊥
 
 -- its scene part is a scene's
@@ -47,12 +47,12 @@ IsPartRefusal o reason =
 
 abbrev pub IsPartStop : Stop → (o : Opening) → Type 0
 IsPartStop (s.Refused reason) o = IsPartRefusal o reason
-IsPartStop s.Memory o = ⊤
+IsPartStop (s.Memory _) o = ⊤
 IsPartStop stop o = ⊥
 
 -- what is left of the array where no session began
 abbrev pub LeavesClosed : Status → (bits : ℕ) → SceneView → (before now : ArrayView) → Type 0
-LeavesClosed status.Memory bits scene before now = IsKeptOrOpened bits scene before now
+LeavesClosed (status.Memory _) bits scene before now = IsKeptOrOpened bits scene before now
 LeavesClosed found bits scene before now = now ≡ before
 
 -- the result of a session that ended so

@@ -118,7 +118,7 @@ fn open_session<'s, A: Array>(
     let job = open_job(alloc, scene, array)?;
     match Session::new(alloc, job, array) {
         Ok(session) => Ok(session),
-        Err(_) => Err(Stop::Memory),
+        Err(lack) => Err(Stop::Memory(lack)),
     }
 }
 

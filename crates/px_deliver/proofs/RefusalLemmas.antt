@@ -1,6 +1,7 @@
 -- Why an array cannot draw a scene, by the answers of `Job::open`.
 use Rattle.std.proofs.Common.{ℕ, ◌≡◌, ◌⊎◌, ◌<◌, ◌≤◌, ◌^◌, inl, inr, true, false, Some, None, refl, arith, nat_lt}
 use Rattle.std.proofs.lemmas.Bool.Decides.{nat_tests}
+use Rattle.px_num.specs.Want.{want}
 use Rattle.px_model.specs.Scenes.{SceneView}
 use Rattle.px_prune.specs.Kept.{crowd_of}
 use Rattle.px_sched.specs.Layouts.{layout_of, need_of}
@@ -19,7 +20,7 @@ pub refuses : (fault : JobFault) (bits : ℕ) (scene : SceneView)
     → (bits < need_of (layout_of scene)) × (need ≡ need_of (layout_of scene)))
     → ((count : ℕ) → fault ≡ job.Products count
     → (need_of (layout_of scene) ≤ bits) × (crowd_of scene ≡ Some count) × (count ≤ 2 ^ 21))
-    → (fault ≡ job.Memory) ⊎ (job_refusal bits scene ≡ Some fault)
+    → (fault ≡ job.Memory want) ⊎ (job_refusal bits scene ≡ Some fault)
 refuses (job.PixelMemory need) bits scene short many =
     let is = short need refl in
     let less = is.0 in
@@ -30,4 +31,4 @@ refuses (job.Products count) bits scene short many =
     let enough = is.0 in
     let test : nat_lt bits (need_of (layout_of scene)) ≡ false = grind (arith, nat_tests) in
     inr (rw (test, is.1) refl)
-refuses job.Memory bits scene short many = inl refl
+refuses (job.Memory _) bits scene short many = inl refl

@@ -1,5 +1,6 @@
 //! Opening an array for a scene, with why it cannot.
 ghost use Rattle.std.specs.Prelude.{◌≡◌, ◌⊎◌, ◌≤◌, ◌^◌, ℕ, Err, IfErr, IfOk, None, OnOk, Some};
+ghost use Rattle.px_num.specs.Want.{want};
 ghost use Rattle.px_array.specs.Slots.{IsRunOnce, array_view, no_slots};
 ghost use Rattle.px_control.specs.Program.{IsAt};
 ghost use Rattle.px_control.specs.Standing.{LeavesOnRefusal};
@@ -19,7 +20,7 @@ pub fn open_job<'s, A: Array>(
     array: &mut A,
 ) -> Result<Job<'s>, JobFault>
     ensures ok { OnOk result (job_refusal A.BITS scene.now ≡ None) }
-    ensures err { IfErr result (λ fault. (fault ≡ JobFault.Memory)
+    ensures err { IfErr result (λ fault. (fault ≡ JobFault.Memory want)
         ⊎ (job_refusal A.BITS scene.now ≡ Some fault)) }
     ensures small { (count : ℕ) → result ≡ Err (JobFault.Products count) → count ≤ 2 ^ 21 }
     ensures job { IfOk result (λ job. (job.scene ≡ scene.now) × (job.place.clock ≡ 0)) }

@@ -1,6 +1,7 @@
 -- The text of a scene's passes, played.
 use Rattle.std.proofs.Common.{ℕ, ◌≡◌, ◌≢◌, ◌≤◌, List, length, Bool, true, false, nat_lt, if◌then◌else◌, Option, Some}
 use Rattle.std.proofs.Common.{None, refl, ap, subst, sym, ◌∙◌, All}
+use Rattle.px_num.specs.Want.{want}
 use Rattle.px_macro.specs.Macros.{IsLawful, IsLawfulInMore}
 use Rattle.px_num.proofs.TruthLaws.{lt_fails}
 use Rattle.px_text.specs.declared.text.TheConstants.{MAX_TEXT_BYTES}
@@ -96,11 +97,11 @@ not_refused_by : (reason : Option Refusal) (lines answer : List ℕ) → unless_
 not_refused_by None lines answer is = (refl, cc)
 not_refused_by (Some reason) lines answer is = cc
 
-no_refusal : (refusal : Option ListFault) → refusal ≢ Some f.Memory → list_refusal_by refusal ≡ None → refusal ≡ None
+no_refusal : (refusal : Option ListFault) → refusal ≢ Some (f.Memory want) → list_refusal_by refusal ≡ None → refusal ≡ None
 no_refusal None other none = refl
 no_refusal (Some (f.Malformed line cause)) other none = cc
 no_refusal (Some (f.Limit line kind found)) other none = cc
-no_refusal (Some f.Memory) other none = absurd (other refl)
+no_refusal (Some (f.Memory _)) other none = absurd (other refl)
 
 short_of : (long : Bool) (reason : Option Refusal) (past : Refusal) → (if long then Some past else reason) ≡ None
     → reason ≡ None

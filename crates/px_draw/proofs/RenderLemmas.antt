@@ -1,6 +1,7 @@
 -- What `render` is to write for a text, from what a run is to answer.
 use Rattle.std.proofs.Common.{ℕ, ◌≡◌, ◌++◌, List, [], Bool, true, false, Option, Some, None, refl, ap, length, pos}
 use Rattle.std.proofs.Common.{◌+◌, append-nil, nat_lt, if◌then◌else◌}
+use Rattle.px_num.specs.Want.{want}
 use Rattle.px_model.specs.Scenes.{SceneView}
 use Rattle.px_model.specs.Cells.{picture}
 use Rattle.px_control.specs.declared.fault.JobFault.TheVariants as f
@@ -61,12 +62,12 @@ accepted_is_rendered lawful seen text bits good fits =
     )
 
 -- a text is never refused for want of memory
-never_memory : (text : List ℕ) → refusal_of text ≡ Some s.Memory → ⊥
+never_memory : (text : List ℕ) → refusal_of text ≡ Some (s.Memory want) → ⊥
 never_memory text = by_length (nat_lt MAX_TEXT_BYTES (length text)) where
   by_length : (long : Bool)
       → (if long then Some (s.Limit 0 kind.Text (pos (MAX_TEXT_BYTES + 1)))
       else refused (first_bad fault_behind [] (worded text)) (is_nothing (draft_of (worded text)).due) (length (lines_of text)))
-      ≡ Some s.Memory → ⊥
+      ≡ Some (s.Memory want) → ⊥
   by_length true e = absurd cc
   by_length false e =
       not_memory (first_bad fault_behind [] (worded text)) (is_nothing (draft_of (worded text)).due) (length (lines_of text)) e
@@ -82,4 +83,4 @@ rendered_is_accepted text bits maps e = by_refusal (refusal_of text) refl e wher
   by_refusal None same out = (same, drawn_back bits scene (maps_of scene) maps out)
   by_refusal (Some (s.Malformed line cause)) same out = absurd cc
   by_refusal (Some (s.Limit line kind found)) same out = absurd cc
-  by_refusal (Some s.Memory) same out = absurd (never_memory text same)
+  by_refusal (Some (s.Memory _)) same out = absurd (never_memory text same)

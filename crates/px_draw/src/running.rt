@@ -60,7 +60,7 @@ pub fn run<S: Asks<O>, O: Sink, E: Sink, A: Operating>(
     match perform(alloc, words, input, out, array) {
         Ok(()) => Status::Done,
         Err(stop) => {
-            tell(line_of(stop).as_bytes(), notes);
+            tell(line_of(&stop).as_bytes(), notes);
             stop.status()
         }
     }

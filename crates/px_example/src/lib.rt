@@ -26,7 +26,7 @@ const ROOM: usize = 2 * (32 + 3 * 512 * 512);
 const BITS: usize = 72;
 
 /// Why a text has no picture.
-#[derive(Clone, Copy, Debug, PartialEq, Eq)]
+#[derive(Debug, Drop, PartialEq, Eq)]
 pub enum NotDrawn {
     /// The text is no scene: the first bad line, and its cause or the limit that it passes.
     Text(SceneFault),
@@ -52,7 +52,7 @@ pub fn picture_of(alloc: Global, text: &[u8]) -> Result<MemSink, NotDrawn>
     let mut array = PlaneArray::<BITS>::new(alloc);
     let mut job = match open_job(alloc, &scene, &mut array) {
         Ok(job) => job,
-        Err(JobFault::Memory) => return Err(NotDrawn::Unfinished),
+        Err(JobFault::Memory(_)) => return Err(NotDrawn::Unfinished),
         Err(fault) => return Err(NotDrawn::Array(fault)),
     };
     match deliver(&mut job, &scene, &mut array, &mut maps) {
@@ -70,7 +70,7 @@ fn scene_in(alloc: Global, text: &[u8]) -> Result<Scene, NotDrawn>
 {
     match read_scene(alloc, text) {
         Ok(scene) => Ok(scene),
-        Err(SceneFault::Memory) => Err(NotDrawn::Unfinished),
+        Err(SceneFault::Memory(_)) => Err(NotDrawn::Unfinished),
         Err(fault) => Err(NotDrawn::Text(fault)),
     }
 }

@@ -1,5 +1,6 @@
 //! Building an expression from its leaves up.
 ghost use Rattle.std.specs.Prelude.{◌≡◌, ◌<◌, ◌≤◌, ◌+◌, ◌-◌, ◌*◌, ◌∷◌, ◌++◌, [], length, take, vec_len, vec_capacity, OnOk, OnErr, IfErr};
+ghost use Rattle.px_num.specs.Want.{want};
 ghost use Rattle.px_expr.specs.Tree.{leaf, join, nesting};
 ghost use Rattle.px_expr.specs.Shapes.{joined};
 ghost use Rattle.px_expr.specs.Waiting.{newest, all_leaves};
@@ -67,7 +68,7 @@ impl ExprBuilder {
         ensures full { MAX_LEAVES ≤ all_leaves self.old →
             result ≡ Err (ExprFault.Leaves (MAX_LEAVES + 1)) }
         ensures memory { all_leaves self.old < MAX_LEAVES →
-            IfErr result (λ fault. fault ≡ ExprFault.Memory) }
+            IfErr result (λ fault. fault ≡ ExprFault.Memory want) }
     {
         if self.leaves() == MAX_LEAVES {
             return Err(ExprFault::Leaves {
@@ -88,7 +89,7 @@ impl ExprBuilder {
         ensures deep { MAX_NESTING < nesting (newest (joined join op self.old)) →
             result ≡ Err (ExprFault.Nesting (MAX_NESTING + 1)) }
         ensures memory { nesting (newest (joined join op self.old)) ≤ MAX_NESTING →
-            IfErr result (λ fault. fault ≡ ExprFault.Memory) }
+            IfErr result (λ fault. fault ≡ ExprFault.Memory want) }
     {
         let nesting = self.joined_nesting();
         if nesting > MAX_NESTING {

@@ -1,19 +1,21 @@
 //! Reading a source to its end.
 ghost use Rattle.std.specs.Prelude.{◌≡◌, ◌≤◌, ◌<◌, ◌+◌, ℕ, List, Option, length, OnOk, OnErr, IfOk, IsErrOf, vec_len};
 ghost use Rattle.std.specs.Io.KnownBytes.{Consumes, IsAtEnd};
+ghost use Rattle.px_num.specs.Want.{want};
 ghost use Rattle.px_io.specs.Counts.{Rose};
 ghost use Rattle.px_io.specs.Told.{ConsumesAtMost, IsFrontOf};
 
 use crate::{Failed, Source};
+use px_num::Memory;
 use std::alloc::{AllocError, Global};
 
 /// Why a source was not read to its end.
-#[derive(Clone, Copy, Debug, PartialEq, Eq)]
+#[derive(Debug, Drop, PartialEq, Eq)]
 pub enum ReadError {
     /// A read failed.
     Failed,
     /// Memory was wanted for the bytes and not given.
-    Memory,
+    Memory(Memory),
 }
 
 impl From<Failed> for ReadError {
@@ -30,11 +32,12 @@ impl From<Failed> for ReadError {
 impl From<AllocError> for ReadError {
     ghost use Rattle.std.specs.Prelude.{◌≡◌};
     ghost use Rattle.px_io.specs.declared.reading.ReadError.TheVariants.{Memory};
+    ghost use Rattle.px_num.specs.Want.{want};
 
-    ghost from_gives = { λ _ error. error ≡ Memory };
+    ghost from_gives = { λ _ error. error ≡ Memory want };
 
-    fn from(_: AllocError) -> Self {
-        ReadError::Memory
+    fn from(refused: AllocError) -> Self {
+        ReadError::Memory(Memory::from(refused))
     }
 }
 
@@ -54,7 +57,7 @@ pub fn read_whole<S: Source>(
     ensures failed { IsErrOf result ReadError.Failed →
         Rose (S.faults input.old) (S.faults input.new) }
     ensures calm { OnOk result (S.faults input.new ≡ S.faults input.old) }
-    ensures memory { IsErrOf result ReadError.Memory → S.faults input.new ≡ S.faults input.old }
+    ensures memory { IsErrOf result (ReadError.Memory want) → S.faults input.new ≡ S.faults input.old }
 {
     let mut bytes = Vec::new(alloc);
     let mut piece = [0; 4096];
@@ -86,7 +89,7 @@ fn read_piece<S: Source>(
     ensures failed { IsErrOf result ReadError.Failed →
         Rose (S.faults input.old) (S.faults input.new) }
     ensures calm { OnOk result (S.faults input.new ≡ S.faults input.old) }
-    ensures memory { IsErrOf result ReadError.Memory → S.faults input.new ≡ S.faults input.old }
+    ensures memory { IsErrOf result (ReadError.Memory want) → S.faults input.new ≡ S.faults input.old }
 {
     let count = input.read(piece)?;
     bytes.extend_from_slice(&piece[..count])?;

@@ -2,7 +2,8 @@
 ghost use Rattle.std.specs.Prelude.{◌<◌, Some};
 
 use px_io::{Failed, MemSource, ReadError, Source, read_whole};
-use std::alloc::{AllocError, Global};
+use px_num::Memory;
+use std::alloc::Global;
 use std::test::Fail;
 
 /// A source that keeps how much a read asked for at most, and how many reads came behind the one
@@ -62,7 +63,7 @@ fn watched_read(
     length: usize,
     piece: usize,
     failing: u64,
-) -> Result<(Result<usize, ReadError>, usize, u64), AllocError>
+) -> Result<(Result<usize, ReadError>, usize, u64), Memory>
     requires { 0 < piece }
 {
     let bytes = vec![in alloc; b'a'; length]?;

@@ -1,6 +1,7 @@
 //! Reading an input until its scene part is whole.
 ghost use Rattle.std.specs.Prelude.{◌≡◌, ◌+◌, ◌-◌, ◌<◌, ◌≤◌, Option, None, length, take, OnOk, OnErr, IfOk, IsErrOf, vec_len};
 ghost use Rattle.std.specs.Io.KnownBytes.{Consumes, IsAtEnd};
+ghost use Rattle.px_num.specs.Want.{want};
 ghost use Rattle.px_io.specs.Counts.{Rose};
 ghost use Rattle.px_io.specs.Told.{ConsumesAtMost};
 ghost use Rattle.px_lines.specs.Hearings.{Begun, Heard, Waits};
@@ -45,7 +46,7 @@ pub fn read_part<S: Asks<O>, O: Sink>(
     ensures rose { IsErrOf result ReadError.Failed →
         Rose (S.faults input.old) (S.faults input.new) }
     ensures calm { OnOk result (S.faults input.new ≡ S.faults input.old) }
-    ensures memory { IsErrOf result ReadError.Memory → S.faults input.new ≡ S.faults input.old }
+    ensures memory { IsErrOf result (ReadError.Memory want) → S.faults input.new ≡ S.faults input.old }
     ensures listens { IfOk result (λ o. Listens limit (S.asks input.old) (S.asks input.new)
         (O.state out.now).written o.text.items) }
     ensures listened { OnErr result (ListenedTo limit (S.asks input.old) (S.asks input.new)
@@ -91,7 +92,7 @@ fn read_piece<S: Asks<O>, O: Sink>(
     ensures rose { IsErrOf result ReadError.Failed →
         Rose (S.faults input.old) (S.faults input.new) }
     ensures calm { OnOk result (S.faults input.new ≡ S.faults input.old) }
-    ensures memory { IsErrOf result ReadError.Memory → S.faults input.new ≡ S.faults input.old }
+    ensures memory { IsErrOf result (ReadError.Memory want) → S.faults input.new ≡ S.faults input.old }
     ensures listened { (begun : Begun) → Waits begun (S.asks input.old) (S.rest input.old)
         (O.state out.now).written bytes.old.items →
         OnErr result (ListenedTo begun.limit begun.asks (S.asks input.new) (O.state out.now).written

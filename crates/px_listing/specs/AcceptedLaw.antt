@@ -1,5 +1,6 @@
 -- The operations of a text that is accepted, and what no refusal is. Clauses of public calls stand on it.
 use Rattle.std.specs.Prelude.{◌≡◌, ◌≢◌, ℕ, All, List, None, Some}
+use Rattle.px_num.specs.Want.{want}
 use Rattle.px_macro.specs.Macros.{IsLawful}
 use Rattle.px_listing.specs.Reading.{listing_of, refusal_of}
 use Rattle.px_show.specs.declared.fault.TextFault.TheVariants as fault
@@ -12,4 +13,4 @@ AcceptedIsLawful = (bits : ℕ) (text : List ℕ) → refusal_of bits text ≡ N
 
 -- no text is refused for want of memory, which is a call's own fault
 abbrev pub MemoryIsNoRefusal : Type 0
-MemoryIsNoRefusal = (bits : ℕ) (text : List ℕ) → refusal_of bits text ≢ Some fault.Memory
+MemoryIsNoRefusal = (bits : ℕ) (text : List ℕ) → refusal_of bits text ≢ Some (fault.Memory want)

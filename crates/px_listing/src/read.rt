@@ -1,5 +1,6 @@
 //! Reading a listing from its text.
 ghost use Rattle.std.specs.Prelude.{◌≡◌, ◌≤◌, ◌⊎◌, All, IfErr, IfOk, None, Some, length};
+ghost use Rattle.px_num.specs.Want.{want};
 ghost use Rattle.px_listing.specs.Reading.{listing_of, refusal_of};
 ghost use Rattle.px_macro.specs.Macros.{IsLawful};
 ghost use Rattle.px_text.specs.declared.text.TheConstants.{MAX_TEXT_BYTES};
@@ -26,7 +27,7 @@ pub fn read_listing(alloc: Global, text: &[u8], bits: u32) -> Result<Listing, Li
     ensures ok { IfOk result (λ l. (refusal_of bits text.now ≡ None)
         × (l ≡ listing_of (worded text.now))) }
     ensures lawful { IfOk result (λ l. All (λ m. IsLawful m bits) l.macros) }
-    ensures err { IfErr result (λ f. (f ≡ TextFault.Memory) ⊎ (refusal_of bits text.now ≡ Some f)) }
+    ensures err { IfErr result (λ f. (f ≡ TextFault.Memory want) ⊎ (refusal_of bits text.now ≡ Some f)) }
 {
     let draft = Draft::new(alloc);
     read_text(alloc, text, Reading { bits, draft })

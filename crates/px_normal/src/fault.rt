@@ -1,25 +1,25 @@
 //! Why an expression has no normal form here.
-use std::alloc::AllocError;
+use px_num::Memory;
 use thiserror::Error;
 
 /// Why an expression is not made into products (docs/SCENES.md, "Limits").
-#[derive(Clone, Copy, Debug, PartialEq, Eq, Error)]
+#[derive(Debug, Drop, PartialEq, Eq, Error)]
 pub enum NormalFault {
     /// A wanted list of live products has more than `MAX_PRODUCTS`; the count is at most `2^21`.
     #[error("{count} products, of at most 1024")]
     TooMany { count: u64 },
     #[error("out of memory")]
-    Memory,
+    Memory(Memory),
 }
 
-impl From<AllocError> for NormalFault {
+impl From<Memory> for NormalFault {
     ghost use Rattle.std.specs.Prelude.{◌≡◌};
     ghost use Rattle.px_normal.specs.declared.fault.NormalFault.{NormalFault};
     ghost use Rattle.px_normal.specs.declared.fault.NormalFault.TheVariants.{Memory};
 
-    ghost from_gives = { λ _ fault. fault ≡ Memory };
+    ghost from_gives = { λ lack fault. fault ≡ Memory lack };
 
-    fn from(_: AllocError) -> Self {
-        NormalFault::Memory
+    fn from(lack: Memory) -> Self {
+        NormalFault::Memory(lack)
     }
 }

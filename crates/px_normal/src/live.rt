@@ -7,8 +7,9 @@ ghost use Rattle.px_normal.specs.Live.{boxes_in, box_of_all, has_some_cell, is_l
 ghost use Rattle.px_normal.specs.Boxed.{IsBoxed, products_in};
 
 use crate::{MAX_PRODUCTS, Product};
+use px_num::Memory;
 use px_sets::{CellBox, EVERYTHING, narrowed};
-use std::alloc::{AllocError, Global};
+use std::alloc::Global;
 
 impl Product {
     /// Whether a solid is both plain and barred.
@@ -63,7 +64,7 @@ pub(crate) fn boxed_all(
     alloc: Global,
     boxes: &[Option<CellBox>],
     products: &[Product],
-) -> Result<Vec<Boxed>, AllocError>
+) -> Result<Vec<Boxed>, Memory>
     ensures products { IfOk result (λ list. products_in list.items ≡ products.now) }
     ensures boxed { IfOk result (λ list. All (IsBoxed (boxes_in boxes.now)) list.items) }
 {
@@ -120,7 +121,7 @@ pub(crate) fn count_crossed(
     boxes: &[Option<CellBox>],
     first: &[Product],
     second: &[Product],
-) -> Result<u32, AllocError>
+) -> Result<u32, Memory>
     requires first { length first.now ≤ MAX_PRODUCTS }
     requires second { length second.now ≤ MAX_PRODUCTS }
     ensures count { IfOk result (λ count.
@@ -156,7 +157,7 @@ pub(crate) fn push_live(
     list: &mut Vec<Product>,
     boxes: &[Option<CellBox>],
     products: &[Product],
-) -> Result<(), AllocError>
+) -> Result<(), Memory>
     ensures { OnOk result (list.new.items
         ≡ list.old.items ++ filter (is_live (boxes_in boxes.now)) products.now) }
 {
@@ -173,7 +174,7 @@ pub(crate) fn push_crossed(
     boxes: &[Option<CellBox>],
     first: &[Product],
     second: &[Product],
-) -> Result<(), AllocError>
+) -> Result<(), Memory>
     ensures { OnOk result (list.new.items ≡ list.old.items
         ++ filter (is_live (boxes_in boxes.now)) (crossed first.now second.now)) }
 {
@@ -190,7 +191,7 @@ fn push_with(
     boxes: &[Option<CellBox>],
     p: &Boxed,
     second: &[Boxed],
-) -> Result<(), AllocError>
+) -> Result<(), Memory>
     requires one { IsBoxed (boxes_in boxes.now) p.now }
     requires boxed { All (IsBoxed (boxes_in boxes.now)) second.now }
     ensures { OnOk result (list.new.items ≡ list.old.items ++ filter (is_live (boxes_in boxes.now))
@@ -208,7 +209,7 @@ fn push_both(
     boxes: &[Option<CellBox>],
     p: &Boxed,
     q: &Boxed,
-) -> Result<(), AllocError>
+) -> Result<(), Memory>
     requires p { IsBoxed (boxes_in boxes.now) p.now }
     requires q { IsBoxed (boxes_in boxes.now) q.now }
     ensures { OnOk result (list.new.items ≡ list.old.items
@@ -225,7 +226,7 @@ fn push_one(
     list: &mut Vec<Product>,
     boxes: &[Option<CellBox>],
     product: &Product,
-) -> Result<(), AllocError>
+) -> Result<(), Memory>
     ensures { OnOk result (list.new.items
         ≡ list.old.items ++ filter (is_live (boxes_in boxes.now)) (product.now ∷ [])) }
 {

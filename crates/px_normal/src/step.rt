@@ -4,7 +4,8 @@ ghost use Rattle.px_normal.specs.Crowd.{of_root, of_either, wanted_in, left_when
 ghost use Rattle.px_normal.specs.Building.{steps_of, shape_step, sides_wanted};
 
 use px_expr::{Combination, Expr, Op, Sense, Shape};
-use std::alloc::{AllocError, Global};
+use px_num::Memory;
+use std::alloc::Global;
 
 /// Which lists of a node are wanted: its products, and those of its complement.
 #[derive(Clone, Copy)]
@@ -80,7 +81,7 @@ impl Wanted {
 ///
 /// The nodes are read from the root on: of it the products are wanted, and each tells what is
 /// wanted of its sides.
-pub(crate) fn steps(alloc: Global, expr: &Expr) -> Result<Vec<Step>, AllocError>
+pub(crate) fn steps(alloc: Global, expr: &Expr) -> Result<Vec<Step>, Memory>
     ensures { IfOk result (λ steps. reverse steps.items ≡ steps_of of_root expr.now) }
 {
     let mut wanted = Vec::new(alloc);
@@ -109,7 +110,7 @@ fn step_of(shape: Shape, wanted: Wanted) -> Step
 }
 
 /// Puts what is wanted of a shape's sides on the stack, the left one first.
-fn want_sides(stack: &mut Vec<Wanted>, shape: Shape, wanted: Wanted) -> Result<(), AllocError>
+fn want_sides(stack: &mut Vec<Wanted>, shape: Shape, wanted: Wanted) -> Result<(), Memory>
     ensures { OnOk result
         (reverse stack.new.items ≡ sides_wanted shape wanted ++ reverse stack.old.items) }
 {
@@ -117,7 +118,8 @@ fn want_sides(stack: &mut Vec<Wanted>, shape: Shape, wanted: Wanted) -> Result<(
         Shape::Leaf(_) => Ok(()),
         Shape::Join(op, ..) => {
             let combination = op.combination();
-            stack.extend_from_slice(&[wanted.of_left(combination), wanted.of_right(combination)])
+            stack.extend_from_slice(&[wanted.of_left(combination), wanted.of_right(combination)])?;
+            Ok(())
         }
     }
 }

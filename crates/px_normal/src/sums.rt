@@ -10,8 +10,9 @@ use crate::live::{count_crossed, count_live, is_live, push_crossed, push_live};
 use crate::step::{Step, Wanted};
 use crate::{MAX_PRODUCTS, NormalFault, Product};
 use px_expr::{Combination, Op, Sense};
+use px_num::Memory;
 use px_sets::CellBox;
-use std::alloc::{AllocError, Global};
+use std::alloc::Global;
 use std::marker::Model;
 
 /// The live products of an expression and of its complement, each at most `MAX_PRODUCTS`. A list that is not
@@ -52,8 +53,14 @@ pub(crate) fn build(
         (newest_lists (built (boxes_in boxes.now) (reverse stack.old.items) step)) ≡ Some count }
 {
     let sums = sums_of(alloc, boxes, stack, step)?;
-    stack.reserve(1)?;
-    stack.push(sums).unwrap();
+    put(stack, sums)?;
+    Ok(())
+}
+
+fn put(stack: &mut Vec<Sums>, sums: Sums) -> Result<(), Memory>
+    ensures { OnOk result (stack.new.items ≡ stack.old.items ++ sums ∷ []) }
+{
+    stack.push(sums)?;
     Ok(())
 }
 
@@ -126,7 +133,7 @@ impl Sums {
         boxes: &[Option<CellBox>],
         solid: u8,
         wanted: Wanted,
-    ) -> Result<Sums, AllocError>
+    ) -> Result<Sums, Memory>
         ensures lists { IfOk result (λ sums.
             sums ≡ wanted_forms (boxes_in boxes.now) wanted (forms (leaf solid))) }
         ensures few { IfOk result (λ sums. first_past_limit (both_lists sums) ≡ None) }
@@ -170,7 +177,7 @@ fn one_live(
     boxes: &[Option<CellBox>],
     product: Product,
     wanted: bool,
-) -> Result<Vec<Product>, AllocError>
+) -> Result<Vec<Product>, Memory>
     ensures list { IfOk result (λ list. list.items
         ≡ where_wanted wanted (filter (is_live (boxes_in boxes.now)) (product ∷ []))) }
     ensures few { IfOk result (λ list. length list.items ≤ MAX_PRODUCTS) }
@@ -216,7 +223,7 @@ fn count_of(
     combination: Combination,
     left: &Sums,
     right: &Sums,
-) -> Result<u32, AllocError>
+) -> Result<u32, Memory>
     ensures count { IfOk result (λ count. count ≡ length
         (filter (is_live (boxes_in boxes.now)) (sum_when combination left.now right.now))) }
     ensures most { IfOk result (λ count. count ≤ 2 ^ 21) }
@@ -245,7 +252,7 @@ fn push_all(
     combination: Combination,
     left: &Sums,
     right: &Sums,
-) -> Result<(), AllocError>
+) -> Result<(), Memory>
     ensures { OnOk result (list.new.items ≡ list.old.items
         ++ filter (is_live (boxes_in boxes.now)) (sum_when combination left.now right.now)) }
 {
@@ -277,8 +284,7 @@ fn check_limit(count: u32) -> Result<(), NormalFault>
     requires { count ≤ 2 ^ 21 }
     ensures ok { OnOk result (count ≤ MAX_PRODUCTS) }
     ensures err { OnErr result (MAX_PRODUCTS < count) }
-    ensures many { (n : ℕ) → result ≡ Err (NormalFault.TooMany n) → n ≡ count }
-    ensures small { (n : ℕ) → result ≡ Err (NormalFault.TooMany n) → n ≤ 2 ^ 21 }
+    ensures many { MAX_PRODUCTS < count → result ≡ Err (NormalFault.TooMany count) }
 {
     if count > MAX_PRODUCTS {
         return Err(NormalFault::TooMany {

@@ -1,3 +1,4 @@
 pub mod Bits
 pub mod Forms
 pub mod Lists
+pub mod Want

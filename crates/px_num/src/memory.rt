@@ -1,18 +1,21 @@
 //! The answer for want of memory.
 use std::alloc::{AllocError, AllocFailed};
 
-/// Memory was wanted and not given.
-#[derive(Clone, Copy, Debug, PartialEq, Eq)]
-pub struct Memory;
+/// Memory was wanted and not given. Only a refusal is made into one, here, and it is not copied: who answers it was refused a
+/// growth, or was handed the refusal.
+#[derive(Debug, Drop, PartialEq, Eq)]
+pub struct Memory {
+    refused: (),
+}
 
 impl From<AllocError> for Memory {
     fn from(_: AllocError) -> Self {
-        Memory
+        Memory { refused: () }
     }
 }
 
 impl<T: Drop> From<AllocFailed<T>> for Memory {
     fn from(_: AllocFailed<T>) -> Self {
-        Memory
+        Memory { refused: () }
     }
 }

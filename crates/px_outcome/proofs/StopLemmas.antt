@@ -1,6 +1,7 @@
 -- What the stop of a fault says of what was asked.
 use Rattle.std.proofs.Common.{ℕ, ◌≡◌, ◌⊎◌, ◌<◌, ◌≤◌, ◌^◌, inl, inr, List, true, false, Some, refl, arith, nat_lt}
 use Rattle.std.proofs.lemmas.Bool.Decides.{nat_tests}
+use Rattle.px_num.specs.Want.{want}
 use Rattle.px_array.specs.Slots.{ArrayView}
 use Rattle.px_show.specs.Judged.{SceneFault}
 use Rattle.px_show.specs.declared.fault.TextFault.TheVariants as scene_fault
@@ -19,20 +20,20 @@ use Rattle.px_outcome.specs.Results.{status_of}
 use Rattle.px_outcome.specs.Stops.{IsTextStop, StopsAt, scene_stop}
 use Rattle.px_outcome.specs.JobStops.{job_stop, products_stop}
 
-pub text_stops : (fault : SceneFault) (text : List ℕ) → (fault ≡ scene_fault.Memory) ⊎ (refusal_of text ≡ Some fault)
+pub text_stops : (fault : SceneFault) (text : List ℕ) → (fault ≡ scene_fault.Memory want) ⊎ (refusal_of text ≡ Some fault)
     → IsTextStop (scene_stop fault) text
 text_stops (scene_fault.Malformed line cause) text (inl none) = cc
 text_stops (scene_fault.Malformed line cause) text (inr is) = rw is refl
 text_stops (scene_fault.Limit line kind found) text (inl none) = cc
 text_stops (scene_fault.Limit line kind found) text (inr is) = rw is refl
-text_stops scene_fault.Memory text is = tt
+text_stops (scene_fault.Memory _) text is = tt
 
 pub products_stops : (fault : NormalFault) (scene : SceneView)
     → ((count : ℕ) → fault ≡ normal.TooMany count → crowd_of scene ≡ Some count)
     → StopsAt (within_products scene) (products_stop fault)
 products_stops (normal.TooMany count) scene many =
     let crowd = many count refl in record { scene = tt; meets = λ o. rw crowd refl }
-products_stops normal.Memory scene many = record { scene = tt; meets = λ o. tt }
+products_stops (normal.Memory _) scene many = record { scene = tt; meets = λ o. tt }
 
 pub job_stops : (fault : JobFault) (bits : ℕ) (scene : SceneView)
     → ((need : ℕ) → fault ≡ job.PixelMemory need
@@ -50,11 +51,11 @@ job_stops (job.Products count) bits scene short many =
     let enough = is.0 in
     let test : nat_lt bits (need_of (layout_of scene)) ≡ false = grind (arith, nat_tests) in
     record { scene = tt; meets = λ o. rw (test, is.1) refl }
-job_stops job.Memory bits scene short many = record { scene = tt; meets = λ o. tt }
+job_stops (job.Memory _) bits scene short many = record { scene = tt; meets = λ o. tt }
 
 -- a refusal leaves the array as `Job::open` says
 pub job_draws : (fault : JobFault) (bits : ℕ) (scene : SceneView) (before now : ArrayView)
     → LeavesOnRefusal fault before now → Draws (status_of (job_stop fault)) bits scene before now
 job_draws (job.PixelMemory need) bits scene before now leaves = leaves
 job_draws (job.Products count) bits scene before now leaves = leaves
-job_draws job.Memory bits scene before now leaves = leaves
+job_draws (job.Memory _) bits scene before now leaves = leaves

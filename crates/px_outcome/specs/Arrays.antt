@@ -15,5 +15,5 @@ IsKeptOrClosed before now = (now ≡ before) ⊎ (now ≡ none_open)
 abbrev pub Draws : Status → (bits : ℕ) → SceneView → (before now : ArrayView) → Type 0
 Draws status.Done bits scene before now = IsDrawn bits scene now.device × IsRunOnce now
 Draws status.WriteFault bits scene before now = IsDrawn bits scene now.device × IsRunOnce now
-Draws status.Memory bits scene before now = IsKeptOrClosed before now
+Draws (status.Memory _) bits scene before now = IsKeptOrClosed before now
 Draws status bits scene before now = now ≡ before

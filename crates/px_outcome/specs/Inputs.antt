@@ -45,5 +45,5 @@ IsRestBehind (Some bytes) new = new ≡ Some (drop READ_LIMIT bytes)
 -- a whole text was taken, or its first bytes up to one past the limit of a text; at most as many where reading failed or memory
 abbrev pub TookText : Status → Option (List ℕ) → Option (List ℕ) → Type 0
 TookText status.ReadFault old new = ConsumesAtMost old new READ_LIMIT
-TookText status.Memory old new = ConsumesAtMost old new READ_LIMIT
+TookText (status.Memory _) old new = ConsumesAtMost old new READ_LIMIT
 TookText status old new = IsRestBehind old new

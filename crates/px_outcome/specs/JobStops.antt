@@ -9,9 +9,9 @@ use Rattle.px_outcome.specs.Refusals.{short_of_bits, too_many}
 
 abbrev pub products_stop : NormalFault → Stop
 products_stop (normal.TooMany count) = s.Refused (too_many count)
-products_stop normal.Memory = s.Memory
+products_stop (normal.Memory m) = s.Memory m
 
 abbrev pub job_stop : JobFault → Stop
 job_stop (job.PixelMemory need) = s.Refused (short_of_bits need)
 job_stop (job.Products count) = s.Refused (too_many count)
-job_stop job.Memory = s.Memory
+job_stop (job.Memory m) = s.Memory m

@@ -46,7 +46,7 @@ note_of s.Usage = usage_line
 note_of (s.Refused reason) = refusal_line reason
 note_of s.ReadFault = read_fault_line
 note_of s.WriteFault = write_fault_line
-note_of s.Memory = memory_line
+note_of (s.Memory _) = memory_line
 
 -- a line was written whole and the notes finished where they had no fault, and else so or a front of it that is not finished
 pub record IsTold (line : List ℕ) (before after : SinkState) : Type 0 where

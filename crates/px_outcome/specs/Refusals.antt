@@ -18,7 +18,7 @@ use Rattle.px_outcome.specs.declared.refusal.Refusal.TheVariants as r
 abbrev pub refusal_in : SceneFault → Option Refusal
 refusal_in (f.Malformed line cause) = Some (r.Malformed line cause)
 refusal_in (f.Limit line kind found) = Some (r.Limit line (k.Scene kind) found)
-refusal_in f.Memory = None
+refusal_in (f.Memory _) = None
 
 abbrev pub refusal_by : Option SceneFault → Option Refusal
 refusal_by None = None
@@ -48,7 +48,7 @@ is_long bytes = nat_lt MAX_TEXT_BYTES (length bytes)
 abbrev pub list_refusal_in : ListFault → Option Refusal
 list_refusal_in (f.Malformed line cause) = Some (r.Malformed line cause)
 list_refusal_in (f.Limit line kind found) = Some (r.Limit line (k.List kind) found)
-list_refusal_in f.Memory = None
+list_refusal_in (f.Memory _) = None
 
 -- and of a finer scene's
 abbrev pub scene_limit : LimitKind → (found : ℤ) → Refusal
@@ -58,4 +58,4 @@ abbrev pub fault_refusal : FineFault → Option Refusal
 fault_refusal (fault.Fraction found) = Some (scene_limit kind.Fraction (pos found))
 fault_refusal (fault.Picture found) = Some (scene_limit kind.Picture (pos found))
 fault_refusal (fault.Coefficient found) = Some (scene_limit kind.Coefficient found)
-fault_refusal fault.Memory = None
+fault_refusal (fault.Memory _) = None

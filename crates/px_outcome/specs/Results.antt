@@ -16,7 +16,7 @@ status_of (s.Refused (r.Malformed line cause)) = status.Malformed
 status_of (s.Refused (r.Limit line kind found)) = status.Limit
 status_of s.ReadFault = status.ReadFault
 status_of s.WriteFault = status.WriteFault
-status_of s.Memory = status.Memory
+status_of (s.Memory m) = status.Memory m
 
 -- the status of a result
 abbrev pub status_in : Result (Unit {0}) Stop → Status
@@ -30,7 +30,7 @@ Meets (Err s.Usage) o = o ≡ usage
 Meets (Err (s.Refused reason)) o = refusal o ≡ Some reason
 Meets (Err s.ReadFault) o = ⊤
 Meets (Err s.WriteFault) o = has_output o ≡ true
-Meets (Err s.Memory) o = ⊤
+Meets (Err (s.Memory _)) o = ⊤
 
 -- the output was written and finished, or a front of it that is not finished where a write failed, or nothing
 abbrev pub Wrote : Result (Unit {0}) Stop → List ℕ → (before after : SinkState) → Type 0

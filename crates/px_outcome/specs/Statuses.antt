@@ -10,4 +10,4 @@ code s.Malformed = 3
 code s.Limit = 4
 code s.ReadFault = 5
 code s.WriteFault = 6
-code s.Memory = 7
+code (s.Memory _) = 7

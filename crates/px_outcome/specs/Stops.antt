@@ -1,5 +1,6 @@
 -- What a piece of the work says by its result. Clauses of public calls stand on it.
 use Rattle.std.specs.Prelude.{ℕ, ◌≡◌, ◌≢◌, List, ⊤, Option, Some, None, Result, Err}
+use Rattle.px_num.specs.Want.{want}
 use Rattle.px_io.specs.Counts.{Rose}
 use Rattle.px_io.specs.Told.{SinkState}
 use Rattle.px_io.specs.declared.reading.ReadError.{ReadError}
@@ -17,12 +18,12 @@ use Rattle.px_outcome.specs.Results.{HasCauses, Meets, Wrote}
 -- a refusal, or the want of memory where there is none
 abbrev pub stop_at : Option Refusal → Stop
 stop_at (Some reason) = s.Refused reason
-stop_at None = s.Memory
+stop_at None = s.Memory want
 
 -- the stop of a fault, where it has one of another type
 abbrev pub read_stop : ReadError → Stop
 read_stop read.Failed = s.ReadFault
-read_stop read.Memory = s.Memory
+read_stop (read.Memory m) = s.Memory m
 
 abbrev pub scene_stop : SceneFault → Stop
 scene_stop fault = stop_at (refusal_in fault)
@@ -44,19 +45,19 @@ pub record DoesWork (result : Result (Unit {0}) Stop) (o : Outcome) (before afte
 -- why a text was not read
 abbrev pub IsReadStop : Stop → ℕ → ℕ → Type 0
 IsReadStop s.ReadFault old new = Rose old new
-IsReadStop s.Memory old new = new ≡ old
+IsReadStop (s.Memory _) old new = new ≡ old
 IsReadStop stop old new = ⊥
 
 -- why a text is no scene
 abbrev pub IsTextStop : Stop → List ℕ → Type 0
 IsTextStop (s.Refused reason) text = text_refusal text ≡ Some reason
-IsTextStop s.Memory text = ⊤
+IsTextStop (s.Memory _) text = ⊤
 IsTextStop stop text = ⊥
 
 -- why a scene was not served: by what it is, or for want of memory
 abbrev pub IsSceneStop : Stop → Type 0
 IsSceneStop (s.Refused reason) = ⊤
-IsSceneStop s.Memory = ⊤
+IsSceneStop (s.Memory _) = ⊤
 IsSceneStop stop = ⊥
 
 -- a scene was not served, as these limits of outcomes say, or for want of memory

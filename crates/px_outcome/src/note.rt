@@ -20,10 +20,10 @@ pub fn tell<E: Sink>(line: &[u8], notes: &mut E)
 }
 
 /// The line of a stop.
-pub fn line_of(stop: Stop) -> ArrayString<128>
-    ensures { result.bytes ≡ note_of stop }
+pub fn line_of(stop: &Stop) -> ArrayString<128>
+    ensures { result.bytes ≡ note_of stop.now }
 {
-    match stop {
+    match *stop {
         Stop::Usage => plain(
             "usage: pxplanes [render|colour|tidy|plan|cost|debug|sample N|shadow|tile W H|refine K|list|play]\n",
         ),
@@ -31,7 +31,7 @@ pub fn line_of(stop: Stop) -> ArrayString<128>
         Stop::Refused(Refusal::Limit { line, kind, found }) => limit_line(line, kind, found),
         Stop::ReadFault => plain("read fault\n"),
         Stop::WriteFault => plain("write fault\n"),
-        Stop::Memory => plain("out of memory\n"),
+        Stop::Memory(_) => plain("out of memory\n"),
     }
 }
 

@@ -2,8 +2,10 @@
 ghost use Rattle.std.specs.Prelude.{◌≡◌};
 ghost use Rattle.px_outcome.specs.Statuses.{code};
 
+use px_num::Memory;
+
 /// How a run ends (docs/SCENES.md, "Refusals").
-#[derive(Clone, Copy, Debug, PartialEq, Eq)]
+#[derive(Debug, Drop, PartialEq, Eq)]
 pub enum Status {
     /// The defined output was written and finished.
     Done,
@@ -18,7 +20,7 @@ pub enum Status {
     /// The output could not be written.
     WriteFault,
     /// Memory was wanted and not given.
-    Memory,
+    Memory(Memory),
 }
 
 impl Status {
@@ -33,7 +35,7 @@ impl Status {
             Status::Limit => 4,
             Status::ReadFault => 5,
             Status::WriteFault => 6,
-            Status::Memory => 7,
+            Status::Memory(_) => 7,
         }
     }
 }

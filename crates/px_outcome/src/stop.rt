@@ -13,17 +13,18 @@ use px_control::JobFault;
 use px_io::ReadError;
 use px_listing::ListFault;
 use px_normal::NormalFault;
+use px_num::Memory;
 use px_refine::FineFault;
 use px_scene::{LimitKind, SceneFault};
 
 /// Why the work was not done.
-#[derive(Clone, Copy, Debug, PartialEq, Eq)]
+#[derive(Debug, Drop)]
 pub enum Stop {
     Usage,
     Refused(Refusal),
     ReadFault,
     WriteFault,
-    Memory,
+    Memory(Memory),
 }
 
 impl Stop {
@@ -37,7 +38,7 @@ impl Stop {
             Stop::Refused(Refusal::Limit { .. }) => Status::Limit,
             Stop::ReadFault => Status::ReadFault,
             Stop::WriteFault => Status::WriteFault,
-            Stop::Memory => Status::Memory,
+            Stop::Memory(lack) => Status::Memory(lack),
         }
     }
 }
@@ -51,7 +52,7 @@ impl From<ReadError> for Stop {
     fn from(fault: ReadError) -> Self {
         match fault {
             ReadError::Failed => Stop::ReadFault,
-            ReadError::Memory => Stop::Memory,
+            ReadError::Memory(lack) => Stop::Memory(lack),
         }
     }
 }
@@ -71,7 +72,7 @@ impl From<SceneFault> for Stop {
                 let kind = Kind::Scene(kind);
                 Stop::Refused(Refusal::Limit { line, kind, found })
             }
-            SceneFault::Memory => Stop::Memory,
+            SceneFault::Memory(lack) => Stop::Memory(lack),
         }
     }
 }
@@ -91,7 +92,7 @@ impl From<ListFault> for Stop {
                 let kind = Kind::List(kind);
                 Stop::Refused(Refusal::Limit { line, kind, found })
             }
-            ListFault::Memory => Stop::Memory,
+            ListFault::Memory(lack) => Stop::Memory(lack),
         }
     }
 }
@@ -107,7 +108,7 @@ impl From<FineFault> for Stop {
             FineFault::Fraction { found } => past_limit(LimitKind::Fraction, i64::from(found)),
             FineFault::Picture { found } => past_limit(LimitKind::Picture, i64::from(found)),
             FineFault::Coefficient { found } => past_limit(LimitKind::Coefficient, found),
-            FineFault::Memory => Stop::Memory,
+            FineFault::Memory(lack) => Stop::Memory(lack),
         }
     }
 }
@@ -131,7 +132,7 @@ pub(crate) fn job_stop(fault: JobFault) -> Stop
     match fault {
         JobFault::PixelMemory { need } => Stop::Refused(short_of_bits(need)),
         JobFault::Products { count } => Stop::Refused(too_many(count)),
-        JobFault::Memory => Stop::Memory,
+        JobFault::Memory(lack) => Stop::Memory(lack),
     }
 }
 
@@ -142,6 +143,6 @@ pub(crate) fn products_stop(fault: NormalFault) -> Stop
 {
     match fault {
         NormalFault::TooMany { count } => Stop::Refused(too_many(count)),
-        NormalFault::Memory => Stop::Memory,
+        NormalFault::Memory(lack) => Stop::Memory(lack),
     }
 }

@@ -1,5 +1,5 @@
 -- Operations that are made at once, word by word. Only proofs and private functions stand on it.
-use Rattle.std.specs.Prelude.{◌≡◌, ◌≢◌, ℕ, zero, suc, ◌+◌, ◌*◌, ◌/◌, ◌%◌, ◌^◌, ◌<◌, ◌≤◌, ◌⊎◌, ⊤, ℤ, ◌≤ℤ◌, Bool, true, false, List, length}
+use Rattle.std.specs.Prelude.{◌≡◌, ◌≢◌, ℕ, zero, suc, ◌+◌, ◌*◌, ◌/◌, ◌%◌, ◌^◌, ◌<◌, ◌≤◌, ◌⊎◌, ⊤, ℤ, ◌≤ℤ◌, Bool, true, false, not, ◌==◌, max, count_by, List, length}
 use Rattle.px_num.specs.Forms.{IsWithin}
 use Rattle.px_lanes.specs.Lanes.{HasValue, offset}
 use Rattle.px_macro.specs.declared.operation.Macro.TheVariants as m
@@ -14,6 +14,7 @@ use Rattle.px_planes.specs.Pixels.{HasWords, pixel_in}
 use Rattle.px_planes.specs.declared.edges.Edge.{Edge}
 use Rattle.px_planes.specs.declared.planes.Planes.{Planes}
 use Rattle.px_planes.specs.declared.reach.Reach.{Reach}
+use Rattle.px_planes.specs.declared.reach.TheConstants.{FEW}
 use Rattle.px_rows.specs.Rows.{row_bit}
 
 -- the first n bits of v are stored from a place on
@@ -55,6 +56,14 @@ pub record IsStripDone (op : Macro) (ny strip n : ℕ) (old new : Planes) : Type
 pub record IsDone (op : Macro) (ny n : ℕ) (old new : Planes) : Type 0 where
   pub each : (p : ℕ) → p < 64 * n → bits_of (pixel_in new p) ≡ after_macro op (p / 2 ^ ny) (p % 2 ^ ny) (bits_of (pixel_in old p))
   pub like : IsLike n old new
+
+-- whether a pixel of a word is enabled
+abbrev pub has_some : ℕ → Bool
+has_some word = not (word == 0)
+
+-- pixels are enabled in more than a third of all words, and in more than few
+abbrev pub IsCrowd : Planes → Type 0
+IsCrowd planes = max (length planes.enable / 3) FEW < count_by has_some planes.enable
 
 -- an operation that changes only what is enabled
 abbrev pub IsPartial : Macro → Type 0

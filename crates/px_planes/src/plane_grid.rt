@@ -1,9 +1,11 @@
 //! The grid with 64 pixels in a word.
 ghost use Rattle.std.specs.Prelude.{◌≡◌, ◌+◌, ◌^◌, ◌<◌, ℕ, IfOk, nat_lt, replicate};
+ghost use Rattle.std.specs.Bool.{OnTrue};
 ghost use Rattle.px_array.specs.Clocks.{acted};
 ghost use Rattle.px_num.specs.Bits.{nat_bit};
 ghost use Rattle.px_pixel.specs.Acts.{HasPlace};
 ghost use Rattle.px_pixel.specs.Pixels.{zero_pixel};
+ghost use Rattle.px_planes.specs.Operations.{IsCrowd};
 ghost use Rattle.px_planes.specs.Pixels.{HasPixels, pixels_in};
 ghost use Rattle.px_tree.specs.Nodes.{IsGrid};
 
@@ -160,7 +162,7 @@ impl<const N: usize> RowGrid for PlaneGrid<N> {
 
 impl<const N: usize> OperatingGrid for PlaneGrid<N> {
     fn operate(&mut self, m: &Macro) -> bool {
-        if self.is_faster_by_clocks(m) {
+        if is_faster_by_clocks(&self.planes, self.reach, m) {
             return false;
         }
         let (nx, ny) = self.tree.size();
@@ -170,11 +172,11 @@ impl<const N: usize> OperatingGrid for PlaneGrid<N> {
     }
 }
 
-impl<const N: usize> PlaneGrid<N> {
-    /// Whether the clocks of an operation are faster than the operation at once.
-    fn is_faster_by_clocks(&self, m: &Macro) -> bool {
-        is_made_by_words(m) && is_crowd(&self.planes, self.reach)
-    }
+/// Whether the clocks of an operation are faster than the operation at once.
+fn is_faster_by_clocks(planes: &Planes, reach: Reach, m: &Macro) -> bool
+    ensures { OnTrue result (IsCrowd planes.now) }
+{
+    is_made_by_words(m) && is_crowd(planes, reach)
 }
 
 /// Rows of 0 for the pixels of a grid.

@@ -1,5 +1,7 @@
 //! The words outside of which no pixel is enabled.
-ghost use Rattle.px_planes.specs.Operations.{IsReach};
+ghost use Rattle.std.specs.Prelude.{◌≡◌};
+ghost use Rattle.std.specs.Bool.{OnTrue};
+ghost use Rattle.px_planes.specs.Operations.{IsCrowd, IsReach, has_some};
 
 use crate::planes::Planes;
 
@@ -14,11 +16,19 @@ pub struct Reach {
 const FEW: usize = 256;
 
 /// Whether pixels are enabled in so many words that whole rows are faster than word by word.
-pub(crate) fn is_crowd(planes: &Planes, reach: Reach) -> bool {
+pub(crate) fn is_crowd(planes: &Planes, reach: Reach) -> bool
+    ensures { OnTrue result (IsCrowd planes.now) }
+{
     let words = planes.enable.words();
     let most = (words.len() / 3).max(FEW);
     reach.to.saturating_sub(reach.from) > most
-        && words.iter().filter(|word| **word != 0).count() > most
+        && words.iter().filter(|word| has_some(**word)).count() > most
+}
+
+fn has_some(word: u64) -> bool
+    ensures { result ≡ has_some word }
+{
+    word != 0
 }
 
 /// All words.

@@ -66,7 +66,7 @@ plays_refused (Err s.Usage) bits one other before now reason meets is = is
 plays_refused (Err (s.Refused (r.Malformed line cause))) bits one other before now reason meets is = is
 plays_refused (Err (s.Refused (r.Limit line kind found))) bits one other before now reason meets is = is
 plays_refused (Err s.ReadFault) bits one other before now reason meets is = is
-plays_refused (Err s.Memory) bits one other before now reason meets is = is
+plays_refused (Err (s.Memory _)) bits one other before now reason meets is = is
 
 -- what was played of the front of a text was played of the text
 plays_front : (result : Result (Unit {0}) Stop) (bits : ℕ) (before after : Ends) (bytes : List ℕ)
@@ -114,7 +114,7 @@ read_plays : (bytes : List ℕ) (bits : ℕ) (stop : Stop) (before after : Ends)
     → IsReadStop stop m n → IsUntouched before after → PlaysOn (Err stop) bytes bits before after
 read_plays bytes bits s.ReadFault before after m n read idle =
     record { meets = tt; writes = idle.out; array = idle.array }
-read_plays bytes bits s.Memory before after m n read idle =
+read_plays bytes bits (s.Memory _) before after m n read idle =
     record { meets = tt; writes = idle.out; array = inl idle.array }
 read_plays bytes bits s.Usage before after m n read idle = absurd read
 read_plays bytes bits (s.Refused reason) before after m n read idle = absurd read
@@ -136,7 +136,7 @@ text_plays bytes bits (s.Refused (r.Malformed line cause)) before after is idle 
     record { meets = ap refusal (refused_out bits bytes (r.Malformed line cause) is); writes = idle.out; array = idle.array }
 text_plays bytes bits (s.Refused (r.Limit line kind found)) before after is idle =
     record { meets = ap refusal (refused_out bits bytes (r.Limit line kind found) is); writes = idle.out; array = idle.array }
-text_plays bytes bits s.Memory before after is idle = record { meets = tt; writes = idle.out; array = inl idle.array }
+text_plays bytes bits (s.Memory _) before after is idle = record { meets = tt; writes = idle.out; array = inl idle.array }
 text_plays bytes bits s.Usage before after is idle = absurd is
 text_plays bytes bits s.ReadFault before after is idle = absurd is
 text_plays bytes bits s.WriteFault before after is idle = absurd is

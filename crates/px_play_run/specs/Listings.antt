@@ -51,7 +51,7 @@ pub record IsPlayed (bits : ℕ) (l : ListingView) (device : Device) : Type 0 wh
 abbrev pub Plays : Status → (bits : ℕ) → ListingView → (before now : ArrayView) → Type 0
 Plays status.Done bits l before now = IsPlayed bits l now.device × IsRunOnce now
 Plays status.WriteFault bits l before now = IsPlayed bits l now.device × IsRunOnce now
-Plays status.Memory bits l before now = IsKeptOrClosed before now
+Plays (status.Memory _) bits l before now = IsKeptOrClosed before now
 Plays status bits l before now = now ≡ before
 
 -- what is written, and what is left of the array

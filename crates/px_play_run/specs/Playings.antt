@@ -10,7 +10,7 @@ use Rattle.px_outcome.specs.Results.{Meets, Wrote, status_in}
 -- why a text is no listing
 abbrev pub IsListStop : Stop → (bits : ℕ) → List ℕ → Type 0
 IsListStop (s.Refused reason) bits text = list_refusal bits text ≡ Some reason
-IsListStop s.Memory bits text = ⊤
+IsListStop (s.Memory _) bits text = ⊤
 IsListStop stop bits text = ⊥
 
 -- a listing is played, where these bytes were read

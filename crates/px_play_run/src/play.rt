@@ -81,9 +81,10 @@ fn play_listing<O: Sink, A: Operating>(
         (array_view (A.device array.old) (A.slots array.old) (A.work array.old))
         (array_view (A.device array.new) (A.slots array.new) (A.work array.new)) }
 {
-    let Ok(()) = play(listing, array) else {
-        return Err(Stop::Memory);
-    };
+    match play(listing, array) {
+        Ok(()) => {}
+        Err(lack) => return Err(Stop::Memory(lack)),
+    }
     laws_of_playing();
     match deliver_memory(array, out) {
         Ok(()) => Ok(()),

@@ -6,13 +6,18 @@ ghost use Rattle.std.specs.Prelude.{◌≡◌, ◌≤◌, ◌∷◌, [], IfErr, 
 ghost use Rattle.std.specs.Process.{exit_status};
 ghost use Rattle.std.specs.Vec.Iter.{into_iter_items, into_iter_len};
 ghost use Rattle.std.specs.declared.io.ErrorKind.TheVariants.{OutOfMemory};
+ghost use Rattle.px_array.specs.Slots.{ArrayView, none_open};
 ghost use Rattle.px_draw.specs.Commands.{command_of};
+ghost use Rattle.px_draw.specs.Ends.{ends, with_notes};
 ghost use Rattle.px_draw.specs.PixelBits.{pixel_bits};
+ghost use Rattle.px_draw.specs.Runs.{IsRunOf};
 ghost use Rattle.px_draw.specs.Statuses.{code};
+ghost use Rattle.px_outcome.specs.declared.status.Status.{Status as AnyStatus};
 
+use px_asked::Asks;
 use px_draw::needs_wide_pixels;
 pub use px_draw::{Status, deliver, run};
-use px_io::{StdSink, StdSource};
+use px_io::{Sink, StdSink, StdSource};
 use px_num::Memory;
 use px_planes::PlaneArray;
 use std::alloc::Global;
@@ -21,38 +26,80 @@ use std::io::ErrorKind;
 use std::process::ExitCode;
 use std::{env, io};
 
-fn main(rt: HostRuntime) -> ExitCode {
-    let Ok(words) = words_of(rt.alloc(), env::args(&rt)) else {
-        return exit_code(Status::Memory);
-    };
-    let words = words.as_slice();
-    let status = if needs_wide_pixels(words) {
-        run_on::<80>(&rt, words)
-    } else {
-        run_on::<72>(&rt, words)
-    };
-    exit_code(status)
+/// The code of `Status::Memory`.
+const OUT_OF_MEMORY: u8 = 7;
+
+/// Why there are no words.
+#[derive(Drop)]
+enum NoWords {
+    /// Memory was wanted for the list of words and not given.
+    Memory(Memory),
+    /// It was wanted for the arguments before that.
+    Arguments(io::Error),
 }
 
-/// Does what the words ask over the standard streams, on an array of as many bits a pixel as they
-/// want.
-fn run_on<const N: usize>(rt: &HostRuntime, words: &[String]) -> Status
+impl From<Memory> for NoWords {
+    fn from(lack: Memory) -> Self {
+        NoWords::Memory(lack)
+    }
+}
+
+fn main(rt: HostRuntime) -> ExitCode {
+    match words_of(rt.alloc(), env::args(&rt)) {
+        Ok(words) => run_on(
+            rt.alloc(),
+            words.as_slice(),
+            &mut StdSource::new(rt.stdin()),
+            &mut StdSink::new(rt.stdout()),
+            &mut StdSink::new(rt.stderr()),
+        ),
+        Err(_) => ExitCode::from(OUT_OF_MEMORY),
+    }
+}
+
+/// Does what the words ask over these streams, on an array with as many bits a pixel as they want, and ends with the code
+/// of the status.
+fn run_on<S: Asks<O>, O: Sink, E: Sink>(
+    alloc: Global,
+    words: &[String],
+    input: &mut S,
+    out: &mut O,
+    notes: &mut E,
+) -> ExitCode
+    ensures { (status : AnyStatus) × (array : ArrayView) × (exit_status result ≡ code status)
+        × IsRunOf (map string_bytes words.now)
+        (pixel_bits (command_of (map string_bytes words.now))) status
+        (with_notes (ends (S.rest input.old) (S.faults input.old) (O.state out.old)
+        none_open.device none_open.slots none_open.work) (E.state notes.old))
+        (with_notes (ends (S.rest input.new) (S.faults input.new) (O.state out.new)
+        array.device array.slots array.work) (E.state notes.new)) }
+{
+    if needs_wide_pixels(words) {
+        exit_code(run_with::<_, _, _, 80>(alloc, words, input, out, notes))
+    } else {
+        exit_code(run_with::<_, _, _, 72>(alloc, words, input, out, notes))
+    }
+}
+
+/// The same with pixels of N bits.
+fn run_with<S: Asks<O>, O: Sink, E: Sink, const N: usize>(
+    alloc: Global,
+    words: &[String],
+    input: &mut S,
+    out: &mut O,
+    notes: &mut E,
+) -> Status
     requires wanted { N ≡ pixel_bits (command_of (map string_bytes words.now)) }
     requires some_bits { 1 ≤ N }
     requires bits { N ≤ 256 }
+    ensures { (array : ArrayView) × IsRunOf (map string_bytes words.now) N result
+        (with_notes (ends (S.rest input.old) (S.faults input.old) (O.state out.old)
+        none_open.device none_open.slots none_open.work) (E.state notes.old))
+        (with_notes (ends (S.rest input.new) (S.faults input.new) (O.state out.new)
+        array.device array.slots array.work) (E.state notes.new)) }
 {
-    let mut input = StdSource::new(rt.stdin());
-    let mut out = StdSink::new(rt.stdout());
-    let mut notes = StdSink::new(rt.stderr());
-    let mut array = PlaneArray::<N>::new(rt.alloc());
-    run(
-        rt.alloc(),
-        words,
-        &mut input,
-        &mut out,
-        &mut notes,
-        &mut array,
-    )
+    let mut array = PlaneArray::<N>::new(alloc);
+    run(alloc, words, input, out, notes, &mut array)
 }
 
 /// The code with which the process ends.
@@ -65,7 +112,7 @@ fn exit_code(status: Status) -> ExitCode
 /// The words behind the program's name, or one empty word where they are no text.
 ///
 /// Without memory for the arguments there are no words.
-fn words_of(alloc: Global, arguments: io::Result<Args>) -> Result<Vec<String>, Memory>
+fn words_of(alloc: Global, arguments: io::Result<Args>) -> Result<Vec<String>, NoWords>
     ensures words { IfOk arguments (λ all. IfOk result (λ words. words.items ≡
         drop 1 (take (into_iter_len all) (into_iter_items all)))) }
     ensures no_text { IfErr arguments (λ error. IfOk result (λ words.
@@ -74,9 +121,9 @@ fn words_of(alloc: Global, arguments: io::Result<Args>) -> Result<Vec<String>, M
         error_kind error ≡ OutOfMemory → IsErr result) }
 {
     match arguments {
-        Ok(arguments) => behind_the_name(alloc, arguments),
-        Err(error) if error.kind() == ErrorKind::OutOfMemory => Err(Memory),
-        Err(_) => no_text(alloc),
+        Ok(arguments) => Ok(behind_the_name(alloc, arguments)?),
+        Err(error) if error.kind() == ErrorKind::OutOfMemory => Err(NoWords::Arguments(error)),
+        Err(_) => Ok(no_text(alloc)?),
     }
 }
 

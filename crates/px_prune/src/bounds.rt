@@ -34,8 +34,8 @@ use crate::CellBox;
 use crate::block::Block;
 use crate::hull::{hull, is_covered};
 use px_model::{Face, Scene, Solid};
-use px_num::{Linear, power};
-use std::alloc::{AllocError, Global};
+use px_num::{Linear, Memory, power};
+use std::alloc::Global;
 
 /// The least box that holds all cells of a solid at the pixels of the picture, or none where the
 /// solid has no cell there (docs/PICTURE.md, "Live products").
@@ -55,7 +55,7 @@ pub fn box_of(scene: &Scene, solid: usize) -> Option<CellBox>
 }
 
 /// The boxes of the solids of a scene, in their order.
-pub fn boxes_of(alloc: Global, scene: &Scene) -> Result<Vec<Option<CellBox>>, AllocError>
+pub fn boxes_of(alloc: Global, scene: &Scene) -> Result<Vec<Option<CellBox>>, Memory>
     ensures boxes { IfOk result (λ boxes. (solid : ℕ)
         → IsBoundingBox scene.now solid (boxes_in boxes.items solid)) }
     ensures all { IfOk result (λ boxes. boxes_in boxes.items ≡ bounding_box scene.now) }

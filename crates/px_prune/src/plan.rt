@@ -15,7 +15,7 @@ use px_model::Scene;
 use px_normal::{NormalFault, Product, Products, normalise};
 use px_num::Memory;
 use px_sets::{SolidSet, laws_of_sets};
-use std::alloc::{AllocError, Global};
+use std::alloc::Global;
 
 /// The products of a scene that can show anything.
 #[derive(Debug, Drop)]
@@ -80,7 +80,7 @@ fn kept_products(
     alloc: Global,
     boxes: &[Option<CellBox>],
     products: &[Product],
-) -> Result<Vec<Product>, AllocError>
+) -> Result<Vec<Product>, Memory>
     ensures kept { IfOk result (λ kept.
         kept.items ≡ kept_products (boxes_in boxes.now) products.now) }
     ensures fewer { IfOk result (λ kept. length kept.items ≤ length products.now) }

@@ -25,4 +25,4 @@ abbrev pub IsRefusal : Option FineFault → FineFault → Type 0
 IsRefusal found (fault.Fraction bits) = found ≡ Some (fault.Fraction bits)
 IsRefusal found (fault.Picture pixels) = found ≡ Some (fault.Picture pixels)
 IsRefusal found (fault.Coefficient constant) = found ≡ Some (fault.Coefficient constant)
-IsRefusal found fault.Memory = ⊤
+IsRefusal found (fault.Memory _) = ⊤

@@ -3,7 +3,7 @@ use px_num::Memory;
 use thiserror::Error;
 
 /// Why a scene has no finer scene (docs/PICTURE.md, "Refinement").
-#[derive(Clone, Copy, Debug, PartialEq, Eq, Error)]
+#[derive(Debug, Drop, PartialEq, Eq, Error)]
 pub enum FineFault {
     /// The fraction of a depth would have more bits than it may: at most 8, and with the bits of
     /// the depth at most 24.
@@ -26,7 +26,7 @@ pub enum FineFault {
     },
     /// Memory was wanted and not given.
     #[error("out of memory")]
-    Memory,
+    Memory(Memory),
 }
 
 impl From<Memory> for FineFault {
@@ -34,9 +34,9 @@ impl From<Memory> for FineFault {
     ghost use Rattle.px_refine.specs.declared.fault.FineFault.{FineFault};
     ghost use Rattle.px_refine.specs.declared.fault.FineFault.TheVariants.{Memory};
 
-    ghost from_gives = { λ _ fault. fault ≡ Memory };
+    ghost from_gives = { λ lack fault. fault ≡ Memory lack };
 
-    fn from(_: Memory) -> Self {
-        FineFault::Memory
+    fn from(lack: Memory) -> Self {
+        FineFault::Memory(lack)
     }
 }

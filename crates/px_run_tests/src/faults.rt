@@ -11,10 +11,10 @@ const TWO_MAPS: &[u8] = b"P6\n1 1\n255\n\0\0\x05P6\n1 1\n255\n\0\0\x02";
 /// Draws one solid, which is read by calls of which one fails, with so much room for the output and for
 /// the notes.
 fn draw(alloc: Global, failing: u64, room: usize, notes: usize) -> Result<Left, Fail> {
-    let input = source_of(alloc, ONE_SOLID, 7, failing)?;
+    let mut input = source_of(alloc, ONE_SOLID, 7, failing)?;
     let out = MemSink::new(alloc, room, 5, Vec::new(alloc))?;
     let mut array = PixelArray::<72>::new(alloc);
-    run_words(alloc, &[], input, out, notes, &mut array)
+    run_words(alloc, &[], &mut input, out, notes, &mut array)
 }
 
 /// One read fails at each place, up to the read that finds the end; the one behind it is not made.
@@ -82,8 +82,8 @@ fn how_often_a_sink_is_called(rt: HostRuntime) -> Result<(), Fail> {
 
 /// Runs a command on a scene of three rows, by a sink of which one call fails.
 fn three_rows(alloc: Global, words: &[&str], failing: u64) -> Result<Status, Fail> {
-    let input = source_of(alloc, THREE_ROWS, 4096, 0)?;
+    let mut input = source_of(alloc, THREE_ROWS, 4096, 0)?;
     let out = sink_of(alloc, failing)?;
     let mut array = PixelArray::<72>::new(alloc);
-    Ok(run_words(alloc, words, input, out, 100, &mut array)?.status)
+    Ok(run_words(alloc, words, &mut input, out, 100, &mut array)?.status)
 }

@@ -2,6 +2,8 @@
 #![tactic(auto)]
 
 #[cfg(test)]
+mod arrays;
+#[cfg(test)]
 mod faults;
 #[cfg(test)]
 mod runs;
@@ -9,5 +11,3 @@ mod runs;
 mod sessions;
 #[cfg(test)]
 mod texts;
-#[cfg(test)]
-mod wide;

@@ -1,6 +1,7 @@
 //! Runs over a source and sinks in memory.
 ghost use Rattle.std.specs.Prelude.{◌<◌, ◌≤◌};
 
+use px_asked::Asks;
 use px_asm::Operating;
 use px_draw::{Status, run};
 use px_io::{MemSink, MemSource};
@@ -20,10 +21,10 @@ pub(crate) struct Left {
 }
 
 /// Runs the command of some words, with room for so many bytes of notes.
-pub(crate) fn run_words<A: Operating>(
+pub(crate) fn run_words<S: Asks<MemSink>, A: Operating>(
     alloc: Global,
     words: &[&str],
-    mut input: MemSource,
+    input: &mut S,
     mut out: MemSink,
     notes: usize,
     array: &mut A,
@@ -34,7 +35,7 @@ pub(crate) fn run_words<A: Operating>(
     let words = owned(alloc, words)?;
     let mut notes = MemSink::new(alloc, notes, 5, Vec::new(alloc))?;
     let words = words.as_slice();
-    let status = run(alloc, words, &mut input, &mut out, &mut notes, array);
+    let status = run(alloc, words, input, &mut out, &mut notes, array);
     Ok(Left {
         status,
         out,

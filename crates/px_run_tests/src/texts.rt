@@ -1,8 +1,11 @@
 //! The texts of errors that are told to callers alone.
+use px_num::Memory;
 use px_refine::FineFault;
 use px_scene::Cause;
 use px_shadow::LightFault;
 use px_tile::{TileFault, WideFault};
+use std::alloc::Global;
+use std::process::Abort;
 use std::test::Fail;
 
 const LIGHTS: [(LightFault, &str); 2] = [
@@ -16,7 +19,7 @@ const LIGHTS: [(LightFault, &str); 2] = [
     (LightFault::Limit { line: 9, found: 9 }, "line 9: 9 lights"),
 ];
 
-const FINER: [(FineFault, &str); 4] = [
+const FINER: [(FineFault, &str); 3] = [
     (FineFault::Fraction { found: 9 }, "9 fraction bits"),
     (
         FineFault::Picture { found: 514 },
@@ -26,18 +29,14 @@ const FINER: [(FineFault, &str); 4] = [
         FineFault::Coefficient { found: -8589934594 },
         "a constant of -8589934594, of at most 8589934592 in size",
     ),
-    (FineFault::Memory, "out of memory"),
 ];
 
-const TILES: [(TileFault, &str); 2] = [
-    (
-        TileFault::Coefficient { found: 8589934593 },
-        "a coefficient of 8589934593",
-    ),
-    (TileFault::Memory, "out of memory"),
-];
+const TILES: [(TileFault, &str); 1] = [(
+    TileFault::Coefficient { found: 8589934593 },
+    "a coefficient of 8589934593",
+)];
 
-const WIDE: [(WideFault, &str); 5] = [
+const WIDE: [(WideFault, &str); 4] = [
     (
         WideFault::Tiles { found: 1025 },
         "1025 tiles, of at most 1024",
@@ -51,7 +50,6 @@ const WIDE: [(WideFault, &str); 5] = [
         "73 memory bits a pixel",
     ),
     (WideFault::Products { count: 1025 }, "1025 products"),
-    (WideFault::Memory, "out of memory"),
 ];
 
 #[test]
@@ -68,5 +66,19 @@ fn faults_as_texts(rt: HostRuntime) -> Result<(), Fail> {
     for (fault, text) in WIDE {
         assert_eq!(rt; fault.to_string(rt.alloc())?.as_str(), text);
     }
+    let fine = FineFault::Memory(lack(&rt, rt.alloc())).to_string(rt.alloc())?;
+    let tile = TileFault::Memory(lack(&rt, rt.alloc())).to_string(rt.alloc())?;
+    let wide = WideFault::Memory(lack(&rt, rt.alloc())).to_string(rt.alloc())?;
+    for told in [fine, tile, wide] {
+        assert_eq!(rt; told.as_str(), "out of memory");
+    }
     Ok(())
+}
+
+/// What more than all memory is refused with.
+fn lack(rt: &impl Abort, alloc: Global) -> Memory {
+    match Vec::<u8>::with_capacity(alloc, usize::MAX) {
+        Ok(_) => panic!(rt; "no machine has so much memory"),
+        Err(refused) => Memory::from(refused),
+    }
 }

@@ -39,7 +39,7 @@ stop_draws : (stop : Stop) (bits : ℕ) (scene : SceneView) (device : ArrayView)
     → Draws (status_of stop) bits scene device device
 stop_draws (s.Refused (r.Malformed line cause)) bits scene device is = refl
 stop_draws (s.Refused (r.Limit line kind found)) bits scene device is = refl
-stop_draws s.Memory bits scene device is = inl refl
+stop_draws (s.Memory _) bits scene device is = inl refl
 stop_draws s.Usage bits scene device is = absurd is
 stop_draws s.ReadFault bits scene device is = absurd is
 stop_draws s.WriteFault bits scene device is = absurd is
@@ -52,7 +52,7 @@ stop_array result stop bits scene device at is = rw at (stop_draws stop bits sce
 
 pub text_scene : (stop : Stop) (text : List ℕ) → IsTextStop stop text → IsSceneStop stop
 text_scene (s.Refused reason) text is = tt
-text_scene s.Memory text is = tt
+text_scene (s.Memory _) text is = tt
 text_scene s.Usage text is = absurd is
 text_scene s.ReadFault text is = absurd is
 text_scene s.WriteFault text is = absurd is
@@ -66,7 +66,7 @@ text_leaves result stop text bits scene device at is =
 text_meets : (stop : Stop) (text : List ℕ) (o : Outcome) → IsTextStop stop text
     → Meets (Err stop) (unless_refused (text_refusal text) o)
 text_meets (s.Refused reason) text o is = rw is refl
-text_meets s.Memory text o is = tt
+text_meets (s.Memory _) text o is = tt
 text_meets s.Usage text o is = absurd is
 text_meets s.ReadFault text o is = absurd is
 text_meets s.WriteFault text o is = absurd is

@@ -58,8 +58,9 @@ pub fn draw_sample<O: Sink, A: Operating>(
         (array_view (A.device array.old) (A.slots array.old) (A.work array.old))
         (array_view (A.device array.new) (A.slots array.new) (A.work array.new)) }
 {
-    let Ok(text) = sample_text(alloc, n) else {
-        return Err(Stop::Memory);
+    let text = match sample_text(alloc, n) {
+        Ok(text) => text,
+        Err(lack) => return Err(Stop::Memory(lack)),
     };
     measure_text(alloc, text.as_slice(), out, array)
 }

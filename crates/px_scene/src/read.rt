@@ -1,5 +1,6 @@
 //! Reading a scene from its text.
 ghost use Rattle.std.specs.Prelude.{◌≡◌, ◌⊎◌, IfErr, IfOk, None, Some};
+ghost use Rattle.px_num.specs.Want.{want};
 ghost use Rattle.px_scene.specs.AcceptedLaw.{AcceptedIsLawful};
 ghost use Rattle.px_scene.specs.Reading.{refusal_of, scene_of};
 ghost use Rattle.px_show.specs.declared.fault.TextFault.TheVariants as TextFault;
@@ -16,7 +17,7 @@ use std::alloc::Global;
 /// `Malformed` and `Limit` come exactly as docs/SCENES.md says, for the first bad line.
 pub fn read_scene(alloc: Global, text: &[u8]) -> Result<Scene, SceneFault>
     ensures ok { IfOk result (λ s. (refusal_of text.now ≡ None) × (s ≡ scene_of (worded text.now))) }
-    ensures err { IfErr result (λ f. (f ≡ TextFault.Memory) ⊎ (refusal_of text.now ≡ Some f)) }
+    ensures err { IfErr result (λ f. (f ≡ TextFault.Memory want) ⊎ (refusal_of text.now ≡ Some f)) }
 {
     if text.len() > MAX_TEXT_BYTES {
         return Err(SceneFault::Limit {

@@ -52,7 +52,7 @@ shades_refused (Err s.Usage) bits one other before now reason meets is = is
 shades_refused (Err (s.Refused (r.Malformed line cause))) bits one other before now reason meets is = is
 shades_refused (Err (s.Refused (r.Limit line kind found))) bits one other before now reason meets is = is
 shades_refused (Err s.ReadFault) bits one other before now reason meets is = is
-shades_refused (Err s.Memory) bits one other before now reason meets is = is
+shades_refused (Err (s.Memory _)) bits one other before now reason meets is = is
 
 -- the shadows of a text are found
 pub record ShadesText (result : Result (Unit {0}) Stop) (bits : ℕ) (before after : Ends) (text : List ℕ) : Type 0 where
@@ -100,8 +100,8 @@ read_performs s.ReadFault bits before after m n is idle (taken, consumed, few) =
     performs_over (Err s.ReadFault) (λ bytes. shadowed bytes bits) (λ input. LeavesShadows (Err s.ReadFault) bits input.bytes before after)
     before after taken consumed tt
     (record { wrote = idle.out; array = idle.array })
-read_performs s.Memory bits before after m n is idle (taken, consumed, few) =
-    performs_over (Err s.Memory) (λ bytes. shadowed bytes bits) (λ input. LeavesShadows (Err s.Memory) bits input.bytes before after)
+read_performs (s.Memory lack) bits before after m n is idle (taken, consumed, few) =
+    performs_over (Err (s.Memory lack)) (λ bytes. shadowed bytes bits) (λ input. LeavesShadows (Err (s.Memory lack)) bits input.bytes before after)
     before after taken consumed tt
     (record { wrote = idle.out; array = inl idle.array })
 read_performs s.Usage bits before after m n is idle consumed = absurd is

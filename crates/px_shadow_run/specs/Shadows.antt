@@ -83,7 +83,7 @@ shadowed bytes bits =
 abbrev pub ShadesBy : Status → (bits : ℕ) → SceneView → List SolidSet → (before now : ArrayView) → Type 0
 ShadesBy status.Done bits scene lights before now = IsShaded bits scene lights now.device × IsRunOnce now
 ShadesBy status.WriteFault bits scene lights before now = IsShaded bits scene lights now.device × IsRunOnce now
-ShadesBy status.Memory bits scene lights before now = IsKeptOrClosed before now
+ShadesBy (status.Memory _) bits scene lights before now = IsKeptOrClosed before now
 ShadesBy found bits scene lights before now = now ≡ before
 
 abbrev pub ShadesParts : Status → (bits : ℕ) → (part behind : List ℕ) → (before now : ArrayView) → Type 0

@@ -2,6 +2,7 @@
 use Rattle.std.proofs.Common.{◌≡◌, ◌≢◌, ℕ, ◌+◌, ◌<◌, ◌≤◌, List, [], ◌∷◌, ◌++◌, length, take, drop, get_or, Option, Some, None, Bool, true, false}
 use Rattle.std.proofs.Common.{refl, ap, sym, ◌∙◌, arith, length-take}
 use Rattle.std.proofs.lemmas.List.{take_more, drop_more, drop_all}
+use Rattle.px_num.specs.Want.{want}
 use Rattle.px_show.specs.Judged.{at_line, first_bad, refused}
 use Rattle.px_show.specs.declared.fault.LineFault.{LineFault}
 use Rattle.px_show.specs.declared.fault.LineFault.TheVariants as f
@@ -60,7 +61,7 @@ not_refused None false count e = cc
 
 -- no text is refused for want of memory
 pub not_memory : {K : Type 0} (bad : Option (ℕ × LineFault K)) (ended : Bool) (count : ℕ)
-    → refused bad ended count ≢ Some text.Memory
+    → refused bad ended count ≢ Some (text.Memory want)
 not_memory (Some (line, f.Malformed cause)) ended count e = cc
 not_memory (Some (line, f.Limit kind found)) ended count e = cc
 not_memory None true count e = cc

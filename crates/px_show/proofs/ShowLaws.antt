@@ -6,14 +6,18 @@ use Rattle.std.specs.Str.{bytes_eq}
 use Rattle.std.proofs.lemmas.Bool.Decides.{nat_tests}
 use Rattle.px_expr.specs.Tree.{Tree, leaf_count, HasLeavesBelow}
 use Rattle.px_expr.specs.Tree as shown
+use Rattle.px_expr.specs.declared.node.TheConstants.{MAX_LEAVES, MAX_NESTING}
 use Rattle.px_text.specs.Text.{Words}
 use Rattle.px_show.specs.Expressions.{is_among, tokens_of, Named, leaf, join, leaves, nesting, expression_of}
-use Rattle.px_show.specs.Expressions.{place_of, over_places, are_known, cause_in, count_past}
+use Rattle.px_show.specs.Expressions.{place_of, over_places, are_known, cause_in, limit_in, counts_past, Part, side, token, whole}
 use Rattle.px_show.specs.Expressions.{show_cause}
 use Rattle.px_show.specs.Expressions.{show_tree}
 use Rattle.px_show.specs.declared.scene_version.Version.{Version}
+use Rattle.px_show.specs.Judged.{judged}
+use Rattle.px_show.specs.Stacks.{all_steps, tree_steps}
+use Rattle.px_show.specs.declared.fault.Cause.{Cause}
 use Rattle.px_show.specs.declared.fault.Cause.TheVariants as cause
-use Rattle.px_show.specs.declared.fault.LimitKind.{LimitKind}
+use Rattle.px_show.specs.declared.stack.Step.{Step}
 use Rattle.px_text.proofs.PlainLaws.{both}
 
 place_below : (names : Words) (name : List ℕ) → is_among names name ≡ true → place_of names name < length names
@@ -70,10 +74,21 @@ pub same_nesting : (names : Words) (tree : Named) → shown.nesting (over_places
 same_nesting names (leaf name) = refl
 same_nesting names (join op left right) = ap (λ n. n + 1) (cc (same_nesting names left, same_nesting names right))
 
-fewer : (count most : ℕ) (tree : Tree) → count ≤ most → HasLeavesBelow count tree → HasLeavesBelow most tree
-fewer count most (shown.leaf place) le below = omega arith
-fewer count most (shown.join op left right) le below =
-    (fewer count most left le below.0, fewer count most right le below.1)
+within : (l n : ℕ) → counts_past l n ≡ None → (l ≤ MAX_LEAVES) × (n ≤ MAX_NESTING)
+within l n e = (grind (arith, nat_tests), grind (arith, nat_tests))
 
-not_past : (limit : LimitKind) (most found : ℕ) → count_past limit most found ≡ None → found ≤ most
-not_past limit most found e = grind (arith, nat_tests)
+-- the steps of what is read without a fault build a small expression
+pub small_steps : (names : Words) (read : List Part) (steps : List Step) → steps ≡ all_steps names read
+    → judged (cause_in names (whole read)) (limit_in (whole read)) ≡ None
+    → (tree : Tree) × (steps ≡ tree_steps tree) × (leaf_count tree ≤ MAX_LEAVES) × (shown.nesting tree ≤ MAX_NESTING)
+small_steps names (side tree ∷ []) steps order e =
+    let small = within (leaves tree) (nesting tree) (by_cause (cause_in names (Some tree)) e)
+    in (over_places names tree, order, rw (same_leaves names tree) small.0, rw (same_nesting names tree) small.1)
+  where
+    by_cause : (cause : Option Cause) → judged cause (counts_past (leaves tree) (nesting tree)) ≡ None
+        → counts_past (leaves tree) (nesting tree) ≡ None
+    by_cause None e = e
+    by_cause (Some cause) e = cc
+small_steps names [] steps order e = absurd (cc)
+small_steps names (side tree ∷ part ∷ before) steps order e = absurd (cc)
+small_steps names (token t ∷ before) steps order e = absurd (cc)

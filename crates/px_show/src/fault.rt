@@ -4,7 +4,6 @@ ghost use Rattle.std.specs.Prelude.{◌≡◌};
 ghost use Rattle.px_show.specs.Judged.{past};
 
 use px_num::Memory;
-use std::alloc::AllocError;
 use std::fmt::Debug;
 use thiserror::Error;
 
@@ -51,14 +50,14 @@ pub enum LineFault<K> {
 }
 
 /// A line is bad, or memory was wanted and not given.
-#[derive(Clone, Copy, Debug, PartialEq, Eq)]
+#[derive(Debug, Drop, PartialEq, Eq)]
 pub enum LineError<K> {
     Bad(LineFault<K>),
-    Memory,
+    Memory(Memory),
 }
 
 /// Why a text is refused (docs/SCENES.md, "Refusals"). The first bad line decides.
-#[derive(Clone, Copy, Debug, PartialEq, Eq, Error)]
+#[derive(Debug, Drop, PartialEq, Eq, Error)]
 #[error_bound(K: Debug)]
 pub enum TextFault<K> {
     /// The words of a line are bad, or the text has no `end`.
@@ -68,7 +67,7 @@ pub enum TextFault<K> {
     #[error("line {line}: {kind:?} {found}")]
     Limit { line: u32, kind: K, found: i64 },
     #[error("out of memory")]
-    Memory,
+    Memory(Memory),
 }
 
 /// Why a text is no scene.
@@ -101,21 +100,10 @@ impl<K> From<Memory> for LineError<K> {
     ghost use Rattle.std.specs.Prelude.{◌≡◌};
     ghost use Rattle.px_show.specs.declared.fault.LineError.TheVariants.{Memory};
 
-    ghost from_gives = { λ _ e. e ≡ Memory };
+    ghost from_gives = { λ lack e. e ≡ Memory lack };
 
-    fn from(_: Memory) -> Self {
-        LineError::Memory
-    }
-}
-
-impl<K> From<AllocError> for LineError<K> {
-    ghost use Rattle.std.specs.Prelude.{◌≡◌};
-    ghost use Rattle.px_show.specs.declared.fault.LineError.TheVariants.{Memory};
-
-    ghost from_gives = { λ _ e. e ≡ Memory };
-
-    fn from(_: AllocError) -> Self {
-        LineError::Memory
+    fn from(lack: Memory) -> Self {
+        LineError::Memory(lack)
     }
 }
 
@@ -123,9 +111,9 @@ impl<K> From<Memory> for TextFault<K> {
     ghost use Rattle.std.specs.Prelude.{◌≡◌};
     ghost use Rattle.px_show.specs.declared.fault.TextFault.TheVariants.{Memory};
 
-    ghost from_gives = { λ _ e. e ≡ Memory };
+    ghost from_gives = { λ lack e. e ≡ Memory lack };
 
-    fn from(_: Memory) -> Self {
-        TextFault::Memory
+    fn from(lack: Memory) -> Self {
+        TextFault::Memory(lack)
     }
 }

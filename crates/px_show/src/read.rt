@@ -1,5 +1,6 @@
 //! Reading a text line by line, until one is bad (docs/SCENES.md, "Lines and words" and "Refusals").
 ghost use Rattle.std.specs.Prelude.{◌≡◌, ◌⊎◌, ◌+◌, ◌<◌, ◌≤◌, ◌^◌, ◌++◌, ◌∷◌, [], Bool, IfErr, IfOk, IfSome, IsErrOf, List, None, OnOk, Option, Some, is_some, length, map, ℕ};
+ghost use Rattle.px_num.specs.Want.{want};
 ghost use Rattle.px_show.specs.Judged.{fault_at, first_bad, refused};
 ghost use Rattle.px_show.specs.declared.fault.LineFault.{LineFault};
 ghost use Rattle.px_text.specs.LentWords.{now_of};
@@ -61,7 +62,7 @@ pub fn read_text<D: Drafting>(
     ensures ok { IfOk result (λ whole.
         (refused (first_bad (D.judge draft) [] (worded text.now)) (D.is_whole (worded text.now))
         (length (lines_of text.now)) ≡ None) × (whole ≡ D.means (worded text.now))) }
-    ensures err { IfErr result (λ f. (f ≡ TextFault.Memory)
+    ensures err { IfErr result (λ f. (f ≡ TextFault.Memory want)
         ⊎ (refused (first_bad (D.judge draft) [] (worded text.now)) (D.is_whole (worded text.now))
         (length (lines_of text.now)) ≡ Some f)) }
 {
@@ -90,7 +91,7 @@ fn draft_of<D: Drafting>(
     ensures good { OnOk result (first_bad (D.judge draft) [] (map (λ l. words_of l.now) lines.now)
         ≡ None) }
     ensures says { IfOk result (λ d. D.says d (map (λ l. words_of l.now) lines.now)) }
-    ensures err { IfErr result (λ f. (f ≡ TextFault.Memory) ⊎ ((ended : Bool) (count : ℕ) →
+    ensures err { IfErr result (λ f. (f ≡ TextFault.Memory want) ⊎ ((ended : Bool) (count : ℕ) →
         refused (first_bad (D.judge draft) [] (map (λ l. words_of l.now) lines.now)) ended count
         ≡ Some f)) }
 {
@@ -99,7 +100,7 @@ fn draft_of<D: Drafting>(
         match draft.add_line(alloc, &line) {
             Ok(()) => {}
             Err(LineError::Bad(fault)) => return Err(fault_at(line.number, fault)),
-            Err(LineError::Memory) => return Err(TextFault::Memory),
+            Err(LineError::Memory(lack)) => return Err(TextFault::Memory(lack)),
         }
     }
     Ok(draft)

@@ -1,5 +1,6 @@
 //! The expression of a `show` line.
 ghost use Rattle.std.specs.Prelude.{◌≡◌, ◌≤◌, None, Some, true, List, OnOk, IfOk, IfErr, IsErrOf, length};
+ghost use Rattle.px_num.specs.Want.{want};
 ghost use Rattle.px_show.specs.declared.fault.LimitKind.{LimitKind};
 ghost use Rattle.px_show.specs.declared.fault.LineFault.{LineFault};
 ghost use Rattle.px_model.specs.declared.limits.TheConstants.{MAX_SOLIDS};
@@ -20,6 +21,7 @@ use crate::stack::{Stack, Step};
 use crate::token::tokens_of;
 use px_expr::{Expr, ExprBuilder, ExprFault};
 use px_model::Solid;
+use px_num::Memory;
 use std::alloc::Global;
 
 /// The expression that the words after `show` write (docs/SCENES.md, "Expressions").
@@ -44,8 +46,20 @@ pub fn read_show(
     if let Some(fault) = stack.fault(solids.len()) {
         return Err(LineError::Bad(fault));
     }
-    // Both counts are within their limits here, so that only memory can be wanting.
-    build(alloc, stack.steps()).map_err(|_| LineError::Memory)
+    match build(alloc, stack.steps()) {
+        Ok(expr) => Ok(expr),
+        Err(fault) => Err(LineError::Memory(lack_in(fault))),
+    }
+}
+
+/// What was wanting where both counts are within their limits.
+fn lack_in(fault: ExprFault) -> Memory
+    requires { fault ≡ ExprFault.Memory want }
+{
+    match fault {
+        ExprFault::Memory(lack) => lack,
+        ExprFault::Leaves { .. } | ExprFault::Nesting { .. } => unreachable!(),
+    }
 }
 
 /// The expression that steps build.
@@ -53,7 +67,7 @@ fn build(alloc: Global, steps: &[Step]) -> Result<Expr, ExprFault>
     requires { (tree : Tree) × (steps.now ≡ tree_steps tree) }
     ensures tree { (tree : Tree) → steps.now ≡ tree_steps tree → IfOk result (λ e. e ≡ tree) }
     ensures memory { (tree : Tree) → steps.now ≡ tree_steps tree → leaf_count tree ≤ MAX_LEAVES →
-        nesting tree ≤ MAX_NESTING → IfErr result (λ fault. fault ≡ ExprFault.Memory) }
+        nesting tree ≤ MAX_NESTING → IfErr result (λ fault. fault ≡ ExprFault.Memory want) }
 {
     let mut builder = ExprBuilder::new(alloc);
     for step in steps {

@@ -13,8 +13,9 @@ use crate::fault::{Cause, LimitKind, LineFault};
 use crate::token::Token;
 use px_expr::{MAX_LEAVES, MAX_NESTING, Op};
 use px_model::Solid;
+use px_num::Memory;
 use px_text::is_name;
-use std::alloc::{AllocError, Global};
+use std::alloc::Global;
 
 /// What stands on the stack: a side, which is a whole expression, or a token that is in none yet.
 ///
@@ -43,11 +44,7 @@ pub(crate) struct Stack {
 
 impl Stack {
     /// Reads tokens, each once; an unknown name has the place behind the last solid.
-    pub(crate) fn read(
-        alloc: Global,
-        solids: &[Solid],
-        tokens: &[Token],
-    ) -> Result<Stack, AllocError>
+    pub(crate) fn read(alloc: Global, solids: &[Solid], tokens: &[Token]) -> Result<Stack, Memory>
         requires { length solids.now ≤ MAX_SOLIDS }
         ensures { IfOk result (λ stack.
             IsStackOf (names_of solids.now) stack (parts_of (map token_of tokens.now))) }
@@ -69,7 +66,7 @@ impl Stack {
         self.steps.as_slice()
     }
 
-    fn take(&mut self, solids: &[Solid], token: Token) -> Result<(), AllocError>
+    fn take(&mut self, solids: &[Solid], token: Token) -> Result<(), Memory>
         requires { length solids.now ≤ MAX_SOLIDS }
         ensures { (read : List AnyPart) → IsStackOf (names_of solids.now) self.old read →
             OnOk result (IsStackOf (names_of solids.now) self.new (with_token read (token_of token.entry))) }
@@ -83,7 +80,7 @@ impl Stack {
         }
     }
 
-    fn take_name(&mut self, solids: &[Solid], bytes: &[u8]) -> Result<(), AllocError>
+    fn take_name(&mut self, solids: &[Solid], bytes: &[u8]) -> Result<(), Memory>
         requires { length solids.now ≤ MAX_SOLIDS }
         ensures { (read : List AnyPart) → IsStackOf (names_of solids.now) self.old read →
             OnOk result (IsStackOf (names_of solids.now) self.new (with_token read (name bytes.now))) }
@@ -96,7 +93,7 @@ impl Stack {
     }
 
     /// A bracket closes the last two sides, where such a bracket stands open.
-    fn close(&mut self) -> Result<(), AllocError>
+    fn close(&mut self) -> Result<(), Memory>
         ensures { (names : Words) (read : List AnyPart) → IsStackOf names self.old read →
             OnOk result (IsStackOf names self.new (bracket_closed read)) }
     {
@@ -109,7 +106,7 @@ impl Stack {
         }
     }
 
-    fn push(&mut self, part: Part) -> Result<(), AllocError>
+    fn push(&mut self, part: Part) -> Result<(), Memory>
         ensures parts { OnOk result (self.new.parts.items ≡ self.old.parts.items ++ part ∷ []) }
         ensures steps { self.new.steps ≡ self.old.steps }
     {
@@ -118,7 +115,7 @@ impl Stack {
     }
 
     /// A side, and the step that completes it.
-    fn push_side(&mut self, step: Step, nesting: usize) -> Result<(), AllocError>
+    fn push_side(&mut self, step: Step, nesting: usize) -> Result<(), Memory>
         ensures parts { OnOk result
             (self.new.parts.items ≡ self.old.parts.items ++ Part.Side nesting ∷ []) }
         ensures steps { OnOk result (self.new.steps.items ≡ self.old.steps.items ++ step ∷ []) }

@@ -9,8 +9,9 @@ ghost use Rattle.px_show.specs.Stacks.{token_of};
 use crate::scene_version::Version;
 use crate::sign::{is_sign, op_of};
 use px_expr::Op;
+use px_num::Memory;
 use px_text::is_name_byte;
-use std::alloc::{AllocError, Global};
+use std::alloc::Global;
 
 /// A longest run of bytes of names, a bracket, a sign of the version, or another byte.
 #[derive(Clone, Copy)]
@@ -27,7 +28,7 @@ pub(crate) fn tokens_of<'t>(
     alloc: Global,
     version: Version,
     words: &[&'t [u8]],
-) -> Result<Vec<Token<'t>>, AllocError>
+) -> Result<Vec<Token<'t>>, Memory>
     ensures { IfOk result (λ v. map token_of v.items ≡ tokens_of version (now_of words.now)) }
 {
     let mut tokens = Vec::new(alloc);
@@ -41,7 +42,7 @@ fn add_tokens<'t>(
     tokens: &mut Vec<Token<'t>>,
     version: Version,
     word: &'t [u8],
-) -> Result<(), AllocError>
+) -> Result<(), Memory>
     ensures { OnOk result (map token_of tokens.new.items
         ≡ map token_of tokens.old.items ++ tokens_in version word.now) }
 {

@@ -41,7 +41,7 @@ job_refused bits scene (job.PixelMemory need) short many =
     let is = short need refl in inr (short_refused bits need scene is.0 is.1)
 job_refused bits scene (job.Products count) short many =
     let is = many count refl in inr (many_refused bits count scene is.0 is.1)
-job_refused bits scene job.Memory short many = inl refl
+job_refused bits scene (job.Memory _) short many = inl refl
 
 pub job_small : (bits : ℕ) (scene : SceneView) (fault : JobFault)
     → ((count : ℕ) → fault ≡ job.Products count
@@ -49,13 +49,13 @@ pub job_small : (bits : ℕ) (scene : SceneView) (fault : JobFault)
     → HasSmallCount (job_fault fault)
 job_small bits scene (job.PixelMemory need) many = tt
 job_small bits scene (job.Products count) many = let is = many count refl in is.2
-job_small bits scene job.Memory many = tt
+job_small bits scene (job.Memory _) many = tt
 
 pub job_leaves : (fault : JobFault) (bits : ℕ) (l : ListingView) (before now : ArrayView) → LeavesOnRefusal fault before now
     → LeavesArray (job_fault fault) bits l before now
 job_leaves (job.PixelMemory need) bits l before now leaves = leaves
 job_leaves (job.Products count) bits l before now leaves = leaves
-job_leaves job.Memory bits l before now leaves = leaves
+job_leaves (job.Memory _) bits l before now leaves = leaves
 
 -- what is refused by the first is refused by both
 pub first_refused : (fault : StateFault) (a b : Option StateFault) → IsRefusedBy fault a → IsRefusedBy fault (option_or a b)

@@ -1,6 +1,7 @@
 -- What a text broadcasts, or why it is refused, by its first word.
 use Rattle.std.proofs.Common.{◌≡◌, ℕ, ◌<◌, ◌≤◌, ◌⊎◌, true, false, List, length, Option, Some, inl, inr, refl, ap}
 use Rattle.std.specs.Option.{option_map, option_or}
+use Rattle.px_num.specs.Want.{want}
 use Rattle.px_num.proofs.TruthLaws.{lt_false}
 use Rattle.std.proofs.lemmas.Bool.{lt-ltb}
 use Rattle.px_text.specs.declared.text.TheConstants.{MAX_TEXT_BYTES}
@@ -40,13 +41,13 @@ pub scene_course : (text : List ℕ) → is_listing text ≡ false → course_of
 unfolding course_of
 scene_course text flagged = rw flagged refl
 
-pub list_refused : (fault : ListFault) (refusal : Option ListFault) → (fault ≡ text_fault.Memory) ⊎ (refusal ≡ Some fault)
+pub list_refused : (fault : ListFault) (refusal : Option ListFault) → (fault ≡ text_fault.Memory want) ⊎ (refusal ≡ Some fault)
     → IsRefusedBy (list_fault fault) (option_map list_fault refusal)
 list_refused fault refusal (inl memory) = inl (ap list_fault memory)
 list_refused fault refusal (inr is) = inr (ap (option_map list_fault) is)
 
 pub scene_refused : (fault : SceneFault) (refusal : Option SceneFault) (job : Option StateFault)
-    → (fault ≡ text_fault.Memory) ⊎ (refusal ≡ Some fault)
+    → (fault ≡ text_fault.Memory want) ⊎ (refusal ≡ Some fault)
     → IsRefusedBy (scene_fault fault) (option_or (option_map scene_fault refusal) job)
 scene_refused fault refusal job (inl memory) = inl (ap scene_fault memory)
 scene_refused fault refusal job (inr is) = inr (rw is refl)
@@ -54,19 +55,19 @@ scene_refused fault refusal job (inr is) = inr (rw is refl)
 pub list_small : (fault : ListFault) → HasSmallCount (list_fault fault)
 list_small (text_fault.Malformed line cause) = tt
 list_small (text_fault.Limit line kind found) = tt
-list_small text_fault.Memory = tt
+list_small (text_fault.Memory _) = tt
 
 pub scene_small : (fault : SceneFault) → HasSmallCount (scene_fault fault)
 scene_small (text_fault.Malformed line cause) = tt
 scene_small (text_fault.Limit line kind found) = tt
-scene_small text_fault.Memory = tt
+scene_small (text_fault.Memory _) = tt
 
 pub list_keeps : (fault : ListFault) → KeepsArray (list_fault fault)
 list_keeps (text_fault.Malformed line cause) bits l array = refl
 list_keeps (text_fault.Limit line kind found) bits l array = refl
-list_keeps text_fault.Memory bits l array = inl refl
+list_keeps (text_fault.Memory _) bits l array = inl refl
 
 pub scene_keeps : (fault : SceneFault) → KeepsArray (scene_fault fault)
 scene_keeps (text_fault.Malformed line cause) bits l array = refl
 scene_keeps (text_fault.Limit line kind found) bits l array = refl
-scene_keeps text_fault.Memory bits l array = inl refl
+scene_keeps (text_fault.Memory _) bits l array = inl refl

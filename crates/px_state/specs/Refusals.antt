@@ -3,6 +3,7 @@ use Rattle.std.specs.Prelude.{◌≡◌, ℕ, ◌+◌, ◌≤◌, ◌^◌, ◌�
 use Rattle.std.specs.List.{filter_map, slice_get, slice_split}
 use Rattle.std.specs.Option.{option_map, option_or}
 use Rattle.std.specs.Str.{bytes_eq}
+use Rattle.px_num.specs.Want.{want}
 use Rattle.px_text.specs.declared.text.TheConstants.{MAX_TEXT_BYTES}
 use Rattle.px_text.specs.Text.{Words, words_of, worded}
 use Rattle.px_model.specs.Scenes.{SceneView}
@@ -29,17 +30,17 @@ use Rattle.px_state.specs.declared.fault.StateFault.TheVariants as f
 abbrev pub scene_fault : SceneFault → StateFault
 scene_fault (text_fault.Malformed line cause) = f.Scene (text_fault.Malformed line cause)
 scene_fault (text_fault.Limit line kind found) = f.Scene (text_fault.Limit line kind found)
-scene_fault text_fault.Memory = f.Memory
+scene_fault (text_fault.Memory m) = f.Memory m
 
 abbrev pub job_fault : JobFault → StateFault
 job_fault (job.PixelMemory need) = f.Job (job.PixelMemory need)
 job_fault (job.Products count) = f.Job (job.Products count)
-job_fault job.Memory = f.Memory
+job_fault (job.Memory m) = f.Memory m
 
 abbrev pub list_fault : ListFault → StateFault
 list_fault (text_fault.Malformed line cause) = f.Listing (text_fault.Malformed line cause)
 list_fault (text_fault.Limit line kind found) = f.Listing (text_fault.Limit line kind found)
-list_fault text_fault.Memory = f.Memory
+list_fault (text_fault.Memory m) = f.Memory m
 
 -- whether the first word of a line is `pxlist`, where it has one
 abbrev pub starts_listing : Words → Option Bool
@@ -101,7 +102,7 @@ micros_refusal bits text first count = option_or (text_refusal bits text) (clock
 abbrev pub HasFewProducts : JobFault → Type 0
 HasFewProducts (job.PixelMemory need) = ⊤
 HasFewProducts (job.Products count) = count ≤ 2 ^ 21
-HasFewProducts job.Memory = ⊤
+HasFewProducts (job.Memory _) = ⊤
 
 -- and so of a fault that tells its length
 abbrev pub HasSmallCount : StateFault → Type 0
@@ -110,8 +111,8 @@ HasSmallCount (f.Job fault) = HasFewProducts fault
 HasSmallCount (f.Listing fault) = ⊤
 HasSmallCount (f.NoClock clocks) = ⊤
 HasSmallCount (f.NoRoom room) = ⊤
-HasSmallCount f.Memory = ⊤
+HasSmallCount (f.Memory _) = ⊤
 
 -- a fault is the want of memory, or else exactly the refusal
 abbrev pub IsRefusedBy : StateFault → Option StateFault → Type 0
-IsRefusedBy fault refusal = (fault ≡ f.Memory) ⊎ (refusal ≡ Some fault)
+IsRefusedBy fault refusal = (fault ≡ f.Memory want) ⊎ (refusal ≡ Some fault)

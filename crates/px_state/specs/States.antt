@@ -37,4 +37,4 @@ LeavesArray (f.Job fault) bits l before now = now ≡ before
 LeavesArray (f.Listing fault) bits l before now = now ≡ before
 LeavesArray (f.NoClock clocks) bits l before now = IsDrawn bits l 0 now
 LeavesArray (f.NoRoom room) bits l before now = IsDrawn bits l 0 now
-LeavesArray f.Memory bits l before now = (now ≡ before) ⊎ (now ≡ none_open)
+LeavesArray (f.Memory _) bits l before now = (now ≡ before) ⊎ (now ≡ none_open)

@@ -8,7 +8,7 @@ use px_scene::SceneFault;
 use thiserror::Error;
 
 /// Why there is no state, or no micros.
-#[derive(Clone, Copy, Debug, PartialEq, Eq, Error)]
+#[derive(Debug, Drop, PartialEq, Eq, Error)]
 pub enum StateFault {
     /// The text is no scene, and no listing (docs/SCENES.md, "Refusals"), or it is too long.
     #[error("{0}")]
@@ -33,17 +33,17 @@ pub enum StateFault {
     },
     /// Memory was wanted and not given.
     #[error("out of memory")]
-    Memory,
+    Memory(Memory),
 }
 
 impl From<Memory> for StateFault {
     ghost use Rattle.std.specs.Prelude.{◌≡◌};
     ghost use Rattle.px_state.specs.declared.fault.StateFault.TheVariants.{Memory};
 
-    ghost from_gives = { λ cause fault. fault ≡ Memory };
+    ghost from_gives = { λ lack fault. fault ≡ Memory lack };
 
-    fn from(_: Memory) -> Self {
-        StateFault::Memory
+    fn from(lack: Memory) -> Self {
+        StateFault::Memory(lack)
     }
 }
 
@@ -55,7 +55,7 @@ impl From<SceneFault> for StateFault {
 
     fn from(cause: SceneFault) -> Self {
         match cause {
-            SceneFault::Memory => StateFault::Memory,
+            SceneFault::Memory(lack) => StateFault::Memory(lack),
             SceneFault::Malformed { .. } | SceneFault::Limit { .. } => StateFault::Scene(cause),
         }
     }
@@ -69,7 +69,7 @@ impl From<JobFault> for StateFault {
 
     fn from(cause: JobFault) -> Self {
         match cause {
-            JobFault::Memory => StateFault::Memory,
+            JobFault::Memory(lack) => StateFault::Memory(lack),
             JobFault::PixelMemory { .. } | JobFault::Products { .. } => StateFault::Job(cause),
         }
     }
@@ -83,7 +83,7 @@ impl From<ListFault> for StateFault {
 
     fn from(cause: ListFault) -> Self {
         match cause {
-            ListFault::Memory => StateFault::Memory,
+            ListFault::Memory(lack) => StateFault::Memory(lack),
             ListFault::Malformed { .. } | ListFault::Limit { .. } => StateFault::Listing(cause),
         }
     }

@@ -117,7 +117,7 @@ kept_on_refusal (wide.Tiles n) bits scene width height array = refl
 kept_on_refusal (wide.Coefficient n) bits scene width height array = refl
 kept_on_refusal (wide.PixelMemory n) bits scene width height array = refl
 kept_on_refusal (wide.Products n) bits scene width height array = refl
-kept_on_refusal wide.Memory bits scene width height array = inl refl
+kept_on_refusal (wide.Memory _) bits scene width height array = inl refl
 
 -- the refusals are those of any two arrays that have both bits enough, or neither
 pub same_refusal : (scene : SceneView) (width height some other : ℕ)

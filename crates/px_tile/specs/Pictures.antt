@@ -1,5 +1,6 @@
 -- What drawing a wide picture tile by tile leaves of the array. Clauses of public calls stand on it.
 use Rattle.std.specs.Prelude.{◌≡◌, ℕ, ◌-◌, ◌<◌, ◌⊎◌}
+use Rattle.px_num.specs.Want.{want}
 use Rattle.px_array.specs.Slots.{ArrayView, IsRunOnce, none_open}
 use Rattle.px_model.specs.Scenes.{SceneView}
 use Rattle.px_control.specs.Program.{IsAt, total}
@@ -24,6 +25,6 @@ IsSomeDrawn bits scene width height now =
 
 -- what a refusal leaves of the array: only for want of memory may it be another one, and then none is open or a tile is drawn
 abbrev pub LeavesOnWideRefusal : WideFault → (bits : ℕ) → SceneView → (width height : ℕ) → (before now : ArrayView) → Type 0
-LeavesOnWideRefusal wide.Memory bits scene width height before now =
+LeavesOnWideRefusal (wide.Memory _) bits scene width height before now =
     (now ≡ before) ⊎ (now ≡ none_open) ⊎ IsSomeDrawn bits scene width height now
 LeavesOnWideRefusal fault bits scene width height before now = now ≡ before

@@ -49,7 +49,7 @@ tile_refusal scene bits = option_or (bits_short job.PixelMemory scene bits) (opt
 -- a refusal of a tile's products as one of the wide picture
 abbrev pub products_fault : NormalFault → WideFault
 products_fault (normal.TooMany count) = wide.Products count
-products_fault normal.Memory = wide.Memory
+products_fault (normal.Memory m) = wide.Memory m
 
 -- why a wide picture is not drawn, as far as it is known before any memory is taken: all but the products of its tiles
 abbrev pub early_refusal : SceneView → (width height bits : ℕ) → Option WideFault

@@ -1,7 +1,9 @@
 //! Drawing a wide picture tile by tile on one array.
 ghost use Rattle.std.specs.Prelude.{◌≡◌, ◌*◌, ◌^◌, ◌<◌, ◌≤◌, ◌⊎◌, ℕ, Err, IfErr, IfOk, None, OnErr, OnOk, Some, length};
 ghost use Rattle.std.specs.Option.{option_map};
+ghost use Rattle.px_num.specs.Want.{want};
 ghost use Rattle.px_array.specs.Slots.{array_view, none_open};
+ghost use Rattle.px_control.specs.declared.fault.JobFault.{JobFault};
 ghost use Rattle.px_model.specs.Planes.{first_past};
 ghost use Rattle.px_tile.specs.Found.{IsFound, PutsTile};
 ghost use Rattle.px_tile.specs.Pictures.{IsLastDrawn, IsTileDrawn, LeavesOnWideRefusal};
@@ -22,7 +24,7 @@ use crate::render::render_tile;
 use crate::tile::moved_scene;
 use crate::tiling::{tile_at, tile_count};
 use px_asm::Operating;
-use px_control::memory_bits;
+use px_control::{JobFault, memory_bits};
 use px_model::{Pixels, Scene, laws_of_scenes};
 use px_num::Memory;
 use px_prune::plan_of;
@@ -47,7 +49,7 @@ pub fn check_tiles(
     requires size { IsWideSize width height }
     ensures ok { OnOk result (wide_refusal scene.now width height bits ≡ None) }
     ensures err { IfErr result (λ fault.
-        (wide_refusal scene.now width height bits ≡ Some fault) ⊎ (fault ≡ WideFault.Memory)) }
+        (wide_refusal scene.now width height bits ≡ Some fault) ⊎ (fault ≡ WideFault.Memory want)) }
     ensures early { (fault : WideFault) → early_refusal scene.now width height bits ≡ Some fault →
         result ≡ Err fault }
     ensures small { (count : ℕ) → result ≡ Err (WideFault.Products count) → count ≤ 2 ^ 21 }
@@ -101,7 +103,7 @@ fn check_products(alloc: Global, scene: &Scene, width: u32, height: u32) -> Resu
     ensures ok { OnOk result (first_crowd scene.now width height ≡ None) }
     ensures err { IfErr result (λ fault.
         (option_map WideFault.Products (first_crowd scene.now width height) ≡ Some fault)
-        ⊎ (fault ≡ WideFault.Memory)) }
+        ⊎ (fault ≡ WideFault.Memory want)) }
     ensures small { (count : ℕ) → result ≡ Err (WideFault.Products count) → count ≤ 2 ^ 21 }
 {
     if is_never_crowded(scene.show()) {
@@ -129,7 +131,7 @@ fn check_products_of_tile(
     ensures ok { OnOk result (crowd_of_tile scene.now width height tile ≡ None) }
     ensures err { IfErr result (λ fault.
         (option_map WideFault.Products (crowd_of_tile scene.now width height tile) ≡ Some fault)
-        ⊎ (fault ≡ WideFault.Memory)) }
+        ⊎ (fault ≡ WideFault.Memory want)) }
     ensures small { (count : ℕ) → result ≡ Err (WideFault.Products count) → count ≤ 2 ^ 21 }
 {
     let tile = scene_of_tile(alloc, scene, width, height, tile)?;
@@ -172,7 +174,7 @@ pub fn render_tiles<A: Operating>(
     ensures drawn { OnOk result (IsLastDrawn A.BITS scene.now width height
         (array_view (A.device array.new) (A.slots array.new) (A.work array.new))) }
     ensures err { IfErr result (λ fault.
-        (wide_refusal scene.now width height A.BITS ≡ Some fault) ⊎ (fault ≡ WideFault.Memory)) }
+        (wide_refusal scene.now width height A.BITS ≡ Some fault) ⊎ (fault ≡ WideFault.Memory want)) }
     ensures early { (fault : WideFault) → early_refusal scene.now width height A.BITS ≡ Some fault →
         result ≡ Err fault }
     ensures small { (count : ℕ) → result ≡ Err (WideFault.Products count) → count ≤ 2 ^ 21 }
@@ -185,7 +187,7 @@ pub fn render_tiles<A: Operating>(
     }
     match draw_tiles(alloc, scene, width, height, array) {
         Ok(found) => Ok(found),
-        Err(_) => Err(WideFault::Memory),
+        Err(lack) => Err(WideFault::Memory(lack)),
     }
 }
 
@@ -202,13 +204,11 @@ fn draw_tiles<A: Operating>(
     ensures found { IfOk result (λ found. IsFound scene.now width height found.items) }
     ensures drawn { OnOk result (IsLastDrawn A.BITS scene.now width height
         (array_view (A.device array.new) (A.slots array.new) (A.work array.new))) }
-    ensures array { OnErr result (LeavesOnWideRefusal WideFault.Memory A.BITS scene.now width height
+    ensures array { OnErr result (LeavesOnWideRefusal (WideFault.Memory want) A.BITS scene.now width height
         (array_view (A.device array.old) (A.slots array.old) (A.work array.old))
         (array_view (A.device array.new) (A.slots array.new) (A.work array.new))) }
 {
-    let Ok(mut found) = Vec::from_elem(alloc, 0, width as usize * height as usize) else {
-        return Err(Memory);
-    };
+    let mut found = Vec::from_elem(alloc, 0, width as usize * height as usize)?;
     laws_of_scenes(scene);
     laws_of_tiles();
     for tile in 0..tile_count(scene, width, height) {
@@ -245,11 +245,19 @@ fn draw_tile<A: Operating>(
         ⊎ (array_view (A.device array.new) (A.slots array.new) (A.work array.new) ≡ none_open)) }
 {
     let place = tile_at(scene, width, height, tile);
-    let Ok(scene) = scene_of_tile(alloc, scene, width, height, tile) else {
-        return Err(Memory);
-    };
+    let scene = scene_of_tile(alloc, scene, width, height, tile)?;
     match render_tile(alloc, &scene, place.x0, width, place.y0, found, array) {
         Ok(()) => Ok(()),
-        Err(_) => Err(Memory),
+        Err(fault) => Err(lack_in(fault)),
+    }
+}
+
+/// What was wanting for a tile that is not refused.
+fn lack_in(fault: JobFault) -> Memory
+    requires { fault ≡ JobFault.Memory want }
+{
+    match fault {
+        JobFault::Memory(lack) => lack,
+        JobFault::PixelMemory { .. } | JobFault::Products { .. } => unreachable!(),
     }
 }

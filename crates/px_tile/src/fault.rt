@@ -4,7 +4,7 @@ use px_num::Memory;
 use thiserror::Error;
 
 /// Why a scene has no tile at a place.
-#[derive(Clone, Copy, Debug, PartialEq, Eq, Error)]
+#[derive(Debug, Drop, PartialEq, Eq, Error)]
 pub enum TileFault {
     /// A plane's `C` is greater than `2^33` in size at the tile's first pixel.
     #[error("a coefficient of {found}")]
@@ -14,11 +14,11 @@ pub enum TileFault {
     },
     /// Memory was wanted and not given.
     #[error("out of memory")]
-    Memory,
+    Memory(Memory),
 }
 
 /// Why a picture is not drawn tile by tile, in the order in which it is asked.
-#[derive(Clone, Copy, Debug, PartialEq, Eq, Error)]
+#[derive(Debug, Drop, PartialEq, Eq, Error)]
 pub enum WideFault {
     /// There are more than `MAX_TILES` tiles.
     #[error("{found} tiles, of at most 1024")]
@@ -46,7 +46,7 @@ pub enum WideFault {
     },
     /// Memory was wanted and not given.
     #[error("out of memory")]
-    Memory,
+    Memory(Memory),
 }
 
 impl From<Memory> for TileFault {
@@ -54,10 +54,10 @@ impl From<Memory> for TileFault {
     ghost use Rattle.px_tile.specs.declared.fault.TileFault.{TileFault};
     ghost use Rattle.px_tile.specs.declared.fault.TileFault.TheVariants.{Memory as NoMemory};
 
-    ghost from_gives = { λ _ fault. fault ≡ NoMemory };
+    ghost from_gives = { λ lack fault. fault ≡ NoMemory lack };
 
-    fn from(_: Memory) -> Self {
-        TileFault::Memory
+    fn from(lack: Memory) -> Self {
+        TileFault::Memory(lack)
     }
 }
 
@@ -70,7 +70,7 @@ impl From<NormalFault> for WideFault {
     fn from(cause: NormalFault) -> Self {
         match cause {
             NormalFault::TooMany { count } => WideFault::Products { count },
-            NormalFault::Memory => WideFault::Memory,
+            NormalFault::Memory(lack) => WideFault::Memory(lack),
         }
     }
 }
@@ -80,9 +80,9 @@ impl From<Memory> for WideFault {
     ghost use Rattle.px_tile.specs.declared.fault.WideFault.{WideFault};
     ghost use Rattle.px_tile.specs.declared.fault.WideFault.TheVariants.{Memory as NoMemory};
 
-    ghost from_gives = { λ _ fault. fault ≡ NoMemory };
+    ghost from_gives = { λ lack fault. fault ≡ NoMemory lack };
 
-    fn from(_: Memory) -> Self {
-        WideFault::Memory
+    fn from(lack: Memory) -> Self {
+        WideFault::Memory(lack)
     }
 }

@@ -1,5 +1,6 @@
 //! Drawing one tile, and putting its picture into the numbers of the wide picture.
 ghost use Rattle.std.specs.Prelude.{◌≡◌, ◌+◌, ◌*◌, ◌<◌, ◌≤◌, ◌⊎◌, IfErr, None, OnErr, OnOk, Some, length};
+ghost use Rattle.px_num.specs.Want.{want};
 ghost use Rattle.px_array.specs.Arrays.{pixel_of};
 ghost use Rattle.px_array.specs.Slots.{IsRunOnce, array_view};
 ghost use Rattle.px_control.specs.GridLaw.{CoversThePicture};
@@ -42,7 +43,7 @@ pub fn render_tile<A: Operating>(
     ensures once { OnOk result (IsRunOnce
         (array_view (A.device array.new) (A.slots array.new) (A.work array.new))) }
     ensures err { IfErr result (λ fault.
-        (tile_refusal scene.now A.BITS ≡ Some fault) ⊎ (fault ≡ JobFault.Memory)) }
+        (tile_refusal scene.now A.BITS ≡ Some fault) ⊎ (fault ≡ JobFault.Memory want)) }
     ensures found { OnErr result (found.new ≡ found.old) }
     ensures array { IfErr result (λ fault. LeavesOnRefusal fault
         (array_view (A.device array.old) (A.slots array.old) (A.work array.old))

@@ -45,4 +45,4 @@ pub fine_stops : (fault : FineFault) (s : ℕ) (scene : SceneView) → IsRefusal
 fine_stops (fine.Fraction found) s scene is = record { scene = tt; meets = λ o. rw is refl }
 fine_stops (fine.Picture found) s scene is = record { scene = tt; meets = λ o. rw is refl }
 fine_stops (fine.Coefficient found) s scene is = record { scene = tt; meets = λ o. rw is refl }
-fine_stops fine.Memory s scene is = record { scene = tt; meets = λ o. tt }
+fine_stops (fine.Memory _) s scene is = record { scene = tt; meets = λ o. tt }

@@ -99,13 +99,13 @@ read_array : (work : Work) (bits : ℕ) (scene : SceneView) (device : ArrayView)
     → IsReadStop stop m n
     → LeavesArray work (status_of stop) bits scene device device
 read_array w.Render bits scene device s.ReadFault m n is = refl
-read_array w.Render bits scene device s.Memory m n is = inl refl
+read_array w.Render bits scene device (s.Memory _) m n is = inl refl
 read_array w.Colour bits scene device s.ReadFault m n is = refl
-read_array w.Colour bits scene device s.Memory m n is = inl refl
+read_array w.Colour bits scene device (s.Memory _) m n is = inl refl
 read_array (w.Refine fineness) bits scene device s.ReadFault m n is = refl
-read_array (w.Refine fineness) bits scene device s.Memory m n is = inl refl
+read_array (w.Refine fineness) bits scene device (s.Memory _) m n is = inl refl
 read_array (w.Tile size) bits scene device s.ReadFault m n is = refl
-read_array (w.Tile size) bits scene device s.Memory m n is = inl refl
+read_array (w.Tile size) bits scene device (s.Memory _) m n is = inl refl
 read_array w.Tidy bits scene device stop m n is = refl
 read_array w.Plan bits scene device stop m n is = refl
 read_array w.Cost bits scene device stop m n is = refl
@@ -133,12 +133,12 @@ read_works work bytes bits s.ReadFault before after m n read idle =
       array = rw idle.array (read_array work bits _ before.array s.ReadFault m n read);
       refused = λ reason bad scene. rw idle.array (read_array work bits scene before.array s.ReadFault m n read);
     }
-read_works work bytes bits s.Memory before after m n read idle =
+read_works work bytes bits (s.Memory lack) before after m n read idle =
     record {
       meets = tt;
       writes = idle.out;
-      array = rw idle.array (read_array work bits _ before.array s.Memory m n read);
-      refused = λ reason bad scene. rw idle.array (read_array work bits scene before.array s.Memory m n read);
+      array = rw idle.array (read_array work bits _ before.array (s.Memory lack) m n read);
+      refused = λ reason bad scene. rw idle.array (read_array work bits scene before.array (s.Memory lack) m n read);
     }
 read_works work bytes bits s.Usage before after m n read idle = absurd read
 read_works work bytes bits (s.Refused reason) before after m n read idle = absurd read
@@ -155,7 +155,7 @@ performs_read result work bits stop before after m n is read idle (taken, consum
 text_meets : (work : Work) (bytes : List ℕ) (bits : ℕ) (stop : Stop) → IsTextStop stop bytes
     → Meets (Err stop) (worked_out work bytes bits)
 text_meets work bytes bits (s.Refused reason) is = rw is refl
-text_meets work bytes bits s.Memory is = tt
+text_meets work bytes bits (s.Memory _) is = tt
 text_meets work bytes bits s.Usage is = absurd is
 text_meets work bytes bits s.ReadFault is = absurd is
 text_meets work bytes bits s.WriteFault is = absurd is
@@ -163,7 +163,7 @@ text_meets work bytes bits s.WriteFault is = absurd is
 text_writes : (stop : Stop) (bytes text : List ℕ) (before after : SinkState) → IsTextStop stop bytes → TakesNone before after
     → Wrote (Err stop) text before after
 text_writes (s.Refused reason) bytes text before after is idle = idle
-text_writes s.Memory bytes text before after is idle = idle
+text_writes (s.Memory _) bytes text before after is idle = idle
 text_writes s.Usage bytes text before after is idle = absurd is
 text_writes s.ReadFault bytes text before after is idle = absurd is
 text_writes s.WriteFault bytes text before after is idle = absurd is
@@ -173,7 +173,7 @@ text_draws : (bytes : List ℕ) (bits : ℕ) (scene : SceneView) (device : Array
     → Draws (status_of stop) bits scene device device
 text_draws bytes bits scene device (s.Refused (r.Malformed line cause)) is = refl
 text_draws bytes bits scene device (s.Refused (r.Limit line kind found)) is = refl
-text_draws bytes bits scene device s.Memory is = inl refl
+text_draws bytes bits scene device (s.Memory _) is = inl refl
 text_draws bytes bits scene device s.Usage is = absurd is
 text_draws bytes bits scene device s.ReadFault is = absurd is
 text_draws bytes bits scene device s.WriteFault is = absurd is
@@ -183,7 +183,7 @@ text_tiles : (bytes : List ℕ) (bits : ℕ) (size : Size) (scene : SceneView) (
     → DrawsTiles (status_of stop) bits size scene device device
 text_tiles bytes bits size scene device (s.Refused (r.Malformed line cause)) is = refl
 text_tiles bytes bits size scene device (s.Refused (r.Limit line kind found)) is = refl
-text_tiles bytes bits size scene device s.Memory is = inl refl
+text_tiles bytes bits size scene device (s.Memory _) is = inl refl
 text_tiles bytes bits size scene device s.Usage is = absurd is
 text_tiles bytes bits size scene device s.ReadFault is = absurd is
 text_tiles bytes bits size scene device s.WriteFault is = absurd is

@@ -24,7 +24,7 @@ wide_fault_refusal (fault.Tiles found) = Some (r.Limit 0 k.Tiles (pos found))
 wide_fault_refusal (fault.Coefficient found) = Some (r.Limit 0 (k.Scene kind.Coefficient) found)
 wide_fault_refusal (fault.PixelMemory need) = Some (short_of_bits need)
 wide_fault_refusal (fault.Products count) = Some (too_many count)
-wide_fault_refusal fault.Memory = None
+wide_fault_refusal (fault.Memory _) = None
 
 abbrev pub wide_refused : Option WideFault → Option Refusal
 wide_refused None = None
@@ -47,5 +47,5 @@ tiled size scene bits = unless_refused (tiles_refusal size scene bits) (done (wi
 abbrev pub DrawsTiles : Status → (bits : ℕ) → Size → SceneView → (before now : ArrayView) → Type 0
 DrawsTiles status.Done bits size scene before now = IsLastDrawn bits scene size.width size.height now
 DrawsTiles status.WriteFault bits size scene before now = IsLastDrawn bits scene size.width size.height now
-DrawsTiles status.Memory bits size scene before now = LeavesOnWideRefusal fault.Memory bits scene size.width size.height before now
+DrawsTiles (status.Memory m) bits size scene before now = LeavesOnWideRefusal (fault.Memory m) bits scene size.width size.height before now
 DrawsTiles found bits size scene before now = now ≡ before

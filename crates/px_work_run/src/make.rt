@@ -110,8 +110,9 @@ fn make_tidy<O: Sink>(alloc: Global, scene: &Scene, out: &mut O) -> Result<(), S
     ensures serves { DoesWork result (tidied scene.now)
         (O.state out.old) (O.state out.new) }
 {
-    let Ok(text) = write_scene(alloc, scene) else {
-        return Err(Stop::Memory);
+    let text = match write_scene(alloc, scene) {
+        Ok(text) => text,
+        Err(lack) => return Err(Stop::Memory(lack)),
     };
     write_out(text.as_slice(), out)
 }
@@ -122,8 +123,9 @@ fn make_plan<O: Sink>(alloc: Global, scene: &Scene, out: &mut O) -> Result<(), S
 {
     let plan = kept_of(alloc, scene)?;
     let all = count_products(scene.show());
-    let Ok(text) = plan_text(alloc, scene.solids(), all, plan.products.as_slice()) else {
-        return Err(Stop::Memory);
+    let text = match plan_text(alloc, scene.solids(), all, plan.products.as_slice()) {
+        Ok(text) => text,
+        Err(lack) => return Err(Stop::Memory(lack)),
     };
     write_out(text.as_slice(), out)
 }

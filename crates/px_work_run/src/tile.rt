@@ -80,7 +80,7 @@ fn stop_of(fault: WideFault) -> Stop
         }
         WideFault::PixelMemory { need } => Stop::Refused(short_of_bits(need)),
         WideFault::Products { count } => Stop::Refused(too_many(count)),
-        WideFault::Memory => Stop::Memory,
+        WideFault::Memory(lack) => Stop::Memory(lack),
     }
 }
 

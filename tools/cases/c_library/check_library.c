@@ -9,10 +9,11 @@
  * Each buffer ends where a page begins that nobody may touch, and is filled before a call. For each text: check,
  * render, colour and products with buffers of no element, one too few, as many as are due, and one more; state and
  * micros so too, at the first, a middle and the last clock, and past it; each with each allocation refused in turn
- * (some of the later ones); and all of it in four threads at once. Linked
- * with --wrap for malloc, realloc and free. Prints a line for each difference, and last how much was compared.
+ * (some of the later ones); and all of it in four threads at once. No call may want more bytes at once than its text
+ * and, where it draws or clocks, its array explain. Linked with --wrap for malloc, realloc and free. Prints a line for each difference, and last how much was compared.
  */
 #define _DEFAULT_SOURCE
+#include <malloc.h>
 #include <pthread.h>
 #include <stdarg.h>
 #include <stdatomic.h>
@@ -35,22 +36,49 @@ void __real_free(void *old);
 
 static _Thread_local int inside;
 static _Thread_local long asked, refuse_at, held;
+static _Thread_local size_t live, most;
 
 static int is_refused(void)
 {
     return inside && ++asked == refuse_at;
 }
 
+/* Counts the bytes that are held when so many more are wanted, given or not. */
+static void want(size_t size)
+{
+    if (inside && live + size > most)
+        most = live + size;
+}
+
+static void hold(void *got)
+{
+    if (inside && got != NULL)
+        live += malloc_usable_size(got);
+}
+
+static void drop(void *old)
+{
+    if (inside && old != NULL)
+        live -= malloc_usable_size(old);
+}
+
 void *__wrap_malloc(size_t size)
 {
+    want(size);
     void *got = is_refused() ? NULL : __real_malloc(size);
     held += inside && got != NULL;
+    hold(got);
     return got;
 }
 
 void *__wrap_realloc(void *old, size_t size)
 {
-    void *got = is_refused() ? NULL : __real_realloc(old, size);
+    want(size);
+    if (is_refused())
+        return NULL;
+    drop(old);
+    void *got = __real_realloc(old, size);
+    hold(got == NULL ? old : got);
     held += inside && old == NULL && got != NULL;
     return got;
 }
@@ -58,6 +86,7 @@ void *__wrap_realloc(void *old, size_t size)
 void __wrap_free(void *old)
 {
     held -= inside && old != NULL;
+    drop(old);
     __real_free(old);
 }
 
@@ -174,8 +203,16 @@ static const struct {
 /* What the calls of the machine take beside: a clock, and where the state is told. */
 struct moment {
     uint64_t clock;
-    struct pxplanes_state state;
+    struct pxplanes_moment state;
 };
+
+/* The most bytes that a call may want at once: 64 for each byte of its text and a MiB, and 14 MiB where it opens an array,
+ * which with its four slots has 75 rows of 32 KiB and a tree of 128 KiB, five times, for 512 by 512 pixels. */
+static size_t most_due(enum call call, const struct text *text, uint32_t status)
+{
+    int is_open = call == STATE || ((call == DRAW || call == PAINT) && (status == PXPLANES_OK || status == PXPLANES_MEMORY));
+    return 64 * text->bytes.len + (1 << 20) + (is_open ? 14 << 20 : 0);
+}
 
 static uint32_t called(enum call call, const struct text *text, struct buffer *b, struct moment *moment,
                        struct pxplanes_found *found, long refuse)
@@ -184,6 +221,7 @@ static uint32_t called(enum call call, const struct text *text, struct buffer *b
     memset(found, FILL, sizeof *found);
     atomic_fetch_add(&calls, 1);
     asked = held = 0;
+    live = most = 0;
     refuse_at = refuse;
     inside = 1;
     switch (call) {
@@ -210,6 +248,8 @@ static uint32_t called(enum call call, const struct text *text, struct buffer *b
     inside = 0;
     if (held != 0)
         differs(text->name, "%s keeps %ld blocks of memory", kinds[call].name, held);
+    if (most > most_due(call, text, status))
+        differs(text->name, "%s wants %zu bytes at once (status %u)", kinds[call].name, most, (unsigned) status);
     return status;
 }
 
@@ -399,7 +439,7 @@ static int is_listing(const struct text *text)
     return strncmp(at, "pxlist", 6) == 0 && strchr(" \t\r\n#", at[6]) != NULL;
 }
 
-static int is_no_state(const struct pxplanes_state *s)
+static int is_no_state(const struct pxplanes_moment *s)
 {
     return (s->grid_width | s->grid_height | s->words_per_row | s->bits | s->levels) == 0 &&
            (s->clock | s->clocks | s->operation | s->operation_clock | s->next_micro) == 0;
@@ -437,13 +477,13 @@ static void tried_at(enum call call, const struct text *text, uint64_t clock, si
 }
 
 /* A bit of a pixel in the words of a state. */
-static unsigned bit_of(const struct pxplanes_state *s, const uint64_t *words, size_t plane, size_t x, size_t y)
+static unsigned bit_of(const struct pxplanes_moment *s, const uint64_t *words, size_t plane, size_t x, size_t y)
 {
     return words[(plane * s->grid_height + y) * s->words_per_row + x / 64] >> x % 64 & 1;
 }
 
 /* The last state of a listing, beside the lines that `play` prints of its pixels. */
-static void compare_memory(const struct text *text, const struct pxplanes_state *s, const uint64_t *words)
+static void compare_memory(const struct text *text, const struct pxplanes_moment *s, const uint64_t *words)
 {
     const struct bytes *output = &text->answer[PLAY].output;
     const char *due = (const char *) output->at, *end = due + output->len;
@@ -468,7 +508,7 @@ static void compare_memory(const struct text *text, const struct pxplanes_state 
 static void compare_state(const struct text *text, const struct moment *moment, const struct buffer *buffer,
                           const struct pxplanes_found *found, const uint64_t *micros)
 {
-    const struct pxplanes_state *s = &moment->state;
+    const struct pxplanes_moment *s = &moment->state;
     const uint64_t *words = (const uint64_t *) buffer->at;
     size_t planes = (size_t) (s->bits + 4) * s->grid_height * s->words_per_row, nodes = ((2ull << s->levels) + 63) / 64;
     int ended = moment->clock == found->clocks;
@@ -669,7 +709,7 @@ static void compare_one_pixel(void)
     static const char scene[] = "pxscene 1\npicture 1 1\ndepth 4\nsolid a 200 100 50\nfront 0 0 5\nback 0 0 9\nshow a\nend\n";
     const uint8_t *text = (const uint8_t *) scene;
     uint64_t words[154], micros[317];
-    struct pxplanes_state state;
+    struct pxplanes_moment state;
     struct pxplanes_found found;
     if (pxplanes_state(text, sizeof scene - 1, 40, words, 154, &state, &found) != PXPLANES_OK || state.clocks != 317 ||
         found.operations != 22 || state.grid_width != 2 || state.grid_height != 2)
@@ -689,7 +729,7 @@ static void compare_small_listing(void)
     static const char listing[] = "pxlist 1\ngrid 2 1\nall\nload-linear 1 4 2 3 5\nadd-linear 1 1 0 3 5\nend\n";
     const uint8_t *text = (const uint8_t *) listing;
     uint64_t words[154], micros[19];
-    struct pxplanes_state state;
+    struct pxplanes_moment state;
     struct pxplanes_found found;
     if (pxplanes_state(text, sizeof listing - 1, 10, words, 154, &state, &found) != PXPLANES_OK || state.clocks != 19 ||
         state.grid_width != 4 || state.grid_height != 2)

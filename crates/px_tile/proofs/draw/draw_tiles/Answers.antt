@@ -21,7 +21,7 @@ loop-tile-preserved g c =
     omega (arith, c.tile_count-tile-end.ensures) in
     let law = c.laws_of_scenes.ensures.scene in
     let numbers = c.as_mut_slice-numbers.ensures in
-    let put = rw numbers.value at c.in_default-draw_tile.ensures.ok in
+    let put = rw numbers.value at c.in_default.ensures.ok in
     let more = tiles_more c.args.scene.now c.args.width c.args.height law.some_width law.some_height c.requires.size
     c.laws_of_tiles.ensures c.loop-tile.tile _ _ c.loop-tile.invariant.tiles put in
     let old = c.loop-tile.found.items in
@@ -30,7 +30,7 @@ loop-tile-preserved g c =
     put_back c.loop-tile.found.len new old put.count (omega (arith, ap length numbers.value, numbers.len)) in
     record {
       tiles = rw back more;
-      left = inr (c.loop-tile.tile, refl, low, c.in_default-draw_tile.ensures.drawn);
+      left = inr (c.loop-tile.tile, refl, low, c.in_default.ensures.drawn);
     }
 
 pub returns-clause-found : goal.returns-clause-found

@@ -1,22 +1,35 @@
-//! A picture wider than the array: what is clocked tile by tile.
-use crate::runs::{run_words, sink_of, source_of};
+//! What is asked of an array: its openings, operations at once, and clocks.
+use crate::runs::{ONE_SOLID, run_words, sink_of, source_of};
 use arrayvec::ArrayVec;
 use px_array::{Array, Micro, PixelArray, Registers};
 use px_asm::Operating;
 use px_draw::Status;
 use px_macro::Macro;
 use px_num::Memory;
+use std::alloc::Global;
 use std::test::Fail;
 
 /// Two slopes that meet at the third column, at depth 4.
 const SLOPES: &[u8] = b"pxscene 1\npicture 2 1\ndepth 6\nsolid a 0 0 0\n\
     front 2 0 0\nfront -2 0 8\nshow a\nend\n";
 
-/// An array that keeps of each of its openings the levels of the grid, and the clocks that were made before.
+/// An array that keeps of each of its openings the levels of the grid, and the clocks that were made before; and how often
+/// it was asked for an operation at once, and for a clock.
 #[derive(Drop)]
 struct Watched {
     array: PixelArray<72>,
     openings: ArrayVec<(u32, u32, u64), 8>,
+    operations: u64,
+    clocks: u64,
+}
+
+fn closed(alloc: Global) -> Watched {
+    Watched {
+        array: PixelArray::new(alloc),
+        openings: ArrayVec::new(),
+        operations: 0,
+        clocks: 0,
+    }
 }
 
 impl Array for Watched {
@@ -37,6 +50,7 @@ impl Array for Watched {
     }
 
     fn clock(&mut self, m: Micro) {
+        self.clocks = self.clocks.saturating_add(1);
         self.array.clock(m);
     }
 
@@ -83,6 +97,7 @@ impl Array for Watched {
 
 impl Operating for Watched {
     fn operate(&mut self, m: &Macro) {
+        self.operations = self.operations.saturating_add(1);
         self.array.operate(m);
     }
 }
@@ -90,18 +105,38 @@ impl Operating for Watched {
 /// Each of the three tiles is opened, and its 29 operations take 473 clocks on 2 by 2 pixels.
 #[test]
 fn each_tile_is_opened_and_clocked(rt: HostRuntime) -> Result<(), Fail> {
-    let mut array = Watched {
-        array: PixelArray::new(rt.alloc()),
-        openings: ArrayVec::new(),
-    };
-    let input = source_of(rt.alloc(), SLOPES, 4096, 0)?;
+    let mut array = closed(rt.alloc());
+    let mut input = source_of(rt.alloc(), SLOPES, 4096, 0)?;
     let out = sink_of(rt.alloc(), 0)?;
-    let left = run_words(rt.alloc(), &["tile", "5", "1"], input, out, 99, &mut array)?;
+    let left = run_words(
+        rt.alloc(),
+        &["tile", "5", "1"],
+        &mut input,
+        out,
+        99,
+        &mut array,
+    )?;
     assert_eq!(rt; left.status, Status::Done);
     assert_eq!(rt;
         array.openings.as_slice(),
         [(1, 1, 0), (1, 1, 473), (1, 1, 473)].as_slice()
     );
     assert_eq!(rt; left.clocks, 473);
+    Ok(())
+}
+
+/// Of the 22 operations of one solid the first 15 are made at once; the last one that clears the tree, `load-linear`, and the
+/// six behind it take 38 of the 317 clocks.
+#[test]
+fn most_operations_are_made_at_once(rt: HostRuntime) -> Result<(), Fail> {
+    let mut array = closed(rt.alloc());
+    let mut input = source_of(rt.alloc(), ONE_SOLID, 4096, 0)?;
+    let out = sink_of(rt.alloc(), 0)?;
+    let left = run_words(rt.alloc(), &[], &mut input, out, 99, &mut array)?;
+    assert_eq!(rt; left.status, Status::Done);
+    assert_eq!(rt;
+        (array.operations, array.clocks, left.clocks),
+        (15, 38, 317)
+    );
     Ok(())
 }
