@@ -9,6 +9,7 @@ import ends
 import pages
 import scenes
 from browser import Browser
+from firefox import Firefox
 
 cases = ends.script("dev/run_cases")
 AT_ONCE = 60
@@ -42,15 +43,16 @@ ASKED = """async asked => {
 }"""
 
 
-GROWN = """texts => {
+GROWN = """async texts => {
+  const px = await studio.library();
   let before = 0;
   for (let at = 0; at < 10000; at++) {
     if (at === 100) before = px.bytes;
     try { px.check(texts[at % texts.length]); px.products(texts[at % texts.length]); } catch (error) { if (!(error instanceof px.Refused)) throw error; }
-    try { if (at %% 20 === 0) px.render(texts[at %% texts.length]); } catch (error) { if (!(error instanceof px.Refused)) throw error; }
+    try { if (at % 20 === 0) px.render(texts[at % texts.length]); } catch (error) { if (!(error instanceof px.Refused)) throw error; }
   }
   return px.bytes === before;
-}""".replace("%%", "%")
+}"""
 
 
 def products_of(text, output):
@@ -69,7 +71,7 @@ def wrong(word, text, wanted, answer):
     return answer != [status, note.decode().strip("\n"), due]
 
 
-with Browser() as page:
+with (Firefox if sys.argv[1:] == ["firefox"] else Browser)() as page:
     pages.alone(page)
     chosen = []
     for name in cases.names():
