@@ -43,7 +43,10 @@ function draw(text) {
   const drawn = px.render(text), scene = sceneIn(text), faces = facesOf(scene), rgb = new Uint8Array(3 * drawn.faces.length);
   const colours = [[0, 0, 0]];
   for (const [number, , , colour] of faces) colours[number] = colour;
-  drawn.faces.forEach((face, place) => rgb.set(colours[face], 3 * place));
+  for (let place = 0, to = 0; place < drawn.faces.length; place++, to += 3) {
+    const colour = colours[drawn.faces[place]];
+    rgb[to] = colour[0]; rgb[to + 1] = colour[1]; rgb[to + 2] = colour[2];
+  }
   return {kind: "scene", width: drawn.width, height: drawn.height, far: scene.far(), operations: drawn.operations, clocks: drawn.clocks,
     layout: {depth: scene.depthBits, fraction: scene.fractionBits, face: scene.numberBits()}, facesOf: faces,
     depths: drawn.depths, faces: drawn.faces, rgb};

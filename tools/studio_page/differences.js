@@ -66,14 +66,23 @@ function told(place, ours, theirs, names) {
   return `  at ${place % ours.width} ${Math.floor(place / ours.width)}: ${parts.join(", ")}`;
 }
 
+function extentOf(numbers) {
+  let least = Infinity, most = -Infinity;
+  for (const number of numbers) {
+    if (number < least) least = number;
+    if (number > most) most = number;
+  }
+  return [least, most];
+}
+
 // Red, green and blue of each pixel: grey where both are alike, red where depths differ, blue where only faces do.
 export function pictureOf(ours, theirs, {gaps}) {
-  const extent = numbers => numbers.reduce(([least, most], each) => [Math.min(least, each), Math.max(most, each)], [Infinity, -Infinity]);
-  const [near, far] = extent(ours.depths), [, most] = extent(gaps), rgb = new Uint8Array(3 * gaps.length);
+  const [near, far] = extentOf(ours.depths), [, most] = extentOf(gaps), wide = Math.max(far - near, 1), rgb = new Uint8Array(3 * gaps.length);
   for (let at = 0, to = 0; at < gaps.length; at++, to += 3) {
-    const grey = 200 - Math.floor(140 * (ours.depths[at] - near) / Math.max(far - near, 1));
-    const colour = gaps[at] ? [128 + Math.floor(127 * gaps[at] / most), 32, 32] : isOtherFace(ours, theirs, at) ? [64, 96, 255] : [grey, grey, grey];
-    rgb.set(colour, to);
+    const grey = 200 - Math.floor(140 * (ours.depths[at] - near) / wide), isRed = gaps[at] > 0, isBlue = !isRed && isOtherFace(ours, theirs, at);
+    rgb[to] = isRed ? 128 + Math.floor(127 * gaps[at] / most) : isBlue ? 64 : grey;
+    rgb[to + 1] = isRed ? 32 : isBlue ? 96 : grey;
+    rgb[to + 2] = isRed ? 32 : isBlue ? 255 : grey;
   }
   return rgb;
 }
@@ -86,7 +95,7 @@ export function compared(ours, theirs, tolerance, first, scene) {
   const lines = [`${at.length} of ${gaps.length} pixels differ`], kinds = kindsOf(scene, ours, theirs, at);
   if (!at.length) return {lines, differences, kinds};
   lines.push(...misunderstood(ours, theirs, scene, tolerance));
-  const most = gaps.reduce((sum, gap) => Math.max(sum, gap), 0), place = gaps.indexOf(most);
+  const [, most] = extentOf(gaps), place = gaps.indexOf(most);
   if (most) lines.push(`greatest difference of depths: ${most}, at ${place % ours.width} ${Math.floor(place / ours.width)}`);
   if (at.length > 1) lines.push(...kindLines(kinds.sorted, first));
   const names = namesOf(scene);
@@ -113,20 +122,28 @@ function misunderstood(ours, theirs, scene, tolerance) {
 // Whether theirs has the colours of the scene's faces.
 function showsColours(ours, theirs, scene) {
   if (theirs.first.channels !== 3) return false;
-  const colours = new Set([0, ...scene.faces().map(([, , , , [red, green, blue]]) => (red * 65536 + green) * 65536 + blue)]), shown = new Set();
-  for (let at = 0, {samples} = theirs.first; at < samples.length; at += 3)
-    shown.add((samples[at] * 65536 + samples[at + 1]) * 65536 + samples[at + 2]);
+  const number = ([red, green, blue]) => (red * 65536 + green) * 65536 + blue, shown = new Set();
+  const colours = new Set([0, ...scene.faces().map(([, , , , colour]) => number(colour))]);
+  for (let at = 0, {samples} = theirs.first; at < samples.length; at += 3) {
+    const own = (samples[at] * 65536 + samples[at + 1]) * 65536 + samples[at + 2];
+    if (!colours.has(own)) return false;
+    shown.add(own);
+  }
   const [one, other] = [new Set(theirs.depths), new Set(ours.depths)];
-  return shown.size > 1 && [...shown].every(each => colours.has(each)) && !(one.size === other.size && [...one].every(each => other.has(each)));
+  return shown.size > 1 && !(one.size === other.size && [...one].every(each => other.has(each)));
 }
 
-// Changes of theirs: what each is called, where a pixel's numbers are taken from, and what is made of a depth or of a face.
-const flipsOf = (width, height) => [
-  ["with its rows from the bottom up", (x, y) => [x, height - 1 - y]],
-  ["with its columns from the right", (x, y) => [width - 1 - x, y]],
-  ["with its rows and columns turned about", (x, y) => [width - 1 - x, height - 1 - y]],
-  ["moved one column to the left", (x, y) => [x + 1, y]], ["moved one column to the right", (x, y) => [x - 1, y]],
-  ["moved one row up", (x, y) => [x, y + 1]], ["moved one row down", (x, y) => [x, y - 1]]].map(([said, place]) => ({said, place}));
+// Changes of theirs: what each is called, where a pixel's numbers are taken from, below 0 for nowhere, and what is made of a depth or
+// of a face.
+function flipsOf(width, height) {
+  const at = (x, y) => x >= 0 && x < width && y >= 0 && y < height ? y * width + x : -1;
+  return [
+    ["with its rows from the bottom up", (x, y) => at(x, height - 1 - y)],
+    ["with its columns from the right", (x, y) => at(width - 1 - x, y)],
+    ["with its rows and columns turned about", (x, y) => at(width - 1 - x, height - 1 - y)],
+    ["moved one column to the left", (x, y) => at(x + 1, y)], ["moved one column to the right", (x, y) => at(x - 1, y)],
+    ["moved one row up", (x, y) => at(x, y + 1)], ["moved one row down", (x, y) => at(x, y - 1)]].map(([said, place]) => ({said, place}));
+}
 
 function swapped(depth, size) {
   if (!(depth >= 0 && depth < 256 ** size)) return depth;
@@ -155,28 +172,26 @@ function changesOfDepths(far, background, largest) {
 
 // The one number that theirs has where ours has the background, or null.
 function backgroundOf(ours, theirs, far) {
-  const found = new Set(theirs.depths.filter((_, at) => ours.depths[at] === far));
-  return found.size === 1 ? [...found][0] : null;
+  let known = null;
+  for (let at = 0; at < ours.depths.length; at++) {
+    if (ours.depths[at] !== far || theirs.depths[at] === known) continue;
+    if (known !== null) return null;
+    known = theirs.depths[at];
+  }
+  return known;
 }
 
-// How many of some pixels are unlike where theirs is changed.
-function unlike(ours, theirs, tolerance, at, changes) {
-  const {width, height} = ours;
+// How many of some pixels are unlike where theirs is changed; more than `most` need not be counted.
+function unlike(ours, theirs, tolerance, at, {place, depth, face}, most = Infinity) {
+  const {width} = ours, hasFaces = ours.faces && theirs.faces;
   let count = 0;
-  for (const place of at) {
-    let x = place % width, y = Math.floor(place / width);
-    for (const change of changes) if (change.place) [x, y] = change.place(x, y);
-    if (x < 0 || x >= width || y < 0 || y >= height) continue;
-    let depth = theirs.depths[y * width + x];
-    for (const change of changes) if (change.depth) depth = change.depth(depth);
-    if (!(Math.abs(depth - ours.depths[place]) <= tolerance)) {
-      count += 1;
-      continue;
-    }
-    if (!ours.faces || !theirs.faces) continue;
-    let face = theirs.faces[y * width + x];
-    for (const change of changes) if (change.face) face = change.face(face, ours.faces[place]);
-    if (face !== ours.faces[place]) count += 1;
+  for (const own of at) {
+    const from = place ? place(own % width, Math.floor(own / width)) : own;
+    if (from < 0) continue;
+    const changed = depth ? depth(theirs.depths[from]) : theirs.depths[from];
+    if (!(Math.abs(changed - ours.depths[own]) <= tolerance)) count += 1;
+    else if (hasFaces && (face ? face(theirs.faces[from], ours.faces[own]) : theirs.faces[from]) !== ours.faces[own]) count += 1;
+    if (count > most) break;
   }
   return count;
 }
@@ -189,20 +204,17 @@ const sampled = count => {
 // What theirs has to be changed by to be like ours, and how many pixels are unlike then; null where no change makes it alike but for
 // a few.
 function explained(ours, theirs, tolerance, far) {
-  const count = ours.width * ours.height, at = sampled(count), before = unlike(ours, theirs, tolerance, at, []);
-  const most = theirs.depths.reduce((sum, depth) => Math.max(sum, depth), -Infinity);
-  const values = [[], ...changesOfDepths(far, backgroundOf(ours, theirs, far), most).map(change => [change])];
-  if (ours.faces && theirs.faces) values.push([{said: "with face numbers from 0", face: (face, mine) => face + (mine ? 1 : 0)}]);
-  const ways = [[], ...flipsOf(ours.width, ours.height).map(flip => [flip])];
-  const tried = ways.flatMap(way => values.map(value => [...way, ...value]));
-  let best = null;
-  for (const changes of tried) {
-    const own = unlike(ours, theirs, tolerance, at, changes);
-    if (!best || own < best.count || own === best.count && changes.length < best.changes.length) best = {count: own, changes};
+  const count = ours.width * ours.height, at = sampled(count), before = unlike(ours, theirs, tolerance, at, {});
+  const values = [{}, ...changesOfDepths(far, backgroundOf(ours, theirs, far), extentOf(theirs.depths)[1])];
+  if (ours.faces && theirs.faces) values.push({said: "with face numbers from 0", face: (face, mine) => face + (mine ? 1 : 0)});
+  let best = {count: before, parts: []};
+  for (const way of [{}, ...flipsOf(ours.width, ours.height)]) for (const value of values) {
+    const parts = [way, value].filter(each => each.said), own = unlike(ours, theirs, tolerance, at, {...way, ...value}, best.count);
+    if (own < best.count || own === best.count && parts.length < best.parts.length) best = {count: own, parts, change: {...way, ...value}};
   }
-  if (!before || !best.changes.length || best.count > MOSTLY * at.length || 4 * best.count > before) return null;
+  if (!before || !best.parts.length || best.count > MOSTLY * at.length || 4 * best.count > before) return null;
   const all = Array.from({length: count}, (_, place) => place);
-  return [best.changes.map(change => change.said).join(" and "), unlike(ours, theirs, tolerance, all, best.changes)];
+  return [best.parts.map(change => change.said).join(" and "), unlike(ours, theirs, tolerance, all, best.change)];
 }
 
 // The scene as seen with its samples moved by so many halves of a pixel, and its planes by a part of a cell, in halves of what a
@@ -225,18 +237,20 @@ function ofSampling(scene, ours, theirs, tolerance) {
     ways.push(["theirs rounds depths down, and not upwards", 0, 0, 2 - unit],
       ["theirs rounds depths to the nearest, and not upwards", 0, 0, -unit / 2]);
   const at = sampled(ours.width * ours.height).filter((_, which) => which % 3 === 0);
-  const scenes = ways.map(([, ...way]) => moved(scene, ...way)), counts = ways.map(() => 0);
   const isUnlike = (place, depth) => !(Math.abs(theirs.depths[place] - depth) <= tolerance);
-  let straight = 0;
-  for (const place of at) {
-    if (isUnlike(place, ours.depths[place])) straight += 1;
-    scenes.forEach((other, which) => {
+  const straight = at.filter(place => isUnlike(place, ours.depths[place])).length, most = Math.min(MOSTLY * at.length, straight / 4);
+  let best = null;
+  for (const [said, ...way] of straight ? ways : []) {
+    const other = moved(scene, ...way);
+    let count = 0;
+    for (const place of at) {
       other.at(place % ours.width, Math.floor(place / ours.width));
-      if (isUnlike(place, other.depth())) counts[which] += 1;
-    });
+      if (isUnlike(place, other.depth())) count += 1;
+      if (count > most) break;
+    }
+    if (count <= most && (!best || count < best.count)) best = {said, count};
   }
-  const least = Math.min(...counts);
-  return !straight || least > MOSTLY * at.length || 4 * least > straight ? null : ways[counts.indexOf(least)][0];
+  return best?.said ?? null;
 }
 
 // Numbers of two and of four bytes, as the page keeps them.
