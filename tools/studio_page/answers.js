@@ -98,9 +98,10 @@ function wave(text, words) {
   return {first, last, pixels, micros};
 }
 
-// Another renderer's map beside the picture.
+// Another renderer's map beside the picture, which whoever has it gives.
 async function compare(text, words) {
-  const scene = sceneIn(text), tolerance = wholeNumber(words, "tolerance", scene.far()), ours = px.render(text);
+  const scene = sceneIn(text), tolerance = wholeNumber(words, "tolerance", scene.far()), {width, height} = scene;
+  const ours = words.picture ? {width, height, ...words.picture} : px.render(text);
   const theirs = mapsOf(await rastersOf(words.map));
   fill(theirs, scene.far());
   const {lines, differences, kinds} = compared(ours, theirs, tolerance, FIRST, scene);

@@ -27,8 +27,8 @@ export class Compare {
 
   async compared() {
     if (!this.map || this.scene?.kind !== "scene") return at("compare").classList.remove("old");
-    const {text, map} = this, word = at("tolerance").value.trim(), began = performance.now();
-    this.head = await ask("compare", {tolerance: /^\d+$/.test(word) ? Number(word) : word, map: map.bytes}, text);
+    const {text, map, picture: {depths, faces}} = this, word = at("tolerance").value.trim(), began = performance.now();
+    this.head = await ask("compare", {tolerance: /^\d+$/.test(word) ? Number(word) : word, map: map.bytes, picture: {depths, faces}}, text);
     if (text !== this.text || map !== this.map) return;
     this.only = null;
     at("compare").classList.remove("old");

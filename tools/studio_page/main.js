@@ -146,10 +146,12 @@ function show({name, text, tab, image, clock, view, pixel}, more) {
   choose(TABS.includes(tab) ? tab : "write");
 }
 
+// Copies a link to what is shown; where that may not be, it stands in the page's address. The address of a studio is told to nobody:
+// then the link is one to the page beside it.
 async function copyLink() {
-  const address = location.href.split("#")[0] + "#" + await link.packed(shown());
-  await navigator.clipboard.writeText(address).catch(() => { location.hash = new URL(address).hash; });
-  at("notice").textContent = "the link is copied";
+  const part = "#" + await link.packed(shown()), address = (server.isServed() ? "pxplanes.html" : location.href.split("#")[0]) + part;
+  await navigator.clipboard.writeText(address).catch(() => { history.replaceState(null, "", part); });
+  at("notice").textContent = server.isServed() ? "the link is copied: put it behind where page/pxplanes.html stands" : "the link is copied";
   at("notice").hidden = false;
   document.body.dataset.link = address;
 }

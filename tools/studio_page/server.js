@@ -25,6 +25,9 @@ export async function begin() {
   return isThere ? head : null;
 }
 
+// Whether the page comes from a studio, whose address is for one's own machine alone.
+export const isServed = () => isThere;
+
 // Saves the text of the file, which had this checksum when it was read; where it has another one, the answer has what stands there.
 export const save = (text, sum) => post("save", {sum}, text);
 
