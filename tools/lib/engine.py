@@ -15,11 +15,13 @@ import time
 import netpbm
 
 WORKER = '''#!/bin/sh
-# Pieces of work, by their names: the program's words stand in the file `words`, one a line.
+# Pieces of work, by their names, as long as who began them lives: the program's words stand in the file `words`, one a line.
 set -f
 IFS='
 '
+parent=$PPID
 for piece; do
+  IFS=' ' read -r _ _ _ now _ < /proc/$$/stat && [ "$now" = "$parent" ] || exit
   ./program $(cat words) < "$piece.in" > "$piece.out" 2> "$piece.note"
   echo $? > "$piece.ended" && mv "$piece.ended" "$piece.status"
 done
@@ -28,7 +30,7 @@ PARTS = ("in", "out", "note", "ended", "status")
 TERMINATE_WITH_PARENT = 1
 IN_A_TURN = 20
 TURNS_A_JOB = 8
-TURNS_OF_WAITING = 5
+TURNS_OF_WAITING = 10
 
 
 class Piece:
@@ -67,7 +69,7 @@ class Engine:
                 return fcntl.flock(self.lock, fcntl.LOCK_EX | fcntl.LOCK_NB)
             except BlockingIOError:
                 time.sleep(0.1)
-        raise netpbm.Bad("another run works in %s" % os.path.dirname(self.folder))
+        raise netpbm.Bad("another run works in %s" % self.folder)
 
     def write(self, leaf, text):
         with open(os.path.join(self.folder, leaf), "w") as file:

@@ -57,7 +57,7 @@ fn main(rt: HostRuntime) -> ExitCode {
     }
 }
 
-/// Does what the words ask over these streams, on an array with as many bits a pixel as they want, and ends with the code
+/// Does what the words ask over these streams, on a new array with as many bits a pixel as they want, and ends with the code
 /// of the status.
 fn run_on<S: Asks<O>, O: Sink, E: Sink>(
     alloc: Global,
@@ -75,31 +75,33 @@ fn run_on<S: Asks<O>, O: Sink, E: Sink>(
         array.device array.slots array.work) (E.state notes.new)) }
 {
     if needs_wide_pixels(words) {
-        exit_code(run_with::<_, _, _, 80>(alloc, words, input, out, notes))
+        run_with::<_, _, _, 80>(alloc, words, input, out, notes)
     } else {
-        exit_code(run_with::<_, _, _, 72>(alloc, words, input, out, notes))
+        run_with::<_, _, _, 72>(alloc, words, input, out, notes)
     }
 }
 
-/// The same with pixels of N bits.
+/// The same, where they want pixels of N bits.
 fn run_with<S: Asks<O>, O: Sink, E: Sink, const N: usize>(
     alloc: Global,
     words: &[String],
     input: &mut S,
     out: &mut O,
     notes: &mut E,
-) -> Status
+) -> ExitCode
     requires wanted { N ≡ pixel_bits (command_of (map string_bytes words.now)) }
     requires some_bits { 1 ≤ N }
     requires bits { N ≤ 256 }
-    ensures { (array : ArrayView) × IsRunOf (map string_bytes words.now) N result
+    ensures { (status : AnyStatus) × (array : ArrayView) × (exit_status result ≡ code status)
+        × IsRunOf (map string_bytes words.now)
+        (pixel_bits (command_of (map string_bytes words.now))) status
         (with_notes (ends (S.rest input.old) (S.faults input.old) (O.state out.old)
         none_open.device none_open.slots none_open.work) (E.state notes.old))
         (with_notes (ends (S.rest input.new) (S.faults input.new) (O.state out.new)
         array.device array.slots array.work) (E.state notes.new)) }
 {
     let mut array = PlaneArray::<N>::new(alloc);
-    run(alloc, words, input, out, notes, &mut array)
+    exit_code(run(alloc, words, input, out, notes, &mut array))
 }
 
 /// The code with which the process ends.
