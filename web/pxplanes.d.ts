@@ -85,6 +85,8 @@ export class Machine {
   readonly clocks: number;
   readonly first: State;
   state(clock: number): State;
+  /** Makes the states before a clock, so that going back finds them. */
+  prepare(clock: number): void;
   micros(first: number, count: number): Micro[];
 }
 

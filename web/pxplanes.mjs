@@ -302,15 +302,19 @@ export class Machine {
     return this.packed[1].subarray(first - this.packed[0], first - this.packed[0] + count);
   }
 
-  // Goes on from a state that is near; going back by a clock, from one a few clocks before, so that more steps back are there.
-  #found(clock) {
-    if (!this.canStep || clock > this.clocks) return this.library.state(this.text, clock);
-    for (let near = clock - 1; near >= Math.max(0, clock - NEAR); near--)
-      if (this.kept.has(near)) return this.#behind(this.kept.get(near), clock);
-    if (!this.kept.has(clock + 1) || clock < NEAR) return this.library.state(this.text, clock);
+  // Makes the states before a clock, as many as are near, so that going back finds them.
+  prepare(clock) {
+    if (!this.canStep || clock < NEAR || this.kept.has(clock - 1)) return;
     let known = this.#keep(this.library.state(this.text, clock - NEAR));
-    while (known.clock < clock) known = this.#keep(this.#behind(known, known.clock + 1));
-    return known;
+    while (known.clock + 1 < clock) known = this.#keep(this.#behind(known, known.clock + 1));
+  }
+
+  // Goes on from a state that is near.
+  #found(clock) {
+    if (this.canStep && clock <= this.clocks)
+      for (let near = clock - 1; near >= Math.max(0, clock - NEAR); near--)
+        if (this.kept.has(near)) return this.#behind(this.kept.get(near), clock);
+    return this.library.state(this.text, clock);
   }
 
   #behind(known, clock) {

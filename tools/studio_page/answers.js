@@ -7,8 +7,9 @@ import {Bad, rastersOf} from "./maps.js";
 import {clocksOf, operationsOf, operationsOfListing, readListing} from "./passes.js";
 import {OF_PRODUCTS, Refusal, bytesOf, cutLines, lettersOf, needMemory, readScene} from "./scene.js";
 
-const MOST_CLOCKS = 64, MOST_GROUPS = 200, FIRST = 8, MALFORMED = 3, LIMIT = 4, NO_CLOCK = 9;
-let px = null;
+const MOST_CLOCKS = 64, MOST_GROUPS = 200, FIRST = 8, MALFORMED = 3, LIMIT = 4, NO_CLOCK = 9, IDLE = 200;
+// `idle` makes ready what may be asked next, where nothing is asked for a moment.
+let px = null, idle = null;
 
 // What is made of a text, kept for the text that came last.
 function kept(make) {
@@ -83,7 +84,8 @@ const levelsOf = side => Math.max(1, Math.ceil(Math.log2(side)));
 
 // The state after a clock: its words, and what comes next.
 function state(text, words) {
-  const {next, ...fields} = machineIn(text).state(wholeNumber(words, "clock"));
+  const machine = machineIn(text), {next, ...fields} = machine.state(wholeNumber(words, "clock"));
+  idle = setTimeout(() => machine.prepare(words.clock), IDLE);
   return {...fields, micro: next && String(next)};
 }
 
@@ -153,6 +155,7 @@ async function answered({name, words, text}) {
 // The first message has the module of the library, and each other one a question.
 let ready = null;
 globalThis.onmessage = async ({data}) => {
+  clearTimeout(idle);
   if (data.module) {
     ready = load(data.module);
     return;
