@@ -43,11 +43,21 @@ class Browser:
             os.close(end)
         self.out, self.into = os.fdopen(to_read[1], "wb", 0), os.fdopen(to_write[0], "rb", 0)
         self.rest, self.number, self.session, self.events = b"", 0, None, []
+        self.begin()
+        self.size(width, height, dark)
+
+    def begin(self):
+        """Goes on with a new page."""
+        self.session = None
         target = self.call("Target.createTarget", url="about:blank")["targetId"]
         self.session = self.call("Target.attachToTarget", targetId=target, flatten=True)["sessionId"]
         self.call("Page.enable")
         self.call("Runtime.enable")
-        self.size(width, height, dark)
+
+    def crash(self):
+        """Has the page crash, and goes on with a new one."""
+        self.send("Page.crash", {})
+        self.begin()
 
     def __enter__(self):
         return self
@@ -68,13 +78,16 @@ class Browser:
         self.call("Emulation.setDeviceMetricsOverride", width=width, height=height, deviceScaleFactor=1, mobile=False)
         self.call("Emulation.setEmulatedMedia", features=[{"name": "prefers-color-scheme", "value": "dark" if dark else "light"}])
 
-    def call(self, method, **words):
-        """The result of a call of the protocol."""
+    def send(self, method, words):
         self.number += 1
         message = {"id": self.number, "method": method, "params": words}
         if self.session:
             message["sessionId"] = self.session
         self.out.write(json.dumps(message).encode() + b"\0")
+
+    def call(self, method, **words):
+        """The result of a call of the protocol."""
+        self.send(method, words)
         while True:
             answer = self.message()
             if answer.get("id") == self.number:

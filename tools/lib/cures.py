@@ -71,7 +71,7 @@ def of_bytes(word):
 def of_comment(line, word, cause):
     for mark in (b"//", b"/*", b";", b"--", b"%"):
         if word.startswith(mark) and cause in ("unexpected", "not-header", "after-end"):
-            said = readable(line.strip()[len(mark):].replace(b"*/", b"").strip())
+            said = readable(line[line.index(mark) + len(mark):].replace(b"*/", b"").strip())
             return "comments begin with #: write # %s" % said
     return None
 

@@ -12,13 +12,11 @@ import re
 import shutil
 
 import ends
-import lessons
 import netpbm
 import program
 
 TREE = os.path.join("lib", "pxplanes")
-FOLDERS = ("docs", "editors", "examples", "gallery", "man", "python", "rtl", "suite", os.path.join("tools", "lib"),
-           os.path.join("tools", "studio_page"))
+FOLDERS = ("docs", "editors", "examples", "gallery", "man", "page", "python", "rtl", "suite", os.path.join("tools", "lib"))
 FILES = ("CHANGES.md", "README.md", "pxplanes", os.path.join("tools", "README.md"))
 # What the examples are built to.
 BUILT = ("draw",)
@@ -61,7 +59,6 @@ def sources():
         yield os.path.join("tools", name)
     for folder in FOLDERS:
         yield from inside(folder)
-    yield from (path for path in lessons.paths() if not path.startswith(FOLDERS))
 
 
 def links():

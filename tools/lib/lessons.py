@@ -52,11 +52,6 @@ def shown(number, part, question, answer, place):
             "clock": place.clock, "view": place.view, "pixel": place.pixel}
 
 
-def paths():
-    """The texts of all exercises, which an installation has too."""
-    return sorted({TRIANGLE} | {place.path for place in PLACES.values()})
-
-
 def exercises():
     """What the page shows of each exercise that has a place; its own one is the first."""
     lesson, answered = (ends.content(path).decode() for path in (LESSON, ANSWERS))

@@ -3,6 +3,7 @@ wrong with it. What `explain` tells; docs/PICTURE.md has the meaning that it tel
 import rays
 import texts
 
+# So many planes at pixels are tried in all, for what is taken away in vain.
 BUDGET = 3000000
 
 
@@ -179,13 +180,8 @@ def vain_sides(scene, solid):
     return out
 
 
-def is_vain(scene, index):
-    """Whether the depths are the same without a solid; None where that takes too long to say."""
-    solid, planes = scene.solids[index], sum(3 + len(each.fronts) + len(each.backs) for each in scene.solids)
-    fronts, backs, sides = forms(scene, solid)
-    rows = list(kept(scene, sides + gaps(fronts, backs)))
-    if sum(last + 1 - first for _, first, last in rows) * planes > BUDGET:
-        return None
+def is_vain(scene, index, rows):
+    """Whether the depths at the pixels of some rows are the same without a solid."""
     for y, first, last in rows:
         for x in range(first, last + 1):
             found = rays.crossings(scene, x, y)
@@ -194,17 +190,29 @@ def is_vain(scene, index):
     return True
 
 
+def taken_in_vain(scene, looks):
+    """The solids that are taken away, and change no depth; of those that do, as many are tried as the budget has room for."""
+    used, left = ways(scene), BUDGET
+    planes = sum(3 + len(each.fronts) + len(each.backs) for each in scene.solids)
+    for index, solid in enumerate(scene.solids):
+        if (index, False) not in used or (index, True) in used or looks[index].why:
+            continue
+        fronts, backs, sides = forms(scene, solid)
+        rows = list(kept(scene, sides + gaps(fronts, backs)))
+        cost = sum(last + 1 - first for _, first, last in rows) * planes
+        if cost <= left:
+            left -= cost
+            if is_vain(scene, index, rows):
+                yield solid
+
+
 def wrong_before_drawing(scene, looks):
     """What is likely wrong, by the solids alone."""
     out = ["solid %s has no cell in the picture: %s" % (solid.name, looked.why)
            for solid, looked in zip(scene.solids, looks) if looked.why]
     for solid, looked in zip(scene.solids, looks):
         out += vain_sides(scene, solid) if not looked.why else []
-    used = ways(scene)
-    for index, solid in enumerate(scene.solids):
-        taken_away = (index, False) in used and (index, True) not in used
-        if taken_away and not looks[index].why and is_vain(scene, index):
-            out.append("solid %s is taken away, and nothing is nearer or farther by that" % solid.name)
+    out += ["solid %s is taken away, and nothing is nearer or farther by that" % solid.name for solid in taken_in_vain(scene, looks)]
     return out + of_fraction(scene, looks) + without_common(scene, looks)
 
 

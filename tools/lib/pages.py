@@ -1,5 +1,29 @@
-"""What is done on the studio's page by those who look at it in a browser (browser.py). It is no tool itself."""
+"""What is done on the page by those who look at it in a browser (browser.py). It is no tool itself."""
+import json
 import os
+
+import ends
+import netpbm
+
+PAGE = os.path.join(ends.TOP, "page", "pxplanes.html")
+
+
+def alone(page, path=PAGE, behind=""):
+    """Opens the page as a file, and waits until its first text is drawn or refused."""
+    if not os.path.isfile(path):
+        raise netpbm.Bad("there is no page at %s; tools/package --web makes it" % path)
+    page.open("file://" + os.path.abspath(path) + behind)
+    return page.until("document.body.dataset.drawn !== 'no' && document.body.dataset.drawn")
+
+
+def called(page, function, *words):
+    """What a function of JavaScript gives for some words; a promise is awaited."""
+    return page.run("(%s)(...%s)" % (function, json.dumps(words)))
+
+
+def asked(page, name, words, text):
+    """What the page answers to a question of its own."""
+    return called(page, "(name, words, text) => studio.ask(name, words, text)", name, words, text)
 
 
 def click(page, selector):
@@ -48,9 +72,9 @@ def choose(page, words):
 
 def written(page, text):
     """Types, and waits until the text is drawn or refused: `yes` or `refused`."""
-    page.run("document.body.dataset.drawn = 'no'")
+    page.run("document.body.dataset.drawn = 'waits'")
     page.type(text)
-    return page.until("document.body.dataset.drawn !== 'no' && document.body.dataset.drawn")
+    return page.until("!['no', 'waits'].includes(document.body.dataset.drawn) && document.body.dataset.drawn")
 
 
 def give(page, selector, path):

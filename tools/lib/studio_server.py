@@ -1,48 +1,32 @@
-"""The server of the studio: its page and its questions, to this machine alone, and to whom has the token. It is no tool itself.
+"""The server of the studio: the page and its questions, to this machine alone, and to whom has the token. It is no tool itself.
 
 Every request is refused that does not name the very address as its Host, comes from another Origin, or whose path does not begin
-with the token. Behind the token the path is one of the page's files or questions, by name; no path is looked up in the system."""
+with the token. Behind the token the path is nothing, which is the page, or one of its questions, by name; no path is looked up in
+the system."""
+import errno
 import hmac
 import http.server
 import json
 import os
 import secrets
 import urllib.parse
+import zlib
 
 import ends
+import netpbm
 import studio
 
-PAGE = os.path.join(ends.TOP, "tools", "studio_page")
-TYPES = {".html": "text/html; charset=utf-8", ".css": "text/css; charset=utf-8", ".js": "text/javascript; charset=utf-8"}
+PAGE = os.path.join(ends.TOP, "page", "pxplanes.html")
 LOCAL = "127.0.0.1"
-TEXT_ROOM = 1048576 + 1
-MODEL_ROOM = 1 << 26
+ROOM = 1 << 26
 SECONDS = 60
+# A file has the same port each time where that is free, so that the browser finds the drafts that it kept there.
+FIRST_PORT, PORTS = 20000, 20000
 HEADERS = {
-    "Content-Security-Policy": "default-src 'none'; script-src 'self'; style-src 'self'; img-src 'self' blob:; connect-src 'self'; "
-                               "base-uri 'none'; form-action 'none'; frame-ancestors 'none'",
+    "Content-Security-Policy": "base-uri 'none'; form-action 'none'; frame-ancestors 'none'",
     "X-Content-Type-Options": "nosniff", "Referrer-Policy": "no-referrer", "Cache-Control": "no-store",
     "Cross-Origin-Resource-Policy": "same-origin", "Cross-Origin-Opener-Policy": "same-origin"}
-LARGE = ("compare", "model")
-
-
-def page_files():
-    """The files of the page, by their names."""
-    found = {}
-    for leaf in os.listdir(PAGE):
-        if os.path.splitext(leaf)[1] in TYPES:
-            found[leaf] = (TYPES[os.path.splitext(leaf)[1]], ends.content(os.path.join(PAGE, leaf)))
-    found[""] = found["index.html"]
-    return found
-
-
-def packed(head, arrays):
-    """An answer: the length of the head in four bytes, the head as JSON, then the arrays, each from a multiple of eight on."""
-    head["arrays"] = [len(array) for array in arrays]
-    text = json.dumps(head).encode("ascii")
-    text += b" " * (-(4 + len(text)) % 8)
-    return b"".join([len(text).to_bytes(4, "little"), text] + [part for array in arrays
-                                                              for part in (array, bytes(-len(array) % 8))])
+HTML, JSON = "text/html; charset=utf-8", "application/json"
 
 
 class Handler(http.server.BaseHTTPRequestHandler):
@@ -57,54 +41,49 @@ class Handler(http.server.BaseHTTPRequestHandler):
     def do_GET(self):
         path = self.admitted()
         if path is not None:
-            kind, content = self.server.files.get(path, (None, None))
-            self.sent(200, kind, content) if kind else self.refuse(404, "there is no such page")
+            self.sent(200, HTML, self.server.page) if path == "" else self.refuse(404, "there is no such page")
 
     def do_POST(self):
         path = self.admitted()
         if path is None:
             return
         name, _, words = path.partition("?")
-        body = self.body(MODEL_ROOM if name in LARGE else TEXT_ROOM)
+        body = self.body()
         if body is None:
             return
-        asked = dict(urllib.parse.parse_qsl(words))
         try:
-            answer = packed(*self.server.studio.answer(name, asked, body))
+            answer = self.server.studio.answer(name, dict(urllib.parse.parse_qsl(words)), body)
         except studio.Unknown:
             return self.refuse(404, "there is no such question")
         except OSError as error:
-            answer = packed({"trouble": "%s: %s" % (error.filename, error.strerror)}, [])
+            answer = {"trouble": "%s: %s" % (error.filename, error.strerror)}
         except Exception as error:
             return self.refuse(500, "the studio failed: %s: %s" % (type(error).__name__, error))
-        self.sent(200, "application/octet-stream", answer)
+        self.sent(200, JSON, json.dumps(answer).encode("ascii"))
 
     def admitted(self):
-        """The path behind the token; None where the request is refused."""
+        """The path behind the token; None where the request is refused. The page itself may be led to from anywhere: whoever does
+        so has the token."""
         origin, site = self.headers.get("Origin"), self.headers.get("Sec-Fetch-Site", "none")
+        is_led = self.command == "GET" and self.headers.get("Sec-Fetch-Mode") == "navigate"
         if self.headers.get_all("Host") != [self.server.host]:
             return self.refuse(403, "this is another host")
-        if origin not in (None, "http://" + self.server.host) or site not in ("none", "same-origin"):
+        if not is_led and (origin not in (None, "http://" + self.server.host) or site not in ("none", "same-origin")):
             return self.refuse(403, "this comes from another page")
         token, _, path = self.path.removeprefix("/").partition("/")
         if not hmac.compare_digest(token.encode("latin-1", "replace"), self.server.token.encode()):
             return self.refuse(403, "the token is wrong; tools/studio printed the address")
         return path
 
-    def body(self, room):
-        """What was sent, up to so many bytes: the program refuses a longer text by its first bytes. None where it is refused."""
+    def body(self):
+        """What was sent; None where it is refused, or ends early."""
         length = self.headers.get("Content-Length", "")
         if not (length.isascii() and length.isdigit()) or "Transfer-Encoding" in self.headers:
-            self.close_connection = True
             return self.refuse(411, "a length is due")
-        if int(length) > MODEL_ROOM:
-            self.close_connection = True
+        if int(length) > ROOM:
             return self.refuse(413, "this is too long")
-        content = self.rfile.read(min(int(length), room))
-        left = int(length) - len(content)
-        while left > 0:
-            left -= len(self.rfile.read(min(left, 1 << 16))) or left
-        return content
+        content = self.rfile.read(int(length))
+        return content if len(content) == int(length) else self.refuse(400, "this ends early")
 
     def refuse(self, status, why):
         self.close_connection = True
@@ -123,15 +102,27 @@ class Handler(http.server.BaseHTTPRequestHandler):
 
 
 class Server(http.server.ThreadingHTTPServer):
-    """A server of one studio at a port of this machine, 0 for any that is free."""
+    """A server of one studio at a port of this machine, or, where none is said, at one that is free."""
 
-    daemon_threads = True
+    daemon_threads, block_on_close = True, False
 
     def __init__(self, port, own):
-        super().__init__((LOCAL, port), Handler)
-        self.studio, self.files, self.token = own, page_files(), secrets.token_urlsafe(24)
+        if not os.path.isfile(PAGE):
+            raise netpbm.Bad("there is no page at %s; tools/package --web makes it" % PAGE)
+        self.studio, self.page, self.token = own, ends.content(PAGE), secrets.token_urlsafe(24)
+        self.opened(port)
         self.host = "%s:%d" % (LOCAL, self.server_address[1])
         self.address = "http://%s/%s/" % (self.host, self.token)
+
+    def opened(self, port):
+        own = FIRST_PORT + zlib.crc32(os.path.abspath(self.studio.path or "").encode()) % PORTS
+        for each in ([own, 0] if port is None else [port]):
+            try:
+                return super().__init__((LOCAL, each), Handler)
+            except OSError as error:
+                if error.errno != errno.EADDRINUSE:
+                    raise
+        raise netpbm.Bad("port %d is taken" % port)
 
     def handle_error(self, request, client_address):
         """A connection that breaks off is none of the server's troubles."""

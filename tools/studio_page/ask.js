@@ -1,32 +1,88 @@
-// Questions to the studio's server: each has a name, words and a body, and an answer with a head and arrays of bytes.
+// Questions to the library, which workers answer: each has a name, words and a text. The newest text wins: what waits for another one
+// is dropped, and what is being answered for another one has a moment to end, or its worker is replaced.
+import {lacking} from "../../web/pxplanes.mjs";
+import {code, library} from "./given.js";
+
+const PATIENCE = 200, LANE = {draw: "draw", hints: "slow", compare: "slow"};
 
 export class Trouble extends Error {}
 
-async function answered(name, words, body) {
-  const query = new URLSearchParams(words).toString();
-  const response = await fetch(name + (query ? "?" + query : ""), {method: "POST", body: body ?? ""}).catch(() => {
-    throw new Trouble("the studio does not answer; is it still running?");
-  });
-  if (!response.ok) throw new Trouble((await response.text()).trim());
-  return response.arrayBuffer();
+// Nobody wants the answer any more.
+export class Dropped extends Error {}
+
+class Lane {
+  constructor() { Object.assign(this, {worker: null, running: null, waiting: [], timer: null}); }
+
+  ask(question) {
+    this.newest(question.text);
+    this.waiting.push(question);
+    this.next();
+  }
+
+  // Drops what belongs to another text.
+  newest(text) {
+    const others = this.waiting.filter(each => each.text !== text);
+    this.waiting = this.waiting.filter(each => each.text === text);
+    for (const each of others) each.reject(new Dropped());
+    const isOther = this.running && this.running.text !== text;
+    if (isOther && !this.timer) this.timer = setTimeout(() => this.replace(new Dropped()), PATIENCE);
+    if (!isOther) this.wait();
+  }
+
+  wait() {
+    clearTimeout(this.timer);
+    this.timer = null;
+  }
+
+  async next() {
+    if (this.running || !this.waiting.length) return;
+    const {name, words, text} = this.running = this.waiting.shift(), module = await compiled;
+    if (!this.worker) this.begin(module);
+    this.worker.postMessage({name, words, text});
+  }
+
+  begin(module) {
+    this.worker = new Worker(started ??= URL.createObjectURL(new Blob([code()], {type: "text/javascript"})));
+    this.worker.postMessage({module});
+    this.worker.onmessage = ({data}) => this.end(question => data.failed ? question.reject(new Error(data.failed)) : question.resolve(data));
+    this.worker.onerror = event => this.replace(new Error(event.message ?? "the library ended"));
+  }
+
+  replace(why) {
+    this.worker?.terminate();
+    this.worker = null;
+    this.end(question => question.reject(why));
+  }
+
+  end(how) {
+    const question = this.running;
+    this.wait();
+    this.running = null;
+    if (question) how(question);
+    this.next();
+  }
 }
 
-// The head of an answer, with `arrays`, each a piece of the buffer that begins at a multiple of eight.
-export async function ask(name, words = {}, body = "") {
-  const buffer = await answered(name, words, body), length = new DataView(buffer).getUint32(0, true);
-  const head = JSON.parse(new TextDecoder().decode(new Uint8Array(buffer, 4, length)));
-  let at = 4 + length;
-  head.arrays = head.arrays.map(size => {
-    const piece = {buffer, at, size};
-    at += size + (8 - size % 8) % 8;
-    return piece;
-  });
-  return head;
+let compiled = null, started = null;
+const lanes = {};
+
+const laneOf = name => lanes[LANE[name] ?? "look"] ??= new Lane();
+
+// Makes the library ready; throws where the browser lacks something for it.
+export async function begin() {
+  const why = lacking();
+  if (why) throw new Error(why);
+  compiled = WebAssembly.compile(library());
+  await compiled;
 }
 
-export const bytesOf = piece => new Uint8Array(piece.buffer, piece.at, piece.size);
-export const wordsOf = piece => new Uint32Array(piece.buffer, piece.at, piece.size / 4);
-export const shortsOf = piece => new Uint16Array(piece.buffer, piece.at, piece.size / 2);
+// The answer to a question.
+export function ask(name, words, text) {
+  return new Promise((resolve, reject) => laneOf(name).ask({name, words, text, resolve, reject}));
+}
+
+// The text is this one now: nobody waits for answers about another.
+export function newest(text) { for (const lane of Object.values(lanes)) lane.newest(text); }
 
 // Calls that come faster than their answers: the last one asked is the next one made, and those between are left out.
 export function latest(call) {

@@ -1,49 +1,45 @@
 // Another renderer's map beside the picture: what differs, in groups, as an image and pixel by pixel.
-import {ask, bytesOf, shortsOf, wordsOf} from "./ask.js";
+import {ask, latest} from "./ask.js";
 import {Screen, made} from "./show.js";
 
 const at = id => document.getElementById(id);
 
 export class Compare {
   constructor(tell) {
-    this.tell = tell;
-    this.map = this.head = this.only = null;
+    Object.assign(this, {tell, map: null, head: null, only: null});
     this.screen = new Screen(at("differences"), pixel => this.point(pixel));
-    at("map").addEventListener("change", () => { if (at("map").files[0]) this.take(at("map").files[0]); });
+    this.ask = latest(() => this.compared().catch(tell));
+    // (a map that is chosen again is read again, so the choice is not kept)
+    at("map").addEventListener("change", () => { if (at("map").files[0]) this.take(at("map").files[0]).catch(tell).then(() => { at("map").value = ""; }); });
     at("tolerance").addEventListener("change", () => this.ask());
   }
 
   async take(file) {
     this.map = {name: file.name, bytes: new Uint8Array(await file.arrayBuffer())};
-    await this.ask();
+    this.ask();
   }
 
   // Takes another text of the scene, and compares anew where a map is there.
-  async load(text, head, picture) {
-    this.text = text;
-    this.scene = head;
-    this.picture = picture;
-    if (this.map) await this.ask();
+  load(text, head, picture) {
+    Object.assign(this, {text, scene: head, picture});
+    this.ask();
   }
 
-  async ask() {
-    if (!this.map || !this.scene || this.scene.kind !== "scene") return;
-    const text = new TextEncoder().encode(this.text), length = new Uint8Array(4);
-    new DataView(length.buffer).setUint32(0, text.length, true);
-    try {
-      const body = new Blob([length, text, this.map.bytes]);
-      this.head = await ask("compare", {tolerance: at("tolerance").value.trim()}, body);
-      this.only = null;
-      this.show();
-    } catch (error) {
-      this.tell(error);
-    }
+  async compared() {
+    if (!this.map || this.scene?.kind !== "scene") return at("compare").classList.remove("old");
+    const {text, map, picture: {depths, faces}} = this, word = at("tolerance").value.trim(), began = performance.now();
+    this.head = await ask("compare", {tolerance: /^\d+$/.test(word) ? Number(word) : word, map: map.bytes, picture: {depths, faces}}, text);
+    if (text !== this.text || map !== this.map) return;
+    this.only = null;
+    at("compare").classList.remove("old");
+    this.show();
+    document.body.dataset.comparedTook = Math.round(performance.now() - began);
   }
 
   show() {
     const {head} = this, trouble = head.trouble ?? head.refused?.note;
     at("map-name").textContent = this.map.name;
-    at("drop").hidden = !trouble && head.arrays.length > 0;
+    at("drop").hidden = !trouble && Boolean(head.rgb);
     at("differences").hidden = !at("drop").hidden;
     at("groups").replaceChildren();
     at("compare-readout").textContent = "";
@@ -51,10 +47,8 @@ export class Compare {
       : head.lines.filter(line => !line.startsWith("  "))
         .map((line, number) => made("p", number ? "" : "large", line))));
     document.body.dataset.compared = trouble ?? head.lines[0];
-    if (trouble || !head.arrays.length) return;
-    this.colours = bytesOf(head.arrays[0]);
-    this.marks = shortsOf(head.arrays[1]);
-    [this.depths, this.faces] = [2, 3].map(which => head.arrays[which].size ? wordsOf(head.arrays[which]) : null);
+    if (trouble || !head.rgb) return;
+    at("differences").setAttribute("aria-label", `the differences: ${head.lines[0]}; arrow keys choose a pixel`);
     head.groups.forEach(([count, said], number) => at("groups").append(this.groupButton(count, said, number + 1)));
     this.paint();
   }
@@ -76,7 +70,7 @@ export class Compare {
   }
 
   paint() {
-    const {colours, marks, only, head} = this;
+    const {only, head} = this, {rgb: colours, marks} = head;
     this.screen.draw(head.width, head.height, place => {
       const colour = [colours[3 * place], colours[3 * place + 1], colours[3 * place + 2]];
       if (only === null || !marks[place]) return colour;
@@ -85,12 +79,12 @@ export class Compare {
   }
 
   point(pixel) {
-    if (!this.head?.arrays.length || !pixel) return at("compare-readout").replaceChildren();
-    const place = pixel[1] * this.head.width + pixel[0], group = this.head.groups[this.marks[place] - 1];
-    const names = new Map(this.scene.faces.map(([number, solid, kind]) => [number, `${number}, ${solid} ${kind}`]));
+    if (!this.head?.rgb || !pixel) return at("compare-readout").replaceChildren();
+    const place = pixel[1] * this.head.width + pixel[0], group = this.head.groups[this.head.marks[place] - 1];
+    const names = new Map(this.scene.facesOf.map(([number, solid, kind]) => [number, `${number}, ${solid} ${kind}`]));
     const faceOf = faces => `face ${names.get(faces[place]) ?? faces[place]}`;
     const side = ({depths, faces}) => [depths && `depth ${depths[place]}`, faces && faceOf(faces)].filter(Boolean).join(", ");
     at("compare-readout").textContent =
-      `${pixel[0]}, ${pixel[1]}: ours ${side(this.picture)}; theirs ${side(this)}${group ? "" : "; alike"}`;
+      `${pixel[0]}, ${pixel[1]}: ours ${side(this.picture)}; theirs ${side(this.head)}${group ? "" : "; alike"}`;
   }
 }

@@ -1,6 +1,7 @@
 // The editor: a text area over the same text in colours, numbers of the lines beside it, and a mark on the bad one.
 import {made} from "./show.js";
 import {css} from "./palette.js";
+import {Undo} from "./undo.js";
 
 const COLOURED = 200000;
 const WORDS = new Set(["pxscene", "picture", "depth", "solid", "front", "back", "side", "show", "end", "pxlist", "grid", "all",
@@ -49,33 +50,48 @@ function colourOf(line) {
 }
 
 export class Editor {
-  constructor(root, onChange) {
-    this.area = root.querySelector("textarea");
+  constructor(root) {
+    this.area = null;
     this.ink = root.querySelector(".ink");
     this.gutter = root.querySelector(".gutter");
     this.sheet = root.querySelector(".sheet");
     this.bad = null;
-    this.area.addEventListener("input", () => { this.bad = null; this.paint(); onChange(); });
-    this.area.addEventListener("scroll", () => this.follow());
-    this.area.addEventListener("keydown", event => { if (event.key === "Escape") this.area.blur(); });
+    this.onInput = () => {};
+    new ResizeObserver(() => { if (this.area) this.follow(); }).observe(this.sheet);
+  }
+
+  // A text area for another text, which is not shown yet.
+  make(text) {
+    const area = Object.assign(made("textarea"), {spellcheck: false, autocapitalize: "off", autocomplete: "off", wrap: "off", hidden: true});
+    area.setAttribute("aria-label", "the scene");
+    area.value = text;
+    area.setSelectionRange(0, 0);
+    new Undo(area);
+    area.addEventListener("input", () => { this.bad = null; this.paintSoon(); this.onInput(); });
+    area.addEventListener("scroll", () => this.follow());
+    area.addEventListener("keydown", event => { if (event.key === "Escape") area.blur(); });
+    this.sheet.append(area);
+    return area;
+  }
+
+  // Shows a text area in the place of the one that is shown.
+  choose(area) {
+    if (this.area) Object.assign(this.area, {hidden: true, id: ""});
+    this.area = Object.assign(area, {hidden: false, id: "source"});
+    this.bad = null;
+    this.paint();
   }
 
   get text() { return this.area.value; }
 
-  // Takes the place of the text; what stood there comes back by undoing, unless one of them is very long.
-  set text(text) {
-    this.bad = null;
-    this.area.focus({preventScroll: true});
-    this.area.select();
-    const isShort = Math.max(text.length, this.area.value.length) < COLOURED;
-    if (!isShort || !document.execCommand("insertText", false, text) || this.area.value !== text) this.area.value = text;
-    this.area.setSelectionRange(0, 0);
-    this.area.scrollTop = this.area.scrollLeft = 0;
-    this.area.blur();
-    this.paint();
+  // Takes the place of a text; what stood there comes back by undoing.
+  replace(area, text) {
+    area.value = text;
+    area.dispatchEvent(new Event("input"));
+    area.setSelectionRange(0, 0);
   }
 
-  // Marks the line that a refusal names, or none; the span counts bytes, which are letters where the text is ASCII.
+  // Marks the line that a refusal names, or none; the span has the columns of what is wrong there.
   mark(line, span) {
     this.bad = line ? {line, span} : null;
     this.paint();
@@ -95,7 +111,12 @@ export class Editor {
     this.show(line);
   }
 
+  // Paints once before the next frame, however many keys come until then.
+  paintSoon() { this.painting ??= requestAnimationFrame(() => this.paint()); }
+
   paint() {
+    cancelAnimationFrame(this.painting);
+    this.painting = null;
     const lines = this.text.split("\n"), plain = this.text.length > COLOURED;
     this.lines = lines.length;
     this.sheet.classList.toggle("plain", plain);

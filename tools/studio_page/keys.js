@@ -30,7 +30,7 @@ export function listen(page) {
       return page.save();
     }
     const isModified = event.ctrlKey || event.altKey || event.metaKey;
-    if (isModified || isText(target) || isOwn(target, key) || at("keys").open) return;
+    if (isModified || isText(target) || isOwn(target, key) || document.querySelector("dialog[open]")) return;
     const call = everywhere[key] ?? (page.isMachine() ? inMachine[key] : null);
     if (!call) return;
     event.preventDefault();

@@ -1,14 +1,15 @@
 // The machine at any clock of a scene: by a slider, by moves and by play; as an image, and what one pixel holds.
-import {ask, latest, Trouble} from "./ask.js";
+import {State} from "../../web/pxplanes.mjs";
+import {Trouble, ask, latest} from "./ask.js";
 import {Course, KINDS, kindOf} from "./course.js";
 import {pixelOf} from "./pixel.js";
 import {Screen, made} from "./show.js";
-import {State, fieldsOf, viewsOf} from "./state.js";
+import {fieldsOf, onesOf, viewsOf} from "./state.js";
 import {isShown, treeOf} from "./tree.js";
 import {waveform} from "./wave.js";
 
 const at = id => document.getElementById(id);
-const CLOCKS_OF_WAVE = 24, GAP = 4;
+const CLOCKS_OF_WAVE = 24, GAP = 4, CALM = 3;
 
 export class Machine {
   constructor(tell) {
@@ -19,11 +20,12 @@ export class Machine {
     this.fetchWave = latest((x, y) => this.takeWave(x, y).catch(tell));
     at("view").addEventListener("change", () => { this.view = at("view").value; this.paint(); });
     at("clock").addEventListener("input", () => this.go(Number(at("clock").value)));
-    at("until").addEventListener("change", () => this.go(Number(at("until").value) || 0));
+    at("until").addEventListener("change", () => this.until());
     at("until").addEventListener("keydown", event => {
+      if (event.key === "Escape") at("until").value = this.wanted;
       if (event.key === "Escape" || event.key === "Enter") at("until").blur();
     });
-    at("speed").addEventListener("change", () => { if (this.playing) { this.stop(); this.play(); } });
+    at("speed").addEventListener("change", () => { if (this.mayFlash() && this.playing) { this.stop(); this.play(); } });
     at("play").addEventListener("click", () => this.play());
     at("line-of-passes").addEventListener("click", event => {
       if (this.course) this.go(Math.round(event.offsetX / event.target.clientWidth * this.course.clocks));
@@ -38,7 +40,7 @@ export class Machine {
   // Takes another text, at a clock, and where they are said with a view and a pixel.
   async load(text, head, clock, view, pixel) {
     this.text = text;
-    this.course = this.state = this.before = null;
+    this.course = this.before = null;
     const course = await ask("program", {}, text);
     if (this.text !== text) return;
     if (course.trouble || course.refused) throw new Trouble(course.trouble ?? course.refused.note);
@@ -63,11 +65,27 @@ export class Machine {
     this.fetchState();
   }
 
+  // Goes to the clock that is written; what is no number of a clock is said, and changes nothing.
+  until() {
+    const word = at("until").value.trim(), number = Number(word);
+    if (this.course && /^\d+$/.test(word) && number <= this.course.clocks) return this.go(number);
+    at("until").value = this.wanted;
+    if (this.course) this.tell(new Trouble(`${word || "nothing"} is no clock from 0 to ${this.course.clocks}`));
+  }
+
+  // Whether it may go as fast as is chosen: images that change more than three times a second are asked about first.
+  mayFlash() {
+    if (Number(at("speed").value) <= CALM || this.isAllowed) return true;
+    this.isAllowed = confirm("The array then flashes more than three times a second, which can harm people with photosensitive epilepsy. Play so fast?");
+    if (!this.isAllowed) at("speed").value = "2";
+    return this.isAllowed;
+  }
+
   move(name) { if (this.course) this.go(this.course.moved(name, this.wanted)); }
 
   play() {
     if (this.playing) return this.stop();
-    if (!this.course) return;
+    if (!this.course || !this.mayFlash()) return;
     if (this.wanted === this.course.clocks) this.go(0);
     at("play").textContent = "stop";
     this.playing = setInterval(() => {
@@ -88,8 +106,11 @@ export class Machine {
     const head = await ask("state", {clock}, text);
     if (text !== this.text || !this.course) return;
     if (head.trouble || head.refused) throw new Trouble(head.trouble ?? head.refused.note);
-    this.before = this.state;
-    this.state = new State(head);
+    this.before = this.stateOf === text ? this.state : null;
+    this.stateOf = text;
+    const {words, ...fields} = head;
+    this.state = new State(fields, words);
+    at("machine").classList.remove("old");
     this.show();
     document.body.dataset.shown = clock;
     document.body.dataset.took = Math.round(performance.now() - began);
@@ -146,8 +167,10 @@ export class Machine {
     const {state, head} = this, view = this.views.find(each => each.name === this.view) ?? this.views[0];
     this.view = at("view").value = view.name;
     this.screen.draw(state.width, state.height, view.paint(state), head.layout ? [head.width, head.height] : null);
-    const ones = view.plane === undefined ? null : state.ones(view.plane), all = state.width * state.height;
-    at("count").textContent = ones === null ? "" : `${ones.toLocaleString("en")} of ${all.toLocaleString("en")} are 1`;
+    const ones = view.plane === undefined ? null : onesOf(state, view.plane), all = state.width * state.height;
+    const count = ones === null ? "" : `${ones.toLocaleString("en")} of ${all.toLocaleString("en")} are 1`;
+    at("count").textContent = count;
+    at("array").setAttribute("aria-label", `the array at clock ${state.clock}, ${view.label}${count && `: ${count}`}; arrow keys choose a pixel`);
   }
 
   point(pixel) {
@@ -174,7 +197,7 @@ export class Machine {
 
   async takeWave(x, y) {
     const {text, state} = this;
-    if (!state) return;
+    if (!state || this.stateOf !== text) return;
     const head = await ask("wave", {x, y, first: Math.max(0, state.clock - CLOCKS_OF_WAVE), last: state.clock}, text);
     if (head.trouble || head.refused || text !== this.text || !this.pixel) return;
     const view = this.views.find(each => each.name === this.view);

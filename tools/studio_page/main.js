@@ -1,22 +1,29 @@
 // The page as a whole: what it opens and saves, which part of it is shown, and what is dropped on it.
-import {ask, Trouble} from "./ask.js";
+import {load} from "../../web/pxplanes.mjs";
+import {Dropped, Trouble, ask, begin, newest} from "./ask.js";
 import {Compare} from "./compare.js";
 import {Editor} from "./editor.js";
+import {given, library, own, pageWith} from "./given.js";
 import {listen} from "./keys.js";
 import {Lesson} from "./lesson.js";
+import * as link from "./link.js";
+import {List} from "./list.js";
 import {Machine} from "./machine.js";
 import {Picture} from "./picture.js";
+import * as server from "./server.js";
 import * as take from "./take.js";
+import {Texts} from "./texts.js";
 
 const at = id => document.getElementById(id), main = document.querySelector("main");
-const TABS = ["write", "machine", "compare", "lesson"];
-const MODELS = ["csg", "off", "stl"], TEXTS = ["scene", "listing", "txt"];
-const LARGEST_DROP = 1 << 26, TOLD = 6000, SMALLEST = 12, LARGEST = 30;
+const TABS = ["write", "machine", "compare", "lesson"], PARTS = ["write", "machine", "compare"];
+const MODELS = ["csg", "off", "stl"], TEXTS = ["scene", "listing"], IMAGES = /^(P[1-7fF]\s|\x89PNG|\x76\x2f\x31\x01|\s*[-+.]?\d)/;
+const LARGEST_DROP = 1 << 26, TOLD = 6000, SMALLEST = 12, LARGEST = 30, FIRST = "first", NOTHING = "none";
 
 // Where a text is opened at a clock, `pending` says it until the text is drawn; `stale` is what the machine has not taken.
-const page = {tab: "write", name: "scene", own: null, saved: "", pending: null, stale: null};
+const page = {tab: "write", served: null, pending: null, stale: null};
 
 function tell(error) {
+  if (error instanceof Dropped) return;
   if (!(error instanceof Trouble)) console.error(error);
   at("notice").textContent = error.message;
   at("notice").hidden = false;
@@ -24,19 +31,30 @@ function tell(error) {
   tell.timer = setTimeout(() => { at("notice").hidden = true; }, TOLD);
 }
 
-const editor = new Editor(at("editor"), changed), machine = new Machine(tell), compare = new Compare(tell);
-const picture = new Picture(editor, tell, drawn);
+const editor = new Editor(at("editor")), texts = new Texts(editor, changed, tell);
+const machine = new Machine(tell), compare = new Compare(tell), picture = new Picture(editor, tell, drawn, () => { page.pending = null; });
 
-function changed() {
-  picture.changed();
-  at("save").disabled = !page.own || editor.text === page.saved;
+// The text that stands is another one: what is shown is not of it until it is drawn.
+function changed(isOther) {
+  const {now, text} = texts;
+  if (isOther) {
+    machine.stop();
+    picture.screen.keep(null);
+    document.title = `${now.name} - pxplanes`;
+    at("save").title = `save ${now.file ?? now.name} (Ctrl+S)`;
+  }
+  for (const part of PARTS) at(part).classList.add("old");
+  newest(text);
+  picture.changed(text);
+  at("save").disabled = !texts.isChanged() && now.isServed;
 }
 
 function drawn(text, head, maps) {
-  page.stale = {text, head, ...page.pending};
+  const pending = page.pending?.of === text ? page.pending : {};
+  page.stale = {text, head, ...pending};
   page.pending = null;
   freshen();
-  if (maps) compare.load(text, head, maps).catch(tell);
+  if (maps) compare.load(text, head, maps);
 }
 
 // Gives the machine the text that stands, where it is shown.
@@ -47,30 +65,47 @@ function freshen() {
   machine.load(text, head, clock ?? machine.wanted, view, pixel).catch(tell);
 }
 
-function open(name, text, pending = null) {
-  page.name = name;
-  page.pending = pending;
-  machine.stop();
+function open(name, text, pending = null, more = {}) {
+  page.pending = pending && {...pending, of: text};
   if (!pending) at("exercise").hidden = true;
-  editor.text = text;
-  picture.screen.keep(null);
-  document.title = `${name} - pxplanes studio`;
-  changed();
+  texts.add(name, text, more);
 }
 
+// Saves the text into its file: by the studio, which has one; by the browser's own dialog; or as a download.
 async function save() {
-  if (!page.own) throw new Trouble("no scene was named: start tools/studio SCENE, or take the text away");
-  const text = editor.text, head = await ask("save", {}, text);
-  if (head.trouble) throw new Trouble(head.trouble);
-  page.saved = text;
-  at("save").disabled = editor.text === text;
-  document.body.dataset.saved = head.saved;
+  const {now, text} = texts;
+  if (now.isServed) return saveThere(now, text);
+  const name = now.name.replace(/ \d+$/, "") + ".scene";
+  if (!globalThis.showSaveFilePicker) take.away(new Blob([text]), name);
+  else if (!await saveHere(now, text, name)) return;
+  texts.isSaved(now, text);
+  document.body.dataset.saved = name;
 }
 
-async function openFromGallery(name) {
-  const head = await ask("gallery", {name});
-  if (head.trouble) throw new Trouble(head.trouble);
-  open(name, head.text);
+async function saveThere(now, text) {
+  const answer = await server.save(text, now.sum);
+  now.sum = answer.sum;
+  if (answer.changed !== undefined) {
+    open(`${now.name} on the disk`, answer.changed);
+    throw new Trouble(`${now.file} was changed on the disk meanwhile, and nothing was written: both texts are open. Saving once more writes yours.`);
+  }
+  texts.isSaved(now, text);
+  if (texts.now === now) at("save").disabled = !texts.isChanged();
+  document.body.dataset.saved = answer.saved;
+}
+
+// Whether the text was written to a file that is chosen.
+async function saveHere(now, text, suggestedName) {
+  try {
+    now.handle ??= await showSaveFilePicker({suggestedName});
+    const file = await now.handle.createWritable();
+    await file.write(text);
+    await file.close();
+    return true;
+  } catch (error) {
+    if (error.name === "AbortError") return false;
+    throw new Trouble(`it was not saved: ${error.message}`);
+  }
 }
 
 // A model becomes a scene, a text is opened, and all else is taken for another renderer's map.
@@ -78,26 +113,63 @@ async function dropped(file) {
   const name = file.name.replace(/\.\w+$/, ""), kind = file.name.split(".").pop().toLowerCase();
   if (file.size > LARGEST_DROP) throw new Trouble(`${file.name} is larger than ${LARGEST_DROP >> 20} MiB`);
   if (MODELS.includes(kind)) {
-    const head = await ask("model", {kind}, file);
-    if (head.trouble) throw new Trouble(`${file.name}: ${head.trouble}`);
-    open(name, head.text);
+    const {text} = await server.model(kind, file);
+    open(name, text);
     return choose("write");
   }
-  const text = TEXTS.includes(kind) ? await file.text() : "";
-  if (/^\s*(#.*\n\s*)*px(scene|list)\b/.test(text)) return open(name, text);
+  const bytes = new Uint8Array(await file.arrayBuffer());
+  if (TEXTS.includes(kind) || !IMAGES.test(String.fromCharCode(...bytes.subarray(0, 64)))) return open(name, readable(file.name, bytes));
   choose("compare");
   await compare.take(file);
 }
 
+function readable(name, bytes) {
+  try {
+    return new TextDecoder("utf-8", {fatal: true, ignoreBOM: true}).decode(bytes);
+  } catch {
+    throw new Trouble(`${name} is no text of UTF-8, and the page would change it`);
+  }
+}
+
+// The text that stands with what is shown of it.
+function shown() {
+  const place = page.tab === "machine" ? {clock: machine.wanted, view: machine.view, pixel: machine.pixel} : {pixel: picture.screen.kept};
+  return {name: texts.now.name, text: texts.text, tab: page.tab === "lesson" ? "write" : page.tab, image: picture.image, ...place};
+}
+
+// Opens such a text.
+function show({name, text, tab, image, clock, view, pixel}, more) {
+  const isMachine = tab === "machine";
+  open(String(name ?? "scene"), text, isMachine ? {clock, view, pixel} : null, more);
+  if (image) picture.choose(image);
+  if (!isMachine && pixel) picture.screen.keep(pixel);
+  choose(TABS.includes(tab) ? tab : "write");
+}
+
+// Copies a link to what is shown; where that may not be, it stands in the page's address. The address of a studio is told to nobody:
+// then the link is one to the page beside it.
+async function copyLink() {
+  const part = "#" + await link.packed(shown()), address = (server.isServed() ? "pxplanes.html" : location.href.split("#")[0]) + part;
+  await navigator.clipboard.writeText(address).catch(() => { history.replaceState(null, "", part); });
+  at("notice").textContent = server.isServed() ? "the link is copied: put it behind where page/pxplanes.html stands" : "the link is copied";
+  at("notice").hidden = false;
+  document.body.dataset.link = address;
+}
+
+// Nothing is taken away of what is not of the text that stands, but the text itself.
 async function takeAway(what) {
-  if (what === "scene") return take.away(new Blob([editor.text]), page.name + ".scene");
+  const {name} = texts.now;
+  if (what === "scene") return take.away(new Blob([texts.text]), name + ".scene");
+  if (what === "link") return copyLink();
+  if (what === "page") return take.away(new Blob([pageWith(shown())], {type: "text/html"}), name + ".html");
+  if (!picture.isFresh || PARTS.includes(page.tab) && at(page.tab).classList.contains("old"))
+    throw new Trouble("what is shown is not of this text: it is refused, or not drawn yet");
   if (what === "png") {
     const compared = page.tab === "compare" && !at("differences").hidden;
-    const shown = page.tab === "machine" ? "array" : compared ? "differences" : "picture";
-    return take.away(await take.png(at(shown)), page.name + ".png");
+    return take.away(await take.png(at(page.tab === "machine" ? "array" : compared ? "differences" : "picture")), name + ".png");
   }
   if (!picture.maps) throw new Trouble("there is no picture");
-  take.away(take[what](picture.head, picture.maps), `${page.name}-${what}.ppm`);
+  take.away(take[what](picture.head, picture.maps), `${name}-${what}.ppm`);
 }
 
 function choose(tab) {
@@ -116,12 +188,31 @@ function choose(tab) {
 function letters(way) {
   const root = document.documentElement, now = parseFloat(getComputedStyle(root).fontSize);
   root.style.fontSize = Math.max(SMALLEST, Math.min(LARGEST, now + 2 * way)) + "px";
+  remember({letters: root.style.fontSize});
 }
 
 function theme() {
   const root = document.documentElement, system = matchMedia("(prefers-color-scheme: dark)").matches ? "dark" : "light";
   root.dataset.theme = (root.dataset.theme ?? system) === "dark" ? "light" : "dark";
+  remember({theme: root.dataset.theme});
   machine.drawPasses();
+}
+
+// Theme and size of letters stay, where the browser keeps anything for the page.
+const LOOK = "pxplanes look";
+
+function remembered() {
+  try {
+    return JSON.parse(localStorage.getItem(LOOK)) ?? {};
+  } catch {
+    return {};
+  }
+}
+
+function remember(more) {
+  try {
+    localStorage.setItem(LOOK, JSON.stringify({...remembered(), ...more}));
+  } catch {}
 }
 
 function toggleText() { at("show-text").setAttribute("aria-pressed", String(main.classList.toggle("with-text"))); }
@@ -134,41 +225,56 @@ function write() {
 
 function nextImage(way) { page.tab === "machine" ? machine.nextView(way) : picture.nextImage(way); }
 
-function begin(head) {
-  page.own = head.name;
-  page.saved = head.text;
-  at("save").hidden = !head.name;
-  at("save").textContent = `Save ${head.name}`;
-  const groups = {};
-  for (const [group, name] of head.gallery) {
-    groups[group] ??= at("gallery").appendChild(Object.assign(document.createElement("optgroup"), {label: group}));
-    groups[group].append(new Option(name.replaceAll("_", " "), name));
+const nameOf = file => file.replace(/\.scene$/, "");
+
+// Opens the first text: the studio's file, a scene in the address, the page's own, or the first of the documents.
+async function opened() {
+  const head = await server.begin(), linked = await link.unpacked(location.hash.slice(1));
+  const first = given.gallery.find(([, name]) => name === FIRST);
+  const served = head?.name && {isServed: true, file: head.name, sum: head.sum};
+  // (a file that is not there begins as the first scene of the documents)
+  if (served && head.sum === NOTHING) open(nameOf(head.name), first[2], null, {...served, saved: ""});
+  else if (served) open(nameOf(head.name), head.text, null, served);
+  else if (!own && !linked) open(FIRST, first[2]);
+  texts.restore();
+  if (own) show(own);
+  if (linked) show(linked);
+  if (texts.open.length > 1 && !own && !linked) texts.choose(texts.open[0]);
+}
+
+async function start() {
+  const look = remembered();
+  if (look.theme) document.documentElement.dataset.theme = look.theme;
+  if (look.letters) document.documentElement.style.fontSize = look.letters;
+  try {
+    await begin();
+  } catch (error) {
+    at("needs").append(` ${error.message}.`);
+    return;
   }
-  new Lesson(head.lesson, ({name, text, clock, view, pixel}) => {
-    open(name.replace(/\.scene$/, ""), text, {clock, view, pixel});
+  at("needs").hidden = true;
+  new List((name, text) => { open(name, text); if (page.tab === "lesson") choose("write"); },
+    () => { open("new", ""); choose("write"); at("source").focus(); });
+  new Lesson(given.lesson, ({name, text, clock, view, pixel}) => {
+    open(nameOf(name), text, {clock, view, pixel});
     choose("machine");
   });
-  open((head.name ?? "first").replace(/\.scene$/, ""), head.text);
+  await opened();
 }
 
 TABS.forEach(tab => at("tab-" + tab).addEventListener("click", () => choose(tab)));
-document.querySelector("[role=tablist]").addEventListener("keydown", event => {
+document.querySelector(".tabs").addEventListener("keydown", event => {
   const way = {ArrowLeft: -1, ArrowRight: 1}[event.key];
   if (!way) return;
   choose(TABS[(TABS.indexOf(page.tab) + way + TABS.length) % TABS.length]);
   at("tab-" + page.tab).focus();
-});
-at("gallery").addEventListener("change", () => {
-  const name = at("gallery").value;
-  at("gallery").value = "";
-  at("gallery").blur();
-  if (name) openFromGallery(name).catch(tell);
 });
 at("file").addEventListener("change", () => {
   const file = at("file").files[0];
   if (file) dropped(file).catch(tell).then(() => { at("file").value = ""; });
 });
 at("save").addEventListener("click", () => save().catch(tell));
+at("as-it-was").addEventListener("click", () => texts.asItWas());
 at("smaller").addEventListener("click", () => letters(-1));
 at("larger").addEventListener("click", () => letters(1));
 at("theme").addEventListener("click", theme);
@@ -179,7 +285,9 @@ at("take").addEventListener("click", event => {
   at("take").open = false;
   takeAway(event.target.dataset.take).catch(tell);
 });
-document.addEventListener("click", event => { if (!at("take").contains(event.target)) at("take").open = false; });
+document.addEventListener("click", event => {
+  for (const menu of ["take", "gallery"]) if (!at(menu).contains(event.target)) at(menu).open = false;
+});
 document.addEventListener("dragover", event => { event.preventDefault(); document.body.classList.add("dragging"); });
 document.addEventListener("dragleave", event => {
   if (!event.relatedTarget) document.body.classList.remove("dragging");
@@ -189,8 +297,10 @@ document.addEventListener("drop", event => {
   document.body.classList.remove("dragging");
   if (event.dataTransfer.files[0]) dropped(event.dataTransfer.files[0]).catch(tell);
 });
-addEventListener("beforeunload", event => { if (page.own && editor.text !== page.saved) event.preventDefault(); });
+addEventListener("hashchange", () => link.unpacked(location.hash.slice(1)).then(scene => { if (scene) show(scene); }).catch(tell));
 listen({
   save: () => save().catch(tell), choose: number => choose(TABS[number]), parts: TABS.length, letters, write, nextImage,
   toggleText, isMachine: () => page.tab === "machine", machine});
-ask("begin").then(begin).catch(tell);
+// For whoever asks by the browser's console (docs/STUDIO.md).
+globalThis.studio = {ask, library: () => load(library())};
+start().catch(tell);

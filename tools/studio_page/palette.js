@@ -1,6 +1,8 @@
 // The colours of numbers and bits.
 
-export const ON = [255, 255, 255], OFF = [24, 30, 40], NOTHING = [0, 0, 0];
+export const ON = [255, 255, 255];
+export const OFF = [24, 30, 40];
+const NOTHING = [0, 0, 0];
 
 // A colour for each number from 1 on, far from those beside it; 0 is black.
 export function hue(number) {

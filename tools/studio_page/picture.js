@@ -1,22 +1,21 @@
 // The picture beside the text: drawn anew at each change, with a pixel, its ray, and what is likely wrong.
-import {ask, bytesOf, latest, wordsOf, Trouble} from "./ask.js";
+import {Trouble, ask, latest} from "./ask.js";
 import {css, greys, hue} from "./palette.js";
 import {Screen, made} from "./show.js";
 
 const at = id => document.getElementById(id);
-const DRAWN_AFTER = 30, HINTS_AFTER = 700, FEW_MISSED = 4;
+const FEW_MISSED = 4, MOST_NAMED = 12;
 const NO_PIXEL = "Point at a pixel, or click one to keep it.";
 export const IMAGES = ["colours", "depths", "faces"];
 
 const counted = (number, word) => `${number.toLocaleString("en")} ${word}${number === 1 ? "" : "s"}`;
 
 export class Picture {
-  // `onDrawn` is called with the text, what it is, and its maps (null for a listing), once it is accepted.
-  constructor(editor, tell, onDrawn) {
-    Object.assign(this, {editor, tell, onDrawn, head: null, maps: null, image: "colours", rayOf: null});
+  // `onDrawn` is called with the text, what it is, and its maps (null for a listing), once it is accepted; `onRefused` with the text.
+  constructor(editor, tell, onDrawn, onRefused) {
+    Object.assign(this, {editor, tell, onDrawn, onRefused, text: null, drawnText: null, head: null, maps: null, image: "colours", rayOf: null});
     this.screen = new Screen(at("picture"), pixel => this.point(pixel));
-    this.draw = latest(text => this.drawn(text).catch(tell));
-    this.ray = latest((x, y, text) => this.rayShown(x, y, text).catch(tell));
+    this.ray = latest((x, y) => this.rayShown(x, y).catch(tell));
     for (const image of IMAGES) {
       const button = made("button", "", image);
       button.dataset.image = image;
@@ -27,22 +26,26 @@ export class Picture {
     this.choose("colours");
   }
 
-  // The text is another one: it is drawn as soon as no key follows.
-  changed() {
+  // Whether what is shown is of the text that stands.
+  get isFresh() { return this.drawnText !== null && this.drawnText === this.text; }
+
+  // The text is another one: it is drawn, unless that is under way.
+  changed(text) {
+    if (text === this.text && document.body.dataset.drawn === "no") return;
+    this.text = text;
     document.body.dataset.drawn = "no";
-    clearTimeout(this.timer);
-    this.timer = setTimeout(() => this.draw(this.editor.text), DRAWN_AFTER);
+    this.draw(text).catch(this.tell);
   }
 
-  async drawn(text) {
+  async draw(text) {
     const began = performance.now(), head = await ask("draw", {}, text);
-    if (text !== this.editor.text) return;
+    if (text !== this.text) return;
     if (head.trouble) throw new Trouble(head.trouble);
-    if (head.refused) this.refuse(head.refused);
+    if (head.refused) this.refuse(text, head.refused);
     else this.accept(text, head, performance.now() - began);
   }
 
-  refuse(refusal) {
+  refuse(text, refusal) {
     this.editor.mark(refusal.line, refusal.span);
     document.body.classList.add("refused");
     const go = made("button", "note", refusal.note);
@@ -52,30 +55,33 @@ export class Picture {
       .map(what => made("div", "", "", made("span", "label", what), " " + refusal[what]));
     at("verdict").className = "bad";
     at("verdict").replaceChildren(go, ...lines);
+    at("hints").replaceChildren();
     document.body.dataset.drawn = "refused";
+    this.onRefused(text);
   }
 
   accept(text, head, took) {
     const {width, height} = head, isScene = head.kind === "scene";
     this.editor.mark(0, null);
     this.head = head;
+    this.drawnText = text;
+    at("write").classList.remove("old");
     document.body.classList.remove("refused");
     document.body.classList.toggle("listing", !isScene);
     at("verdict").className = "good";
     at("verdict").textContent = isScene
-      ? `accepted: ${width} by ${height} pixels, ${counted(head.faces.length, "face")}`
+      ? `accepted: ${width} by ${height} pixels, ${counted(head.facesOf.length, "face")}`
       : `accepted: a listing, a grid of ${width} by ${height}, ${counted(head.clocks, "clock")}`;
     at("facts").textContent = isScene ? `${counted(head.operations, "operation")}, ${counted(head.clocks, "clock")}`
       : "a listing has no picture; the machine shows what it leaves";
     at("facts").title = `asked, drawn and here in ${Math.max(1, Math.round(took))} ms`;
-    const [depths, faces, rgb] = head.arrays;
-    this.maps = isScene ? {depths: wordsOf(depths), faces: wordsOf(faces), rgb: bytesOf(rgb)} : null;
+    const {depths, faces, rgb} = head;
+    this.maps = isScene ? {depths, faces, rgb} : null;
     this.paint();
     document.body.dataset.drawn = "yes";
     document.body.dataset.pictureTook = Math.round(took);
     at("hints").replaceChildren();
-    clearTimeout(this.hinting);
-    if (isScene) this.hinting = setTimeout(() => this.hint(text), HINTS_AFTER);
+    if (isScene) this.hint(text).catch(this.tell);
     this.onDrawn(text, head, this.maps);
   }
 
@@ -83,6 +89,14 @@ export class Picture {
     this.image = image;
     for (const each of at("image").children) each.setAttribute("aria-checked", String(each.dataset.image === image));
     if (this.maps) this.paint();
+  }
+
+  // What the canvas shows, in words.
+  said() {
+    const {head, image, maps} = this, shown = maps.faces.reduce((count, face) => count + (face ? 1 : 0), 0);
+    const seen = new Set(maps.faces), solids = [...new Set(head.facesOf.filter(([number]) => seen.has(number)).map(([, name]) => name))];
+    return `the picture as ${image}, ${head.width} by ${head.height} pixels, ${shown} of them show a solid: ${
+      solids.slice(0, MOST_NAMED).join(", ") || "none"}${solids.length > MOST_NAMED ? " and others" : ""}; arrow keys choose a pixel`;
   }
 
   nextImage(way) { this.choose(IMAGES[(IMAGES.indexOf(this.image) + way + IMAGES.length) % IMAGES.length]); }
@@ -95,13 +109,15 @@ export class Picture {
       depths: place => grey(depths[place]),
       faces: place => hue(faces[place])};
     this.screen.draw(this.head.width, this.head.height, paints[this.image]);
+    at("picture").setAttribute("aria-label", this.said());
     this.point(this.screen.kept);
   }
 
   async hint(text) {
-    const head = await ask("hints", {}, text).catch(() => null);
-    if (!head?.hints || text !== this.editor.text) return;
+    const head = await ask("hints", {faces: this.maps.faces}, text);
+    if (!head.hints || text !== this.text) return;
     at("hints").replaceChildren(...head.hints.map(each => made("li", "", each)));
+    document.body.dataset.hinted = head.hints.length;
   }
 
   // What is seen at a pixel; the ray follows.
@@ -112,18 +128,18 @@ export class Picture {
       return at("ray").replaceChildren();
     }
     const [x, y] = pixel, place = y * this.head.width + x, number = this.maps.faces[place];
-    const face = this.head.faces.find(each => each[0] === number);
+    const face = this.head.facesOf.find(each => each[0] === number);
     const said = (name, value, ...words) => made("span", "", "", made("span", "label", name), made("b", "", String(value)), ...words);
     const words = face ? [chip(face[3]), `${face[1]}, ${face[2]}, line ${face[4]}`] : [", the background"];
     at("readout").replaceChildren(
       said("pixel", `${x}, ${y}`), said("depth", this.maps.depths[place]), said("face", number, ...words));
     this.rayOf = `${x} ${y}`;
-    this.ray(x, y, this.editor.text);
+    if (this.isFresh) this.ray(x, y); else at("ray").replaceChildren();
   }
 
-  async rayShown(x, y, text) {
-    const head = await ask("ray", {x, y}, text);
-    if (!head.lines || this.rayOf !== `${x} ${y}`) return;
+  async rayShown(x, y) {
+    const text = this.drawnText, head = await ask("ray", {x, y}, text);
+    if (!head.lines || this.rayOf !== `${x} ${y}` || text !== this.text) return;
     const bar = (run, colour) => barOf(run, head.far, colour), cells = run => `${run[0]} to ${run[1] - 1}`;
     const met = head.solids.filter(each => each.run).map(({name, colour, run, ends}) =>
       rowOf(name, [bar(run, colour)], `${cells(run)}: from ${ends[0]}, to ${ends[1]}`));

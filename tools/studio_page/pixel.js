@@ -1,15 +1,15 @@
 // What a pixel holds: its registers, its keys as numbers, and the bits of its memory in rows.
 import {made} from "./show.js";
-import {REGISTERS} from "./state.js";
+import {REGISTERS} from "../../web/pxplanes.mjs";
 
 const BITS_IN_ROW = 24, KEYS = [["best", "key B"], ["candidate", "key T"]];
 const NAMED = /(?:enable-bit|fetch|store-tree|store-latch|store-const|toggle|carry-tree|carry-latch|add-tree) (\d+)/;
 
 // `before` is the state that was shown before, or null; `fields` says what the bits are for, and has none for a listing.
 export function pixelOf(state, before, fields, x, y) {
-  const value = which => state.bit(state.placeOf(which), x, y);
+  const value = which => state.bit(which, x, y);
   const isAlike = before?.width === state.width && before.height === state.height && before.clock !== state.clock;
-  const isChanged = which => isAlike && before.bit(before.placeOf(which), x, y) !== value(which);
+  const isChanged = which => isAlike && before.bit(which, x, y) !== value(which);
   const used = fields.length ? fields[fields.length - 1].at + 1 : state.bits;
   const parts = [registersOf(state, fields, value, isChanged, x, y), memoryOf(state, fields, value, isChanged, used)];
   const others = `The bits ${used} to ${state.bits - 1} are not used by this scene.`;

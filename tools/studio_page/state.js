@@ -1,59 +1,13 @@
-// The state of the array after a clock: its planes of bits, as the library writes them, and numbers made of them.
-import {wordsOf} from "./ask.js";
-import {ON, OFF, hue, greys} from "./palette.js";
+// What there is to show of a state of the array: its fields, and images of its planes and of numbers made of them.
+import {REGISTERS} from "../../web/pxplanes.mjs";
+import {ON, OFF, greys, hue} from "./palette.js";
 
-export const REGISTERS = ["enable", "carry", "latch", "leaf"];
-
-export class State {
-  constructor(head) {
-    Object.assign(this, head);
-    this.words = wordsOf(head.arrays[0]);
-    this.perRow = 2 * this.wordsPerRow;
-    this.perPlane = this.perRow * this.height;
-  }
-
-  // The plane of a memory bit, or of a register, by its number.
-  placeOf(which) { return REGISTERS.includes(which) ? this.bits + REGISTERS.indexOf(which) : Number(which); }
-
-  bit(plane, x, y) { return this.words[plane * this.perPlane + y * this.perRow + (x >> 5)] >>> (x & 31) & 1; }
-
-  // The number in a field of the pixel at x, y: so many bits from one on, the lowest first.
-  number(at, length, x, y) {
-    let number = 0;
-    for (let bit = length - 1; bit >= 0; bit--) number = 2 * number + this.bit(at + bit, x, y);
-    return number;
-  }
-
-  // The numbers in a field of all pixels, row by row.
-  numbers(at, length) {
-    const {width, height, perRow, perPlane, words} = this, found = new Float64Array(width * height);
-    for (let bit = 0; bit < length; bit++) {
-      const weight = 2 ** bit, plane = (at + bit) * perPlane;
-      for (let y = 0; y < height; y++) {
-        for (let column = 0; column < width; column += 32) {
-          let word = words[plane + y * perRow + (column >> 5)];
-          for (let to = y * width + column; word; word >>>= 1, to++) if (word & 1) found[to] += weight;
-        }
-      }
-    }
-    return found;
-  }
-
-  // How many bits of a plane are 1.
-  ones(plane) {
-    let count = 0;
-    for (let at = plane * this.perPlane; at < (plane + 1) * this.perPlane; at++)
-      for (let word = this.words[at]; word; word &= word - 1) count += 1;
-    return count;
-  }
-
-  // Output and carry of a node of the tree.
-  node(level, index) {
-    const place = 2 ** level + index, wide = 2 * Math.ceil(2 ** (this.levels + 1) / 64);
-    const first = this.words.length - 2 * wide;
-    const of = row => this.words[first + row * wide + (place >> 5)] >>> (place & 31) & 1;
-    return [of(0), of(1)];
-  }
+// How many bits of a plane are 1.
+export function onesOf(state, plane) {
+  let count = 0;
+  for (let at = plane * state.perPlane; at < (plane + 1) * state.perPlane; at++)
+    for (let word = state.words[at]; word; word &= word - 1) count += 1;
+  return count;
 }
 
 // Where the parts of a pixel's memory stand (docs/PASSES.md, "Layout"): names, first bits and lengths.
@@ -83,7 +37,10 @@ export function viewsOf(layout, bits) {
 }
 
 function bitView(name, label, group, plane) {
-  const paint = state => at => state.bit(plane, at % state.width, Math.floor(at / state.width)) ? ON : OFF;
+  const paint = ({words, width, perRow, perPlane}) => at => {
+    const x = at % width, y = (at - x) / width;
+    return words[plane * perPlane + y * perRow + (x >> 5)] >>> (x & 31) & 1 ? ON : OFF;
+  };
   return {name, label, group, plane, paint};
 }
 

@@ -29,7 +29,8 @@ export function treeOf(state, pixel, width) {
   const leaf = pixel ? pixel[0] * 2 ** ny + pixel[1] : -1;
   const isOnWay = (level, index) => leaf >= 0 && leaf >> levels - level === index;
   const picture = drawn("svg", {viewBox: `0 0 ${width} ${places.height}`, width, height: places.height, class: "nodes", role: "img",
-    "aria-label": "the outputs of the tree's nodes"});
+    "aria-label": `the outputs of the tree's nodes: ${Array.from({length: levels}, (_, at) => `level ${at + 1} ${
+      Array.from({length: 2 ** (at + 1)}, (_, index) => state.node(at + 1, index)[0]).join("")}`).join(", ")}`});
   const name = (level, text) => picture.append(drawn("text", {x: 0, y: places.y(level) + 5, class: "name"}, text));
   const each = call => {
     for (let level = 1; level <= levels; level++) for (let index = 0; index < 2 ** level; index++) picture.append(call(level, index));

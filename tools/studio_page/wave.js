@@ -38,9 +38,9 @@ function linesOf({micros, pixels}, bits) {
   const before = pixels.slice(0, -1), line = at => micros.map(micro => micro.tree === "feed" ? micro.lines[at] : null);
   return [
     ["line c", line(2), "line"], ["line a", line(0), "line"], ["line b", line(1), "line"],
-    ["leaf", before.map(pixel => pixel[4]), "register"], ["carry", before.map(pixel => pixel[2]), "register"],
-    ["latch", before.map(pixel => pixel[3]), "register"], ["enable", before.map(pixel => pixel[1]), "register"],
-    ...bits.map(([name, at]) => [name, before.map(pixel => Number(pixel[0][at])), "memory"])];
+    ["leaf", before.map(pixel => pixel.leaf), "register"], ["carry", before.map(pixel => pixel.carry), "register"],
+    ["latch", before.map(pixel => pixel.latch), "register"], ["enable", before.map(pixel => pixel.enable), "register"],
+    ...bits.map(([name, at]) => [name, before.map(pixel => Number(pixel.memory[at])), "memory"])];
 }
 
 // What stands at a clock: a stripe, its number where there is room, and what it broadcasts.
@@ -59,7 +59,8 @@ export function waveform(head, width, bits) {
   if (!micros.length) return made("p", "quiet", "No clock was made yet.");
   const sizes = new Sizes(width, micros.length, lines.length), {label, high, tall, top, wide} = sizes;
   const picture = drawn("svg", {viewBox: `0 0 ${sizes.width} ${sizes.height}`, width: sizes.width, height: sizes.height, class: "wave",
-    role: "img", "aria-label": `the clocks ${first} to ${last - 1}`});
+    role: "img", "aria-label": `the clocks ${first} to ${last - 1}; ${lines.map(([name, levels]) =>
+      `${name} ${levels.map(level => level ?? "-").join("")}`).join(", ")}`});
   micros.forEach((micro, at) => picture.append(...clockOf(sizes, first + at, label + at * wide, micro)));
   lines.forEach(([name, levels, kind], at) => {
     const y = top + at * high;

@@ -1,0 +1,292 @@
+"""Looks at the page by itself in a browser, as a file: types and mends a mistake, reads images, compares, goes away and comes back."""
+import os
+import re
+import sys
+
+sys.path.insert(0, os.path.join(os.getcwd(), "tools", "lib"))
+import netpbm
+import pages
+import program
+from browser import Browser
+from pages import alone, called, choose, click, give, pixels, point, text_of, written
+
+BUILT, FIRST = os.environ["PROGRAM"], "docs/scenes/first.scene"
+SIZES = ((390, 844), (768, 1024), (640, 360), (1280, 720))
+KEYS = 1500
+DRAWN = "!['no', 'waits'].includes(document.body.dataset.drawn) && document.body.dataset.drawn"
+# Pairs of what is shown and lies over another thing; and whether the array is in sight.
+OVER = """tab => {
+  const shown = [...document.querySelectorAll("header > *, #texts, .editor, #verdict, main > section:not([hidden]) > *, .array > *, .transport > *")]
+    .filter(each => each.checkVisibility() && getComputedStyle(each).position !== "sticky" && !each.closest(".transport"));
+  const boxes = shown.map(each => [each, each.getBoundingClientRect()]), found = [];
+  boxes.forEach(([one, a], at) => boxes.slice(at + 1).forEach(([other, b]) => {
+    const wide = Math.min(a.right, b.right) - Math.max(a.left, b.left), high = Math.min(a.bottom, b.bottom) - Math.max(a.top, b.top);
+    if (wide > 1 && high > 1 && !one.contains(other) && !other.contains(one)) found.push([one.id || one.className, other.id || other.className]);
+  }));
+  const canvas = document.getElementById(tab === "machine" ? "array" : "picture").getBoundingClientRect();
+  return [found, canvas.width > 100 && canvas.top >= 0 && canvas.top + 100 < innerHeight && canvas.right <= innerWidth + 1
+    && document.documentElement.scrollWidth <= innerWidth];
+}"""
+TAKEN = """() => { const own = URL.createObjectURL; globalThis.taken = []; URL.createObjectURL = blob => { taken.push(blob); return own(blob); };
+  HTMLAnchorElement.prototype.click = function () { taken.push(this.download); }; }"""
+# What is lacking, put into the page before it begins.
+LACKING = {"no WebAssembly": "delete globalThis.WebAssembly", "no 64-bit memory": "WebAssembly.validate = () => false"}
+
+
+def colours_are_the_programs(page, text):
+    image = netpbm.images(program.answer(BUILT, ["colour"], text)[1])[0]
+    return pixels(page, "picture") == (image.width, image.height, image.colours())
+
+
+def maps_are_the_programs(page, text):
+    """Whether the image of faces has for each face of `render`'s map one colour, and that of depths is as light as it is near."""
+    depths, faces = (image.numbers() for image in netpbm.images(program.answer(BUILT, ["render"], text)[1]))
+    click(page, "[data-image=faces]")
+    pairs = set(zip(faces, pixels(page, "picture")[2]))
+    same = len(pairs) == len(set(faces)) == len({colour for _, colour in pairs})
+    click(page, "[data-image=depths]")
+    greys = [colour[0] for colour in pixels(page, "picture")[2]]
+    order = sorted(zip(depths, greys))
+    falling = all(one[1] >= other[1] for one, other in zip(order, order[1:]))
+    click(page, "[data-image=colours]")
+    return same and falling and greys[0] == 0 and max(greys) > 200
+
+
+def names(page):
+    return page.run("[...document.querySelectorAll('.text-tab')].map(each => each.textContent).join(', ')")
+
+
+def texts(page):
+    return page.run("document.getElementById('source').value")
+
+
+def put(page, text):
+    """Writes a text in the place of the one that stands, as keys do, and waits until it is drawn or refused."""
+    page.run("document.getElementById('source').select()")
+    page.run("document.getElementById('source').focus()")
+    return written(page, text)
+
+
+def dropped(page, name, content):
+    page.run("document.body.dataset.drawn = 'waits'")
+    called(page, "(name, content) => { const files = new DataTransfer(); files.items.add(new File([content], name)); "
+           "document.dispatchEvent(new DragEvent('drop', {dataTransfer: files, bubbles: true, cancelable: true})) }", name, content)
+
+
+def pictures(page, text):
+    print("colours as the program's:", colours_are_the_programs(page, text))
+    print("maps as the program's:", maps_are_the_programs(page, text))
+    point(page, "picture", 24, 16)
+    page.until("document.querySelectorAll('.ray-row').length")
+    print("a pixel:", text_of(page, "#readout"))
+    print("its ray:", page.run("[...document.querySelectorAll('.ray-row, .missed')].slice(1).map(row => row.textContent).join('; ')"))
+    print("in words:", page.run("document.getElementById('picture').getAttribute('aria-label')"))
+
+
+def mistakes(page, text):
+    print("-- a mistake")
+    choose(page, "- shaft)")
+    print("typed:", written(page, "- shafd)"))
+    print(page.run("[...document.getElementById('verdict').children].map(each => each.textContent).join(' | ')"))
+    print("marked:", text_of(page, ".gutter .bad"), text_of(page, ".wrong"))
+    print("the picture is pale:", page.run("document.body.classList.contains('refused') && "
+                                           "Number(getComputedStyle(document.getElementById('picture')).opacity) < 1"))
+    called(page, TAKEN)
+    for what in ("png", "maps", "colours"):
+        click(page, "[data-take=%s]" % what)
+        page.until("!document.getElementById('notice').hidden")
+    print("taken away of it:", page.run("taken.length"), text_of(page, "#notice"))
+    choose(page, "- shafd)")
+    print("mended:", written(page, "+ shaft)"), text_of(page, "#verdict"))
+    print("colours as the program's:", colours_are_the_programs(page, text.replace(b"- shaft)", b"+ shaft)")))
+    choose(page, "+ shaft)")
+    print("as it was:", written(page, "- shaft)"))
+    for said in ("# h\u00f6he \u00e4 \U0001d400\nsolid \u00fcber 1 2 3", "pxscene 1 // first", "pxscene\u00a01", "pxscene 1\npicture 4 4 # \u00e4\ndepth\u00a04"):
+        put(page, said)
+        page.until("document.body.dataset.drawn === 'refused'")
+        print(repr(said)[-24:], "|", text_of(page, "#verdict"), "| marked:", page.run(
+            "[...document.querySelectorAll('.wrong')].map(each => JSON.stringify(each.textContent)).join(' ')"))
+    put(page, text.decode())
+    page.until("document.body.dataset.drawn === 'yes'")
+
+
+def compared(page):
+    print("-- comparing")
+    page.run("document.activeElement.blur()")
+    page.press("3")
+    give(page, "#map", "theirs.ppm")
+    print(page.until("document.body.dataset.compared"))
+    print(page.run("[...document.querySelectorAll('.group')].map(each => each.textContent).join('; ')"))
+    with open("theirs.ppm", "r+b") as file:
+        file.truncate(100)
+    page.until("!document.getElementById('map').value")
+    page.run("delete document.body.dataset.compared")
+    give(page, "#map", "theirs.ppm")
+    print("chosen again:", page.until("document.body.dataset.compared"))
+    page.press("1")
+
+
+def opened(page, text):
+    print("-- texts")
+    choose(page, "- shaft)")
+    written(page, "+ shaft)")
+    page.run("document.activeElement.blur()")
+    click(page, "#gallery summary")
+    page.until("document.getElementById('scenes').contains(document.activeElement)")
+    for _ in range(3):
+        page.press("ArrowDown", 40)
+    print("the list by arrows:", names(page), "| at:", page.run("document.activeElement.textContent"))
+    click(page, "#scenes button:nth-of-type(3)")
+    page.until("document.querySelectorAll('.text-tab').length === 2")
+    print("opened:", names(page), "| own text untouched:", page.run("document.querySelectorAll('.sheet textarea')[0].value") ==
+          text.decode().replace("- shaft)", "+ shaft)"))
+    click(page, "#scenes button")
+    page.until("document.body.dataset.drawn === 'refused'")
+    print("an empty one:", names(page), "|", text_of(page, "#verdict"))
+    dropped(page, "bad.scene", "pxscen 1\n")
+    page.until("document.body.dataset.drawn === 'refused'")
+    print("a bad first line:", names(page), "|", text_of(page, "#verdict .note"))
+    dropped(page, "none.txt", "nothing of a scene\n")
+    page.until("document.body.dataset.drawn === 'refused'")
+    print("none:", names(page), "|", text_of(page, "#verdict .note"))
+    dropped(page, "box.csg", "cube(size = [10, 10, 10], center = false);")
+    page.until("!document.getElementById('notice').hidden && document.getElementById('notice').textContent.includes('models')")
+    print("a model:", text_of(page, "#notice"))
+
+
+def undone(page):
+    print("-- undoing")
+    page.run("document.querySelectorAll('.text-tab')[0].click()")
+    before = texts(page)
+    # (a comment line at the head for each change, so that no two of them are one)
+    called(page, "count => { const s = document.getElementById('source'); for (let at = 0; at < count; at++) { "
+           "s.setRangeText('#\\n', 0, 0, 'end'); s.dispatchEvent(new Event('input')); } }", KEYS)
+    long = texts(page)
+    turned = lambda key: called(page, "(count, key) => { const s = document.getElementById('source'); for (let at = 0; at < count; at++) "
+                                "s.dispatchEvent(new KeyboardEvent('keydown', {key, ctrlKey: true, cancelable: true})); }", KEYS, key)
+    for way, key, due in (("back", "z", before), ("on", "y", long), ("back", "z", before)):
+        turned(key)
+        print("%d changes %s:" % (KEYS, way), texts(page) == due)
+
+
+def drafts(page):
+    print("-- drafts")
+    choose(page, "depth 9")
+    written(page, "depth 10")
+    kept = texts(page)
+    page.until("JSON.parse(localStorage.getItem('pxplanes draft first'))?.text.includes('depth 10')")
+    alone(page)
+    print("loaded again:", texts(page) == kept, "| told:", page.run("!document.getElementById('draft').hidden"), "|", names(page))
+    click(page, "#as-it-was")
+    page.until(DRAWN)
+    print("as it was:", texts(page) == open(FIRST).read())
+    page.press("z", modifiers=2)
+    page.run("document.getElementById('source').focus()")
+    page.press("z", modifiers=2)
+    print("and undone:", texts(page) == kept)
+
+
+def linked(page, text):
+    print("-- a link, and a page with a scene")
+    called(page, TAKEN)
+    page.run("document.querySelectorAll('.text-tab')[0].click()")
+    put(page, text.decode().replace("200", "201"))
+    page.run("document.activeElement.blur()")
+    page.press("2")
+    page.until("document.body.dataset.shown")
+    pages.go(page, 1200)
+    pages.view(page, "carry")
+    point(page, "array", 14, 16)
+    click(page, "[data-take=link]")
+    link = page.until("document.body.dataset.link")
+    click(page, "[data-take=page]")
+    content = page.until("taken.length > 1 && taken[0].text()")
+    with open("own.html", "w", encoding="utf-8") as file:
+        file.write(content)
+    print("a link of %s letters" % ("few" if len(link) < 1500 else len(link)))
+    for what, path, behind in (("the link", pages.PAGE, "#" + link.split("#")[1]), ("the page", "own.html", "")):
+        page.open("about:blank")
+        alone(page, path, behind)
+        page.until("document.body.dataset.shown === '1200' && document.body.dataset.wave === '14 16 1200'")
+        print("%s: %s, %s, the text is there: %s" % (what, page.run("document.querySelector('main').dataset.tab"), page.run(
+            "document.getElementById('view').value"), texts(page) == text.decode().replace("200", "201")))
+    page.press("1")
+    put(page, "#" * 20000)
+    click(page, "[data-take=link]")
+    page.until("!document.getElementById('notice').hidden && document.getElementById('notice').textContent.includes('16')")
+    print("a long one:", text_of(page, "#notice"))
+
+
+def sizes(page):
+    print("-- sizes")
+    page.run("localStorage.clear()")
+    for width, height in SIZES:
+        page.size(width, height)
+        alone(page)
+        for tab, key in (("write", "1"), ("machine", "2")):
+            page.press(key)
+            if tab == "machine":
+                page.until("document.body.dataset.shown")
+                point(page, "array", 3, 3)
+                page.until("document.body.dataset.wave")
+            over, in_sight = called(page, OVER, tab)
+            if over or not in_sight:
+                print("%d by %d, %s: over one another %s, in sight %s" % (width, height, tab, over[:4], in_sight))
+    print("nothing lies over anything")
+
+
+def many_keys(page):
+    """Five hundred keys, one behind the other, over a scene that takes a while, and no other picture than that of the last."""
+    print("-- many keys")
+    page.run("localStorage.clear()")
+    alone(page)
+    click(page, "#scenes button:nth-of-type(3)")
+    page.until(DRAWN)
+    last = called(page, """async count => {
+      const s = document.getElementById("source"), found = /solid \\w+ (?=\\d{3} )/.exec(s.value), place = found.index + found[0].length;
+      for (let at = 0; at < count; at++) {
+        s.setRangeText(String(100 + at % 150), place, place + 3, "end");
+        s.dispatchEvent(new Event("input"));
+        if (at % 10 === 0) await new Promise(done => setTimeout(done, 4));
+      }
+      return s.value;
+    }""", 500)
+    page.until(DRAWN)
+    print("the last picture:", colours_are_the_programs(page, last.encode()), "| of its text:",
+          page.run("!document.getElementById('write').classList.contains('old')"))
+
+
+def lacking(page):
+    print("-- what it lacks")
+    content = open(pages.PAGE, encoding="utf-8").read()
+    wasm = re.search(r'id="library" data-of="\w+" data-check="\d+">\n([A-Za-z0-9+/=]+)', content).group(1)
+    with open("flipped.html", "w", encoding="utf-8") as file:
+        file.write(content.replace(wasm, wasm[:60] + ("A" if wasm[60] != "A" else "B") + wasm[61:]))
+    told = lambda path: page.open("file://" + os.path.abspath(path)) or page.until(
+        "document.readyState === 'complete' && document.getElementById('needs').textContent.length > 60 && "
+        "document.getElementById('needs').checkVisibility() && document.getElementById('needs').textContent")
+    print("a byte flipped:", told("flipped.html"))
+    for what, script in LACKING.items():
+        number = page.call("Page.addScriptToEvaluateOnNewDocument", source=script)["identifier"]
+        print("%s:" % what, told(pages.PAGE))
+        page.call("Page.removeScriptToEvaluateOnNewDocument", identifier=number)
+
+
+with Browser() as page:
+    page.call("Emulation.setFocusEmulationEnabled", enabled=True)
+    text = open(FIRST, "rb").read()
+    print("drawn:", alone(page))
+    pictures(page, text)
+    mistakes(page, text)
+    compared(page)
+    opened(page, text)
+    undone(page)
+    page.run("localStorage.clear()")
+    page.run("document.querySelectorAll('.text-tab')[0].click()")
+    put(page, text.decode())
+    drafts(page)
+    linked(page, text)
+    sizes(page)
+    many_keys(page)
+    print("faults of the page:", page.faults())
+    lacking(page)

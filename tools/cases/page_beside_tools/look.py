@@ -1,0 +1,177 @@
+"""Asks the page what the tools say by their own reading: of each text of the cases and of each mistake that people make its refusal, or
+its hints, rays and course; and of maps as renderers write them what differs."""
+import base64
+import glob
+import os
+import subprocess
+import sys
+import tarfile
+
+sys.path.insert(0, os.path.join(os.getcwd(), "tools", "lib"))
+import cures
+import ends
+import looks
+import micros
+import netpbm
+import pages
+import passes
+import program
+import rasters
+import scenes
+from browser import Browser
+
+cases, compare, explain = (ends.script(leaf) for leaf in ("dev/run_cases", "compare", "explain"))
+BUILT, CASES, SCENE = os.environ["PROGRAM"], os.path.join("tools", "cases"), "cases/drilled_block_and_post"
+RAYS = ((0, 0), (1, 2), (2, 4), (3, 8))
+MOST = 4000
+BLANK = b"pxscene 1\npicture 20 12\ndepth 8\nsolid a 9 9 9\nfront 0 0 300\nshow a\nend\n"
+TOLD = """async texts => {
+  const out = [];
+  for (const text of texts) {
+    const drawn = await studio.ask("draw", {}, text);
+    if (drawn.refused || drawn.trouble || drawn.kind === "listing") {
+      out.push({refused: drawn.refused ?? null, trouble: drawn.trouble ?? null});
+      continue;
+    }
+    const {width, height, faces} = drawn, own = {hints: (await studio.ask("hints", {faces}, text)).hints, rays: [], rgb: 0};
+    for (const [at, over] of %s) {
+      const [x, y] = [Math.floor((width - 1) * at / 3), Math.floor((height - 1) * over / 8)];
+      own.rays.push((await studio.ask("ray", {x, y}, text)).lines);
+    }
+    const {operations, passes, trouble} = await studio.ask("program", {}, text);
+    if (trouble) throw new Error(trouble);
+    out.push({...own, rows: operations.map(([pass, line, words, clock]) => `${pass} ${clock} ${line}: ${words}`), passes});
+  }
+  return out;
+}""" % [list(each) for each in RAYS]
+COMPARED = """async (text, map, tolerance) => {
+  const bytes = Uint8Array.from(atob(map), letter => letter.charCodeAt(0)), began = performance.now();
+  const answer = await studio.ask("compare", {tolerance, map: bytes}, text);
+  return {lines: answer.lines, trouble: answer.trouble, rgb: answer.rgb ? btoa(String.fromCharCode(...answer.rgb.subarray(0, 30000))) : null};
+}"""
+
+
+def refusal_of(text, note):
+    """What the tools tell of a refused text: due, limit and cure, and the columns of what is wrong."""
+    known = explain.own_reading(text)[1]
+    if note.startswith("limit line 0: products") and known is None:
+        known = scenes.Refusal(note, None, None, *explain.OF_PRODUCTS)
+    span = known.span
+    if span:
+        line = scenes.cut_lines(text)[int(note.split(":")[0].split(" ")[-1]) - 1]
+        span = [len(line[:at].decode("utf-8", "replace").encode("utf-16-le")) // 2 + max(0, at - len(line)) for at in span]
+    return {"due": known.due, "limit": known.limit, "cure": cures.of(text, known) or known.cure, "span": span}
+
+
+def due_of(text):
+    """What is due of an accepted scene."""
+    scene, faces = scenes.read(text), netpbm.images(program.answer(BUILT, ["render"], text)[1])[1].numbers()
+    found = looks.all_looks(scene)
+    rays = [looks.ray(scene, (scene.width - 1) * at // 3, (scene.height - 1) * over // 8) for at, over in RAYS]
+    listed = [line for line in program.answer(BUILT, ["list"], text)[1].decode().split("\n")[2:-2]]
+    operations, said = passes.operations(scene, products_of(scene, text))
+    assert [passes.line(name, numbers) for _, name, numbers, _ in operations] == listed
+    clock, rows, (wide, high) = 0, [], program.grid(scene.width, scene.height)
+    for number, name, numbers, words in operations:
+        rows.append("%d %d %s: %s" % (number, clock, passes.line(name, numbers), words))
+        clock += micros.clocks_of(name, numbers, (wide * high).bit_length() - 1)
+    return {"hints": looks.wrong_before_drawing(scene, found) + explain.from_picture(scene, faces, found), "rays": rays, "rgb": 0,
+            "rows": rows, "passes": said}
+
+
+def products_of(scene, text):
+    numbers, out = {solid.name: at for at, solid in enumerate(scene.solids, 1)}, []
+    for line in program.answer(BUILT, ["plan"], text)[1].decode().split("\n")[1:-1]:
+        words = line.split(" ") if line.startswith("- ") else ["*"] + line.split(" ")
+        out.append(tuple(-numbers[name] if sign == "-" else numbers[name] for sign, name in zip(words[0::2], words[1::2])))
+    return out
+
+
+def texts():
+    """Every text of the cases, every mistake, and the scenes of the gallery and the suite, as far as they are UTF-8 and small."""
+    found = {}
+    for name in cases.names():
+        found[cases.read_case(os.path.join(cases.CASES, name))[1]] = name
+    with tarfile.open(os.path.join(CASES, "explain_mistakes", "scenes.tar.gz")) as tar:
+        for member in tar.getmembers():
+            if member.isfile():
+                found[tar.extractfile(member).read()] = member.name
+    for folder in ("gallery", "docs/scenes", os.path.join(CASES, "explain_every_cause"), os.path.join(CASES, "explain_every_limit")):
+        for path in sorted(glob.glob(os.path.join(folder, "*"))):
+            if os.path.isfile(path) and os.path.getsize(path) < MOST:
+                found[ends.content(path)] = path
+    for text, name in found.items():
+        try:
+            if len(text) < MOST:
+                yield name, text.decode("utf-8")
+        except UnicodeDecodeError:
+            pass
+
+
+def looked(page, name, text, told, counts):
+    raw = text.encode()
+    if explain.listings.is_listing(raw):
+        return
+    status, _, note = program.answer(BUILT, ["cost"], raw)
+    if told.get("trouble"):
+        print("%s: %s" % (name, told["trouble"]))
+    elif status in (3, 4) and "refused" in told:
+        due = refusal_of(raw, note)
+        if not told["refused"] or told["refused"]["note"] != note or {key: told["refused"][key] for key in due} != due:
+            print("%s: %s in place of %s, %s" % (name, told["refused"], note, due))
+        counts["refused"] += 1
+    elif status == 0 and "rows" in told:
+        due = due_of(raw)
+        for key in due:
+            if told[key] != due[key]:
+                print("%s: %s: %r in place of %r" % (name, key, str(told[key])[:300], str(due[key])[:300]))
+        counts["accepted"] += 1
+    else:
+        print("%s: status %d and %s" % (name, status, str(told)[:200]))
+
+
+def maps():
+    """A scene, a map, and the tolerance: of maps as people misunderstand them, and of every form."""
+    scene, ours = ends.content(os.path.join(SCENE, "stdin")), os.path.join(SCENE, "stdout")
+    subprocess.run([sys.executable, os.path.join(CASES, "compare_misunderstandings", "change.py"), ours], check=True)
+    before = set(os.listdir("."))
+    own = [leaf for leaf in sorted(before) if os.path.isfile(leaf) and leaf not in ("look.py", "run")]
+    for leaf in own:
+        yield scene, ends.content(leaf), 0
+    yield scene, program.answer(BUILT, ["colour"], scene)[1], 0
+    yield scene, program.answer(BUILT, ["render"], ends.content("cases/drilled_block/stdin"))[1], 3
+    for path in sorted(glob.glob(os.path.join(CASES, "compare_formats", "*.*"))):
+        if not path.endswith(".pov"):
+            yield BLANK, ends.content(path), 0
+
+
+def compared(page, scene, data, tolerance):
+    """What is wrong with a comparison."""
+    ours = compare.Maps(rasters.rasters(program.answer(BUILT, ["render"], scene)[1]), None)
+    read = scenes.read(scene)
+    try:
+        theirs = compare.Maps(rasters.rasters(data), None)
+        compare.fill(theirs, read.far())
+        lines, differences, _ = compare.compared(ours, theirs, {"--first": "8", "--depth-tolerance": str(tolerance)}, read)
+        colours = differences and b"".join(map(bytes, compare.picture_of(ours, differences)))[:30000]
+        due = [lines, None, base64.b64encode(colours).decode() if colours else None]
+    except netpbm.Bad as bad:
+        due = [None, str(bad), None]
+    told = pages.called(page, COMPARED, scene.decode(), base64.b64encode(data).decode(), tolerance)
+    found = [told.get("lines"), told.get("trouble"), told.get("rgb")]
+    if found != due:
+        print("compared: %s in place of %s" % (str(found)[:400], str(due)[:400]))
+
+
+with Browser() as page:
+    pages.alone(page)
+    counts, chosen = {"refused": 0, "accepted": 0}, list(texts())
+    for at in range(0, len(chosen), 40):
+        part = chosen[at:at + 40]
+        for (name, text), told in zip(part, pages.called(page, TOLD, [text for _, text in part])):
+            looked(page, name, text, told, counts)
+    number = 0
+    for number, (scene, data, tolerance) in enumerate(maps(), 1):
+        compared(page, scene, data, tolerance)
+    print("texts: %s; maps: %s" % (", ".join("many %s" % word for word in counts if counts[word] > 50), "many" if number > 30 else number))
+    print("faults of the page:", page.faults())

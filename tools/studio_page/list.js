@@ -1,0 +1,37 @@
+// The list of scenes that the page offers: nothing opens but by a click or Enter.
+import {given} from "./given.js";
+import {made} from "./show.js";
+
+const at = id => document.getElementById(id);
+
+export class List {
+  // `open` is called with a name and a text; `begin` makes an empty scene.
+  constructor(open, begin) {
+    const list = at("scenes"), close = call => () => { at("gallery").open = false; call(); };
+    const entry = (words, call) => {
+      const button = made("button", "", words);
+      button.addEventListener("click", close(call));
+      list.append(button);
+    };
+    let last = null;
+    entry("an empty scene", begin);
+    for (const [group, name, text] of given.gallery) {
+      if (group !== last) list.append(made("h2", "", group));
+      last = group;
+      entry(name.replaceAll("_", " "), () => open(name, text));
+    }
+    list.addEventListener("keydown", event => this.key(event));
+    at("gallery").addEventListener("toggle", () => { if (at("gallery").open) list.querySelector("button").focus(); });
+  }
+
+  key(event) {
+    const entries = [...at("scenes").querySelectorAll("button")], place = entries.indexOf(document.activeElement);
+    const way = {ArrowDown: 1, ArrowUp: -1, Home: -place, End: entries.length - 1 - place}[event.key];
+    if (event.key === "Escape") at("gallery").open = false;
+    if (event.key === "Escape") at("gallery").querySelector("summary").focus();
+    if (way === undefined) return;
+    entries[Math.max(0, Math.min(entries.length - 1, place + way))].focus();
+    event.preventDefault();
+    event.stopPropagation();
+  }
+}

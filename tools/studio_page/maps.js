@@ -1,0 +1,288 @@
+// Reads a map of numbers from the files that renderers write: Netpbm, PNG, PFM, EXR and text. It says the same as tools/lib/rasters.py.
+import {lettersOf} from "./scene.js";
+
+export class Bad extends Error {}
+
+const PNG = "\x89PNG\r\n\x1a\n", EXR = "\x76\x2f\x31\x01", HEAD = 512, BLANK = new Set([32, 9, 13, 10, 11, 12]), HASH = 35;
+const CHANNELS = {P2: 1, P3: 3, P5: 1, P6: 3}, PLAIN = ["P2", "P3"], OF_PNG = {0: 1, 2: 3, 3: 1, 4: 2, 6: 4};
+const LARGEST_SIDE = 65536, LARGEST_PIXELS = 2 ** 26, LAST_BITS = 2 ** -22;
+const FLOAT = /^[-+]?(\d+\.?\d*|\.\d+)(e[-+]?\d+)?$/i, ENDLESS = /^[-+]?(inf|infinity|nan)$/i;
+const LINES_OF_EXR = {0: 1, 2: 1, 3: 16}, FORMS_OF_EXR = [4, 2, 4], WANTED = ["Z", "Y", "R"];
+
+// Numbers row by row from the top, `channels` to a pixel, each to `largest`; where that is null they are of any size, with parts.
+// One or three channels are kept.
+class Raster {
+  constructor(width, height, channels, largest, samples) {
+    if (channels === 2 || channels === 4) {
+      samples = samples.filter((_, at) => at % channels < channels - 1);
+      channels -= 1;
+    }
+    Object.assign(this, {width, height, channels, largest, samples});
+  }
+
+  isGrey() {
+    const {samples} = this;
+    return this.channels === 3 && samples.every((sample, at) => sample === samples[at - at % 3]);
+  }
+
+  // The first of its channels alone.
+  grey() {
+    const {width, height, channels, largest, samples} = this;
+    return new Raster(width, height, 1, largest, channels === 1 ? samples : samples.filter((_, at) => at % channels === 0));
+  }
+
+  // One number a pixel: a grey sample, or three bytes, highest byte first; the least whole number that is not before one with parts,
+  // but for its last bits, and NaN for what is not finite. Numbers with parts are multiplied first.
+  numbers(times = 1) {
+    const {channels, largest, samples} = this;
+    if (largest === null)
+      return Float64Array.from(this.grey().samples, sample =>
+        Number.isFinite(sample) ? Math.ceil(times * sample - Math.abs(times * sample) * LAST_BITS) : NaN);
+    if (channels === 1 || largest === 65535 && this.isGrey()) return Float64Array.from(this.grey().samples);
+    if (largest !== 255) throw new Bad(`a picture of colours with samples to ${largest} holds no numbers; 255 is due`);
+    const found = new Float64Array(samples.length / 3);
+    for (let at = 0, from = 0; at < found.length; at++, from += 3)
+      found[at] = samples[from] << 16 | samples[from + 1] << 8 | samples[from + 2];
+    return found;
+  }
+}
+
+const viewOf = bytes => new DataView(bytes.buffer, bytes.byteOffset, bytes.byteLength);
+
+// The rasters of a file, one after another: two at most, and these of Netpbm.
+export async function rastersOf(bytes) {
+  const head = lettersOf(bytes.subarray(0, HEAD));
+  if (head.startsWith(PNG)) return [await readPng(bytes)];
+  if (/^P[fF][ \t\r\n\v\f]/.test(head)) return [readPfm(bytes, head)];
+  if (head.startsWith(EXR)) return [await readExr(bytes)];
+  if (/^[ \t\r\n\v\f]*(#|[-+.]?[0-9]|inf|nan)/i.test(head)) return [readText(lettersOf(bytes))];
+  return imagesOf(bytes);
+}
+
+async function inflated(bytes) {
+  const stream = new Blob([bytes]).stream().pipeThrough(new DecompressionStream("deflate"));
+  return new Uint8Array(await new Response(stream).arrayBuffer());
+}
+
+// The next word of a header of Netpbm, without comments, and the place behind it.
+function wordAt(bytes, at) {
+  while (at < bytes.length && (BLANK.has(bytes[at]) || bytes[at] === HASH)) {
+    if (bytes[at] === HASH) {
+      const stop = bytes.indexOf(10, at);
+      at = stop < 0 ? bytes.length : stop;
+    }
+    at += 1;
+  }
+  const start = at;
+  while (at < bytes.length && !BLANK.has(bytes[at]) && bytes[at] !== HASH) at += 1;
+  return [start, at];
+}
+
+const isNumber = (word, least, most) => /^\d{1,9}$/.test(word) && Number(word) >= least && Number(word) <= most;
+
+function imageAt(bytes, place) {
+  let at = place;
+  const word = () => {
+    const [start, end] = wordAt(bytes, at);
+    at = end;
+    return lettersOf(bytes.subarray(start, end));
+  };
+  const number = (what, least, most) => {
+    const own = word();
+    if (!isNumber(own, least, most)) throw new Bad(`${what} is no number from ${least} to ${most}`);
+    return Number(own);
+  };
+  const kind = word(), channels = CHANNELS[kind];
+  if (!channels) throw new Bad("no image begins here: P2, P3, P5 or P6 is due");
+  const width = number("the width", 1, LARGEST_SIDE), height = number("the height", 1, LARGEST_SIDE);
+  const largest = number("the greatest sample", 1, 65535), count = width * height * channels;
+  if (PLAIN.includes(kind)) {
+    if (2 * count - 1 > bytes.length - at) throw new Bad(`the image ends early: ${count} samples are due`);
+    const samples = new Uint16Array(count);
+    for (let which = 0; which < count; which++) {
+      const own = word();
+      if (!isNumber(own, 0, largest)) throw new Bad(`sample ${which + 1} of the image is no number to ${largest}`);
+      samples[which] = Number(own);
+    }
+    return [new Raster(width, height, channels, largest, samples), at];
+  }
+  const size = count * (largest > 255 ? 2 : 1);
+  at += 1;
+  if (at + size > bytes.length) throw new Bad(`the image ends early: ${Math.max(bytes.length - at, 0)} bytes of ${size}`);
+  const body = bytes.subarray(at, at + size), samples = largest > 255 ? wide(body) : body;
+  if (largest !== 255 && largest !== 65535 && samples.some(sample => sample > largest))
+    throw new Bad(`a sample is greater than ${largest}`);
+  return [new Raster(width, height, channels, largest, samples), at + size];
+}
+
+// Numbers of two bytes each, the higher first.
+const wide = bytes => Uint16Array.from({length: bytes.length >> 1}, (_, at) => bytes[2 * at] << 8 | bytes[2 * at + 1]);
+
+// The images of a file, one after another; blanks may follow the last.
+function imagesOf(bytes) {
+  const found = [];
+  let at = 0;
+  while (!found.length || wordAt(bytes, at)[0] < bytes.length) {
+    if (found.length === 2) throw new Bad("there is more behind two images");
+    const [image, next] = imageAt(bytes, at);
+    found.push(image);
+    at = next;
+  }
+  if (found.some(({width, height}) => width !== found[0].width || height !== found[0].height))
+    throw new Bad("the two images differ in size");
+  return found;
+}
+
+async function readPng(bytes) {
+  const view = viewOf(bytes), parts = [];
+  let head = null, palette = new Uint8Array(0);
+  for (let at = 8; at + 8 <= bytes.length;) {
+    const size = view.getUint32(at), kind = lettersOf(bytes.subarray(at + 4, at + 8)), part = bytes.subarray(at + 8, at + 8 + size);
+    if (kind === "IHDR") head = part;
+    if (kind === "PLTE") palette = part;
+    if (kind === "IDAT") parts.push(part);
+    at += 12 + size;
+  }
+  if (head?.length !== 13) throw new Bad("the PNG file has no head");
+  const [width, height] = [viewOf(head).getUint32(0), viewOf(head).getUint32(4)], [bits, kind, , , isWoven] = head.subarray(8);
+  if (!(kind in OF_PNG) || isWoven || ![1, 2, 4, 8, 16].includes(bits))
+    throw new Bad("a PNG file that is woven, or of a form that is not known, is not read");
+  if (!(width * height > 0 && width * height <= LARGEST_PIXELS)) throw new Bad("the PNG file has no pixels, or too many");
+  const channels = OF_PNG[kind], length = Math.floor((width * channels * bits + 7) / 8);
+  const body = await inflated(await new Blob(parts).arrayBuffer()).catch(() => { throw new Bad("the PNG file is damaged"); });
+  const samples = unfiltered(body, height, length, Math.max(1, channels * bits >> 3), bits, width * channels);
+  if (kind !== 3) return new Raster(width, height, channels, 2 ** bits - 1, samples);
+  if (samples.some(sample => 3 * sample + 2 >= palette.length)) throw new Bad("the PNG file names a colour that it has not");
+  return new Raster(width, height, 3, 255, Uint8Array.from({length: 3 * samples.length}, (_, at) =>
+    palette[3 * samples[Math.floor(at / 3)] + at % 3]));
+}
+
+// The samples of a PNG file's lines, each without its filter.
+function unfiltered(data, height, length, step, bits, count) {
+  if (data.length < height * (length + 1)) throw new Bad("the PNG file ends early");
+  const samples = new Uint16Array(height * count);
+  let above = new Uint8Array(length);
+  for (let y = 0; y < height; y++) {
+    const start = y * (length + 1), kind = data[start], line = data.slice(start + 1, start + 1 + length);
+    if (kind > 4) throw new Bad("the PNG file has a filter that is not known");
+    if (kind) for (let at = 0; at < length; at++)
+      line[at] += filtered(kind, at >= step ? line[at - step] : 0, above[at], at >= step ? above[at - step] : 0);
+    samples.set(samplesOf(line, bits, count), y * count);
+    above = line;
+  }
+  return samples;
+}
+
+// What a PNG filter takes a byte to be near to.
+function filtered(kind, left, above, corner) {
+  if (kind === 1) return left;
+  if (kind === 2) return above;
+  if (kind === 3) return left + above >> 1;
+  const guess = left + above - corner, [a, b, c] = [left, above, corner].map(near => Math.abs(guess - near));
+  return a <= b && a <= c ? left : b <= c ? above : corner;
+}
+
+function samplesOf(line, bits, count) {
+  if (bits === 8) return line;
+  if (bits === 16) return wide(line);
+  const each = 8 / bits;
+  return Uint8Array.from({length: count}, (_, at) => line[Math.floor(at / each)] >> 8 - bits - at % each * bits & 2 ** bits - 1);
+}
+
+// A float map, whose rows begin at the bottom.
+function readPfm(bytes, head) {
+  const words = /^P([fF])\s+(\d{1,9})\s+(\d{1,9})\s+([-+.0-9eE]+)\s/.exec(head);
+  if (!words) throw new Bad("the head of the float map is not known");
+  const channels = words[1] === "F" ? 3 : 1, [width, height] = [Number(words[2]), Number(words[3])], count = width * height * channels;
+  const start = words[0].length;
+  if (bytes.length - start < 4 * count || !count) throw new Bad("the float map ends early");
+  const view = viewOf(bytes), isLittle = words[4].startsWith("-"), samples = new Float64Array(count), row = width * channels;
+  for (let at = 0; at < count; at++)
+    samples[(height - 1 - Math.floor(at / row)) * row + at % row] = view.getFloat32(start + 4 * at, isLittle);
+  return new Raster(width, height, channels, null, samples);
+}
+
+// A number a pixel, and a line a row; from # on all is comment.
+function readText(text) {
+  const rows = text.split("\n").map(line => line.split("#")[0].split(/[ \t\r\n\v\f,]+/).filter(Boolean)).filter(line => line.length);
+  if (!rows.length || rows.some(row => row.length !== rows[0].length)) throw new Bad("the lines of numbers are not of one length");
+  const samples = Float64Array.from(rows.flat(), word => {
+    if (!FLOAT.test(word) && !ENDLESS.test(word)) throw new Bad("the text has a word that is no number");
+    return FLOAT.test(word) ? Number(word) : NaN;
+  });
+  return new Raster(rows[0].length, rows.length, 1, null, samples);
+}
+
+// The depths of an OpenEXR file: one part of lines, packed by zlib or not at all.
+async function readExr(bytes) {
+  try {
+    const [width, height, samples] = await linesOfExr(bytes);
+    return new Raster(width, height, 1, null, samples);
+  } catch (error) {
+    throw error instanceof Bad ? error : new Bad("the EXR file is damaged, or has no channel Z, Y or R");
+  }
+}
+
+function attributesOf(bytes) {
+  const view = viewOf(bytes), found = {};
+  let at = 8;
+  const word = () => {
+    const end = bytes.indexOf(0, at), own = lettersOf(bytes.subarray(at, end));
+    at = end + 1;
+    return own;
+  };
+  while (bytes[at]) {
+    const name = word(), kind = word(), size = view.getInt32(at, true);
+    found[name] = bytes.subarray(at + 4, at + 4 + size);
+    at += 4 + size;
+    if (!kind || size < 0) throw new RangeError(name);
+  }
+  return [found, at + 1];
+}
+
+// Name and form of each channel, in the order of a line.
+const channelsOf = body => [...lettersOf(body).matchAll(/([^\0]+)\0([\s\S])\0\0\0[\s\S]{12}/g)].map(match => [match[1], match[2].charCodeAt(0)]);
+
+async function unpackedExr(chunk, size) {
+  if (chunk.length === size) return chunk;
+  const near = await inflated(chunk), half = near.length + 1 >> 1, whole = new Uint8Array(near.length);
+  for (let at = 1; at < near.length; at++) near[at] = near[at - 1] + near[at] - 128;
+  near.forEach((byte, at) => { whole[at < half ? 2 * at : 2 * (at - half) + 1] = byte; });
+  return whole;
+}
+
+async function linesOfExr(bytes) {
+  const [head, at] = attributesOf(bytes), view = viewOf(bytes);
+  const [left, top, right, bottom] = [0, 4, 8, 12].map(place => viewOf(head.dataWindow).getInt32(place, true));
+  const width = right - left + 1, height = bottom - top + 1, ofChunk = LINES_OF_EXR[head.compression[0]];
+  if (ofChunk === undefined || bytes[5] & 0x1e) throw new Bad("this EXR file is packed in another way than by zlib; tools/compare reads it");
+  if (!(width * height > 0 && width * height <= LARGEST_PIXELS)) throw new RangeError("size");
+  const found = channelsOf(head.channels), name = WANTED.find(each => found.some(([own]) => own === each));
+  if (name === undefined) throw new RangeError("channel");
+  const samples = new Float64Array(width * height), length = found.reduce((sum, [, form]) => sum + width * FORMS_OF_EXR[form], 0);
+  for (let chunk = 0; chunk < Math.ceil(height / ofChunk); chunk++) {
+    const place = Number(view.getBigUint64(at + 8 * chunk, true)), first = view.getInt32(place, true);
+    const count = Math.min(ofChunk, bottom + 1 - first), size = view.getInt32(place + 4, true);
+    const body = viewOf(await unpackedExr(bytes.subarray(place + 8, place + 8 + size), count * length));
+    for (let line = 0, start = 0; line < count; line++) {
+      for (const [own, form] of found) {
+        if (own === name) for (let x = 0; x < width; x++)
+          samples[(first - top + line) * width + x] = numberAt(body, start + x * FORMS_OF_EXR[form], form);
+        start += width * FORMS_OF_EXR[form];
+      }
+    }
+  }
+  return [width, height, samples];
+}
+
+function numberAt(view, at, form) {
+  if (form === 0) return view.getUint32(at, true);
+  return form === 2 ? view.getFloat32(at, true) : halfOf(view.getUint16(at, true));
+}
+
+// A number of sixteen bits with parts.
+function halfOf(word) {
+  const sign = word >> 15 ? -1 : 1, power = word >> 10 & 31, part = word & 1023;
+  if (power === 31) return part ? NaN : sign * Infinity;
+  return sign * (power ? (1024 + part) * 2 ** (power - 25) : part * 2 ** -24);
+}

@@ -1,0 +1,116 @@
+/** A scene or a listing: a string, or the bytes of one. */
+export type Text = string | Uint8Array;
+
+/** Why a text is refused, or a call not answered; the message is the program's note. */
+export class Refused extends Error {
+  /** As the program ends: 3 no scene or listing, 4 past a limit, 7 no memory; 9 a clock past the last, 10 no such grid, 11 no microinstruction. */
+  readonly status: number;
+  /** The first bad line, counted from 1; 0 where the refusal is of no line. */
+  readonly line: number;
+  /** With status 3 why it is bad, as "unexpected" (docs/SCENES.md, "Refusals"). */
+  readonly cause: string;
+  /** With status 4 which limit is passed, as "solids" (docs/SCENES.md, "Limits"). */
+  readonly kind: string;
+  /** With status 4 what was found there, with 11 the index of the element. */
+  readonly number: number;
+  /** With status 9 how many clocks there are. */
+  readonly clocks: number;
+}
+
+export interface Cost {
+  width: number;
+  height: number;
+  /** The greatest face number of the scene. */
+  faces: number;
+  operations: number;
+  clocks: number;
+}
+
+export interface Picture {
+  width: number;
+  height: number;
+  /** The depth of pixel (x, y) is element y * width + x; where nothing shows, the scene's far limit. */
+  depths: Uint32Array;
+  /** The number of the face that shows; 0 for the background. */
+  faces: Uint32Array;
+  operations: number;
+  clocks: number;
+}
+
+export interface Colours {
+  width: number;
+  height: number;
+  /** Red, green and blue of pixel (x, y) are the elements from 3 * (y * width + x) on. */
+  rgb: Uint8Array;
+}
+
+/** A microinstruction; `String` of it is as the debugger's trace writes it. */
+export class Micro {
+  readonly act: string;
+  readonly place: number;
+  readonly value: number;
+  readonly tree: "hold" | "clear" | "feed";
+  readonly lines: [number, number, number];
+}
+
+export type Register = "enable" | "carry" | "latch" | "leaf";
+
+export const REGISTERS: readonly Register[];
+
+/** The machine after `clock` of `clocks` clocks. */
+export class State {
+  readonly width: number;
+  readonly height: number;
+  readonly wordsPerRow: number;
+  readonly bits: number;
+  readonly levels: number;
+  readonly clock: number;
+  readonly clocks: number;
+  /** The operation that comes next or is under way, from 0 on, and which of its clocks comes next. */
+  readonly operation: number;
+  readonly operationClock: number;
+  readonly next: Micro | null;
+  /** The words of include/pxplanes.h, each in two halves, the lower first. */
+  readonly words: Uint32Array;
+  planeOf(which: number | Register): number;
+  bit(which: number | Register, x: number, y: number): number;
+  pixel(x: number, y: number): { memory: string } & Record<Register, number>;
+  number(at: number, length: number, x: number, y: number): number;
+  numbers(at: number, length: number): Float64Array;
+  node(level: number, index: number): [number, number];
+}
+
+/** A machine over a text, which keeps states to go on from and back to. */
+export class Machine {
+  readonly clocks: number;
+  readonly first: State;
+  state(clock: number): State;
+  /** Makes the states before a clock, so that going back finds them. */
+  prepare(clock: number): void;
+  micros(first: number, count: number): Micro[];
+}
+
+export class Library {
+  readonly Refused: typeof Refused;
+  /** How large the memory of the module is. */
+  readonly bytes: number;
+  readonly hasClocks: boolean;
+  version(): string;
+  check(text: Text): Cost;
+  render(text: Text): Picture;
+  colour(text: Text): Colours;
+  products(text: Text): number[][];
+  course(text: Text): { operations: number; clocks: number };
+  state(text: Text, clock: number): State;
+  micros(text: Text, first: number, count: number): Micro[];
+  packed(text: Text, first: number, count: number): BigUint64Array;
+  /** The words of the state behind some microinstructions, as `packed` gives them or of one's own. */
+  clocks(state: Pick<State, "words" | "width" | "height">, packed: BigUint64Array): Uint32Array;
+  machine(text: Text, starts?: readonly number[] | null): Machine;
+}
+
+/** What an engine lacks to run the library, in words; null where it lacks nothing. */
+export function lacking(): string | null;
+
+/** The library, of the bytes of pxplanes.wasm, of a module compiled of them, or of the file beside this one. */
+export function load(source?: BufferSource | WebAssembly.Module): Promise<Library>;
