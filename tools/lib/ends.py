@@ -3,6 +3,7 @@ import argparse
 import importlib.machinery
 import importlib.util
 import os
+import re
 import shutil
 import sys
 
@@ -100,13 +101,22 @@ class Words(argparse.ArgumentParser):
         raise netpbm.Bad("%s; --help says more" % message)
 
 
+def glued(words, with_word):
+    """The words with a number below 0 behind its option in one word, so that it is no option itself."""
+    for at in range(len(words) - 2, -1, -1):
+        if words[at] in with_word and re.match(r"-[.\d]", words[at + 1]):
+            words[at:at + 2] = ["%s=%s" % (words[at], words[at + 1])]
+    return words
+
+
 def options(words, flags, with_word):
     """Splits words into the others and what the options say; `with_word` take the word behind."""
+    words = glued(list(words), with_word)
     parser = Words(add_help=False, allow_abbrev=False, argument_default=argparse.SUPPRESS)
     for flag in flags:
         parser.add_argument(flag, dest=flag, action="store_true")
     for option in with_word:
         parser.add_argument(option, dest=option, metavar="WORD")
     parser.add_argument("others", nargs="*")
-    said = vars(parser.parse_intermixed_args(list(words)))
+    said = vars(parser.parse_intermixed_args(words))
     return said.pop("others", []), said

@@ -17,14 +17,7 @@ POV_HEAD = """// A scene of pxplanes for POV-Ray, which draws its depths as grey
 global_settings { assumed_gamma 1 }
 #declare FAR = %(far)d;
 
-// Rays are parallel, and go through the whole places (x, y). POV-Ray's y grows upwards: our y is its -y.
-camera {
-  orthographic
-  location <%(middle)s, -%(centre)s, -1>
-  direction z
-  right %(width)d * x
-  up %(height)d * y
-}
+%(camera)s
 background { rgb FAR / 65535 }
 
 // The half-spaces of docs/PICTURE.md, with A, B and C in cells. Values are whole parts of a cell, PART, so
@@ -33,15 +26,49 @@ background { rgb FAR / 65535 }
 // that no two faces are one, and no ray meets two planes of it at once.
 #declare PART = 1 / %(parts)d;
 #declare GROW = PART * %(grow)g;
-#macro Half(A, B, D, C) plane { <A, -B, D> / vlength(<A, -B, D>), C / vlength(<A, -B, D>) } #end
+%(halves)s
+"""
+POV_PARALLEL = """// Rays are parallel, and go through the whole places (x, y). POV-Ray's y grows upwards: our y is its -y.
+camera {
+  orthographic
+  location <%(middle)s, -%(centre)s, -1>
+  direction z
+  right %(width)d * x
+  up %(height)d * y
+}"""
+POV_HALVES = """#macro Half(A, B, D, C) plane { <A, -B, D> / vlength(<A, -B, D>), C / vlength(<A, -B, D>) } #end
 #macro Front(A, B, C, G) Half(A, B, -1, G - (C)) #end
 #macro Back(A, B, C, G) Half(-(A), -(B), 1, (C) - PART / 2 + G) #end
-#macro Side(A, B, C) Half(-(A), -(B), 0, (C) + 0.5) #end
-"""
+#macro Side(A, B, C) Half(-(A), -(B), 0, (C) + 0.5) #end"""
+POV_PERSPECTIVE = """// The camera of the model that the scene was made of, in the model's own axes. At the distance Z along AWAY
+// the depth is ZERO - SCALE / Z.
+#declare EYE = <%(eye)s>;
+#declare RIGHT = <%(right)s>;
+#declare AWAY = <%(away)s>;
+#declare UP = <%(up)s>;
+#declare FOCAL = %(focal)s;
+#declare ZERO = %(zero)s;
+#declare SCALE = %(scale)s;
+camera {
+  perspective
+  location EYE
+  direction FOCAL * AWAY
+  right %(width)d * RIGHT
+  up %(height)d * UP
+}"""
+POV_HALVES_IN_PERSPECTIVE = """// Half keeps WAY * (A * x + B * y + C) * Z <= ROOM, which is a half-space of the model.
+#macro Half(A, B, C, ROOM, WAY)
+  #local N = WAY * (FOCAL * (A) * RIGHT + (C + (A) * %(middle)s + (B) * %(centre)s) * AWAY - FOCAL * (B) * UP);
+  plane { N / vlength(N), (ROOM + vdot(N, EYE)) / vlength(N) }
+#end
+#macro Front(A, B, C, G) Half(A, B, C - G - ZERO, -SCALE, 1) #end
+#macro Back(A, B, C, G) Half(A, B, C - PART / 2 + G - ZERO, SCALE, -1) #end
+#macro Side(A, B, C) Half(A, B, C + 0.5, 0, -1) #end"""
+POV_DEPTH_IN_PERSPECTIVE = "ZERO - SCALE / ((%s) * x + (%s) * y + (%s) * z - (%s))"
 POV_TAIL = """
 object {
-  %s
-  pigment { function { ceil(z - 2 * GROW) / 65535 } color_map { [0 rgb 0] [1 rgb 1] } }
+  %(tree)s
+  pigment { function { ceil(%(depth)s - 2 * GROW) / 65535 } color_map { [0 rgb 0] [1 rgb 1] } }
   finish { ambient 0 diffuse 0 emission 1 }
 }
 """
@@ -78,13 +105,19 @@ def pov_name(scene, index):
     return "Solid_" + scene.solids[index].name
 
 
-def pov(scene):
+def pov(scene, camera=None):
     """The text for POV-Ray, and what it does not say; None where its greys do not reach that far."""
     if scene.depth_bits > 16:
         return None, ["depths of more than 16 bits: a grey of POV-Ray has 16"]
-    text = POV_HEAD % {"width": scene.width, "height": scene.height, "far": scene.far(),
-                       "parts": 1 << scene.fraction_bits, "grow": GROW,
-                       "middle": "%g" % ((scene.width - 1) / 2), "centre": "%g" % ((scene.height - 1) / 2)}
+    said = {"width": scene.width, "height": scene.height, "far": scene.far(), "parts": 1 << scene.fraction_bits,
+            "grow": GROW, "middle": "%g" % ((scene.width - 1) / 2), "centre": "%g" % ((scene.height - 1) / 2)}
+    if camera:
+        said.update(zip(("right", "away", "up"), (listed(row) for row in camera.rows)), eye=listed(camera.eye),
+                    focal=repr(camera.focal), scale=repr(camera.distances.scale),
+                    zero=repr(camera.distances.scale / camera.distances.near))
+    said["camera"] = (POV_PERSPECTIVE if camera else POV_PARALLEL) % said
+    said["halves"] = POV_HALVES_IN_PERSPECTIVE % said if camera else POV_HALVES
+    text = POV_HEAD % said
     for index, solid in enumerate(scene.solids):
         fronts = ["0, 0, 0"] + [cells(face.plane, scene) for face in solid.fronts]
         backs = ["0, 0, FAR"] + [cells(face.plane, scene) for face in solid.backs]
@@ -93,7 +126,14 @@ def pov(scene):
         planes += ["Side(%d, %d, %d)" % side.plane for side in solid.sides]
         text += "\n#macro %s(G) intersection {\n  %s\n} #end\n" % (pov_name(scene, index), "\n  ".join(planes))
     lacks = ["the numbers of the faces"] + [ONE_DEPTH] * bool(scene.fraction_bits) + [TOUCHING] * ("^" in scene.show)
-    return text + POV_TAIL % pov_tree(signed(scene), scene, False, "  "), lacks
+    said["tree"] = pov_tree(signed(scene), scene, False, "  ")
+    said["depth"] = POV_DEPTH_IN_PERSPECTIVE % (
+        *map(repr, camera.rows[1]), repr(facets.dot(camera.rows[1], camera.eye))) if camera else "z"
+    return text + POV_TAIL % said, lacks
+
+
+def listed(numbers):
+    return ", ".join(repr(float(number)) for number in numbers)
 
 
 def half_spaces(scene, solid):
@@ -115,8 +155,9 @@ def half_spaces(scene, solid):
     return out
 
 
-def mesh(scene, solid):
-    """Points and facets of a solid, whose facets go round to the left from outside; None for nothing."""
+def mesh(scene, solid, camera=None):
+    """Points and facets of a solid, whose facets go round to the left from outside; None for nothing.
+    With a camera the points are those of its model."""
     planes = half_spaces(scene, solid)
     near = max(scene.width, scene.height, scene.far()) * NEAR
     numbers, points, out = {}, [], []
@@ -126,6 +167,8 @@ def mesh(scene, solid):
         own = [numbered(point, points, numbers, near) for point in polygon]
         own = [at for i, at in enumerate(own) if at != own[i - 1]]
         out += [own] if len(own) > 2 else []
+    if camera:
+        points = [camera.point(x, -y, -z) for x, y, z in points]
     return (points, out) if len(out) > 3 else None
 
 
@@ -143,23 +186,35 @@ def numbered(point, points, numbers, near):
     return len(points) - 1
 
 
-def scad(scene):
+def scad(scene, camera=None):
     """The text for OpenSCAD, and what it does not say."""
-    lines = ["// A scene of pxplanes for OpenSCAD: x to the right, y upwards, z to the eye, in pixels and cells.",
-             "// openscad -o SCENE.off SCENE.scad", "depth_scale = 1;", ""]
+    lines = scad_camera(scene, camera) if camera else [
+        "// A scene of pxplanes for OpenSCAD: x to the right, y upwards, z to the eye, in pixels and cells.",
+        "// openscad -o SCENE.off SCENE.scad", "depth_scale = 1;", ""]
     for solid in scene.solids:
-        found = mesh(scene, solid)
+        found = mesh(scene, solid, camera)
         colour = ", ".join("%.4g" % (part / 255) for part in solid.colour)
         lines.append("module %s() color([%s])" % (solid.name, colour))
         if found is None:
             lines.append("  cube(0);   // it has no part in the picture")
             continue
         points, sides = found
-        lines.append("  scale([1, 1, depth_scale]) polyhedron(\n    points = [%s],\n    faces = [%s]);" % (
+        lines.append("%s polyhedron(\n    points = [%s],\n    faces = [%s]);" % (
+            " " if camera else "  scale([1, 1, depth_scale])",
             ", ".join("[%s]" % ", ".join("%.9g" % (part + 0.0) for part in point) for point in points),
             ", ".join("[%s]" % ", ".join(map(str, side[::-1])) for side in sides)))
     lacks = ["the numbers and the colours of single faces", "ties, and rounding to whole depths"]
     return "\n".join(lines + ["", scad_tree(signed(scene), scene, ""), ""]), lacks
+
+
+def scad_camera(scene, camera):
+    """The head of a scene in the axes of its model, with its camera."""
+    distance = camera.distances.near
+    place = [own + distance * way for own, way in zip(camera.eye, camera.rows[1])]
+    return ["// A scene of pxplanes for OpenSCAD, in the axes of the model that it was made of, with its camera.",
+            "// openscad --preview --projection=p --imgsize=%d,%d -o SCENE.png SCENE.scad" % (scene.width, scene.height),
+            "$vpt = [%s];" % listed(place), "$vpr = [%s];" % listed(camera.turn),
+            "$vpd = %r;" % distance, "$vpf = %r;" % camera.fov, ""]
 
 
 def scad_tree(tree, scene, indent):
@@ -173,14 +228,16 @@ def scad_tree(tree, scene, indent):
                                       scad_tree(right, scene, indent + "  "), indent)
 
 
-def obj(scene):
+def obj(scene, camera=None):
     """A mesh of each solid, and what the file does not say."""
-    lines = ["# The solids of a scene of pxplanes: x to the right, y upwards, z to the eye, in pixels and cells."]
+    lines = ["# The solids of a scene of pxplanes: " + (
+        "in the axes of the model that it was made of." if camera else
+        "x to the right, y upwards, z to the eye, in pixels and cells.")]
     lacks = ["how the solids are joined", "the numbers and the colours of the faces",
              "ties, and rounding to whole depths"]
     first = 1
     for solid in scene.solids:
-        found = mesh(scene, solid)
+        found = mesh(scene, solid, camera)
         if found is None:
             lacks.append("solid %s, which has no part in the picture" % solid.name)
             continue
@@ -191,7 +248,23 @@ def obj(scene):
     return "\n".join(lines + [""]), lacks
 
 
-def json_of(scene):
+def camera_of(scene, camera):
+    """A camera as JSON has it: `matrix` takes a point of the model (x, y, z, 1) to OpenGL's clip
+    coordinates, and a depth is `zero - scale / Z` at the distance Z along `away`."""
+    ends, (width, height) = camera.distances, (scene.width, scene.height)
+    right, away, up = ([*row, -facets.dot(row, camera.eye)] for row in camera.rows)
+    span = ends.far - ends.near
+    return {"projection": "perspective", "eye": camera.eye, "right": camera.rows[0], "away": camera.rows[1],
+            "up": camera.rows[2], "fov": camera.fov, "focal": camera.focal, "near": ends.near, "far": ends.far,
+            "depth": {"zero": ends.scale / ends.near, "scale": ends.scale},
+            "matrix": [[2 * camera.focal / width * part for part in right],
+                       [2 * camera.focal / height * part for part in up],
+                       [(ends.far + ends.near) / span * part - (i == 3) * 2 * ends.far * ends.near / span
+                        for i, part in enumerate(away)],
+                       away]}
+
+
+def json_of(scene, camera=None):
     """The whole scene as JSON (docs/COMPARE.md, "Exports")."""
     def face(own):
         return {"face": own.number, "plane": list(own.plane), "colour": list(own.colour)}
@@ -205,7 +278,7 @@ def json_of(scene):
         "solids": [{"name": solid.name, "colour": list(solid.colour), "near_face": solid.near,
                     "fronts": [face(own) for own in solid.fronts], "backs": [face(own) for own in solid.backs],
                     "sides": [list(side.plane) for side in solid.sides]} for solid in scene.solids],
-        "show": shown(signed(scene))}, indent=1) + "\n", []
+        "show": shown(signed(scene)), **({"camera": camera_of(scene, camera)} if camera else {})}, indent=1) + "\n", []
 
 
 FORMS = {"pov": pov, "scad": scad, "obj": obj, "json": json_of}

@@ -47,6 +47,20 @@ def plane_of(points):
     return normal, sum(dot(normal, point) for point in points) / len(points), length / longest
 
 
+def in_order(corners, normal):
+    """The corners of a convex polygon on a plane, one after another round it."""
+    if len(corners) < 3:
+        return []
+    middle = [sum(corner[i] for corner in corners) / len(corners) for i in range(3)]
+    along, across = axes_on(normal)
+
+    def turn(corner):
+        out = [a - b for a, b in zip(corner, middle)]
+        return math.atan2(dot(across, out), dot(along, out))
+
+    return sorted(corners, key=turn)
+
+
 def extent(points):
     """The greatest coordinate, and the greatest width along an axis."""
     size = max(max(abs(part) for part in point) for point in points) or 1
@@ -285,14 +299,19 @@ def is_same(one, other, near):
     return dot(one[0], other[0]) > 1 - 1e-9 and abs(one[1] - other[1]) <= near
 
 
-def square_on(plane, wide):
-    """A square of that width, to each side, on a plane."""
-    normal, far = plane
+def axes_on(normal):
+    """Two directions on a plane, square to one another and of length 1."""
     axis = min(range(3), key=lambda i: abs(normal[i]))
     along = [float(i == axis) - normal[axis] * normal[i] for i in range(3)]
     long = lengthwise(along)
-    along = [part / long * wide for part in along]
-    across = [normal[(i + 1) % 3] * along[(i + 2) % 3] - normal[(i + 2) % 3] * along[(i + 1) % 3]
-              for i in range(3)]
+    along = [part / long for part in along]
+    return along, [normal[(i + 1) % 3] * along[(i + 2) % 3] - normal[(i + 2) % 3] * along[(i + 1) % 3]
+                   for i in range(3)]
+
+
+def square_on(plane, wide):
+    """A square of that width, to each side, on a plane."""
+    normal, far = plane
+    along, across = ([wide * part for part in axis] for axis in axes_on(normal))
     return [[far * normal[i] + one * along[i] + other * across[i] for i in range(3)]
             for one, other in ((1, 1), (-1, 1), (-1, -1), (1, -1))]

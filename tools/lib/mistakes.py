@@ -5,6 +5,8 @@ import copy
 import rays
 
 TRIED = 3000
+FEW = 10
+LIKELY = 8
 MOSTLY = 0.02
 SCALES = (255, 65535, 2 ** 24 - 1)
 
@@ -108,9 +110,13 @@ def explained(ours, theirs, tolerance, far):
     if ours.faces is not None and theirs.faces is not None:
         values.append([Change("with face numbers from 0", face=lambda face, mine: face + bool(mine))])
     tried = [way + value for way in [[]] + [[flip] for flip in flips(ours.width, ours.height)] for value in values]
-    counts = [(alike(ours, theirs, tolerance, at, changes), len(changes), k) for k, changes in enumerate(tried)]
+    if not before:
+        return None
+    few = at[::FEW]
+    likely = sorted((alike(ours, theirs, tolerance, few, changes), len(changes), k) for k, changes in enumerate(tried))
+    counts = [(alike(ours, theirs, tolerance, at, tried[k]), words, k) for _, words, k in likely[:LIKELY]]
     least, _, k = min(counts)
-    if not before or not tried[k] or least > MOSTLY * len(at) or 4 * least > before:
+    if not tried[k] or least > MOSTLY * len(at) or 4 * least > before:
         return None
     left = alike(ours, theirs, tolerance, range(ours.width * ours.height), tried[k])
     return " and ".join(change.said for change in tried[k]), left

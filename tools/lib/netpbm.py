@@ -116,14 +116,26 @@ def png(width, height, colours, wanted_side=512):
         row = colours[y * width:(y + 1) * width]
         line = b"\0" + b"".join(bytes(colour) * factor for colour in row)
         lines.append(line * factor)
+    return png_file(width * factor, height * factor, 8, 2, lines)
 
-    def chunk(kind, body):
-        check = zlib.crc32(kind + body)
-        return struct.pack(">I", len(body)) + kind + body + struct.pack(">I", check)
 
-    head = struct.pack(">IIBBBBB", width * factor, height * factor, 8, 2, 0, 0, 0)
-    return (PNG_HEAD + chunk(b"IHDR", head) + chunk(b"IDAT", zlib.compress(b"".join(lines), 9))
-            + chunk(b"IEND", b""))
+def png_of_numbers(width, height, numbers):
+    """Numbers as greys of sixteen bits, or as three bytes, the highest first, where one is greater."""
+    if max(numbers) < 65536:
+        lines = [b"\0" + struct.pack(">%dH" % width, *numbers[y * width:(y + 1) * width]) for y in range(height)]
+        return png_file(width, height, 16, 0, lines)
+    lines = [b"\0" + b"".join(number.to_bytes(3, "big") for number in numbers[y * width:(y + 1) * width])
+             for y in range(height)]
+    return png_file(width, height, 8, 2, lines)
+
+
+def png_file(width, height, bits, kind, lines):
+    """A PNG file of lines, each with its filter before it."""
+    def chunk(name, body):
+        return struct.pack(">I", len(body)) + name + body + struct.pack(">I", zlib.crc32(name + body))
+
+    return (PNG_HEAD + chunk(b"IHDR", struct.pack(">IIBBBBB", width, height, bits, kind, 0, 0, 0))
+            + chunk(b"IDAT", zlib.compress(b"".join(lines), 9)) + chunk(b"IEND", b""))
 
 
 def png_content(data):

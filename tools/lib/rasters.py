@@ -1,5 +1,6 @@
-"""Reads a map of numbers from the files that renderers write: Netpbm, PNG, PFM, EXR and text.
-What `compare` and `conform` read."""
+"""Reads a map of numbers from the files that renderers write: Netpbm, PNG, PFM, EXR, TIFF, NPY, text, and
+floats without a head. What `compare` and `conform` read."""
+import ast
 import math
 import re
 import struct
@@ -35,6 +36,10 @@ class Raster:
         """The first of its channels alone."""
         return Raster(self.width, self.height, 1, self.largest, self.samples[0::self.channels])
 
+    def plain(self):
+        """One number a pixel, with its parts."""
+        return self.grey().samples if self.largest is None else self.numbers()
+
     def numbers(self, times=1):
         """One number a pixel: a grey sample, or three bytes, highest byte first; the least whole
         number that is not before one with parts, but for its last bits, and None for what is not
@@ -50,8 +55,21 @@ class Raster:
         return [flat[i] << 16 | flat[i + 1] << 8 | flat[i + 2] for i in range(0, len(flat), 3)]
 
 
-def rasters(data):
-    """The rasters of a file, one after another: two at most, and these of Netpbm."""
+READ = "Netpbm's P2, P3, P5, P6 and P7, PNG, PFM, EXR, TIFF, NPY, numbers as text, and float32 or float64 without a head"
+
+
+def rasters(data, size=None):
+    """The rasters of a file, one after another: two at most, and these of Netpbm. Where a size is given,
+    as many floats without a head are read too."""
+    if data[:6] == b"\x93NUMPY":
+        return [read_npy(data)]
+    if data[:4] in (b"II*\0", b"MM\0*"):
+        return [read_tiff(data)]
+    if re.match(rb"P7\s", data):
+        return [read_pam(data)]
+    if size and len(data) in (4 * size[0] * size[1], 8 * size[0] * size[1]) and not is_known(data):
+        form = "f" if len(data) == 4 * size[0] * size[1] else "d"
+        return [Raster(*size, 1, None, struct.unpack("<%d%s" % (size[0] * size[1], form), data))]
     if data[:8] == netpbm.PNG_HEAD:
         return [read_png(data)]
     if re.match(rb"P[fF]\s", data):
@@ -61,8 +79,108 @@ def rasters(data):
         return [Raster(width, height, 1, None, samples)]
     if re.match(rb"\s*(#|[-+.]?[0-9]|inf|nan)", data, re.I):
         return [read_text(data)]
+    if data[:2] not in netpbm.CHANNELS:
+        raise Bad("the form of the file is not known; read are %s" % READ)
     return [Raster(image.width, image.height, image.channels, image.largest, image.samples)
             for image in netpbm.images(data)]
+
+
+def is_known(data):
+    """Whether a file begins as one of the forms with a head does, or as text."""
+    return data[:8] == netpbm.PNG_HEAD or data[:4] == exr.MAGIC or re.match(
+        rb"P[fF23567]\s|\s*[-+.]?[0-9][-+.0-9eE\s,]{7}", data) is not None
+
+
+def read_pam(data):
+    """A map of P7, of greys or colours, with or without a share that covers."""
+    end = data.find(b"ENDHDR\n")
+    words = dict(re.findall(rb"^(WIDTH|HEIGHT|DEPTH|MAXVAL)\s+(\d{1,9})\s*$", data[:end], re.M))
+    if end < 0 or len(words) != 4:
+        raise Bad("the head of the P7 file is not whole")
+    width, height, channels, largest = (int(words[name]) for name in (b"WIDTH", b"HEIGHT", b"DEPTH", b"MAXVAL"))
+    if not (0 < width * height <= LARGEST_PIXELS and 1 <= channels <= 4 and 1 <= largest <= 65535):
+        raise Bad("the P7 file has no pixels, too many, or samples that are not read")
+    samples = unpacked_numbers(data[end + 7:], ">" + ("H" if largest > 255 else "B"), width * height * channels)
+    return Raster(width, height, channels, largest, samples)
+
+
+def unpacked_numbers(body, form, count):
+    """So many numbers of a form, as struct has it: the order of bytes, and the kind."""
+    if len(body) < count * struct.calcsize(form):
+        raise Bad("the file ends early: %d numbers are due" % count)
+    return list(struct.unpack("%s%d%s" % (form[0], count, form[1]), body[:count * struct.calcsize(form)]))
+
+
+NPY_FORMS = {"u1": "B", "u2": "H", "u4": "I", "u8": "Q", "i1": "b", "i2": "h", "i4": "i", "i8": "q",
+             "f2": "e", "f4": "f", "f8": "d", "b1": "B"}
+
+
+def read_npy(data):
+    """An array of numpy.save, of rows and columns, or of these and channels."""
+    try:
+        start = 10 if data[6] == 1 else 12
+        size = struct.unpack_from("<H" if data[6] == 1 else "<I", data, 8)[0]
+        head = ast.literal_eval(data[start:start + size].decode("latin-1").strip())
+        shape, kind = head["shape"], head["descr"]
+        form = (">" if kind[0] == ">" else "<") + NPY_FORMS[kind[1:]]
+        height, width, channels = (*shape, 1) if len(shape) == 2 else shape
+        samples = unpacked_numbers(data[start + size:], form, height * width * channels)
+    except (IndexError, KeyError, ValueError, TypeError, SyntaxError, struct.error):
+        raise Bad("the NPY file has no array of two or three sides whose numbers are read")
+    if head.get("fortran_order"):
+        samples = [samples[y + height * (x + width * c)] for y in range(height) for x in range(width) for c in range(channels)]
+    whole = kind[1] in "ui" and int(kind[2:]) <= 2
+    return Raster(width, height, channels, 256 ** int(kind[2:]) - 1 if whole else None, samples)
+
+
+def read_tiff(data):
+    """The first picture of a TIFF file, of strips that are not packed, or packed by deflate or PackBits."""
+    order = "<" if data[:1] == b"I" else ">"
+    try:
+        tags = tiff_tags(data, order)
+        width, height = tags[256][0], tags[257][0]
+        bits, channels = tags.get(258, [1])[0], tags.get(277, [1])[0]
+        form = {(8, 1): "B", (16, 1): "H", (32, 1): "I", (8, 2): "b", (16, 2): "h", (32, 2): "i",
+                (16, 3): "e", (32, 3): "f", (64, 3): "d"}[bits, tags.get(339, [1])[0]]
+        packing = TIFF_PACKED[tags.get(259, [1])[0]]
+        if tags.get(262, [1])[0] == 3 or tags.get(317, [1])[0] != 1 or tags.get(284, [1])[0] != 1 and channels > 1:
+            raise KeyError
+        body = b"".join(packing(data[at:at + size]) for at, size in zip(tags[273], tags[279]))
+        samples = unpacked_numbers(body, order + form, width * height * channels)
+    except (IndexError, KeyError, ValueError, TypeError, struct.error, zlib.error):
+        raise Bad("the TIFF file is damaged, or of a form that is not read: read are strips without a palette, not packed, or by deflate or PackBits")
+    return Raster(width, height, channels, 2 ** bits - 1 if form in "BH" else None, samples)
+
+
+def tiff_tags(data, order):
+    """The numbers of each tag of the first picture."""
+    at, out = struct.unpack_from(order + "I", data, 4)[0], {}
+    for i in range(struct.unpack_from(order + "H", data, at)[0]):
+        tag, kind, count = struct.unpack_from(order + "HHI", data, at + 2 + 12 * i)
+        form = {1: "B", 3: "H", 4: "I"}.get(kind)
+        if form:
+            size, place = count * struct.calcsize(form), at + 10 + 12 * i
+            if size > 4:
+                place = struct.unpack_from(order + "I", data, place)[0]
+            out[tag] = struct.unpack_from("%s%d%s" % (order, count, form), data, place)
+    return out
+
+
+def unpacked_bits(body):
+    """What PackBits packs: runs of one byte, and bytes as they are."""
+    out, at = bytearray(), 0
+    while at < len(body):
+        count = body[at]
+        if count < 128:
+            out += body[at + 1:at + 2 + count]
+            at += 2 + count
+        else:
+            out += body[at + 1:at + 2] * (257 - count) if count > 128 else b""
+            at += 2 if count > 128 else 1
+    return bytes(out)
+
+
+TIFF_PACKED = {1: bytes, 8: zlib.decompress, 32946: zlib.decompress, 32773: unpacked_bits}
 
 
 def read_png(data):

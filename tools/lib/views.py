@@ -2,11 +2,12 @@
 import math
 
 import solids
+import turns
 from netpbm import Bad
 
 FILLS = 0.92
 STEEP = 1e-9
-HALF_FIELD = 22.5 / 2
+FIELD = 22.5
 EDGES = ("left", "right", "bottom", "top")
 
 
@@ -28,7 +29,7 @@ class View:
         return self
 
     def turned(self, point):
-        return turned(self.rows, point)
+        return turns.turned(self.rows, point)
 
     def half_space(self, normal, far):
         """The kind of a half-space, and A, B, C of its plane in cells; of a side in any unit."""
@@ -39,7 +40,19 @@ class View:
             return "side", form
         return "front" if away < 0 else "back", tuple(self.cells / away * part for part in form)
 
+    def notes(self):
+        """Comments that the scene begins with."""
+        return []
+
+    def where(self, normal, far):
+        """Where a plane is to be true: in the middle of these corners, here those of the picture."""
+        return (0, 0, 0), (self.size[0] - 1, self.size[1] - 1, 0)
+
     def cut_off(self):
+        """What the edges of the picture cut off of what can show, in a line for each."""
+        return ["the model is cut off at the %s of the picture, by %.1f pixels" % pair for pair in self.beyond()]
+
+    def beyond(self):
         """The edges of the picture beyond which what can show goes on, and by how many pixels."""
         low, high = self.box
         beyond = (-self.left - self.scale * low[0], self.left + self.scale * high[0] - (self.size[0] - 1),
@@ -49,36 +62,13 @@ class View:
     def why_empty(self):
         if not self.has_common:
             return "what the model intersects has no common part"
-        if self.cut_off():
+        if self.beyond():
             return "the model is beyond its edges"
         return "nothing is left of the model, or what is left is smaller than a pixel"
 
 
-def turned(rows, point):
-    return [sum(row[i] * point[i] for i in range(3)) for row in rows]
-
-
-def about(axis, turn):
-    i, j = [each for each in range(3) if each != axis]
-    rows = [[float(row == column) for column in range(3)] for row in range(3)]
-    sine = math.sin(turn) if axis != 1 else -math.sin(turn)
-    rows[i][i] = rows[j][j] = math.cos(turn)
-    rows[i][j], rows[j][i] = -sine, sine
-    return rows
-
-
-def multiplied(one, two):
-    return [[sum(one[i][k] * two[k][j] for k in range(3)) for j in range(3)] for i in range(3)]
-
-
-def rows_of(turns):
-    """What turns a point of the model as OpenSCAD's $vpr does."""
-    turn = [math.radians(angle) for angle in (90 - turns[0], -turns[1], -turns[2])]
-    return multiplied(about(0, turn[0]), multiplied(about(1, turn[1]), about(2, turn[2])))
-
-
 def box_of(rows, points):
-    seen = [turned(rows, point) for point in points]
+    seen = [turns.turned(rows, point) for point in points]
     return [min(point[i] for point in seen) for i in range(3)], [max(point[i] for point in seen) for i in range(3)]
 
 
@@ -108,9 +98,9 @@ def around(boxes):
             [max(high[i] for _, high in boxes) for i in range(3)])
 
 
-def fitted(turns, size, scale, far, tree):
+def fitted(turn, size, scale, far, tree):
     """What can show in the middle of the picture, and so large that it fills it."""
-    view = View(rows_of(turns), size, far, tree)
+    view = View(turns.rows_of(turn), size, far, tree)
     low, high = view.box
     room = [max(high[i] - low[i], 1e-9) for i in range(3)]
     scale = scale or FILLS * min(size[0] / room[0], size[1] / room[2])
@@ -121,19 +111,11 @@ def fitted(turns, size, scale, far, tree):
 def of_camera(numbers, size, far, tree):
     """As OpenSCAD's orthographic camera has it, whose pixels are sampled in their middles."""
     if len(numbers) == 6:
-        numbers = between(numbers[:3], numbers[3:])
-    place, turns, distance = numbers[:3], numbers[3:6], numbers[6]
+        numbers = turns.between(numbers[:3], numbers[3:])
+    place, turn, distance = numbers[:3], numbers[3:6], numbers[6]
     if distance <= 0:
         raise Bad("--camera wants a distance above 0")
-    view = View(rows_of(turns), size, far, tree)
-    scale = size[1] / (2 * distance * math.tan(math.radians(HALF_FIELD)))
+    view = View(turns.rows_of(turn), size, far, tree)
+    scale = size[1] / (2 * distance * math.tan(math.radians(FIELD / 2)))
     right, _, up = view.turned(place)
     return view.placed(scale, (size[0] - 1) / 2 - scale * right, (size[1] - 1) / 2 + scale * up)
-
-
-def between(eye, center):
-    """Place, turns and distance of a camera that looks from one point to another."""
-    x, y, z = (a - b for a, b in zip(eye, center))
-    flat = math.hypot(x, y)
-    turns = [math.degrees(math.atan2(flat, z)), 0.0, math.degrees(math.atan2(x, -y)) if flat else 0.0]
-    return list(center) + turns + [math.dist(eye, center)]

@@ -206,12 +206,12 @@ struct moment {
     struct pxplanes_moment state;
 };
 
-/* The most bytes that a call may want at once: 64 for each byte of its text and a MiB, and 14 MiB where it opens an array,
+/* The most bytes that a call may want at once: 128 for each byte of its text and a MiB, and 14 MiB where it opens an array,
  * which with its four slots has 75 rows of 32 KiB and a tree of 128 KiB, five times, for 512 by 512 pixels. */
 static size_t most_due(enum call call, const struct text *text, uint32_t status)
 {
     int is_open = call == STATE || ((call == DRAW || call == PAINT) && (status == PXPLANES_OK || status == PXPLANES_MEMORY));
-    return 64 * text->bytes.len + (1 << 20) + (is_open ? 14 << 20 : 0);
+    return 128 * text->bytes.len + (1 << 20) + (is_open ? 14 << 20 : 0);
 }
 
 static uint32_t called(enum call call, const struct text *text, struct buffer *b, struct moment *moment,
