@@ -3,7 +3,6 @@ ghost use Rattle.std.specs.Prelude.{◌<◌};
 
 use crate::runs::{Left, ONE_SOLID, run_words, sink_of, source_of};
 use px_array::PixelArray;
-use px_asked::TellingSource;
 use px_draw::Status;
 use std::alloc::Global;
 use std::process::Abort;
@@ -85,41 +84,6 @@ fn a_failing_write_breaks_off(rt: HostRuntime) -> Result<(), Fail> {
         assert_eq!(rt; left.out.written().len(), output, "call {call}");
         assert!(rt; !left.out.finished());
         assert_eq!(rt; left.clocks, clocks, "call {call}");
-    }
-    Ok(())
-}
-
-/// What had been written at each ask of `run`, and the bytes that it then gave: a line that is wrong, another, and a read
-/// that fails.
-const ASKS: [(&[u8], &[u8]); 3] = [
-    (
-        b"",
-        b"pxscene 1\npicture 1 1\ndepth 4\nsolid a 200 100 50\nfront 0 0 5\nback 0 0 9\nshow a\nend\nstpe\n",
-    ),
-    (b"? line 1\n", b"step 3\n"),
-    (b"? line 1\nat 3\n", b""),
-];
-
-#[test]
-fn each_line_is_answered_before_the_next_ask(rt: HostRuntime) -> Result<(), Fail> {
-    let alloc = rt.alloc();
-    let mut text = ONE_SOLID.to_vec(alloc)?;
-    text.extend_from_slice(b"stpe\nstep 3\n")?;
-    let source = source_of(alloc, text.as_slice(), ONE_SOLID.len() + 5, 3)?;
-    let mut input = TellingSource::new(alloc, source);
-    let mut array = PixelArray::<72>::new(alloc);
-    let out = sink_of(alloc, 0)?;
-    let left = run_words(alloc, &["debug"], &mut input, out, 100, &mut array)?;
-    assert_eq!(rt; left.status, Status::ReadFault);
-    let Some(notes) = input.notes() else {
-        panic!(rt; "memory was wanting");
-    };
-    assert_eq!(rt; notes.len(), ASKS.len());
-    for (note, (told, bytes)) in notes.iter().zip(ASKS) {
-        assert_eq!(rt;
-            (note.told.as_slice(), note.bytes.as_slice()),
-            (told, bytes)
-        );
     }
     Ok(())
 }
