@@ -104,7 +104,7 @@ function wave(text, words) {
 async function compare(text, words) {
   const scene = sceneIn(text), tolerance = wholeNumber(words, "tolerance", scene.far()), {width, height} = scene;
   const ours = words.picture ? {width, height, ...words.picture} : px.render(text);
-  const theirs = mapsOf(await rastersOf(words.map));
+  const theirs = mapsOf(await rastersOf(words.map, [width, height]));
   fill(theirs, scene.far());
   const {lines, differences, kinds} = compared(ours, theirs, tolerance, FIRST, scene);
   if (!differences) return {lines, groups: []};

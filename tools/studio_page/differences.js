@@ -2,7 +2,7 @@
 // It says the same as tools/compare and tools/lib/mistakes.py.
 import {Depths} from "./rays.js";
 
-const TRIED = 3000, MOSTLY = 0.02, SCALES = [255, 65535, 2 ** 24 - 1], SAME = ["same depth", "theirs nearer", "theirs farther"];
+const TRIED = 3000, FEW = 10, LIKELY = 8, MOSTLY = 0.02, SCALES = [255, 65535, 2 ** 24 - 1], SAME = ["same depth", "theirs nearer", "theirs farther"];
 const LARGEST = 2 ** 32, MARKS = 65535, FACES = 2 ** 24;
 
 // The depths and the faces of a file's rasters, `times` as great; null for what they do not hold.
@@ -181,8 +181,8 @@ function backgroundOf(ours, theirs, far) {
   return known;
 }
 
-// How many of some pixels are unlike where theirs is changed; more than `most` need not be counted.
-function unlike(ours, theirs, tolerance, at, {place, depth, face}, most = Infinity) {
+// How many of some pixels are unlike where theirs is changed.
+function unlike(ours, theirs, tolerance, at, {place, depth, face}) {
   const {width} = ours, hasFaces = ours.faces && theirs.faces;
   let count = 0;
   for (const own of at) {
@@ -191,7 +191,6 @@ function unlike(ours, theirs, tolerance, at, {place, depth, face}, most = Infini
     const changed = depth ? depth(theirs.depths[from]) : theirs.depths[from];
     if (!(Math.abs(changed - ours.depths[own]) <= tolerance)) count += 1;
     else if (hasFaces && (face ? face(theirs.faces[from], ours.faces[own]) : theirs.faces[from]) !== ours.faces[own]) count += 1;
-    if (count > most) break;
   }
   return count;
 }
@@ -205,16 +204,17 @@ const sampled = count => {
 // a few.
 function explained(ours, theirs, tolerance, far) {
   const count = ours.width * ours.height, at = sampled(count), before = unlike(ours, theirs, tolerance, at, {});
-  const values = [{}, ...changesOfDepths(far, backgroundOf(ours, theirs, far), extentOf(theirs.depths)[1])];
+  if (!before) return null;
+  const values = [{}, ...changesOfDepths(far, backgroundOf(ours, theirs, far), extentOf(theirs.depths)[1])], few = at.filter((_, which) => which % FEW === 0);
   if (ours.faces && theirs.faces) values.push({said: "with face numbers from 0", face: (face, mine) => face + (mine ? 1 : 0)});
-  let best = {count: before, parts: []};
-  for (const way of [{}, ...flipsOf(ours.width, ours.height)]) for (const value of values) {
-    const parts = [way, value].filter(each => each.said), own = unlike(ours, theirs, tolerance, at, {...way, ...value}, best.count);
-    if (own < best.count || own === best.count && parts.length < best.parts.length) best = {count: own, parts, change: {...way, ...value}};
-  }
-  if (!before || !best.parts.length || best.count > MOSTLY * at.length || 4 * best.count > before) return null;
+  const pairs = [{}, ...flipsOf(ours.width, ours.height)].flatMap(way => values.map(value => [way, value]));
+  const tried = pairs.map((pair, at) => ({at, said: pair.map(each => each.said).filter(Boolean), change: Object.assign({}, ...pair)}));
+  const order = (one, other) => one.count - other.count || one.said.length - other.said.length || one.at - other.at;
+  const counted = (all, places) => all.map(each => ({...each, count: unlike(ours, theirs, tolerance, places, each.change)})).sort(order);
+  const [best] = counted(counted(tried, few).slice(0, LIKELY), at);
+  if (!best.said.length || best.count > MOSTLY * at.length || 4 * best.count > before) return null;
   const all = Array.from({length: count}, (_, place) => place);
-  return [best.parts.map(change => change.said).join(" and "), unlike(ours, theirs, tolerance, all, best.change)];
+  return [best.said.join(" and "), unlike(ours, theirs, tolerance, all, best.change)];
 }
 
 // The scene as seen with its samples moved by so many halves of a pixel, and its planes by a part of a cell, in halves of what a

@@ -1,4 +1,5 @@
-// Reads a map of numbers from the files that renderers write: Netpbm, PNG, PFM, EXR and text. It says the same as tools/lib/rasters.py.
+// Reads a map of numbers from the files that renderers write: Netpbm, PNG, PFM, EXR, TIFF, NPY, text, and floats without a head. It
+// says the same as tools/lib/rasters.py.
 import {lettersOf} from "./scene.js";
 
 export class Bad extends Error {}
@@ -49,14 +50,103 @@ class Raster {
 
 const viewOf = bytes => new DataView(bytes.buffer, bytes.byteOffset, bytes.byteLength);
 
-// The rasters of a file, one after another: two at most, and these of Netpbm.
-export async function rastersOf(bytes) {
-  const head = lettersOf(bytes.subarray(0, HEAD));
+const READ = "Netpbm's P2, P3, P5, P6 and P7, PNG, PFM, EXR, TIFF, NPY, numbers as text, and float32 or float64 without a head";
+const BEGUN = /^(P[fF23567][ \t\r\n\v\f]|[ \t\r\n\v\f]*[-+.]?[0-9][-+.0-9eE\s,]{7})/;
+
+// The rasters of a file, one after another: two at most, and these of Netpbm; or as many floats without a head as there are pixels.
+export async function rastersOf(bytes, size = null) {
+  const head = lettersOf(bytes.subarray(0, HEAD)), count = size && size[0] * size[1];
+  if (head.startsWith("\x93NUMPY")) return [readNpy(bytes, head)];
+  if (/^(II\*\0|MM\0\*)/.test(head)) return [await readTiff(bytes)];
+  if (/^P7[ \t\r\n\v\f]/.test(head)) return [readPam(bytes)];
+  if (size && [4 * count, 8 * count].includes(bytes.length) && !head.startsWith(PNG) && !head.startsWith(EXR) && !BEGUN.test(head))
+    return [new Raster(...size, 1, null, numbersOf(bytes, bytes.length === 4 * count ? "f4" : "f8", true, count))];
   if (head.startsWith(PNG)) return [await readPng(bytes)];
   if (/^P[fF][ \t\r\n\v\f]/.test(head)) return [readPfm(bytes, head)];
   if (head.startsWith(EXR)) return [await readExr(bytes)];
   if (/^[ \t\r\n\v\f]*(#|[-+.]?[0-9]|inf|nan)/i.test(head)) return [readText(lettersOf(bytes))];
+  if (!(head.slice(0, 2) in CHANNELS)) throw new Bad(`the form of the file is not known; read are ${READ}`);
   return imagesOf(bytes);
+}
+
+// So many numbers of a form, as NumPy names it, with the lowest byte first or last.
+function numbersOf(bytes, form, isLittle, count) {
+  const size = Number(form.slice(1)), view = viewOf(bytes), found = new Float64Array(count);
+  if (bytes.length < count * size) throw new Bad(`the file ends early: ${count} numbers are due`);
+  const read = {
+    u1: at => view.getUint8(at), b1: at => view.getUint8(at), i1: at => view.getInt8(at), u2: at => view.getUint16(at, isLittle),
+    i2: at => view.getInt16(at, isLittle), u4: at => view.getUint32(at, isLittle), i4: at => view.getInt32(at, isLittle),
+    u8: at => Number(view.getBigUint64(at, isLittle)), i8: at => Number(view.getBigInt64(at, isLittle)),
+    f2: at => halfOf(view.getUint16(at, isLittle)), f4: at => view.getFloat32(at, isLittle), f8: at => view.getFloat64(at, isLittle)}[form];
+  for (let at = 0; at < count; at++) found[at] = read(size * at);
+  return found;
+}
+
+// A map of P7, of greys or colours, with or without a share that covers.
+function readPam(bytes) {
+  const text = lettersOf(bytes), end = text.indexOf("ENDHDR\n"), words = {};
+  for (const [, name, word] of text.slice(0, end).matchAll(/^(WIDTH|HEIGHT|DEPTH|MAXVAL)\s+(\d{1,9})\s*$/gm)) words[name] = Number(word);
+  if (end < 0 || Object.keys(words).length !== 4) throw new Bad("the head of the P7 file is not whole");
+  const {WIDTH: width, HEIGHT: height, DEPTH: channels, MAXVAL: largest} = words;
+  if (!(width * height > 0 && width * height <= LARGEST_PIXELS && channels >= 1 && channels <= 4 && largest >= 1 && largest <= 65535))
+    throw new Bad("the P7 file has no pixels, too many, or samples that are not read");
+  const samples = numbersOf(bytes.subarray(end + 7), largest > 255 ? "u2" : "u1", false, width * height * channels);
+  return new Raster(width, height, channels, largest, samples);
+}
+
+// An array of numpy.save, of rows and columns, or of these and channels.
+function readNpy(bytes, head) {
+  const start = bytes[6] === 1 ? 10 : 12, size = bytes[6] === 1 ? viewOf(bytes).getUint16(8, true) : viewOf(bytes).getUint32(8, true);
+  const text = head.slice(start, start + size), kind = /'descr': *'([<>|=])([uifb][1248])'/.exec(text), shape = /'shape': *\(([\d, ]*)\)/.exec(text);
+  const sides = (shape?.[1] ?? "").split(",").map(each => each.trim()).filter(Boolean).map(Number), [height, width, channels = 1] = sides;
+  if (!kind || ["b2", "b4", "b8", "f1"].includes(kind[2]) || sides.length < 2 || sides.length > 3)
+    throw new Bad("the NPY file has no array of two or three sides whose numbers are read");
+  let samples = numbersOf(bytes.subarray(start + size), kind[2], kind[1] !== ">", height * width * channels);
+  if (/'fortran_order': *True/.test(text))
+    samples = samples.map((_, at) => samples[Math.floor(at / channels / width) + height * (Math.floor(at / channels) % width + width * (at % channels))]);
+  const bits = Number(kind[2][1]), isWhole = "ui".includes(kind[2][0]) && bits <= 2;
+  return new Raster(width, height, channels, isWhole ? 256 ** bits - 1 : null, samples);
+}
+
+// The first picture of a TIFF file, of strips that are not packed, or packed by deflate or PackBits.
+async function readTiff(bytes) {
+  try {
+    const isLittle = bytes[0] === 73, tags = tagsOf(bytes, isLittle), one = (tag, usual) => tags[tag]?.[0] ?? usual;
+    const [width, height] = [tags[256][0], tags[257][0]], bits = one(258, 1), channels = one(277, 1);
+    const form = ["", "u", "i", "f"][one(339, 1)] + bits / 8, packing = {1: part => part, 8: inflated, 32946: inflated, 32773: unpackedBits}[one(259, 1)];
+    const isRead = ["u1", "u2", "u4", "i1", "i2", "i4", "f2", "f4", "f8"].includes(form) && packing;
+    if (!isRead || one(262, 1) === 3 || one(317, 1) !== 1 || one(284, 1) !== 1 && channels > 1) throw new RangeError(form);
+    const parts = await Promise.all(tags[273].slice(0, tags[279].length).map((at, which) => packing(bytes.subarray(at, at + tags[279][which]))));
+    const body = new Uint8Array(await new Blob(parts).arrayBuffer());
+    return new Raster(width, height, channels, ["u1", "u2"].includes(form) ? 2 ** bits - 1 : null, numbersOf(body, form, isLittle, width * height * channels));
+  } catch (error) {
+    if (error instanceof Bad) throw error;
+    throw new Bad("the TIFF file is damaged, or of a form that is not read: read are strips without a palette, not packed, or by deflate or PackBits");
+  }
+}
+
+// The numbers of each tag of the first picture.
+function tagsOf(bytes, isLittle) {
+  const view = viewOf(bytes), at = view.getUint32(4, isLittle), found = {};
+  for (let which = 0; which < view.getUint16(at, isLittle); which++) {
+    const entry = at + 2 + 12 * which, form = {1: "u1", 3: "u2", 4: "u4"}[view.getUint16(entry + 2, isLittle)], count = view.getUint32(entry + 4, isLittle);
+    if (!form) continue;
+    const place = count * Number(form[1]) > 4 ? view.getUint32(entry + 8, isLittle) : entry + 8;
+    found[view.getUint16(entry, isLittle)] = [...numbersOf(bytes.subarray(place), form, isLittle, count)];
+  }
+  return found;
+}
+
+// What PackBits packs: runs of one byte, and bytes as they are.
+function unpackedBits(body) {
+  const out = [];
+  for (let at = 0; at < body.length;) {
+    const count = body[at];
+    if (count < 128) out.push(...body.subarray(at + 1, at + 2 + count));
+    else if (count > 128) for (let more = 257 - count; more > 0; more--) out.push(...body.subarray(at + 1, at + 2));
+    at += count < 128 ? 2 + count : count > 128 ? 2 : 1;
+  }
+  return Uint8Array.from(out);
 }
 
 async function inflated(bytes) {

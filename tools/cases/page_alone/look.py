@@ -67,6 +67,10 @@ def put(page, text):
     return written(page, text)
 
 
+def pick(page, name):
+    called(page, "name => [...document.querySelectorAll('#scenes button')].find(each => each.textContent === name).click()", name)
+
+
 def dropped(page, name, content):
     page.run("document.body.dataset.drawn = 'waits'")
     called(page, "(name, content) => { const files = new DataTransfer(); files.items.add(new File([content], name)); "
@@ -135,8 +139,9 @@ def opened(page, text):
     page.until("document.getElementById('scenes').contains(document.activeElement)")
     for _ in range(3):
         page.press("ArrowDown", 40)
-    print("the list by arrows:", names(page), "| at:", page.run("document.activeElement.textContent"))
-    click(page, "#scenes button:nth-of-type(3)")
+    print("the list by arrows:", names(page), "| at entry", page.run(
+        "[...document.querySelectorAll('#scenes button')].indexOf(document.activeElement)"))
+    pick(page, "die")
     page.until("document.querySelectorAll('.text-tab').length === 2")
     print("opened:", names(page), "| own text untouched:", page.run("document.querySelectorAll('.sheet textarea')[0].value") ==
           text.decode().replace("- shaft)", "+ shaft)"))
@@ -240,7 +245,7 @@ def many_keys(page):
     print("-- many keys")
     page.run("localStorage.clear()")
     alone(page)
-    click(page, "#scenes button:nth-of-type(3)")
+    pick(page, "die")
     page.until(DRAWN)
     last = called(page, """async count => {
       const s = document.getElementById("source"), found = /solid \\w+ (?=\\d{3} )/.exec(s.value), place = found.index + found[0].length;

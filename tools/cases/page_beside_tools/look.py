@@ -150,7 +150,7 @@ def compared(page, scene, data, tolerance):
     ours = compare.Maps(rasters.rasters(program.answer(BUILT, ["render"], scene)[1]), None)
     read = scenes.read(scene)
     try:
-        theirs = compare.Maps(rasters.rasters(data), None)
+        theirs = compare.Maps(rasters.rasters(data, (ours.width, ours.height)), None)
         compare.fill(theirs, read.far())
         lines, differences, _ = compare.compared(ours, theirs, {"--first": "8", "--depth-tolerance": str(tolerance)}, read)
         colours = differences and b"".join(map(bytes, compare.picture_of(ours, differences)))[:30000]
