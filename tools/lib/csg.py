@@ -21,6 +21,7 @@ SOLIDS = ("cube", "cylinder", "sphere", "polyhedron", "import")
 FLAT = ("square", "circle", "polygon")
 SHAPERS = ("hull", "minkowski", "linear_extrude", "rotate_extrude", "resize")
 YELLOW = (249, 215, 44)
+LEFT_OUT = object()
 
 
 class Untaken(Bad):
@@ -78,7 +79,7 @@ class Reader:
         self.at += 1
         return word
 
-    def value(self, depth=0):
+    def value(self, depth=0, is_time=False):
         kind, word = self.tokens[self.at][:2] if self.at < len(self.tokens) else (0, "")
         if word == "[" and depth < DEEPEST:
             self.take()
@@ -92,7 +93,7 @@ class Reader:
         self.take()
         if kind == 2:
             number = float(word)
-            if not abs(number) <= 1e9:
+            if not abs(number) <= 1e9 and not is_time:
                 raise self.bad("%s is too large" % word)
             return number
         if kind == 3 or word in ("true", "false", "undef"):
@@ -108,7 +109,7 @@ class Reader:
             if self.at + 1 < len(self.tokens) and self.tokens[self.at + 1][1] == "=":
                 name = self.take()
                 self.take("=")
-            found[name] = self.value()
+            found[name] = self.value(is_time=name == "timestamp")
             if self.peek() != ")":
                 self.take(",")
         self.take(")")
@@ -120,7 +121,8 @@ class Reader:
             if self.peek() == ";":
                 self.take()
             else:
-                trees.append(self.statement(place))
+                tree = self.statement(place)
+                trees += [tree] if tree is not LEFT_OUT else []
         return trees
 
     def statement(self, place):
@@ -132,7 +134,8 @@ class Reader:
         line, start = self.line(), self.at
         if "%" in marks or "*" in marks:
             self.take()
-            return self.skipped()
+            self.skipped()
+            return LEFT_OUT
         if "!" in marks:
             raise self.bad("the mark ! is not read", line)
         try:
@@ -216,7 +219,7 @@ class Reader:
                 tree = self.imported(found, line)
             else:
                 shape = primitives.solid(name, found)
-                tree = shape and solids.of_mesh(name, line, *shape, YELLOW)
+                tree = shape and solids.of_mesh(name, line, *shape, YELLOW, is_exact=name != "polyhedron")
             return self.put(tree, place)
         except Untaken:
             raise
@@ -227,7 +230,7 @@ class Reader:
         path = os.path.join(self.folder, found["file"][1:-1])
         kind = os.path.splitext(path)[1][1:].lower()
         if kind not in mesh_files.READERS:
-            raise self.bad("import of .%s is not read here: only .off and .stl are" % kind, line, Untaken)
+            raise self.bad("import of .%s is not read here: only .off, .stl, .obj, .ply and .3mf are" % kind, line, Untaken)
         try:
             return solids.of_file(*mesh_files.READERS[kind](ends.content(path)), YELLOW, line)
         except OSError:

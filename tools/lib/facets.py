@@ -8,12 +8,16 @@ import limits
 from netpbm import Bad
 
 SIX_DIGITS = 5e-6
+SINGLE = 1.2e-7
+EXACT = 1e-10
 NEAR = 6
 SLIM = 0.02
 TRIED = 24
 JUDGES = 60
 MOST_EFFORT = 1000000
+MOST_CUTS = 400
 GRID = 40
+RAY = (0.5377, 0.2963, 0.7893)
 REACH = 1e8
 
 
@@ -103,31 +107,46 @@ def measured(points, facets, numbers):
     return sorted(out, key=lambda facet: -facet[0])
 
 
-def planes(points, facets, numbers=None):
+def digit_of(points):
+    """By how much a coordinate may be off, of the greatest: written with six digits, or in single precision."""
+    six = all(float("%.6g" % part) == part for point in points for part in point)
+    return SIX_DIGITS if six else SINGLE
+
+
+def beside(point, corners, normal):
+    """How far it is, along a facet's plane, from the nearest of its corners to a point."""
+    ways = [[a - b for a, b in zip(point, corner)] for corner in corners]
+    return math.sqrt(min(max(dot(way, way) - dot(way, normal) ** 2, 0) for way in ways))
+
+
+def planes(points, facets, numbers=None, is_exact=False):
     """The half-spaces `normal * p <= far` whose common part is the solid, each once, in the order
-    of the facets. `Bad` where it
-    is flat, open or not convex. A facet may be off by what its points' last digits leave open, the
-    more the slimmer it is; one that is too slim to tell its plane is passed over where the others
-    close the solid without it."""
+    of the facets. `Bad` where it is flat, open or not convex. Where points are not exact, a facet may be off
+    by what their last digits leave open, the more the slimmer it is and the farther a point is from it;
+    one that is too slim to tell its plane is passed over where the others close the solid without it."""
     size, wide = extent(points)
-    digit = SIX_DIGITS * size
+    digit = (EXACT if is_exact else digit_of(points)) * size
     closed(facets)
     found, slim = Found(), []
     for high, normal, far, corners, number in measured(points, facets, numbers or range(1, len(facets) + 1)):
         if found.has(normal, corners, NEAR * digit):
             continue
-        give = digit * (2 + 2 * wide / high)
-        if give > SLIM * wide:
+        if digit > SLIM * high:
             slim.append((corners, normal, number))
             continue
         rooms = [far - dot(normal, point) for point in points]
-        if max(rooms) <= give:
+        if max(rooms) <= 2 * digit:
             raise Bad("is flat: no point is more than %.2g behind its facet %s" % (max(max(rooms), 0), number))
-        if min(rooms) < -give:
+        if any(room < -2 * digit * (1 + beside(point, corners, normal) / high)
+               for room, point in zip(rooms, points) if room < -2 * digit):
             raise Bad("is not convex: a point is %.2g before its facet %s" % (-min(rooms), number))
         found.add(number, (normal, far))
         if len(found.planes) > limits.MAX_FACES:
             raise Bad("has more than %d planes" % limits.MAX_FACES)
+    if len(found.planes) < 4 and slim:
+        raise Bad("is too thin for the digits of its points, which are off by up to %.2g where it is: facet %s; "
+                  "write it nearer to the origin, or with more digits" % (
+            digit, slim[0][2]))
     if len(found.planes) < 4:
         raise Bad("has fewer than four planes")
     by_number = [plane for _, plane in sorted(found.planes)]
@@ -142,6 +161,19 @@ def bulge(found, corners, normal):
     middle = [sum(corner[i] for corner in corners) / len(corners) for i in range(3)]
     return min(((far - dot(n, middle)) / dot(n, normal) for n, far in found
                 if dot(n, normal) > 1e-3), default=math.inf)
+
+
+def flat_facets(points, facets):
+    """The facets, each that is not flat cut into triangles."""
+    size, _ = extent(points)
+    near, out = NEAR * digit_of(points) * size, []
+    for facet in facets:
+        plane = len(facet) > 3 and plane_of([points[at] for at in facet])
+        if plane and any(abs(dot(plane[0], points[at]) - plane[1]) > near for at in facet):
+            out += [[facet[0], facet[i], facet[i + 1]] for i in range(1, len(facet) - 1)]
+        else:
+            out.append(facet)
+    return out
 
 
 def closed(facets):
@@ -191,6 +223,53 @@ def parts(points, facets):
         found.setdefault(top(facet[0]), []).append((number, facet))
     return [only(points, [facet for _, facet in own]) + ([number for number, _ in own],)
             for own in found.values()]
+
+
+def hollows(shells):
+    """Meshes that have shells within them which look inwards, each with these in one; and the other shells."""
+    outer = [shell for shell in shells if volume(*shell[:2]) > 0]
+    inner = {id(outside): [] for outside in outer}
+    alone = []
+    for shell in shells:
+        if volume(*shell[:2]) > 0:
+            continue
+        around = [other for other in outer if is_within(shell[0][0], other)]
+        if around:
+            inner[id(min(around, key=lambda other: volume(*other[:2])))].append(shell)
+        else:
+            alone.append(shell)
+    whole = [together([outside] + inner[id(outside)]) for outside in outer if inner[id(outside)]]
+    return whole, [outside for outside in outer if not inner[id(outside)]] + alone
+
+
+def together(shells):
+    """Several meshes as one."""
+    points, facets = [], []
+    for own, turned, _ in shells:
+        facets += [[at + len(points) for at in facet] for facet in turned]
+        points += own
+    return points, facets
+
+
+def is_within(point, shell):
+    """Whether a point is inside of a closed mesh: a ray from it meets an odd number of triangles."""
+    points, facets, _ = shell
+    count = 0
+    for facet in facets:
+        for i in range(1, len(facet) - 1):
+            corners = [[a - b for a, b in zip(points[facet[k]], point)] for k in (0, i, i + 1)]
+            count += meets(RAY, *corners)
+    return count % 2 == 1
+
+
+def meets(way, a, b, c):
+    """Whether a ray from the origin meets a triangle."""
+    cross = [area_normal([[0, 0, 0], one, other]) for one, other in ((a, b), (b, c), (c, a))]
+    signs = [dot(way, normal) for normal in cross]
+    if not (all(sign > 0 for sign in signs) or all(sign < 0 for sign in signs)):
+        return False
+    normal = area_normal([a, b, c])
+    return dot(normal, a) / dot(normal, way) > 0
 
 
 def only(points, facets):
@@ -257,6 +336,8 @@ def cells(points, facets):
         sides = [(divided(polygon, plane, near), own) for polygon, own in polygons]
         behind = [(side[0], own) for side, own in sides if side[0]]
         before = [(side[1], own) for side, own in sides if side[1]]
+        if len(polygons) in (len(behind), len(before)) and min(len(behind), len(before)) == 0 or len(path) > MOST_CUTS:
+            raise Bad("has facets so close to one another that no plane divides them; say it by differences or unions")
         if before:
             todo.append((path + [([-part for part in normal], -far)], before))
         if behind:

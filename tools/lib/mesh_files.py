@@ -1,7 +1,11 @@
-"""Reads the files OFF and STL: what `model` draws from. A mesh is points,
+"""Reads the files OFF, STL, OBJ, PLY and 3MF: what `model` draws from. A mesh is points,
 and facets as lists of the numbers of their points."""
+import io
 import math
+import re
 import struct
+import xml.etree.ElementTree
+import zipfile
 
 from netpbm import Bad
 
@@ -19,28 +23,156 @@ def floats(words, what):
 
 
 def read_off(data):
-    """The mesh of an OFF file."""
-    text = data.decode("latin-1")
-    words = [word for line in text.split("\n") for word in line.split("#")[0].split()]
-    if words[:1] != ["OFF"]:
+    """The mesh of an OFF file; colours behind points and facets are passed over."""
+    lines = [line.split("#")[0].split() for line in data.decode("latin-1").split("\n")]
+    lines = [line for line in lines if line]
+    if not lines or not re.fullmatch(r"(ST)?C?N?OFF", lines[0][0]):
         raise Bad("this is no OFF file")
-    counts = [int(number) for number in floats(words[1:3], "the head")]
+    lines = lines[1:] if len(lines[0]) == 1 else [lines[0][1:]] + lines[1:]
+    counts = [int(number) for number in floats(lines[0][:2] if lines else [], "the head")]
     if len(counts) != 2 or not all(0 < count <= LARGEST for count in counts):
         raise Bad("the head has no counts of points and facets up to %d" % LARGEST)
-    at = 4
-    numbers = floats(words[at:at + 3 * counts[0]], "a point")
-    points = [numbers[i:i + 3] for i in range(0, len(numbers), 3)]
-    at += 3 * counts[0]
+    rows = lines[1:1 + counts[0]]
+    points = [floats(row[:3], "a point") for row in rows]
+    if len(points) < counts[0] or any(len(point) < 3 for point in points):
+        raise Bad("the file has fewer points than its head says")
     facets = []
-    lines = iter(words[at:])
-    for _ in range(counts[1]):
-        count = int(floats([next(lines, "none")], "a facet")[0])
-        given = [next(lines, "none") for _ in range(min(count, LARGEST))]
-        facet = [int(number) for number in floats(given, "a facet")]
-        if count < 3 or any(not 0 <= point < len(points) for point in facet):
+    for row in lines[1 + counts[0]:1 + sum(counts)]:
+        count = int(floats(row[:1], "a facet")[0])
+        facets.append([int(number) for number in floats(row[1:1 + max(count, 0)], "a facet")])
+        if len(facets[-1]) != count:
             raise Bad("a facet names a point that is not there")
-        facets.append(facet)
+    if len(facets) < counts[1]:
+        raise Bad("the file has fewer facets than its head says")
+    return checked(points, facets)
+
+
+def checked(points, facets):
+    """The mesh, where each facet names three points or more, and all of them are there."""
+    if not points or not facets or len(points) > LARGEST or len(facets) > LARGEST:
+        raise Bad("the file has no points and facets, or more than %d" % LARGEST)
+    if any(len(facet) < 3 or any(not 0 <= at < len(points) for at in facet) for facet in facets):
+        raise Bad("a facet names a point that is not there")
     return points, facets
+
+
+def merged(points, facets):
+    """A mesh in which points at one place have one number."""
+    numbers = {}
+    own = [numbers.setdefault(tuple(point), len(numbers)) for point in points]
+    return [list(point) for point in numbers], [[own[at] for at in facet] for facet in facets]
+
+
+def read_obj(data):
+    """The mesh of an OBJ file: its points and faces; a number below 0 counts from the last point."""
+    points, facets = [], []
+    for line in data.decode("latin-1").replace("\\\n", " ").split("\n"):
+        words = line.split("#")[0].split()
+        if words[:1] == ["v"]:
+            points.append(floats(words[1:4], "a point"))
+        elif words[:1] == ["f"]:
+            numbers = [int(number) for number in floats([word.split("/")[0] for word in words[1:]], "a face")]
+            facets.append([number - 1 if number > 0 else len(points) + number for number in numbers])
+    if any(len(point) < 3 for point in points):
+        raise Bad("a point has fewer than three numbers")
+    return merged(*checked(points, facets))
+
+
+PLY_FORMS = {"char": "b", "uchar": "B", "short": "h", "ushort": "H", "int": "i", "uint": "I", "float": "f", "double": "d",
+             "int8": "b", "uint8": "B", "int16": "h", "uint16": "H", "int32": "i", "uint32": "I", "float32": "f", "float64": "d"}
+
+
+def read_ply(data):
+    """The mesh of a PLY file, of words or raw."""
+    head, _, body = data.partition(b"end_header")
+    lines = [line.split() for line in head.decode("latin-1").replace("\r", "").split("\n")]
+    try:
+        if lines[0] != ["ply"]:
+            raise Bad("this is no PLY file")
+        form = next(line[1] for line in lines if line[:1] == ["format"])
+        body = body[body.index(b"\n") + 1:]
+        take = ply_words(body) if form == "ascii" else ply_raw(body, "<" if form == "binary_little_endian" else ">")
+        found, own = {}, None
+        for line in lines:
+            if line[:1] == ["element"]:
+                own = found[line[1]] = (int(line[2]), [])
+            elif line[:1] == ["property"]:
+                own[1].append(line[1:])
+        rows = {name: [ply_row(properties, take) for _ in range(min(count, LARGEST + 1))]
+                for name, (count, properties) in found.items()}
+        points = [[float(row[axis]) for axis in "xyz"] for row in rows["vertex"]]
+        facets = [row.get("vertex_indices", row.get("vertex_index")) for row in rows["face"]]
+        return merged(*checked(points, [[int(at) for at in facet] for facet in facets]))
+    except (IndexError, KeyError, ValueError, TypeError, StopIteration, struct.error):
+        raise Bad("the PLY file is damaged, or has no points and faces")
+
+
+def ply_words(body):
+    words = iter(body.split())
+    return lambda kind: float(next(words))
+
+
+def ply_raw(body, order):
+    at = [0]
+
+    def take(kind):
+        number = struct.unpack_from(order + PLY_FORMS[kind], body, at[0])[0]
+        at[0] += struct.calcsize(PLY_FORMS[kind])
+        return number
+
+    return take
+
+
+def ply_row(properties, take):
+    out = {}
+    for words in properties:
+        if words[0] == "list":
+            out[words[3]] = [take(words[2]) for _ in range(int(take(words[1])))]
+        else:
+            out[words[1]] = take(words[0])
+    return out
+
+
+def read_3mf(data):
+    """The meshes of a 3MF file, each at the place that its build gives it."""
+    try:
+        with zipfile.ZipFile(io.BytesIO(data)) as file:
+            name = next(name for name in file.namelist() if name.lower().endswith(".model"))
+            root = xml.etree.ElementTree.fromstring(file.read(name))
+    except (zipfile.BadZipFile, StopIteration, xml.etree.ElementTree.ParseError, RuntimeError, KeyError):
+        raise Bad("this is no 3MF file")
+    space = root.tag[:root.tag.index("}") + 1] if "}" in root.tag else ""
+    objects = {each.get("id"): each for each in root.iter(space + "object")}
+    points, facets = [], []
+
+    def add(name, matrices, depth):
+        each = objects.get(name)
+        if each is None or depth > 16:
+            raise Bad("the 3MF file names an object that is not there")
+        first = len(points)
+        for vertex in each.iter(space + "vertex"):
+            points.append(placed(floats([vertex.get(axis, "x") for axis in "xyz"], "a point"), matrices))
+        facets.extend([first + int(triangle.get(corner, "-1")) for corner in ("v1", "v2", "v3")]
+                      for triangle in each.iter(space + "triangle"))
+        for part in each.iter(space + "component"):
+            add(part.get("objectid"), [part.get("transform")] + matrices, depth + 1)
+
+    try:
+        for item in root.iter(space + "item"):
+            add(item.get("objectid"), [item.get("transform")], 0)
+    except ValueError:
+        raise Bad("the 3MF file has a triangle that is none")
+    return merged(*checked(points, facets))
+
+
+def placed(point, matrices):
+    """A point under matrices of twelve numbers, column by column as 3MF has them, the innermost first."""
+    for words in filter(None, matrices):
+        m = floats(words.split(), "a transform")
+        if len(m) != 12:
+            raise Bad("a transform has twelve numbers")
+        point = [sum(point[k] * m[3 * k + i] for k in range(3)) + m[9 + i] for i in range(3)]
+    return point
 
 
 def of_triangles(corners):
@@ -59,9 +191,10 @@ def read_stl(data):
         corners = [floats(corner, "a corner") for corner in corners]
     else:
         lines = [line.split() for line in data.decode("latin-1").split("\n")]
-        if not lines[0] or lines[0][0] != "solid":
+        lines = [line for line in lines if line]
+        if not lines or lines[0][0].lower() != "solid":
             raise Bad("this is no STL file")
-        corners = [floats(line[1:4], "a corner") for line in lines if line[:1] == ["vertex"]]
+        corners = [floats(line[1:4], "a corner") for line in lines if line[0].lower() == "vertex"]
     if not corners or len(corners) % 3 or any(len(corner) != 3 for corner in corners):
         raise Bad("the file has no whole triangles")
     if len(corners) > 3 * LARGEST:
@@ -69,4 +202,4 @@ def read_stl(data):
     return of_triangles(corners)
 
 
-READERS = {"off": read_off, "stl": read_stl}
+READERS = {"off": read_off, "stl": read_stl, "obj": read_obj, "ply": read_ply, "3mf": read_3mf}

@@ -44,6 +44,13 @@ class Perspective:
     def turned(self, point):
         return turns.turned(self.rows, point)
 
+    def places(self, points):
+        """The columns and rows of points; none where one is not before the near plane."""
+        seen = [self.camera.seen(point) for point in points]
+        if any(away < self.camera.distances.near for _, away, _ in seen):
+            return []
+        return [self.camera.place(point)[:2] for point in seen]
+
     def half_space(self, normal, far):
         return self.camera.half_space(normal, far)
 

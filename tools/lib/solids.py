@@ -10,16 +10,17 @@ AS_IS = [[1, 0, 0, 0], [0, 1, 0, 0], [0, 0, 1, 0]]
 
 
 class Solid:
-    """`points` are its corners, and perhaps others of it; `planes` as in facets.py."""
+    """`points` are its corners, and perhaps others of it; `planes` as in facets.py. One that is a part of
+    another, whose planes may be nearly one, is kept within the box of its corners in the picture."""
 
-    def __init__(self, kind, line, points, planes, colour):
-        self.kind, self.line, self.colour = kind, line, colour
+    def __init__(self, kind, line, points, planes, colour, is_part=False):
+        self.kind, self.line, self.colour, self.is_part = kind, line, colour, is_part
         self.points, self.planes = points, planes
 
     def moved(self, matrix, colour):
         """The solid under a matrix, in this colour; `Bad` where the matrix makes it flat."""
         if matrix == AS_IS:
-            return Solid(self.kind, self.line, self.points, self.planes, colour)
+            return Solid(self.kind, self.line, self.points, self.planes, colour, self.is_part)
         turned, sign = cofactors(matrix)
         points = placed(matrix, self.points)
         planes = []
@@ -28,7 +29,7 @@ class Solid:
             long = facets.lengthwise(way)
             way = [part / long for part in way]
             planes.append((way, max(facets.dot(way, point) for point in points)))
-        return Solid(self.kind, self.line, points, planes, colour)
+        return Solid(self.kind, self.line, points, planes, colour, self.is_part)
 
 
 def placed(matrix, points):
@@ -54,10 +55,13 @@ def times(outer, inner):
             for row in range(3)]
 
 
-def of_mesh(kind, line, points, sides, colour, numbers=None):
+def of_mesh(kind, line, points, sides, colour, numbers=None, is_exact=False):
     """The tree of a mesh: one solid where it is convex, and else the convex parts of it."""
+    flat = facets.flat_facets(points, sides)
+    if len(flat) > len(sides):
+        sides, numbers = flat, None
     try:
-        return Solid(kind, line, points, facets.planes(points, sides, numbers), colour)
+        return Solid(kind, line, points, planes_of(points, sides, numbers, is_exact), colour)
     except Bad as bad:
         if not str(bad).startswith("is not convex"):
             raise
@@ -69,7 +73,20 @@ def of_mesh(kind, line, points, sides, colour, numbers=None):
             raise Bad("%s, and nothing is inside of it" % bad)
         ends.say("model", "%s: %s %s; it is drawn as %d convex solids" % (
             "line %d" % line if line else "the file", kind, bad, len(found)))
-    return joined("+", [Solid(kind, line, corners, planes, colour) for planes, corners in found])
+    return joined("+", [Solid(kind, line, corners, planes, colour, True) for planes, corners in found])
+
+
+def planes_of(points, sides, numbers, is_exact):
+    """The planes of a convex solid, whose points may be exact although they have six digits."""
+    try:
+        return facets.planes(points, sides, numbers, is_exact)
+    except Bad as bad:
+        if "too thin for the digits" not in str(bad):
+            raise
+        try:
+            return facets.planes(points, sides, numbers, True)
+        except Bad:
+            raise bad
 
 
 def of_file(points, sides, colour, line=0):
@@ -77,8 +94,10 @@ def of_file(points, sides, colour, line=0):
     the node which has it, if any."""
     shells = facets.parts(points, sides)
     if len({facets.volume(*shell[:2]) > 0 for shell in shells}) > 1:
-        used, turned = facets.only(points, sides)
-        return of_mesh("part", line, used, turned, colour)
+        hollows, shells = facets.hollows(shells)
+        if hollows:
+            return joined("+", [of_mesh("part", line, own, turned, colour) for own, turned in hollows]
+                          + [of_file(*shell[:2], colour, line) for shell in shells])
     trees = []
     for number, (own, turned, numbers) in enumerate(shells, 1):
         try:

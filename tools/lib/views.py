@@ -31,6 +31,11 @@ class View:
     def turned(self, point):
         return turns.turned(self.rows, point)
 
+    def places(self, points):
+        """The columns and rows of points."""
+        seen = [self.turned(point) for point in points]
+        return [(self.left + self.scale * right, self.top - self.scale * up) for right, _, up in seen]
+
     def half_space(self, normal, far):
         """The kind of a half-space, and A, B, C of its plane in cells; of a side in any unit."""
         right, away, up = self.turned(normal)
