@@ -9,6 +9,7 @@ LESSON, ANSWERS = (os.path.join(ends.TOP, "docs", leaf) for leaf in ("LESSON.md"
 QUESTION = re.compile(r"^\*\*Exercise (\d+)\.\*\* (.*?)(?=\n\n|\n*\Z)", re.M | re.S)
 ANSWER = re.compile(r"^(\d+)\. (.*?)(?=^\d+\. |\Z)", re.M | re.S)
 HEADING = re.compile(r"^## (.*)$", re.M)
+TWO_FRONTS = os.path.join("docs", "scenes", "two_fronts.scene")
 TRIANGLE = os.path.join("docs", "scenes", "triangle.scene")
 
 
@@ -30,7 +31,9 @@ PLACES = {1: Place(case("lesson_one_line"), 205, "leaf", (2, 1)), 2: Place(case(
           9: Place(case("one_solid"), 0, "enable"), 10: Place(case("lesson_solid_without_a_cell"), 0, "best depth"),
           11: Place(case("lesson_leaf_9"), 210, "leaf", (2, 1)), 12: Place(case("lesson_two_more_pixels"), 397, "carry"),
           13: Place(case("lesson_enable_falls"), 52, "enable"), 14: Place(case("lesson_solid_without_a_cell"), 7, "best depth"),
-          15: Place(case("play_an_adder"), 0, "2"), 16: Place(case("play_a_comparison"), 0, "4")}
+          15: Place(case("play_an_adder"), 0, "2"), 16: Place(case("play_a_comparison"), 0, "4"),
+          17: Place(TWO_FRONTS, 0, "best depth"), 18: Place(case("play_two_sums"), 1, "carry", (1, 1)),
+          19: Place(case("lesson_comparison"), 393, "carry"), 20: Place(case("one_solid"), 0, "enable")}
 
 OWN = {"number": "", "part": "On this page alone", "question":
        "Draw a triangle with three edges, and watch enable. Its text is open here, and the machine stands before the candidate that "

@@ -11,23 +11,45 @@ SIGN_BIT = 40
 
 
 class Micro:
-    """One clock: what the tree does, the bits of its lines in a feed, the act, its place and its value."""
+    """One clock: what the tree does, the bits of its lines in a feed, the act, its place and its value; or `open`."""
 
-    def __init__(self, act="nop", place=0, value=0, tree="hold", lines=(0, 0, 0)):
-        self.act, self.place, self.value, self.tree, self.lines = act, place, value, tree, lines
+    def __init__(self, act="nop", place=0, value=0, tree="hold", lines=(0, 0, 0), opens=False):
+        self.act, self.place, self.value, self.tree, self.lines, self.opens = act, place, value, tree, lines, opens
 
     def text(self):
         """As the debugger's trace writes it."""
+        if self.opens:
+            return "open"
         words = [self.tree] + (["%d%d%d" % self.lines] if self.tree == "feed" else []) + [self.act]
         words += [str(self.place)] if self.act in HAVE_A_PLACE else []
         words += [str(self.value)] if self.act in HAVE_A_VALUE else []
         return " ".join(words)
 
     def code(self):
-        """The number that rtl/bench.v reads: value, lines c, b, a, feed, clear, a bit each, act and place."""
+        """The number that rtl/bench/bench.v reads: open, value, lines c, b, a, feed, clear, a bit each, act and place."""
         a, b, c = self.lines
-        high = self.value << 5 | c << 4 | b << 3 | a << 2 | (self.tree == "feed") << 1 | (self.tree == "clear")
+        high = self.opens << 6 | self.value << 5 | c << 4 | b << 3 | a << 2 | (self.tree == "feed") << 1 | (self.tree == "clear")
         return high << 12 | ACTS.index(self.act) << 8 | self.place
+
+
+def micro_of(text):
+    """The microinstruction of a line, as the debugger's trace writes it, or `open`."""
+    words = text.split()
+    if words == ["open"]:
+        return Micro(opens=True)
+    tree = words.pop(0) if words and words[0] in ("hold", "clear", "feed") else "hold"
+    lines = words.pop(0) if tree == "feed" and words else "000"
+    act, numbers = words[0] if words else "nop", words[1:]
+    due = (act in HAVE_A_PLACE) + (act in HAVE_A_VALUE)
+    if act not in ACTS or not all(word.isdigit() for word in numbers) or len(numbers) != due or \
+            len(lines) != 3 or set(lines) - set("01"):
+        raise netpbm.Bad("`%s` is no microinstruction, as `feed 101 store-tree 8`" % text.strip())
+    numbers = [int(word) for word in numbers]
+    place = numbers.pop(0) if act in HAVE_A_PLACE else 0
+    value = numbers.pop(0) if numbers else 0
+    if value > 1:
+        raise netpbm.Bad("`%s`: a value is 0 or 1" % text.strip())
+    return Micro(act, place, value, tree, tuple(int(bit) for bit in lines))
 
 
 def bit(number, at):
@@ -219,6 +241,10 @@ class Array:
         self.pixels = [Pixel(bits) for _ in range(1 << nx + ny)]
 
     def take(self, micro):
+        if micro.opens:
+            self.tree.clear()
+            self.pixels = [Pixel(len(pixel.memory)) for pixel in self.pixels]
+            return
         leaves = self.tree.outs[len(self.pixels):]
         for pixel, leaf in zip(self.pixels, leaves):
             pixel.take(micro, leaf)

@@ -1,16 +1,32 @@
 """The machine in Verilog (rtl/), run by a simulator, for tools/rtl. It is no tool itself."""
 import os
+import re
 import shutil
+import signal
 import subprocess
 
 import netpbm
 from ends import TOP
 
 RTL = os.path.join(TOP, "rtl")
-PARTS = ("node.v", "tree.v", "column.v", "array.v", "bench.v")
-PIXEL = os.path.join(RTL, "pixel.v")
-INSTALL = {"vvp": "iverilog"}
+MODULES = ("pixel", "node", "tree", "column", "array")
+INSTALL = {"vvp": "iverilog", "yosys-smtbmc": "yosys", "icepack": "fpga-icestorm"}
 REGISTERS = ("enable", "carry", "latch", "leaf")
+ERROR = re.compile(r"error|syntax|unable|unknown|not found", re.I)
+END = re.compile(r"^end \d+$", re.M)
+SECONDS = 60
+
+
+def own(module):
+    return os.path.join(RTL, module + ".v")
+
+
+def bench(leaf):
+    return os.path.join(RTL, "bench", leaf)
+
+
+def proof(leaf):
+    return os.path.join(RTL, "proof", leaf)
 
 
 def needed(command):
@@ -21,12 +37,64 @@ def needed(command):
     return path
 
 
-def made(words, folder):
-    """What a command prints; its first lines as trouble where it fails."""
-    done = subprocess.run(words, cwd=folder, stdout=subprocess.PIPE, stderr=subprocess.STDOUT, text=True, errors="replace")
+def told_wrong(printed, folder):
+    """The line of a command's output that says what is wrong: its own ERROR, or the first that has such a word."""
+    lines = [line.strip().replace(folder + os.sep, "").replace(TOP + os.sep, "") for line in printed.split("\n") if line.strip()]
+    return next((line for line in lines if "ERROR:" in line), None) or next(filter(ERROR.search, lines), (lines or ["no word"])[0])
+
+
+def made(words, folder, seconds=None):
+    """What a command prints; its line of error as trouble where it fails, or where it takes more of a processor's time."""
+    name = os.path.basename(words[0])
+    if seconds is not None:
+        words = ["/bin/sh", "-c", 'ulimit -t %d; exec "$@"' % seconds, "sh"] + words
+    done = subprocess.run(words, cwd=folder, stdin=subprocess.DEVNULL, stdout=subprocess.PIPE, stderr=subprocess.STDOUT,
+                          text=True, errors="replace")
+    if done.returncode in (-signal.SIGXCPU, -signal.SIGKILL):
+        raise netpbm.Bad("it has no end within %d seconds: a loop that takes no time, or a simulation that takes long "
+                         "(--seconds N gives it more)" % seconds)
     if done.returncode != 0:
-        raise netpbm.Bad("%s: %s" % (os.path.basename(words[0]), " / ".join(done.stdout.strip().split("\n")[:3])))
+        raise netpbm.Bad("%s: %s" % (name, told_wrong(done.stdout, folder)))
     return done.stdout
+
+
+class Simulation:
+    """A bench in a folder with modules of one's own, compiled for a simulator, ready to run."""
+
+    def __init__(self, folder, top, sources, values, simulator=None, defines=(), seconds=SECONDS):
+        self.folder, self.seconds = folder, seconds
+        simulator = simulator or ("verilator" if shutil.which("verilator") and not shutil.which("iverilog") else "iverilog")
+        self.command = self.build(needed(simulator), simulator, top, sources, values, defines)
+
+    def build(self, path, simulator, top, sources, values, defines):
+        """Compiles the bench, and answers how it is run."""
+        folders = ["-I" + folder for folder in sorted({os.path.dirname(source) for source in sources})]
+        if simulator == "verilator":
+            words = ["-G%s=%d" % value for value in values.items()] + ["-D" + name for name in defines]
+            made([path, "--binary", "--timing", "--trace", "-Wno-fatal", "-Wno-lint", "-O3", "--top-module", top] + folders + words + sources,
+                 self.folder)
+            return [os.path.join(self.folder, "obj_dir", "V" + top)]
+        form = "-g2012" if any(source.endswith(".sv") for source in sources) else "-g2001"
+        words = ["-P%s.%s=%d" % ((top,) + value) for value in values.items()] + ["-D" + name for name in defines]
+        made([path, form, "-o", top, "-s", top] + folders + words + sources, self.folder)
+        return [needed("vvp"), "-n", top]
+
+    def run(self, answers, *asked):
+        """What the bench writes into a file, without its last line."""
+        path = os.path.join(self.folder, answers)
+        if os.path.exists(path):
+            os.remove(path)
+        made(self.command + list(asked), self.folder, self.seconds)
+        with open(path) as file:
+            text = file.read()
+        if not END.search(text[-40:]):
+            raise netpbm.Bad("the simulation ended before its time: a file calls $finish, $stop or $fatal")
+        return text[:text.rindex("end ")]
+
+
+def in_hex(text, width):
+    """A text as a number of so many letters, for $readmemh."""
+    return text[:width].rjust(width).encode("ascii", "replace").hex()
 
 
 class State:
@@ -37,61 +105,73 @@ class State:
 
 
 class Bench:
-    """An array of a size with a pixel of its own, ready to run lists of microinstructions in a folder."""
+    """An array of a size with modules of one's own, ready to run a list of microinstructions in a folder."""
 
-    def __init__(self, folder, pixel, nx, ny, bits, micros, simulator=None):
-        self.folder, self.nx, self.ny, self.bits, self.clocks = folder, nx, ny, bits, len(micros)
-        self.pixels = 1 << nx + ny
-        if os.path.getsize(pixel) == 0:
-            raise netpbm.Bad("%s: it is empty" % pixel)
-        with open(os.path.join(folder, "program.hex"), "w") as file:
-            file.writelines("%05x\n" % micro.code() for micro in micros)
-        sources = [os.path.abspath(pixel)] + [os.path.join(RTL, part) for part in PARTS]
-        values = {"NX": nx, "NY": ny, "N": bits, "CLOCKS": len(micros)}
-        simulator = simulator or ("verilator" if shutil.which("verilator") and not shutil.which("iverilog") else "iverilog")
-        self.command = self.build(needed(simulator), simulator, sources, values)
+    def __init__(self, folder, files, nx, ny, bits, made_, simulator=None, seconds=SECONDS):
+        self.folder, self.nx, self.ny, self.bits, self.micros, self.clocks = folder, nx, ny, bits, made_, len(made_)
+        self.pixels, self.ports_alone = 1 << nx + ny, files["array"] != own("array") or files["column"] != own("column")
+        self.write("program.hex", ["%05x" % micro.code() for micro in made_])
+        self.write("texts.hex", [in_hex(micro.text(), 40) for micro in made_] + [in_hex("", 40)])
+        values = {"NX": nx, "NY": ny, "N": bits, "CLOCKS": len(made_)}
+        self.simulation = Simulation(folder, "bench", [files[module] for module in MODULES] + [bench("bench.v")], values, simulator,
+                                     ["PORTS_ALONE"] if self.ports_alone else [], seconds)
 
-    def build(self, path, simulator, sources, values):
-        """Compiles the bench, and answers how it is run."""
-        if simulator == "verilator":
-            named = ["-G%s=%d" % value for value in values.items()]
-            made([path, "--binary", "--timing", "--trace", "-Wno-fatal", "--top-module", "bench"] + named + sources, self.folder)
-            return [os.path.join(self.folder, "obj_dir", "Vbench")]
-        named = ["-Pbench.%s=%d" % value for value in values.items()]
-        made([path, "-g2001", "-o", "bench", "-s", "bench"] + named + sources, self.folder)
-        return [needed("vvp"), "bench"]
+    def write(self, leaf, lines):
+        with open(os.path.join(self.folder, leaf), "w") as file:
+            file.writelines(line + "\n" for line in lines)
 
-    def run(self, behind, waves=None, first=0, last=0):
-        """The states behind so many clocks each, by their clocks; and the waveforms of a window, where a file is named."""
+    def run(self, behind):
+        """The states behind so many clocks each, by their clocks."""
         behind = set(behind)
-        with open(os.path.join(self.folder, "behind.hex"), "w") as file:
-            file.writelines("%d\n" % (clock in behind) for clock in range(self.clocks + 1))
-        asked = ["+vcd=" + os.path.abspath(waves), "+from=%d" % first, "+to=%d" % last] if waves else []
-        made(self.command + asked, self.folder)
-        with open(os.path.join(self.folder, "states.txt")) as file:
-            return dict(self.read(file))
+        self.write("behind.hex", ["%d" % (clock in behind) for clock in range(self.clocks + 1)])
+        return dict(self.read(iter(self.simulation.run("states.txt").split("\n"))))
 
-    def read(self, file):
-        bits = lambda: next(file).strip()[::-1]
-        for line in file:
+    def read(self, lines):
+        bits = lambda: next(lines)[::-1]
+        for line in lines:
+            if not line:
+                continue
             enables, carries, latches, outs, node_carries = (bits() for _ in range(5))
             memories = map("".join, zip(*(bits() for _ in range(self.bits))))
-            yield int(line.split()[1]), State(list(zip(memories, enables, carries, latches, outs[self.pixels:])), outs, node_carries)
+            leaves = [None] * self.pixels if self.ports_alone else outs[self.pixels:]
+            nodes = (None, None) if self.ports_alone else (outs, node_carries)
+            yield int(line.split()[1]), State(list(zip(memories, enables, carries, latches, leaves)), *nodes)
+
+    def waves(self, path, first, last, pixel, found, due):
+        """Writes the waveforms of some clocks to a file, with a pixel's states as found and as due, by their clocks."""
+        for leaf, states in (("found.hex", found), ("due.hex", due)):
+            known = lambda clock: states[clock].pixels[pixel] if clock in states else None
+            shown = [known(clock) for clock in range(self.clocks + 1)]
+            self.write(leaf, [it[0][::-1] + "".join(it[1:4]) if it else "x" * (self.bits + 3) for it in shown])
+        self.write("behind.hex", ["0"] * (self.clocks + 1))
+        self.simulation.run("states.txt", "+vcd=" + os.path.abspath(path), "+from=%d" % first, "+to=%d" % last)
+
+
+class Difference:
+    """The first difference of two states: where, in which pixel, what it is and what was due."""
+
+    def __init__(self, what, found, due, pixel=0):
+        self.what, self.found, self.due, self.pixel = what, found, due, pixel
+
+    def text(self, by):
+        unset = "; x is a bit that nothing ever set: does `open` make it 0?" if self.found in ("x", "z") else ""
+        return "%s is %s, and %s %s%s" % (self.what, self.found, self.due, by, unset)
 
 
 def difference(nx, ny, wanted, found):
-    """The first difference of two states: where, what it is and what was due; None where they are the same."""
+    """The first difference of two states; None where they are the same. What is not known (None) is not asked."""
     for number, (due, got) in enumerate(zip(wanted.pixels, found.pixels)):
         if due != got:
             place = "pixel (%d, %d)" % (number >> ny, number & (1 << ny) - 1)
             at = next((at for at, bits in enumerate(zip(due[0], got[0])) if bits[0] != bits[1]), None)
             if at is not None:
-                return "%s, memory bit %d" % (place, at), got[0][at], due[0][at]
-            name, is_, should = next(it for it in zip(REGISTERS, got[1:], due[1:]) if it[1] != it[2])
-            return "%s, %s" % (place, name), is_, should
+                return Difference("%s, memory bit %d" % (place, at), got[0][at], due[0][at], number)
+            for name, is_, should in zip(REGISTERS, got[1:], due[1:]):
+                if None not in (is_, should) and is_ != should:
+                    return Difference("%s, %s" % (place, name), is_, should, number)
     for what, due, got in (("output", wanted.outs, found.outs), ("carry", wanted.carries, found.carries)):
-        for node in range(2, len(due or "")):
+        for node in range(2, len(due or "") if got else 0):
             if due[node] != got[node]:
                 level = node.bit_length() - 1
-                return "node %d of level %d, %s" % (node - (1 << level), level, what), got[node], due[node]
+                return Difference("node %d of level %d, %s" % (node - (1 << level), level, what), got[node], due[node])
     return None
