@@ -108,7 +108,9 @@ class Quantised(Written):
 
     def fits(self, number, depth, far, parts):
         step = far / 255
-        return any(abs(number - round(depth / step + way) * step) < 1 for way in (-0.499, 0, 0.499)) if far > 255 else number == depth
+        if far <= 255:
+            return number == depth
+        return any(abs(number - round(depth / step + way) * step) < 1 for way in (-0.499, 0, 0.499))
 
 
 def swapped(size):
@@ -142,7 +144,8 @@ WRITTEN = [EXACT] + [
         (scaled(255), 1), (lambda depth, far, parts: depth >> max(0, far.bit_length() - 8), 0))] + [
     Quantised("with depths of 8 bits, on the scale of the scene", lambda depth, far, parts: depth)] + [
     Written("with depths on a scale from 0 to %d" % top, scaled(top), 1 if top > 1 else 1e-6) for top in TOPS] + [
-    Written("with a gamma of 2.2 in its depths", scaled(top, bend), 1) for top in (255, LARGEST) for bend in (1 / GAMMA, GAMMA)] + [
+    Written("with a gamma of 2.2 in its depths", scaled(top, bend), 1)
+    for top in (255, LARGEST) for bend in (1 / GAMMA, GAMMA)] + [
     Written("with a gamma of 2.2 in its depths", lambda depth, far, parts: scaled(far, 1 / GAMMA)(depth, far, parts), 1)] + [
     Written("with the gamma of sRGB in its depths", srgb(top), 1) for top in (255, LARGEST)] + [
     Written("with near and far exchanged", lambda depth, far, parts, end=end: far - end - depth) for end in (0, 1)] + [
@@ -435,9 +438,9 @@ def is_scattered(rows, samples):
 
 
 def slope(sample, at):
-    """By how much the shown plane changes at most within a pixel; None at the edge of a face, where it is level, and in the background."""
-    x, y = at % sample.width, at // sample.width
-    face = sample.faces[at]
+    """By how much the shown plane changes at most from pixel to pixel, and 1; None at the edge of a face and
+    in the background."""
+    x, y, face = at % sample.width, at // sample.width, sample.faces[at]
     if not 0 < x < sample.width - 1 or not 0 < y < sample.height - 1 or face == 0:
         return None
     if any(sample.faces[at + step] != face for step in (1, -1, sample.width, -sample.width)):
