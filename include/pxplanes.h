@@ -81,6 +81,11 @@ extern "C" {
 #define PXPLANES_NO_GRID 10  /* a grid has not so many columns or rows */
 #define PXPLANES_NO_MICRO 11 /* a word packs no microinstruction: found.number is its index */
 
+/* The version of this header; pxplanes_version gives that of the library. */
+#define PXPLANES_VERSION_MAJOR 1
+#define PXPLANES_VERSION_MINOR 0
+#define PXPLANES_VERSION_PATCH 0
+
 /* A text has at most so many bytes, and a picture at most so many columns and rows. */
 #define PXPLANES_MAX_TEXT 1048576
 #define PXPLANES_MAX_SIDE 512

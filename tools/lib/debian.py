@@ -1,4 +1,4 @@
-"""A package for Debian, of a tree that the gate passed. It is no tool itself."""
+"""What the gate passed, which is all that is packed; and a package for Debian of it. It is no tool itself."""
 import hashlib
 import os
 import re
@@ -9,8 +9,10 @@ import tempfile
 import ends
 import installing
 import netpbm
+import program
+import web_page
 
-# The checksum of the crates that .ci/run passed last, beside what it built of them.
+# What .ci/run passed last, beside what it built: the checksum of its crates, and a line for each file that packages are made of.
 PASSED = os.path.join(ends.TOP, "crates", "px_program", "out", "passed")
 CONTROL = """Package: pxplanes
 Version: {version}
@@ -29,6 +31,19 @@ Description: Pixel-Planes 4, the frame buffer that computes, as a proved program
  machine, a library for C and Python, a page in the browser, the machine in
  Verilog, and tools to bring models and to compare renderers.
 """
+
+# Python leaves byte code beside the modules that are run, which dpkg does not know of.
+PRERM = """#!/bin/sh
+set -e
+if [ -d "$DPKG_ROOT/usr/lib/pxplanes" ]; then
+  find "$DPKG_ROOT/usr/lib/pxplanes" -name __pycache__ -type d -prune -exec rm -r {} +
+fi
+"""
+HEADERS = (os.path.join("include", "pxplanes.h"), os.path.join("include", "pxplanes.hpp"))
+ARCHIVE = os.path.join("crates", "px_c", "out", "libpx_c.a")
+LIBC = "liblibc_c.a"
+# They make the libraries, and the page.
+MAKERS = (os.path.join("tools", "package"), "web", os.path.join("tools", "studio_page"))
 
 
 def crates():
@@ -51,15 +66,71 @@ def sum_crates():
     return all_of.hexdigest()
 
 
-def note(passed):
-    with open(PASSED, "w", encoding="ascii") as file:
-        file.write(passed + "\n")
+def packed(archive, libc):
+    """What packages are made of: a name of each file, and where it is."""
+    yield os.path.relpath(program.DEFAULT, ends.TOP), program.DEFAULT
+    yield ARCHIVE, archive
+    yield LIBC, libc
+    yield os.path.relpath(web_page.PAGE, ends.TOP), web_page.PAGE
+    for name in (*HEADERS, *installing.sources(), *installing.known(name for maker in MAKERS for name in installing.inside(maker))):
+        yield name, os.path.join(ends.TOP, name)
+
+
+def sums(files):
+    """The checksum of each file that is there, by its name."""
+    found = {}
+    for name, path in files:
+        if os.path.islink(path):
+            found[name] = hashlib.sha256(os.fsencode("link to " + os.readlink(path))).hexdigest()
+        elif os.path.isfile(path):
+            found[name] = hashlib.sha256(ends.content(path)).hexdigest()
+    return found
+
+
+def note(passed, found):
+    """Notes the checksum of crates that the gate passed, and those of files by their names."""
+    with open(PASSED, "w", encoding="utf-8") as file:
+        file.write("%s\n" % passed)
+        file.writelines("%s %s\n" % (one, name) for name, one in found.items())
+
+
+def noted():
+    """The checksum of the crates that the gate passed, and of each file by its name."""
+    if not os.path.isfile(PASSED):
+        return None, {}
+    passed, *lines = ends.content(PASSED).decode("utf-8").splitlines()
+    return passed.strip(), {name: one for one, _, name in (line.partition(" ") for line in lines)}
 
 
 def need_passed():
     """Refuses crates that are not those of a gate that passed."""
-    if not os.path.isfile(PASSED) or ends.content(PASSED).decode("ascii").strip() != sum_crates():
+    if noted()[0] != sum_crates():
         raise netpbm.Bad("the gate has not passed these crates; .ci/run tries them")
+
+
+def differing(files):
+    """The names of files that are not as the gate passed them: other, new, or gone."""
+    passed, found = noted()[1], sums(files)
+    return [name for name in {**found, **passed} if found.get(name) != passed.get(name)]
+
+
+def need_packed(files):
+    """Refuses to pack anything else than what the gate passed."""
+    need_passed()
+    if installing.tracked() is None:
+        raise netpbm.Bad("only files that git tracks are packed, and this is no repository")
+    files = dict(files)
+    for name in differing(files.items()):
+        path = files.get(name, name)
+        shown = path if name in (ARCHIVE, LIBC) and path != os.path.join(ends.TOP, name) else name
+        raise netpbm.Bad("%s is not what the gate passed; .ci/run tries it" % shown)
+
+
+def note_again(name, files):
+    """Notes a file that was made anew of what the gate passed: where all else is as it was passed."""
+    files = dict(files)
+    if differing(files.items()) == [name]:
+        note(noted()[0], sums(files.items()))
 
 
 def wanted(paths):
@@ -97,13 +168,18 @@ def package(built, library, out):
         names = [os.path.join(usr, name) for name in installing.lay_out(usr, built, library)]
         files = [name for name in names if not os.path.islink(name)]
         policy(usr)
-        control = os.path.join(root, "DEBIAN", "control")
+        for name in filter(os.path.isfile, names):
+            os.chmod(name, 0o755 if os.stat(name).st_mode & 0o100 else 0o644)
+        control, prerm = (os.path.join(root, "DEBIAN", leaf) for leaf in ("control", "prerm"))
         os.mkdir(os.path.dirname(control))
         with open(control, "w", encoding="ascii") as file:
             file.write(CONTROL.format(
                 version=version, maintainer="Calvungoi maintainers <maintainers@users.noreply.calvungoi.example>",
                 size=sum(map(os.path.getsize, files)) // 1024,
                 needs=wanted(name for name in files if os.access(name, os.X_OK) or ".so" in name)))
+        with open(prerm, "w", encoding="ascii") as file:
+            file.write(PRERM)
+        os.chmod(prerm, 0o755)
         done = subprocess.run(["dpkg-deb", "--root-owner-group", "-Zxz", "--build", root, path], capture_output=True, text=True)
         if done.returncode != 0:
             raise netpbm.Bad("dpkg-deb: %s" % done.stderr.strip().split("\n")[-1])

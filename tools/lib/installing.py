@@ -2,14 +2,16 @@
 
     bin/pxplanes, bin/pxplanes-TOOL      the program by its wrapper, and each tool of users
     lib/pxplanes/                        what they need, laid out as in the checkout
-    lib/libpxplanes.*, lib/pkgconfig/    the library, as tools/package makes it
-    include/pxplanes.h
+    lib/libpxplanes.*, lib/pkgconfig/, lib/cmake/    the library, as tools/package makes it
+    include/pxplanes.h, pxplanes.hpp
     lib/python3/dist-packages/pxplanes   the Python module
     share/man/man1/, share/doc/pxplanes  the manual, and the documents
 """
+import functools
 import os
 import re
 import shutil
+import subprocess
 
 import ends
 import netpbm
@@ -34,16 +36,36 @@ def version():
     return found.group(1)
 
 
+@functools.lru_cache(maxsize=1)
+def tracked():
+    """The files that git tracks here; None in a copy without its history."""
+    if not os.path.exists(os.path.join(ends.TOP, ".git")):
+        return None
+    here = {name: word for name, word in os.environ.items() if not name.startswith("GIT_")}
+    words = ["git", "-C", ends.TOP, "-c", "safe.directory=" + ends.TOP, "-c", "core.fsmonitor=false", "ls-files", "-z"]
+    run = subprocess.run(words, capture_output=True, env=dict(here, GIT_CEILING_DIRECTORIES=os.path.dirname(ends.TOP)))
+    if run.returncode != 0:
+        raise netpbm.Bad("git: %s" % run.stderr.decode("utf-8", "replace").strip().split("\n")[-1])
+    return set(os.fsdecode(run.stdout).split("\0"))
+
+
+def known(names):
+    """Those of the files that git tracks; all of them in a copy without its history."""
+    return [name for name in names if tracked() is None or name in tracked()]
+
+
 def tools():
     """The tools of users, by their names."""
     folder = os.path.join(ends.TOP, "tools")
-    names = sorted(leaf for leaf in os.listdir(folder)
-                   if os.path.isfile(os.path.join(folder, leaf)) and os.access(os.path.join(folder, leaf), os.X_OK))
-    return [name for name in names if name not in OF_CHECKOUTS]
+    names = known(os.path.join("tools", leaf) for leaf in sorted(os.listdir(folder)) if leaf not in OF_CHECKOUTS)
+    paths = [os.path.join(ends.TOP, name) for name in names]
+    return [os.path.basename(path) for path in paths if os.path.isfile(path) and os.access(path, os.X_OK)]
 
 
 def inside(folder):
-    """The files of a folder of the checkout, but for what Python leaves there."""
+    """The files of a folder of the checkout, or a file itself, but for what Python leaves there."""
+    if os.path.isfile(os.path.join(ends.TOP, folder)):
+        yield folder
     for place, folders, leaves in os.walk(os.path.join(ends.TOP, folder)):
         folders[:] = sorted(name for name in folders if name != "__pycache__")
         for leaf in sorted(leaves):
@@ -53,12 +75,11 @@ def inside(folder):
 
 def sources():
     """The files that are copied, each as it stands in the checkout."""
-    for name in FILES:
-        yield name
+    yield from known(FILES)
     for name in tools():
         yield os.path.join("tools", name)
     for folder in FOLDERS:
-        yield from inside(folder)
+        yield from known(inside(folder))
 
 
 def links():
