@@ -38,7 +38,8 @@ def need_old(library):
     newest = max((tuple(map(int, one.split("."))) for one in re.findall(r"GLIBC_(\d+(?:\.\d+)+)", run.stdout)), default=None)
     other = set(re.findall(r"NEEDED +(\S+)", run.stdout)) - {"libc.so.6"}
     if run.returncode != 0 or newest is None or newest > OLDEST or other:
-        raise netpbm.Bad("the library is not for %s: it wants %s" % (TAG, ", ".join(sorted(other)) or "glibc " + ".".join(map(str, newest or ()))))
+        wanted = ", ".join(sorted(other)) or "glibc " + ".".join(map(str, newest or ()))
+        raise netpbm.Bad("the library is not for %s: it wants %s" % (TAG, wanted))
 
 
 def record_of(files, path):
