@@ -54,7 +54,8 @@ for text in texts:
     scene = built(scenes.read(text))
     counts["compared"] += 1
     counts["with solids left out"] += scene.solids == scene.show.solids
-    counts["with faces mixed"] += any([kind for kind, _ in solid.faces] != sorted((kind for kind, _ in solid.faces), reverse=True) for solid in scene.solids)
+    kinds = [[kind for kind, _ in solid.faces] for solid in scene.solids]
+    counts["with faces mixed"] += any(some != sorted(some, reverse=True) for some in kinds)
     counts["with a header of their own"] += not tidy.startswith(b"pxscene 1\n")
     if scene.text.encode() != tidy or tidied(tidy) != tidy:
         print("they differ:", scene.text[:200], tidy[:200])
