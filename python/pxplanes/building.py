@@ -130,7 +130,7 @@ class Scene:
             raise ValueError("size has %d numbers in place of 2, width and height" % len(self.size))
         for word, number in zip(("width", "height"), self.size):
             within(number, 1, MOST_SIDE, word)
-        bits = whole((depth,) if hasattr(depth, "__index__") else depth, "depth")
+        bits = whole(depth if hasattr(depth, "__iter__") else (depth,), "depth")
         if len(bits) not in (1, 2):
             raise ValueError("depth has %d numbers in place of 1, or 2 with fraction bits" % len(bits))
         within(bits[0], 1, MOST_DEPTH, "depth")
