@@ -1,17 +1,22 @@
 """Pictures of scenes, and the state of the machine that draws them, by the proved library of pxplanes.
 
     import pxplanes
-    picture = pxplanes.render(open("docs/scenes/first.scene").read())
+    picture = pxplanes.render(pxplanes.from_file("docs/scenes/first.scene"))
     picture.depths[16, 24]      # the depth at x 24, y 16: rows from the top come first
 
 A text is `str` or `bytes`. What is not accepted raises `Malformed` or `Limit`, with the first bad line. Arrays are those of
 NumPy where it is there, and `memoryview`s of the same shape and numbers else. Calls keep nothing, and may be made by several
 threads at once. docs/SCENES.md has the language, docs/MACHINE.md the machine.
 """
+from .building import Expression, Scene, Solid
+from .calls import from_file
 from .comparing import Comparison, compare
 from .errors import Limit, Malformed, NoClock, NoLibrary, NoMicro, Refused
 from .machine import Micro, Pixel, State, clocked, micros, state
 from .pictures import Cost, Picture, check, colour, products, render, version
 
-__all__ = ["Comparison", "Cost", "Limit", "Malformed", "Micro", "NoClock", "NoLibrary", "NoMicro", "Picture", "Pixel", "Refused",
-           "State", "check", "clocked", "colour", "compare", "micros", "products", "render", "state", "version"]
+__all__ = ["Comparison", "Cost", "Expression", "Limit", "Malformed", "Micro", "NoClock", "NoLibrary", "NoMicro", "Picture", "Pixel",
+           "Refused", "Scene", "Solid", "State", "check", "clocked", "colour", "compare", "from_file", "micros", "products",
+           "render", "state", "version"]
+
+__version__ = "1.0.0"

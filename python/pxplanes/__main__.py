@@ -10,6 +10,8 @@ Use: python -m pxplanes [check | render | colour | version] [SCENE]    (standard
 Ends with 0; with 3 or 4 where the scene is refused, and 7 without memory, as the program does; and with 2 where there is
 other trouble, as no library.
 """
+from __future__ import annotations
+
 import os
 import sys
 
@@ -30,9 +32,9 @@ def answer(command: str, text: bytes) -> bytes:
     return b"%d by %d pixels, %d faces, %d operations, %d clocks\n" % cost
 
 
-def main(words: list) -> int:
+def main(words: list[str]) -> int:
     if "--help" in words or "-h" in words:
-        print(__doc__.strip())
+        print((__doc__ or "").strip())
         return 0
     command = words.pop(0) if words and words[0] in COMMANDS else "check"
     if len(words) > 1:
@@ -70,4 +72,5 @@ def run() -> int:
     return status
 
 
-sys.exit(run())
+if __name__ == "__main__":
+    sys.exit(run())

@@ -2,14 +2,16 @@
 from __future__ import annotations
 
 import ctypes
-from typing import Any, Sequence
+import importlib
+from typing import Any, List, Optional, Sequence
 
+numpy: Any
 try:
-    import numpy
+    numpy = importlib.import_module("numpy")
 except ImportError:
     numpy = None
 
-TYPES = {"B": ctypes.c_uint8, "I": ctypes.c_uint32, "i": ctypes.c_int32, "Q": ctypes.c_uint64}
+TYPES: dict[str, Any] = {"B": ctypes.c_uint8, "I": ctypes.c_uint32, "i": ctypes.c_int32, "Q": ctypes.c_uint64}
 
 
 class Buffer:
@@ -19,7 +21,7 @@ class Buffer:
         self.kind, self.count = kind, count
         self.room = (TYPES[kind] * count)() if count else None
 
-    def given(self) -> tuple:
+    def given(self) -> tuple[Optional[ctypes.c_void_p], int]:
         """The two words by which C takes it; null where it has no room."""
         return ctypes.cast(self.room, ctypes.c_void_p) if self.count else None, self.count
 
@@ -59,3 +61,9 @@ def weighed(planes: Sequence[Any], wide: int, high: int) -> Any:
         for at, value in enumerate(plane.cast("B") if plane.ndim > 1 else plane):
             number[at] |= value << bit
     return number.cast("B").cast("Q", [high, wide])
+
+
+def rows(numbers: Any) -> List[Any]:
+    """The rows of an array, or of a list of rows."""
+    found: List[Any] = numbers.tolist() if hasattr(numbers, "tolist") else list(numbers)
+    return found

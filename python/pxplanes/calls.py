@@ -3,8 +3,9 @@ from __future__ import annotations
 
 import ctypes
 import functools
+import os
 from ctypes import POINTER, c_char_p, c_int64, c_size_t, c_uint32, c_uint64, c_void_p
-from typing import Union
+from typing import Any, Union
 
 from .arrays import Buffer
 from .errors import Limit, Malformed, NoClock, NoLibrary, NoMicro
@@ -30,18 +31,19 @@ class FoundState(ctypes.Structure):
         (name, c_uint64) for name in ("clock", "clocks", "operation", "operation_clock", "next_micro")]
 
 
-LIST = [c_void_p, c_size_t]
-TEXT, FOUND = [c_char_p, c_size_t], [POINTER(Found)]
-CALLS = {"check": TEXT + FOUND, "render": TEXT + LIST + LIST + FOUND, "colour": TEXT + LIST + FOUND,
+LIST: list[Any] = [c_void_p, c_size_t]
+TEXT: list[Any] = [c_char_p, c_size_t]
+FOUND: list[Any] = [POINTER(Found)]
+CALLS: dict[str, list[Any]] = {"check": TEXT + FOUND, "render": TEXT + LIST + LIST + FOUND, "colour": TEXT + LIST + FOUND,
          "products": TEXT + LIST + FOUND, "state": TEXT + [c_uint64] + LIST + [POINTER(FoundState)] + FOUND,
          "micros": TEXT + [c_uint64] + LIST + FOUND, "clocks": LIST + [c_uint32] * 2 + LIST + FOUND}
-NAMES = {"cause_name": [c_uint32] + LIST, "kind_name": [c_uint32] + LIST, "version": LIST}
+NAMES: dict[str, list[Any]] = {"cause_name": [c_uint32] + LIST, "kind_name": [c_uint32] + LIST, "version": LIST}
 
 library = functools.lru_cache(maxsize=None)(loaded)
 
 
 @functools.lru_cache(maxsize=None)
-def call(name: str):
+def call(name: str) -> Any:
     """A call of the library, with its types."""
     try:
         found = getattr(library(), "pxplanes_" + name)
@@ -51,17 +53,41 @@ def call(name: str):
     return found
 
 
+def from_file(path: Union[str, bytes, "os.PathLike[str]", "os.PathLike[bytes]"]) -> bytes:
+    """The text in a file."""
+    with open(path, "rb") as file:
+        return file.read()
+
+
 def content(text: Text) -> bytes:
     """The bytes of a text; of a `str` in UTF-8."""
-    return text.encode("utf-8") if isinstance(text, str) else bytes(text)
+    if isinstance(text, str):
+        return text.encode("utf-8")
+    try:
+        return bytes(memoryview(text))
+    except TypeError:
+        hint = ("; pxplanes.from_file reads the text in a file" if isinstance(text, os.PathLike) else
+                "; what its read() answers is one" if hasattr(text, "read") else "")
+        raise TypeError("a text is a str or bytes, and no %s%s" % (type(text).__name__, hint)) from None
 
 
-def asked(name: str, text: bytes, *arguments) -> tuple[int, Found]:
+def is_name_of_file(text: Text) -> bool:
+    """Whether somebody gave the name of a file in place of its text."""
+    return isinstance(text, str) and "\n" not in text and (text.endswith(".scene") or os.path.isfile(text))
+
+
+def asked(name: str, text: Text, *arguments: Any) -> tuple[int, Found]:
     """What a call of a text finds, and its status: `OK` or `NO_ROOM`; the others are raised."""
-    return answered(name, text, len(text), *arguments)
+    data = content(text)
+    try:
+        return answered(name, data, len(data), *arguments)
+    except Malformed as refusal:
+        if not is_name_of_file(text):
+            raise
+        raise Malformed(refusal.line, refusal.cause, "pxplanes.from_file(%r) reads the text in that file" % text) from None
 
 
-def answered(name: str, *arguments) -> tuple[int, Found]:
+def answered(name: str, *arguments: Any) -> tuple[int, Found]:
     """The same of any call."""
     found = Found()
     status = call(name)(*arguments, ctypes.byref(found))
@@ -70,9 +96,9 @@ def answered(name: str, *arguments) -> tuple[int, Found]:
     raise refusal(status, found)
 
 
-def filled(name: str, kinds: str, text: Text, *before, behind: tuple = ()) -> tuple[list[Buffer], Found]:
+def filled(name: str, kinds: str, text: Text, *before: Any, behind: tuple[Any, ...] = ()) -> tuple[list[Buffer], Found]:
     """The buffers of a call, one of each kind, which it filled: it is asked for their size first."""
-    text, room = content(text), 0
+    room = 0
     while True:
         buffers = [Buffer(kind, room) for kind in kinds]
         given = [word for buffer in buffers for word in buffer.given()]

@@ -2,8 +2,10 @@
 from __future__ import annotations
 
 import math
+import operator
 from typing import Any, List, NamedTuple, Tuple
 
+from .arrays import rows
 from .pictures import Picture
 
 LAST_BITS = 2.0 ** -22
@@ -45,12 +47,7 @@ def compare(ours: Any, theirs: Any, tolerance: int = 0) -> Comparison:
     return Comparison(len(at), sum(map(len, one)), greatest, at)
 
 
-def rows(numbers: Any) -> List[Any]:
-    """The rows of an array, or of a list of rows."""
-    return numbers.tolist() if hasattr(numbers, "tolist") else list(numbers)
-
-
 def whole(number: Any, far: Any) -> int:
-    if isinstance(number, int):
-        return number
-    return math.ceil(number - abs(number) * LAST_BITS) if math.isfinite(number) else math.ceil(far)
+    if hasattr(number, "__index__"):
+        return operator.index(number)
+    return int(math.ceil(number - abs(number) * LAST_BITS if math.isfinite(number) else far))

@@ -14,14 +14,19 @@ class Refused(ValueError):
 
 
 class Malformed(Refused):
-    """A line is not of the language. `cause` is the word of docs/SCENES.md, "Refusals", as `unknown-name`."""
+    """A line is not of the language. `cause` is the word of docs/SCENES.md, "Refusals", as `unknown-name`. Behind the note `str`
+    of it has a `hint`, where the text seems to be the name of a file."""
 
-    def __init__(self, line: int, cause: str):
-        super().__init__("malformed line %d: %s" % (line, cause))
+    hint = ""
+
+    def __init__(self, line: int, cause: str, hint: str = ""):
+        super().__init__("malformed line %d: %s" % (line, cause) + (hint and "; " + hint))
         self.line, self.cause = line, cause
+        if hint:
+            self.hint = hint
 
-    def __reduce__(self):
-        return Malformed, (self.line, self.cause)
+    def __reduce__(self) -> tuple[type, tuple[int, str, str]]:
+        return Malformed, (self.line, self.cause, self.hint)
 
 
 class Limit(Refused):
@@ -31,7 +36,7 @@ class Limit(Refused):
         super().__init__("limit line %d: %s %d" % (line, kind, found))
         self.line, self.kind, self.found = line, kind, found
 
-    def __reduce__(self):
+    def __reduce__(self) -> tuple[type, tuple[int, str, int]]:
         return Limit, (self.line, self.kind, self.found)
 
 
@@ -42,7 +47,7 @@ class NoClock(IndexError):
         super().__init__("there are %d clocks" % clocks)
         self.clocks = clocks
 
-    def __reduce__(self):
+    def __reduce__(self) -> tuple[type, tuple[int]]:
         return NoClock, (self.clocks,)
 
 
@@ -53,5 +58,5 @@ class NoMicro(ValueError):
         super().__init__("element %d is no microinstruction" % index)
         self.index = index
 
-    def __reduce__(self):
+    def __reduce__(self) -> tuple[type, tuple[int]]:
         return NoMicro, (self.index,)

@@ -4,10 +4,11 @@ from __future__ import annotations
 import array
 import copy
 import ctypes
+import operator
 from typing import Any, Iterable, Iterator, NamedTuple, Optional, Union
 
 from .arrays import Buffer, spread, weighed
-from .calls import FoundState, Text, answered, asked, content, filled
+from .calls import FoundState, Text, answered, asked, filled
 from .errors import NoClock
 
 REGISTERS = ("enable", "carry", "latch", "leaf")
@@ -51,8 +52,8 @@ def packed(micro: Micro) -> int:
     act, place, value, tree, lines = micro
     if act not in ACTS or tree not in TREES:
         raise ValueError("%r is no microinstruction" % (micro,))
-    bits = [int(bit) & 1 for bit in lines] if tree == "feed" else [0, 0, 0]
-    return (place & 0xffffffff | ACTS.index(act) + 1 << 32 | (int(value) & 1) << 40 | TREES.index(tree) << 48
+    bits = [operator.index(bit) & 1 for bit in lines] if tree == "feed" else [0, 0, 0]
+    return (operator.index(place) & 0xffffffff | ACTS.index(act) + 1 << 32 | (operator.index(value) & 1) << 40 | TREES.index(tree) << 48
             | bits[0] << 56 | bits[1] << 57 | bits[2] << 58)
 
 
@@ -82,6 +83,16 @@ class State:
         self.next = unpacked(found.next_micro)
         self.words = words
 
+    def __repr__(self) -> str:
+        return "<pxplanes.State: clock %d of %d, %d by %d pixels of %d bits>" % (
+            self.clock, self.clocks, self.grid_width, self.grid_height, self.bits)
+
+    def __getstate__(self) -> dict[str, Any]:
+        return dict(self.__dict__, words=bytes(self.words))
+
+    def __setstate__(self, kept: dict[str, Any]) -> None:
+        self.__dict__.update(kept, words=memoryview(bytearray(kept["words"])).cast("Q"))
+
     def plane(self, which: Union[int, str]) -> Any:
         """A bit of all pixels: the number of a memory bit, or `enable`, `carry`, `latch` or `leaf`. An array of 0 and 1 of
         shape (grid_height, grid_width), rows from the top."""
@@ -89,15 +100,17 @@ class State:
 
     def number(self, at: int, length: int) -> Any:
         """The numbers in the field of `length` bits (1 to 64) from bit `at` on, of shape (grid_height, grid_width)."""
+        at, length = operator.index(at), operator.index(length)
         if not (1 <= length <= 64 and 0 <= at and at + length <= self.bits):
             raise IndexError("a pixel has the bits 0 to %d" % (self.bits - 1))
         return weighed([self.plane(bit) for bit in range(at, at + length)], self.grid_width, self.grid_height)
 
     def bit(self, which: Union[int, str], x: int, y: int) -> int:
         """A bit of the pixel at column x and row y."""
+        x, y = operator.index(x), operator.index(y)
         if not (0 <= x < self.grid_width and 0 <= y < self.grid_height):
             raise IndexError("the grid has %d columns and %d rows" % (self.grid_width, self.grid_height))
-        return self._words_of(which)[y * self.words_per_row + x // 64] >> x % 64 & 1
+        return int(self._words_of(which)[y * self.words_per_row + x // 64] >> x % 64 & 1)
 
     def pixel(self, x: int, y: int) -> Pixel:
         """All that the pixel at column x and row y holds."""
@@ -106,11 +119,13 @@ class State:
 
     def node(self, level: int, index: int) -> tuple[int, int]:
         """The output and the carry of a node of the tree: levels from 1 on, a level's nodes from 0 on."""
+        level, index = operator.index(level), operator.index(index)
         if not (1 <= level <= self.levels and 0 <= index < 1 << level):
             raise IndexError("level %d of %d has no node %d" % (level, self.levels, index))
         at, wide = (1 << level) + index, -(-(2 << self.levels) // 64)
         first = len(self.words) - 2 * wide
-        return tuple(self.words[first + row * wide + at // 64] >> at % 64 & 1 for row in (0, 1))
+        out, carry = (self.words[first + row * wide + at // 64] >> at % 64 & 1 for row in (0, 1))
+        return out, carry
 
     def nodes(self) -> Iterator[list[tuple[int, int]]]:
         """The nodes of each level, from level 1 on."""
@@ -118,11 +133,8 @@ class State:
             yield [self.node(level, index) for index in range(1 << level)]
 
     def _words_of(self, which: Union[int, str]) -> memoryview:
-        if which in REGISTERS:
-            at = self.bits + REGISTERS.index(which)
-        elif isinstance(which, int) and 0 <= which < self.bits:
-            at = which
-        else:
+        at = self.bits + REGISTERS.index(which) if which in REGISTERS else -1 if isinstance(which, str) else operator.index(which)
+        if not (which in REGISTERS or 0 <= at < self.bits):
             raise IndexError("%r is no bit of 0 to %d and no register" % (which, self.bits - 1))
         size = self.grid_height * self.words_per_row
         return self.words[at * size:(at + 1) * size]
@@ -132,7 +144,7 @@ def state(text: Text, clock: int) -> State:
     """The state of a scene, or of a listing, after so many clocks, from 0 on.
 
     Raises `Malformed`, `Limit` and `MemoryError`, and `NoClock` for a clock that is below 0 or past the last."""
-    found = FoundState()
+    found, clock = FoundState(), operator.index(clock)
     if not 0 <= clock < ENDLESS:
         raise NoClock(clocks_of(text))
     (words,), _ = filled("state", "Q", text, clock, behind=(ctypes.byref(found),))
@@ -161,15 +173,16 @@ def micros(text: Text, first: int, count: int) -> list[Micro]:
     """The microinstructions of so many clocks of a scene or of a listing, those from `first` on.
 
     Raises as `state` does, `NoClock` where the text has fewer clocks."""
+    first, count = operator.index(first), operator.index(count)
     if not (0 <= first and 0 <= count and first + count < ENDLESS):
         raise NoClock(clocks_of(text))
     if first + count > (clocks := clocks_of(text)):
         raise NoClock(clocks)
     room = Buffer("Q", count)
-    asked("micros", content(text), first, *room.given())
-    return [unpacked(number) for number in room.room or ()]
+    asked("micros", text, first, *room.given())
+    return [micro for number in room.room or () if (micro := unpacked(number)) is not None]
 
 
 def clocks_of(text: Text) -> int:
     """How many clocks a scene or a listing takes. Raises as `check` does."""
-    return asked("micros", content(text), 0, *Buffer("Q", 0).given())[1].clocks
+    return int(asked("micros", text, 0, *Buffer("Q", 0).given())[1].clocks)

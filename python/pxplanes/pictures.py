@@ -3,7 +3,8 @@ from __future__ import annotations
 
 from typing import Any, NamedTuple
 
-from .calls import Text, asked, content, filled, word_of
+from .arrays import rows
+from .calls import Text, asked, filled, word_of
 
 
 class Cost(NamedTuple):
@@ -19,6 +20,7 @@ class Cost(NamedTuple):
 
 class Picture(NamedTuple):
     """The two maps of a picture, each of shape (height, width) and of unsigned numbers of 32 bits, rows from the top.
+    Two are equal where their sizes and numbers are; since arrays can be written, none has a hash.
 
     `depths` counts cells from the eye; the background has the far limit, `2**W - 1`. `faces` has the number of the face that
     shows, from 1 on in the order of the text, and 0 for the background."""
@@ -27,6 +29,19 @@ class Picture(NamedTuple):
     faces: Any
     width: int
     height: int
+
+    def __eq__(self, other: object) -> bool:
+        """Whether both have the same size and numbers, whatever kind of array holds them."""
+        if not isinstance(other, Picture):
+            return False
+        return (self.width, self.height) == (other.width, other.height) and all(
+            rows(ours) == rows(theirs) for ours, theirs in zip(self[:2], other[:2]))
+
+    def __ne__(self, other: object) -> bool:
+        return not self == other
+
+    def __hash__(self) -> int:
+        raise TypeError("a Picture has no hash, since its arrays can be written")
 
     def maps(self) -> bytes:
         """Both maps as `pxplanes render` writes them: P6, three bytes a number, highest first."""
@@ -45,7 +60,7 @@ def check(text: Text) -> Cost:
     """What a scene is and takes, before anything of it is drawn.
 
     Raises `Malformed` and `Limit` exactly where the program refuses the scene, and `MemoryError`."""
-    _, found = asked("check", content(text))
+    _, found = asked("check", text)
     return Cost(found.width, found.height, found.faces, found.operations, found.clocks)
 
 
