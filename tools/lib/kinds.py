@@ -8,8 +8,8 @@ import netpbm
 NETPBM = {b"P1": "PBM", b"P2": "PGM", b"P3": "PPM", b"P4": "PBM", b"P5": "PGM", b"P6": "PPM", b"P7": "PAM", b"Pf": "PFM", b"PF": "PFM"}
 OPENSCAD = re.compile(
     rb"\s*(?:(?://[^\n]*\n|/\*.*?\*/|\$?\w+\s*=[^\n;{}]*;|(?:use|include)\s*<[^>\n]*>;?)\s*)*[%#*!]?"
-    rb"(?:module\s+\w+\s*\(|function\s+\w+\s*\(|for\s*\(|(?:union|difference|intersection|hull|minkowski|group|render|color|translate|rotate|"
-    rb"scale|mirror|multmatrix|resize|linear_extrude|rotate_extrude|cube|sphere|cylinder|polyhedron|import)\s*\()", re.S)
+    rb"(?:module\s+\w+\s*\(|function\s+\w+\s*\(|for\s*\(|(?:union|difference|intersection|hull|minkowski|group|render|color|"
+    rb"translate|rotate|scale|mirror|multmatrix|resize|linear_extrude|rotate_extrude|cube|sphere|cylinder|polyhedron|import)\s*\()", re.S)
 COMPARED = "tools/compare takes it as a map beside another"
 MODELLED = "tools/model --as %s makes a scene of it"
 
