@@ -228,7 +228,8 @@ def coloured(line):
 
 
 class Build(Mender):
-    """Puts statements into the order of a scene, each with the words that are due."""
+    """Puts statements into the order of a scene, each with the words that are due; `said` are all statements, `right` those of the scene,
+    and `extra` the fraction bits that planes with parts want."""
 
     def mended(self, text):
         lines = self.decoded(text).split("\n")
@@ -251,6 +252,7 @@ class Build(Mender):
         if before != [each for each in right if each.number]:
             self.told(0, "the lines stand in their order: pxscene, picture, depth, solids with their planes, show, end")
         self.lost(own, right)
+        self.said, self.right = own, right
         out = [line for each in right for line in each.above + [each.text()]] + tail
         return "\n".join(line.rstrip("\r") if "\r" in line and not text.count(b"\r\n") else line for line in out) + "\n"
 
@@ -334,7 +336,7 @@ class Build(Mender):
         fraction = given if given is not None and self.counts_parts(planes, bits, given) else None
         if given is not None and fraction is None:
             self.told(own.number, "the planes count whole cells, so there are no fraction bits")
-        extra = max(0, wanted)
+        extra = self.extra = max(0, wanted)
         if extra:
             fraction = min(room, (fraction or 0) + extra)
             self.told(0, "fronts and backs count in parts of a cell, %d to each, since some are no whole numbers" % 2 ** extra)
