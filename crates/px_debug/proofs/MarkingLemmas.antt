@@ -3,11 +3,11 @@ use Rattle.std.proofs.Common.{◌≡◌, ℕ, ◌+◌, ◌-◌, ◌*◌, ◌/◌
 use Rattle.std.proofs.Common.{None, refl, sym, ap, ◌∙◌, inl, inr, below_more, length-set, get_or-set_same}
 use Rattle.std.proofs.Common.{get_or-set_other, arith}
 use Rattle.std.specs.Bool.{MatchBool}
-use Rattle.std.specs.Prelude.{nat_eq, unwrap_or}
+use Rattle.std.specs.Prelude.{IfSome, nat_eq, suc, unwrap_or, zero}
 use Rattle.std.proofs.Math.Nat.{mul-div_cancel, div-mul-le_self}
 use Rattle.std.proofs.lemmas.Bool.Decides.{eqb_tells}
 use Rattle.px_array.specs.Arrays.{Device}
-use Rattle.px_array.specs.Slots.{after_save, slot_of}
+use Rattle.px_array.specs.Slots.{after_save, no_slots, slot_of}
 use Rattle.px_model.specs.Scenes.{SceneView}
 use Rattle.px_control.specs.declared.place.Place.{Place}
 use Rattle.px_control.specs.Program.{IsAt, array_after}
@@ -43,10 +43,34 @@ marks_more s q n ps p m few st cl =
 pub slots_more : (bits : ℕ) (s : SceneView) (q n : ℕ) (device : Device) (slots : List (Option Device))
     → HasSlots bits s q n slots → n < length slots →
     IsAt bits s (n * q) device → HasSlots bits s q (n + 1) (after_save n device slots)
-slots_more bits s q n device slots h few at =
-    below_more (λ k. slot_of (after_save n device slots) k ≡ Some (array_after bits s (k * q))) n
-    (λ k l. let ne : k ≡ n → ⊥ = omega arith in get_or-set_other slots n k _ None ne ∙ h k l)
-    (get_or-set_same slots n _ None few ∙ ap (λ x. Some x) at.reached)
+slots_more bits s q n device slots h few at = record {
+  kept = below_more (λ k. slot_of (after_save n device slots) k ≡ Some (array_after bits s (k * q))) n
+      (λ k l. other k (omega arith) ∙ h.kept k l) (here ∙ ap (λ x. Some x) at.reached);
+  only = λ k. elim (eqb_tells k n) [
+    | inl same ↦ rw (same.1, here) at.reached
+    | inr apart ↦ rw (other k apart.1) (h.only k)
+  ];
+}
+  where
+    here : slot_of (after_save n device slots) n ≡ Some device
+    here = get_or-set_same slots n _ None few
+
+    other : (k : ℕ) → (k ≡ n → ⊥) → slot_of (after_save n device slots) k ≡ slot_of slots k
+    other k apart = get_or-set_other slots n k _ None apart
+
+-- no slot is saved yet
+pub slots_none : (bits : ℕ) (s : SceneView) (q : ℕ) → HasSlots bits s q 0 no_slots
+slots_none bits s q = record {
+  kept = λ k low. absurd (omega (arith, low));
+  only = λ k. rw (none k) tt;
+}
+  where
+    none : (k : ℕ) → slot_of no_slots k ≡ None
+    none zero = refl
+    none (suc zero) = refl
+    none (suc (suc zero)) = refl
+    none (suc (suc (suc zero))) = refl
+    none (suc (suc (suc (suc k)))) = refl
 
 -- fewer of them
 pub marks_front : (s : SceneView) (q n count : ℕ) (ps : List Place) → HasMarks s q count ps → 1 ≤ n → n ≤ count

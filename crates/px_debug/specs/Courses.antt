@@ -12,14 +12,14 @@ pub record IsOnCourse (bits : ℕ) (c : Course) (device : Device) (slots : List 
   pub at : IsAt bits c.job.scene c.job.place.clock device
   pub marks : HasMarks c.job.scene c.quarter c.passed c.places
   pub marked : AreMarked c.quarter c.passed c.job.place.clock
-  pub kept : HasSlots bits c.job.scene c.quarter c.passed slots
+  pub keeps : HasSlots bits c.job.scene c.quarter c.passed slots
 
 -- the same, where the next quarter may have been passed just now
 pub record IsAlmostOnCourse (bits : ℕ) (c : Course) (device : Device) (slots : List (Option Device)) : Type 0 where
   pub at : IsAt bits c.job.scene c.job.place.clock device
   pub marks : HasMarks c.job.scene c.quarter c.passed c.places
   pub marked : AreAlmostMarked c.quarter c.passed c.job.place.clock
-  pub kept : HasSlots bits c.job.scene c.quarter c.passed slots
+  pub keeps : HasSlots bits c.job.scene c.quarter c.passed slots
 
 -- the same scene and the same quarters
 pub record IsSameCourse (old new : Course) : Type 0 where

@@ -1,5 +1,5 @@
 -- A session: the places of the passed quarters, and the last broadcasts. Only proofs and private functions stand on it.
-use Rattle.std.specs.Prelude.{◌≡◌, ℕ, ◌-◌, ◌*◌, ◌<◌, ◌≤◌, List, length, take, get_or, Option, Some}
+use Rattle.std.specs.Prelude.{◌≡◌, ℕ, ◌-◌, ◌*◌, ◌<◌, ◌≤◌, IfSome, List, length, take, get_or, Option, Some}
 use Rattle.circular_buffer.specs.Buffer.{keep_last}
 use Rattle.px_array.specs.Arrays.{Device}
 use Rattle.px_array.specs.Slots.{slot_of}
@@ -28,9 +28,10 @@ pub record AreAlmostMarked (q count now : ℕ) : Type 0 where
   pub passed : (count - 1) * q ≤ now
   pub next : count < 4 → now ≤ count * q
 
--- so many slots keep what those clocks leave
-abbrev pub HasSlots : (bits : ℕ) → SceneView → (q count : ℕ) → List (Option Device) → Type 0
-HasSlots bits scene q count slots = (k : ℕ) → k < count → slot_of slots k ≡ Some (array_after bits scene (k * q))
+-- so many slots keep what those clocks leave, and no slot keeps anything else
+pub record HasSlots (bits : ℕ) (scene : SceneView) (q count : ℕ) (slots : List (Option Device)) : Type 0 where
+  pub kept : (k : ℕ) → k < count → slot_of slots k ≡ Some (array_after bits scene (k * q))
+  pub only : (k : ℕ) → IfSome (slot_of slots k) (λ device. device ≡ array_after bits scene (k * q))
 
 -- the last 32 broadcasts before a clock, oldest first
 unfoldable pub last_before : SceneView → (now : ℕ) → List Micro

@@ -1,5 +1,5 @@
 -- Where a session stands, and where each command leads. Clauses of public calls stand on it.
-use Rattle.std.specs.Prelude.{◌≡◌, ℕ, zero, suc, ◌+◌, ◌-◌, ◌*◌, ◌/◌, ◌≤◌, min, max, nat_lt, if◌then◌else◌, List, [], ◌∷◌, Option, Some}
+use Rattle.std.specs.Prelude.{◌≡◌, ℕ, zero, suc, ◌+◌, ◌-◌, ◌*◌, ◌/◌, ◌≤◌, min, max, nat_lt, if◌then◌else◌, IfSome, List, [], ◌∷◌, Option, Some}
 use Rattle.px_array.specs.Arrays.{Device}
 use Rattle.px_array.specs.Slots.{slot_of}
 use Rattle.px_model.specs.Scenes.{SceneView}
@@ -77,9 +77,11 @@ most_clocks scene now c.Quit = 0
 most_clocks scene now c.Nothing = 0
 most_clocks scene now c.Unknown = 0
 
--- an array is as the session's broadcasts leave it, and its slots keep what each passed quarter left
+-- an array is as the session's broadcasts leave it, its slots keep what each passed quarter left, and nothing else
 pub record Fits (bits : ℕ) (s : SessionView) (device : Device) (slots : List (Option Device)) : Type 0 where
   pub few : bits ≤ 256
   pub at : IsAt bits s.scene s.now device
   pub kept : (slot : ℕ) → slot ≤ 3 → slot * quarter_of s.scene ≤ s.now →
       slot_of slots slot ≡ Some (array_after bits s.scene (slot * quarter_of s.scene))
+  pub only : (slot : ℕ) →
+      IfSome (slot_of slots slot) (λ device. device ≡ array_after bits s.scene (slot * quarter_of s.scene))

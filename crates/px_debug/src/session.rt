@@ -2,7 +2,7 @@
 ghost use Rattle.std.specs.Prelude.{◌≡◌, ◌+◌, ◌-◌, ◌^◌, ◌<◌, ◌≤◌, IfOk, OnErr, OnOk};
 ghost use Rattle.px_io.specs.Counts.{HasCause};
 ghost use Rattle.px_io.specs.Told.{TakesAll, TakesFront};
-ghost use Rattle.px_array.specs.Slots.{after_save};
+ghost use Rattle.px_array.specs.Slots.{after_save, no_slots};
 ghost use Rattle.px_control.specs.Program.{IsAt};
 ghost use Rattle.px_debug.specs.Answers.{answer, answer_in};
 ghost use Rattle.px_debug_text.specs.Commands.{line_command};
@@ -69,12 +69,13 @@ impl<'s> Model for Session<'s> {
 }
 
 impl<'s> Session<'s> {
-    /// A session before the first broadcast, to which no line was given.
+    /// A session before the first broadcast, to which no line was given, on an array that was just opened.
     ///
     /// Slot 0 keeps the array as it is. After `Memory` the slots are as they were.
     pub fn new<A: Array>(alloc: Global, job: Job<'s>, array: &mut A) -> Result<Session<'s>, Memory>
         requires start { job.place.clock ≡ 0 }
         requires at { IsAt A.BITS job.scene 0 (A.device array.old) }
+        requires fresh { A.slots array.old ≡ no_slots }
         requires few { A.BITS ≤ 256 }
         ensures session { IfOk result (λ s.
             s ≡ record { scene = job.entry.scene; now = 0; lines = 0 }) }

@@ -3,6 +3,7 @@ ghost use Rattle.std.specs.Prelude.{◌<◌};
 
 use crate::runs::{Left, ONE_SOLID, run_words, sink_of, source_of};
 use px_array::PixelArray;
+use px_asked::TellingSource;
 use px_draw::Status;
 use std::alloc::Global;
 use std::process::Abort;
@@ -85,5 +86,62 @@ fn a_failing_write_breaks_off(rt: HostRuntime) -> Result<(), Fail> {
         assert!(rt; !left.out.finished());
         assert_eq!(rt; left.clocks, clocks, "call {call}");
     }
+    Ok(())
+}
+
+/// What the output had taken at an ask, and the bytes that the ask gave.
+type Asked<'a> = (&'a [u8], &'a [u8]);
+
+/// Runs `debug` on one solid and these lines over a source that tells its asks, and compares them with those that are due.
+fn asks_told(
+    rt: &impl Abort,
+    alloc: Global,
+    lines: &[u8],
+    piece: usize,
+    failing: u64,
+    due: &[Asked<'_>],
+) -> Result<Status, Fail>
+    requires { 0 < piece }
+{
+    let mut text = ONE_SOLID.to_vec(alloc)?;
+    text.extend_from_slice(lines)?;
+    let mut input = TellingSource::new(alloc, source_of(alloc, text.as_slice(), piece, failing)?);
+    let mut array = PixelArray::<72>::new(alloc);
+    let left = run_words(alloc, &["debug"], &mut input, sink_of(alloc, 0)?, 100, &mut array)?;
+    let Some(notes) = input.notes() else {
+        return Err(Fail::new("memory was refused for what is told"));
+    };
+    assert_eq!(rt; notes.len(), due.len());
+    for (note, (told, bytes)) in notes.iter().zip(due) {
+        assert_eq!(rt; note.told.as_slice(), *told);
+        assert_eq!(rt; note.bytes.as_slice(), *bytes);
+    }
+    Ok(left.status)
+}
+
+/// Cut behind the first line, which is answered before more is asked for; the second, which is none of a debugger's, is answered
+/// before the end is.
+#[test]
+fn each_line_is_answered_before_the_next_ask(rt: HostRuntime) -> Result<(), Fail> {
+    let mut first = ONE_SOLID.to_vec(rt.alloc())?;
+    first.extend_from_slice(b"step 3\n")?;
+    let due: [Asked<'_>; 3] = [
+        (b"", first.as_slice()),
+        (b"at 3\n", b"hello\n"),
+        (b"at 3\n? line 2\n", b""),
+    ];
+    let status = asks_told(&rt, rt.alloc(), b"step 3\nhello\n", first.len(), 0, &due)?;
+    assert_eq!(rt; status, Status::Done);
+    Ok(())
+}
+
+/// The second ask fails, behind the answers of both lines.
+#[test]
+fn an_ask_that_fails_is_told(rt: HostRuntime) -> Result<(), Fail> {
+    let mut all = ONE_SOLID.to_vec(rt.alloc())?;
+    all.extend_from_slice(b"step 3\nhello\n")?;
+    let due: [Asked<'_>; 2] = [(b"", all.as_slice()), (b"at 3\n? line 2\n", b"")];
+    let status = asks_told(&rt, rt.alloc(), b"step 3\nhello\n", 4096, 2, &due)?;
+    assert_eq!(rt; status, Status::ReadFault);
     Ok(())
 }

@@ -23,10 +23,10 @@ returns-then-is_due-clause-course g c =
       marks = marks_more old.job.scene old.quarter count old.places c.place.result course.marks due.0
           c.place.ensures.stands place;
       marked = marked_at old.quarter count old.job.place.clock course.marks.step now;
-      kept = rw c.save.ensures.slots
+      keeps = rw c.save.ensures.slots
           (slots_more g.A.Array.BITS old.job.scene old.quarter count (g.A.Array.device c.args.array.now)
           (g.A.Array.slots c.args.array.now)
-          course.kept (omega (arith, due.0, c.save.ensures.four)) here);
+          course.keeps (omega (arith, due.0, c.save.ensures.four)) here);
     }
 
 pub returns-else-is_due-clause-course : goal.returns-else-is_due-clause-course
@@ -40,5 +40,5 @@ returns-else-is_due-clause-course g c =
         passed = course.marked.passed;
         next = λ few. rw c.now.ensures.clock at next few;
       };
-      kept = course.kept;
+      keeps = course.keeps;
     }

@@ -18,11 +18,14 @@ returns-clause-course g c =
     let clock : c.return_to.new.self.place.clock ≡ k * q = ap (λ (j : JobView). j.place.clock) c.return_to.ensures
     ∙ course.marks.clocks k _ c.requires.passed in
     let device : g.A.Array.device c.restore.new.self ≡ array_after g.A.Array.BITS old.job.scene (k * q) =
-    same_device _ _ _ c.restore.ensures.device (course.kept k c.requires.passed) in
+    same_device _ _ _ c.restore.ensures.device (course.keeps.kept k c.requires.passed) in
     record {
       at = rw (scene, clock) (record { enough = course.at.enough; reached = device });
       marks = rw scene (marks_front old.job.scene q (k + 1) old.passed old.places course.marks (omega arith)
           (omega (arith, c.requires.passed)));
       marked = rw clock (marked_at q k (k * q) course.marks.step refl);
-      kept = rw (scene, c.restore.ensures.slots) (λ n low. course.kept n (omega (arith, low, c.requires.passed)));
+      keeps = rw (scene, c.restore.ensures.slots) (record {
+        kept = λ n low. course.keeps.kept n (omega (arith, low, c.requires.passed));
+        only = course.keeps.only;
+      });
     }

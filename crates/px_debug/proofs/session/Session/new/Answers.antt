@@ -3,7 +3,7 @@ use Rattle.px_control.specs.Program.{IsAt}
 use Rattle.px_control.specs.Standing.{JobView}
 use Rattle.px_debug.specs.Marks.{HasSlots}
 use Rattle.px_debug.proofs.FittingLemmas.{fits_session}
-use Rattle.px_debug.proofs.MarkingLemmas.{slots_more}
+use Rattle.px_debug.proofs.MarkingLemmas.{slots_more, slots_none}
 use Rattle.px_debug.proofs.session.Session.new.Goals as goal
 
 pub save-requires-clause-is_open : goal.save-requires-clause-is_open
@@ -25,11 +25,12 @@ returns-clause-fits g c =
     let one : HasSlots g.A.Array.BITS course.job.scene course.quarter 1 (g.A.Array.slots c.save.new.self) =
     rw c.save.ensures.slots (slots_more g.A.Array.BITS course.job.scene course.quarter 0 before
     (g.A.Array.slots c.args.array.now)
-    (λ k low. absurd (omega (arith, low))) (omega (arith, c.save.ensures.four)) here) in
+    (rw c.requires.fresh (slots_none g.A.Array.BITS course.job.scene course.quarter)) (omega (arith, c.save.ensures.four))
+    here) in
     fits_session g.A.Array.BITS course _ after (g.A.Array.slots c.save.new.self) refl refl kept.quarter c.requires.few
     record {
       at = rw (c.save.ensures.device, clock, scene) c.requires.at;
       marks = kept.marks;
       marked = kept.marked;
-      kept = rw c.start-course.ensures.first one;
+      keeps = rw c.start-course.ensures.first one;
     }
