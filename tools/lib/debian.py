@@ -39,7 +39,7 @@ if [ -d "$DPKG_ROOT/usr/lib/pxplanes" ]; then
   find "$DPKG_ROOT/usr/lib/pxplanes" -name __pycache__ -type d -prune -exec rm -r {} +
 fi
 """
-HEADERS = (os.path.join("include", "pxplanes.h"), os.path.join("include", "pxplanes.hpp"))
+HEADERS = tuple(os.path.join("include", leaf) for leaf in ("pxplanes.h", "pxplanes.hpp", "pxplanes_scene.h"))
 ARCHIVE = os.path.join("crates", "px_c", "out", "libpx_c.a")
 LIBC = "liblibc_c.a"
 # They make the libraries, and the page.

@@ -3,7 +3,7 @@
     bin/pxplanes, bin/pxplanes-TOOL      the program by its wrapper, and each tool of users
     lib/pxplanes/                        what they need, laid out as in the checkout
     lib/libpxplanes.*, lib/pkgconfig/, lib/cmake/    the library, as tools/package makes it
-    include/pxplanes.h, pxplanes.hpp
+    include/pxplanes.h, pxplanes.hpp, pxplanes_scene.h
     lib/python3/dist-packages/pxplanes   the Python module
     share/man/man1/, share/doc/pxplanes  the manual, and the documents
 """

@@ -3,7 +3,7 @@
 get_filename_component(_pxplanes_place "${CMAKE_CURRENT_LIST_FILE}" REALPATH)
 get_filename_component(_pxplanes_prefix "${_pxplanes_place}/../../../.." ABSOLUTE)
 
-foreach(_pxplanes_leaf include/pxplanes.h include/pxplanes.hpp lib/libpxplanes.so.0 lib/libpxplanes.a)
+foreach(_pxplanes_leaf include/pxplanes.h include/pxplanes.hpp include/pxplanes_scene.h lib/libpxplanes.so.0 lib/libpxplanes.a)
   if(NOT EXISTS "${_pxplanes_prefix}/${_pxplanes_leaf}")
     set(pxplanes_FOUND FALSE)
     set(pxplanes_NOT_FOUND_MESSAGE "there is no ${_pxplanes_prefix}/${_pxplanes_leaf}")

@@ -1,0 +1,99 @@
+use pxplanes_sys as sys;
+use std::fmt;
+
+/// Why there is no answer.
+#[derive(Clone, Debug, PartialEq, Eq)]
+pub enum Error {
+    /// The text is no scene, or no listing: its first bad line, and the word of the cause.
+    Malformed {
+        /// The line, from 1.
+        line: u32,
+        /// Why it is bad.
+        cause: String,
+    },
+    /// A limit is passed; `line` is 0 where it is none of a line.
+    Limit {
+        /// The line, from 1, or 0.
+        line: u32,
+        /// The word of the limit.
+        kind: String,
+        /// What was found there.
+        number: i64,
+    },
+    /// There was no memory for the call.
+    Memory,
+    /// The clock lies past the last, which is told.
+    NoClock {
+        /// How many clocks there are.
+        clocks: u64,
+    },
+    /// No microinstruction, or one with a place past the memory, by its index.
+    NoMicro {
+        /// Which of those given it is, from 0.
+        index: u64,
+    },
+}
+
+/// What a call gives.
+pub type Result<T> = std::result::Result<T, Error>;
+
+impl fmt::Display for Error {
+    fn fmt(&self, to: &mut fmt::Formatter<'_>) -> fmt::Result {
+        match self {
+            Error::Malformed { line, cause } => write!(to, "malformed line {line}: {cause}"),
+            Error::Limit { line, kind, number } => write!(to, "limit line {line}: {kind} {number}"),
+            Error::Memory => write!(to, "no memory"),
+            Error::NoClock { clocks } => write!(to, "there are {clocks} clocks"),
+            Error::NoMicro { index } => write!(to, "microinstruction {index} is none"),
+        }
+    }
+}
+
+impl std::error::Error for Error {}
+
+/// The longest word of the library, and some room.
+const LONGEST: usize = 32;
+
+/// A word that the library writes.
+pub(crate) fn name(write: impl FnOnce(*mut u8, usize) -> usize) -> String {
+    let mut word = [0; LONGEST];
+    let len = write(word.as_mut_ptr(), word.len());
+    String::from_utf8_lossy(&word[..len.min(LONGEST)]).into_owned()
+}
+
+/// Why a call ended with a status that is neither `OK` nor `NO_ROOM`.
+pub(crate) fn refusal(status: u32, found: &sys::Found) -> Error {
+    match status {
+        sys::MALFORMED => Error::Malformed {
+            line: found.line,
+            cause: name(|word, len| unsafe { sys::pxplanes_cause_name(found.cause, word, len) }),
+        },
+        sys::LIMIT => Error::Limit {
+            line: found.line,
+            kind: name(|word, len| unsafe { sys::pxplanes_kind_name(found.kind, word, len) }),
+            number: found.number,
+        },
+        sys::MEMORY => Error::Memory,
+        sys::NO_CLOCK => Error::NoClock { clocks: found.clocks },
+        sys::NO_MICRO => Error::NoMicro { index: found.number as u64 },
+        other => unreachable!("the library answered {other}"),
+    }
+}
+
+/// Calls with buffers of no element, and once more with as many as are due, where some are; what was found, and the buffers.
+pub(crate) fn filled<T: Clone + Default, const N: usize>(
+    mut call: impl FnMut(&mut [Vec<T>; N], &mut sys::Found) -> u32,
+) -> Result<(sys::Found, [Vec<T>; N])> {
+    let mut found = sys::Found::default();
+    let mut buffers = std::array::from_fn(|_| Vec::new());
+    let mut status = call(&mut buffers, &mut found);
+    if status == sys::NO_ROOM {
+        let room = found.room as usize;
+        buffers = std::array::from_fn(|_| vec![T::default(); room]);
+        status = call(&mut buffers, &mut found);
+    }
+    match status {
+        sys::OK => Ok((found, buffers)),
+        _ => Err(refusal(status, &found)),
+    }
+}

@@ -1,0 +1,79 @@
+use crate::error::{filled, refusal, Result};
+use pxplanes_sys as sys;
+
+/// The machine after some clocks of a scene or of a listing: a value, to keep and to clone. Going back is a clone that was kept.
+#[derive(Clone, Debug, PartialEq, Eq)]
+pub struct State {
+    /// Where the machine stood when it was asked for; clocks made since do not change it.
+    pub moment: sys::Moment,
+    words: Vec<u64>,
+}
+
+impl State {
+    /// The machine after the first `clock` clocks of a text.
+    pub fn after(text: impl AsRef<[u8]>, clock: u64) -> Result<State> {
+        let text = text.as_ref();
+        let mut moment = sys::Moment::default();
+        let (_, [words]) = filled(|[words], found| unsafe {
+            sys::pxplanes_state(text.as_ptr(), text.len(), clock, words.as_mut_ptr(), words.len(), &mut moment, found)
+        })?;
+        Ok(State { moment, words })
+    }
+
+    /// Its bits, as include/pxplanes.h lays them out.
+    pub fn words(&self) -> &[u64] {
+        &self.words
+    }
+
+    /// Memory bit `bit` of pixel (x, y), and from [`sys::BITS`] on enable, carry, latch and leaf; `None` where there is none.
+    pub fn bit(&self, bit: u32, x: u32, y: u32) -> Option<bool> {
+        let moment = &self.moment;
+        if bit >= moment.bits + 4 || x >= moment.grid_width || y >= moment.grid_height {
+            return None;
+        }
+        let row = bit as usize * moment.grid_height as usize + y as usize;
+        let word = self.words[row * moment.words_per_row as usize + x as usize / 64];
+        Some(word >> (x % 64) & 1 == 1)
+    }
+
+    /// Makes a clock for each of these microinstructions, packed as [`micros`] gives them. After an error nothing has changed.
+    pub fn clock(&mut self, micros: &[u64]) -> Result<()> {
+        let mut found = sys::Found::default();
+        let status = unsafe {
+            sys::pxplanes_clocks(
+                self.words.as_mut_ptr(),
+                self.words.len(),
+                self.moment.grid_width,
+                self.moment.grid_height,
+                micros.as_ptr(),
+                micros.len(),
+                &mut found,
+            )
+        };
+        match status {
+            sys::OK => Ok(()),
+            _ => Err(refusal(status, &found)),
+        }
+    }
+}
+
+/// What is broadcast in `count` clocks from clock `first` on, a packed microinstruction each.
+pub fn micros(text: impl AsRef<[u8]>, first: u64, count: usize) -> Result<Vec<u64>> {
+    let text = text.as_ref();
+    let mut found = sys::Found::default();
+    // Asked without a buffer first, so that a count past the end takes no memory.
+    let status = unsafe { sys::pxplanes_micros(text.as_ptr(), text.len(), 0, std::ptr::null_mut(), 0, &mut found) };
+    if status != sys::OK {
+        return Err(refusal(status, &found));
+    }
+    if first.checked_add(count as u64).map_or(true, |end| end > found.clocks) {
+        return Err(crate::Error::NoClock { clocks: found.clocks });
+    }
+    let mut micros = vec![0; count];
+    let status =
+        unsafe { sys::pxplanes_micros(text.as_ptr(), text.len(), first, micros.as_mut_ptr(), micros.len(), &mut found) };
+    match status {
+        sys::OK => Ok(micros),
+        _ => Err(refusal(status, &found)),
+    }
+}

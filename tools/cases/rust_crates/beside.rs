@@ -1,0 +1,107 @@
+//! Answers texts by the crates as the program does: of each FILE the maps, the colours and the products, or the note.
+use pxplanes::{Error, State};
+use pxplanes_sys::{Found, Moment};
+use std::fs;
+use std::io::{stdin, BufRead};
+use std::mem::{offset_of, size_of};
+
+macro_rules! layout {
+    ($name:literal, $type:ty, $($field:ident)*) => {
+        println!("{} {}", $name, size_of::<$type>());
+        $(println!("{} {}", stringify!($field), offset_of!($type, $field));)*
+    };
+}
+
+/// The sizes of the structs, and where each field stands.
+fn print_layouts() {
+    layout!("pxplanes_found", Found, width height faces line cause kind number operations clocks room);
+    layout!("pxplanes_moment", Moment, grid_width grid_height words_per_row bits levels clock clocks operation operation_clock next_micro);
+}
+
+fn map(width: u32, height: u32, values: &[u32]) -> Vec<u8> {
+    let mut bytes = format!("P6\n{width} {height}\n255\n").into_bytes();
+    bytes.extend(values.iter().flat_map(|value| value.to_be_bytes()[1..].to_vec()));
+    bytes
+}
+
+fn maps(text: &[u8]) -> pxplanes::Result<Vec<u8>> {
+    let picture = pxplanes::render(text)?;
+    let mut bytes = map(picture.width, picture.height, &picture.depths);
+    bytes.extend(map(picture.width, picture.height, &picture.faces));
+    Ok(bytes)
+}
+
+fn colours(text: &[u8]) -> pxplanes::Result<Vec<u8>> {
+    let found = pxplanes::colour(text)?;
+    let mut bytes = format!("P6\n{} {}\n255\n", found.width, found.height).into_bytes();
+    bytes.extend(found.rgb);
+    Ok(bytes)
+}
+
+fn cost(text: &[u8]) -> pxplanes::Result<Vec<u8>> {
+    let cost = pxplanes::check(text)?;
+    Ok(format!("{} {}\n", cost.operations, cost.clocks).into_bytes())
+}
+
+fn count(text: &[u8]) -> pxplanes::Result<Vec<u8>> {
+    Ok(format!("{}\n", pxplanes::products(text)?.len()).into_bytes())
+}
+
+/// The status and the note of the program.
+fn note(error: &Error) -> Vec<u8> {
+    match error {
+        Error::Malformed { .. } => format!("3 {error}\n"),
+        Error::Limit { .. } => format!("4 {error}\n"),
+        other => format!("{other}\n"),
+    }
+    .into_bytes()
+}
+
+/// The state behind some clocks is that of the text there, and one behind a bad microinstruction is as it was.
+fn clocks_agree(text: &[u8]) -> pxplanes::Result<bool> {
+    let last = pxplanes::check(text)?.clocks;
+    let (first, count) = (last / 3, last.min(40));
+    let mut state = State::after(text, first)?;
+    let micros = pxplanes::micros(text, first, count as usize)?;
+    let next = state.moment.next_micro;
+    state.clock(&micros)?;
+    let due = State::after(text, first + count)?;
+    let kept = state.words().to_vec();
+    let bad = state.clock(&[micros[0], 0]) == Err(Error::NoMicro { index: 1 }) && state.words() == kept;
+    let past = pxplanes::micros(text, last, 1) == Err(Error::NoClock { clocks: last })
+        && pxplanes::micros(text, u64::MAX, usize::MAX) == Err(Error::NoClock { clocks: last })
+        && State::after(text, last + 1) == Err(Error::NoClock { clocks: last });
+    Ok(state.words() == due.words() && next == micros[0] && bad && past)
+}
+
+/// The key of the picture stands in the memory of the last state: its depth is that of `render`, pixel by pixel.
+fn key_agrees(text: &[u8], depth_from: u32, depth_bits: u32) -> pxplanes::Result<bool> {
+    let picture = pxplanes::render(text)?;
+    let state = State::after(text, pxplanes::check(text)?.clocks)?;
+    let depth = |x, y| (0..depth_bits).map(|bit| u32::from(state.bit(depth_from + bit, x, y) == Some(true)) << bit).sum::<u32>();
+    let pixels = (0..picture.height).flat_map(|y| (0..picture.width).map(move |x| (x, y)));
+    Ok(pixels.into_iter().all(|(x, y)| picture.at(x, y).map(|(found, _)| found) == Some(depth(x, y))))
+}
+
+fn main() {
+    let words: Vec<String> = std::env::args().skip(1).collect();
+    if words.first().is_some_and(|word| word == "layouts") {
+        return print_layouts();
+    }
+    let (mut agree, mut compared) = (0, 0);
+    for path in stdin().lock().lines().map(Result::unwrap) {
+        let text = fs::read(&path).unwrap();
+        for (word, answer) in [("render", maps(&text)), ("colour", colours(&text)), ("cost", cost(&text)), ("plan", count(&text))] {
+            fs::write(format!("{path}.{word}.rust"), answer.unwrap_or_else(|error| note(&error))).unwrap();
+        }
+        if let Ok(same) = clocks_agree(&text) {
+            compared += 1;
+            agree += u32::from(same);
+        }
+    }
+    println!("clocks: {}", if compared < 50 { "too few" } else if agree == compared { "all as by state" } else { "they differ" });
+    let text = fs::read("docs/scenes/first.scene").unwrap();
+    println!("keys: {:?}, {:?}", key_agrees(&text, 4, 9), pxplanes::render(&text).map(|picture| picture.at(24, 16)));
+    println!("outside: {:?}", pxplanes::render(&text).map(|picture| (picture.at(48, 0), picture.at(0, 32))));
+    println!("version {}", pxplanes::version());
+}
