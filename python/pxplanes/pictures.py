@@ -49,7 +49,7 @@ class Picture(NamedTuple):
 
 
 def image(numbers: Any, width: int, height: int) -> bytes:
-    flat = memoryview(numbers).cast("B")
+    flat = memoryview(numbers).cast("B").tobytes()
     body = bytearray(3 * width * height)
     for place, byte in enumerate((2, 1, 0)):
         body[place::3] = flat[byte::4]
