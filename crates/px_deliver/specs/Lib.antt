@@ -5,3 +5,4 @@ pub use Rattle.px_frame.specs.Picture
 pub mod Drawn
 pub mod Images
 pub mod Refusals
+pub mod PictureLaw

@@ -3,6 +3,8 @@
 
 mod drawing;
 mod opening;
+mod theorem;
 
 pub use drawing::{deliver, deliver_images, draw};
 pub use opening::open_job;
+pub use theorem::{law_of_pictures, law_of_small_scenes};

@@ -1,12 +1,11 @@
 -- What `render` is to write for a text, from what a run is to answer.
-use Rattle.std.proofs.Common.{ℕ, ◌≡◌, ◌++◌, List, [], Bool, true, false, Option, Some, None, refl, ap, length, pos}
+use Rattle.std.proofs.Common.{ℕ, ◌≡◌, ◌++◌, List, [], Bool, true, false, Option, Some, None, refl, length, pos}
 use Rattle.std.proofs.Common.{◌+◌, append-nil, nat_lt, if◌then◌else◌}
 use Rattle.px_num.specs.Want.{want}
 use Rattle.px_model.specs.Scenes.{SceneView}
-use Rattle.px_model.specs.Cells.{picture}
 use Rattle.px_control.specs.declared.fault.JobFault.TheVariants as f
+use Rattle.px_deliver.specs.PictureLaw.{TextsHavePictures}
 use Rattle.px_deliver.specs.Refusals.{job_refusal, too_many_of}
-use Rattle.px_face.specs.Seen.{PicturesShowFirstCells}
 use Rattle.px_frame.specs.Picture.{depth_image, face_image}
 use Rattle.px_prune.specs.Kept.{crowd_of}
 use Rattle.px_text.specs.declared.text.TheConstants.{MAX_TEXT_BYTES}
@@ -15,7 +14,6 @@ use Rattle.px_show.proofs.JudgedLaws.{not_memory}
 use Rattle.px_text.specs.Text.{lines_of, worded}
 use Rattle.px_scene.specs.Drafts.{draft_of}
 use Rattle.px_scene.specs.Reading.{fault_behind, is_nothing, refusal_of, scene_of}
-use Rattle.px_scene.specs.AcceptedLaw.{AcceptedIsLawful}
 use Rattle.px_sched.specs.Layouts.{layout_of, need_of}
 use Rattle.px_show.specs.declared.fault.LimitKind.TheVariants as kind
 use Rattle.px_show.specs.declared.fault.TextFault.TheVariants as s
@@ -49,16 +47,12 @@ drawn_back bits scene maps rest =
       by_bits false need None e = refl
       by_bits false need (Some n) e = absurd cc
 
-pub accepted_is_rendered : AcceptedIsLawful → PicturesShowFirstCells → AcceptedIsRendered
-accepted_is_rendered lawful seen text bits good fits =
+pub accepted_is_rendered : TextsHavePictures → AcceptedIsRendered
+accepted_is_rendered pictures text bits good fits =
     let scene = scene_of (worded text) in (
       maps_of scene,
       rw good (drawn bits scene (done (maps_of scene)) fits),
-      record {
-        sights = picture scene;
-        written = ap (λ more. depth_image scene ++ more) (append-nil (face_image scene));
-        shown = λ x y. seen scene (lawful text good).scene_is x y;
-      },
+      rw (append-nil (face_image scene)) (pictures text good),
     )
 
 -- a text is never refused for want of memory

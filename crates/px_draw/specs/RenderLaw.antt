@@ -1,22 +1,11 @@
--- The picture theorem: what `render` writes for a text. Clauses of public calls stand on it.
-use Rattle.std.specs.Prelude.{ℕ, ◌≡◌, ◌⊎◌, ◌++◌, List, [], ◌∷◌, None, codes}
-use Rattle.px_model.specs.Scenes.{SceneView}
-use Rattle.px_model.specs.Cells.{Sight}
-use Rattle.px_face.specs.Seen.{ShowsBackgroundAlone, ShowsFirstCell}
-use Rattle.px_frame.specs.Picture.{image_of}
+-- What `render` writes for a text: the maps of the picture theorem. Clauses of public calls stand on it.
+use Rattle.std.specs.Prelude.{ℕ, ◌≡◌, List, [], ◌∷◌, None, codes}
 use Rattle.px_scene.specs.Text.{worded}
 use Rattle.px_scene.specs.Reading.{refusal_of, scene_of}
+use Rattle.px_deliver.specs.PictureLaw.{AreMapsOf}
 use Rattle.px_deliver.specs.Refusals.{job_refusal}
 use Rattle.px_outcome.specs.Outcomes.{done}
 use Rattle.px_draw.specs.Runs.{outcome}
-
--- two pixel maps: at each pixel the depth of its first cell that belongs to the scene's expression, and the lowest-numbered face
--- shown there; the background where no cell belongs
-pub record AreMapsOf (scene : SceneView) (maps : List ℕ) : Type 0 where
-  pub sights : (x y : ℕ) → Sight
-  pub written : maps ≡ image_of scene.width scene.height (λ x y. (sights x y).depth)
-      ++ image_of scene.width scene.height (λ x y. (sights x y).face)
-  pub shown : (x y : ℕ) → ShowsFirstCell scene x y (sights x y) ⊎ ShowsBackgroundAlone scene x y (sights x y)
 
 -- it writes nothing for any other text
 abbrev pub RenderedIsAccepted : Type 0

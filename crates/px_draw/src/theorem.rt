@@ -1,15 +1,13 @@
-//! The picture theorem (docs/PROMISES.md, "The picture theorem").
+//! What `render` writes, by the picture theorem (docs/PROMISES.md, "The picture theorem").
 ghost use Rattle.px_draw.specs.RenderLaw.{AcceptedIsRendered, RenderedIsAccepted};
 
-use px_face::laws_of_surfaces;
-use px_scene::laws_of_texts;
+use px_deliver::law_of_pictures;
 
-/// The picture theorem: what `render` is to write, pixel by pixel, of every text that is accepted, and
-/// that it writes nothing for any other. That a run writes so is said by `run`.
+/// What `render` is to write of every text that is accepted, the maps of the picture theorem, and that it writes nothing for any
+/// other. That a run writes so is said by `run`.
 pub fn law_of_render()
     ensures rendered { AcceptedIsRendered }
     ensures accepted { RenderedIsAccepted }
 {
-    laws_of_surfaces();
-    laws_of_texts();
+    law_of_pictures();
 }

@@ -1,0 +1,23 @@
+-- What the images of an accepted text show, from what texts and pictures are known for; and which scenes are drawn.
+use Rattle.std.proofs.Common.{ℕ, Option, refl}
+use Rattle.px_model.specs.Cells.{picture}
+use Rattle.px_face.specs.Seen.{PicturesShowFirstCells}
+use Rattle.px_scene.specs.AcceptedLaw.{AcceptedIsLawful}
+use Rattle.px_scene.specs.Reading.{scene_of}
+use Rattle.px_scene.specs.Text.{worded}
+use Rattle.px_normal.specs.CrowdLaw.{CrowdLaw}
+use Rattle.px_prune.specs.Bounding.{bounding_box}
+use Rattle.px_sets.specs.declared.cell_box.CellBox.{CellBox}
+use Rattle.px_deliver.proofs.RefusalLemmas.{accepts}
+use Rattle.px_deliver.specs.PictureLaw.{SmallScenesAreDrawn, TextsHavePictures}
+
+pub texts_have_pictures : AcceptedIsLawful → PicturesShowFirstCells → TextsHavePictures
+texts_have_pictures lawful seen text good = record {
+  sights = picture (scene_of (worded text));
+  written = refl;
+  shown = λ x y. seen (scene_of (worded text)) (lawful text good).scene_is x y;
+}
+
+pub small_scenes_are_drawn : ((boxes : ℕ → Option CellBox) → CrowdLaw boxes) → SmallScenesAreDrawn
+small_scenes_are_drawn law bits scene fits plain few =
+    accepts bits scene fits ((law (bounding_box scene)).none scene.show plain few)
