@@ -52,7 +52,7 @@ some_plane shape is =
     omega (arith, is.plane, le-mul_of_pos_right (2 ^ shape.ny) (some_words shape.nx), pow_above shape.ny)
 
 -- the row of word k of a plane, and its column
-row_below : (shape : Shape) (k : ℕ) → IsShape shape → k < shape.plane → k / row_words shape.nx < 2 ^ shape.ny
+pub row_below : (shape : Shape) (k : ℕ) → IsShape shape → k < shape.plane → k / row_words shape.nx < 2 ^ shape.ny
 row_below shape k is below = (div-lt_iff_lt-mul (some_words shape.nx)).1 (omega (arith, is.plane))
 
 -- word k of plane b, by its row

@@ -1,5 +1,6 @@
 pub mod ShapeLemmas
 pub mod ClockedLemmas
+pub mod ColumnLemmas
 pub mod FeedingLemmas
 pub mod ActingLemmas
 pub mod CourseLemmas

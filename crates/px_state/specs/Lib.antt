@@ -4,6 +4,7 @@ pub use Rattle.px_listing.specs.Listings
 pub use Rattle.px_playing.specs.PassesText
 pub mod Cells
 pub mod Clocking
+pub mod Columns
 pub mod Courses
 pub mod Keeping
 pub mod Packed

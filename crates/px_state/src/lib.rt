@@ -3,6 +3,7 @@
 
 mod acting;
 mod clocks;
+mod columns;
 mod fault;
 mod feeding;
 mod leaves;
