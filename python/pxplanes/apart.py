@@ -40,7 +40,8 @@ def called(name: str, data: bytes, before: tuple[Any, ...], buffers: list[Buffer
     asked = pickle.dumps((calls.library()._name, name, data, before, [(each.kind, each.count) for each in buffers],
                           [type(each) for each in structures]))
     start = time.monotonic()
-    with tempfile.TemporaryFile() as answer:
+    with tempfile.TemporaryFile() as opened:
+        answer: Any = opened
         child = subprocess.Popen([sys.executable, "-c", CHILD, PACKAGE], stdin=subprocess.PIPE, stdout=answer, start_new_session=True)
         try:
             assert child.stdin is not None

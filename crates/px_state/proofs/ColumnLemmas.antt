@@ -1,17 +1,19 @@
 -- Planes column by column, and the words of their rows.
-use Rattle.std.proofs.Common.{◌≡◌, ℕ, zero, suc, ◌+◌, ◌-◌, ◌*◌, ◌/◌, ◌%◌, ◌^◌, ◌<◌, ◌≤◌, ◌&&◌, nat_lt, List, get_or, refl, sym, ap, ◌∙◌, arith, inl, inr}
-use Rattle.std.proofs.Math.Nat.{mul-le-mul_right}
+use Rattle.std.proofs.Common.{◌≡◌, ◌≢◌, ℕ, zero, suc, replicate, ◌+◌, ◌*◌, ◌/◌, ◌%◌, ◌^◌, ◌<◌, ◌≤◌, List, get_or, refl, sym, ap, ◌∙◌, arith, inl, inr}
+use Rattle.std.proofs.Math.Nat.{mod-lt, mul-le-mul_right}
 use Rattle.std.proofs.lemmas.Bool.{cases_lt}
+use Rattle.std.proofs.lemmas.List.{get_or_past}
+use Rattle.std.proofs.lemmas.Simd.{get_or-replicate, length-replicate}
 use Rattle.std.proofs.lemmas.Nat.{div-mul-add, mod-mul-add, pow-add}
 use Rattle.px_num.specs.Bits.{bit_at, nat_bit}
 use Rattle.px_num.proofs.BitLaws.{pow_above}
-use Rattle.px_num.proofs.TruthLaws.{double_pow, lt_false, lt_true, power_grows}
+use Rattle.px_num.proofs.TruthLaws.{double_pow, lt_false, lt_true}
 use Rattle.px_rows.proofs.BitLaws.{bit_down}
 use Rattle.px_array.specs.Arrays.{State, pixel_of}
 use Rattle.px_array.specs.Words.{IsMemoryWord, memory_bit}
-use Rattle.px_planes.proofs.GridLemmas.{whole_words}
 use Rattle.px_state.specs.Cells.{IsShape}
-use Rattle.px_state.specs.Columns.{HasSize, HoldsColumns, bit_in, column_words, row_bit}
+use Rattle.px_rows.specs.Rows as places
+use Rattle.px_state.specs.Columns.{HasSize, HoldsBlock, HoldsRows, column_words, memory_in, row_word}
 use Rattle.px_state.specs.Words.{column_bit, room_of, row_words, state_bit}
 use Rattle.px_state.specs.declared.shape.Shape.{Shape}
 use Rattle.px_state.proofs.ActingLemmas.{plane_end}
@@ -59,54 +61,100 @@ column_read s at x w word i column is low within =
     moved_bit s at place word i is (in_one_word s.tree.ny x w i within low)
     ∙ (ap (memory_bit s at) whole ∙ rw (lt_true _ _ below) refl)
 
--- how many words all columns have
-pub few_columns : (nx ny : ℕ) → nx ≤ 9 → column_words ny ≤ 8 → 2 ^ nx * column_words ny ≤ 4096
-few_columns nx ny small few = omega (arith, few, mul-le-mul_right (column_words ny) (power_grows nx 9 small))
+-- a word of a row is in a block
+pub few_blocks : (nx ny c w : ℕ) → row_words nx ≤ 8 → column_words ny ≤ 8 → c < row_words nx → w < column_words ny
+    → c * column_words ny + w < 64
+few_blocks nx ny c w few less column row =
+    omega (arith, row, less, plane_end c (row_words nx) (column_words ny) column, mul-le-mul_right (column_words ny) few)
 
--- the word of a pixel is one of the columns
-pub in_columns : (nx ny x y : ℕ) → nx ≤ 9 → column_words ny ≤ 8 → x < 2 ^ nx → y < 2 ^ ny
-    → x * column_words ny + y / 64 < 4096
-in_columns nx ny x y small few column row =
-    let each = column_words ny in
-    let w : y / 64 < each = omega (arith, row) in
-    omega (arith, w, few, plane_end x (2 ^ nx) each column, mul-le-mul_right each (power_grows nx 9 small))
-
--- and one that the array lends
+-- the word that the array lends
 pub in_row : (nx ny x w : ℕ) → x < 2 ^ nx → 64 * w < 2 ^ ny → 64 * ((x * 2 ^ ny + 64 * w) / 64) < 2 ^ (nx + ny)
 in_row nx ny x w column row = omega (arith, plane_end x (2 ^ nx) (2 ^ ny) column, row, pow-add 2 nx ny)
 
--- columns that were taken word by word
-pub taken : (s : State) (at n : ℕ) (columns : List ℕ) → n ≡ 2 ^ s.tree.nx * column_words s.tree.ny
-    → ((j i : ℕ) → j < n → i < 64 → 64 * (j % column_words s.tree.ny) + i < 2 ^ s.tree.ny → nat_bit (get_or columns j 0) i
-    ≡ bit_at (pixel_of s (j / column_words s.tree.ny) (64 * (j % column_words s.tree.ny) + i)).memory at)
-    → HoldsColumns s at columns
-taken s at n columns count done x y column row =
+row_at : (words : List ℕ) (w b : ℕ) → b < 64 → places.row_bit words (64 * w + b) ≡ nat_bit (get_or words w 0) b
+row_at words w b within =
+    let first : (64 * w + b) / 64 ≡ w = omega (arith, within) in
+    let second : (64 * w + b) % 64 ≡ b = omega (arith, within) in
+    rw (first, second) refl
+
+-- a block that was turned over
+pub turned_in : (s : State) (at c w : ℕ) (block turned : List ℕ) → HoldsBlock s at c w block
+    → ((p : ℕ) → p < 4096 → places.row_bit turned p ≡ places.row_bit block (64 * (p % 64) + p / 64)) → (j i : ℕ) → j < 64 → i < 64
+    → 64 * w + j < 2 ^ s.tree.ny → nat_bit (get_or turned j 0) i ≡ memory_in s at (64 * c + i) (64 * w + j)
+turned_in s at c w block turned held over j i word bit row =
+    let p = 64 * j + i in
+    let over_place : 64 * (p % 64) + p / 64 ≡ 64 * i + j = omega (arith, word, bit) in
+    sym (row_at turned j i bit) ∙ (over p (omega (arith, word, bit)) ∙ (ap (places.row_bit block) over_place
+    ∙ (row_at block i j word ∙ held i j bit word row)))
+
+abbrev empty_block : List ℕ
+empty_block = replicate 64 0
+
+-- a block that is empty
+pub empty_at : (i : ℕ) → get_or empty_block i 0 ≡ 0
+empty_at i = elim (cases_lt i 64) [
+  | inl low ↦ get_or-replicate 64 i 0 0 low
+  | inr past ↦ get_or_past empty_block i 0 (omega (arith, past, length-replicate {A = ℕ} 64 0))
+]
+
+-- one block more
+pub more_rows : (s : State) (at b : ℕ) (old new block : List ℕ) → 1 ≤ column_words s.tree.ny
+    → ((c w j i : ℕ) → c * column_words s.tree.ny + w < b → w < column_words s.tree.ny → j < 64 → i < 64 → 64 * w + j < 2 ^ s.tree.ny
+    → nat_bit (get_or old (64 * (c * column_words s.tree.ny + w) + j) 0) i ≡ memory_in s at (64 * c + i) (64 * w + j))
+    → ((j i : ℕ) → j < 64 → i < 64 → 64 * (b % column_words s.tree.ny) + j < 2 ^ s.tree.ny
+    → nat_bit (get_or block j 0) i ≡ memory_in s at (64 * (b / column_words s.tree.ny) + i) (64 * (b % column_words s.tree.ny) + j))
+    → ((j : ℕ) → j < 64 → get_or new (64 * b + j) 0 ≡ get_or block j 0)
+    → ((j : ℕ) → j / 64 ≢ b → get_or new j 0 ≡ get_or old j 0)
+    → (c w j i : ℕ) → c * column_words s.tree.ny + w < b + 1 → w < column_words s.tree.ny → j < 64 → i < 64 → 64 * w + j < 2 ^ s.tree.ny
+    → nat_bit (get_or new (64 * (c * column_words s.tree.ny + w) + j) 0) i ≡ memory_in s at (64 * c + i) (64 * w + j)
+more_rows s at b old new block some before here put others c w j i low word row bit within =
     let each = column_words s.tree.ny in
-    let w : y / 64 < each = omega (arith, row) in
-    let split : 64 * (y / 64) + y % 64 ≡ y = omega arith in
-    let place = div-mul-add x each (y / 64) w in
-    let rest = mod-mul-add x each (y / 64) w in
-    let inside : x * each + y / 64 < n = omega (arith, plane_end x (2 ^ s.tree.nx) each column, w, count) in
-    let bit = done (x * each + y / 64) (y % 64) inside (omega arith) (rw (rest, split) row) in
-    bit ∙ rw (place, rest, split) refl
+    elim (cases_lt (c * each + w) b) [
+      | inl early ↦
+          let apart : (64 * (c * each + w) + j) / 64 ≢ b = omega (arith, early, row) in
+          ap (λ n. nat_bit n i) (others (64 * (c * each + w) + j) apart) ∙ before c w j i early word row bit within
+      | inr late ↦
+          let this : c * each + w ≡ b = omega (arith, low, late) in
+          let column : b / each ≡ c = ap (λ n. n / each) (sym this) ∙ div-mul-add c each w word in
+          let rest : b % each ≡ w = ap (λ n. n % each) (sym this) ∙ mod-mul-add c each w word in
+          ap (λ n. nat_bit (get_or new (64 * n + j) 0) i) this
+          ∙ (ap (λ n. nat_bit n i) (put j row)
+          ∙ ((rw (column, rest) at (here j i row bit)) within))
+    ]
 
 -- the word of a row is that of a state
-pub row_held : (shape : Shape) (s : State) (at k i : ℕ) (columns : List ℕ) → IsShape shape → HasSize shape s → at < shape.bits
-    → HoldsColumns s at columns → k < shape.plane
-    → row_bit shape columns k i ≡ state_bit shape.bits s (at * shape.plane + k) i
-row_held shape s at k i columns is size plane held within =
-    let x = 64 * (k % row_words shape.nx) + i in
-    let y = k / row_words shape.nx in
-    by_column ∙ sym (plane_law shape s at k i is size.columns size.rows (omega arith) within)
+pub row_held : (shape : Shape) (s : State) (at k i : ℕ) (rows : List ℕ) → IsShape shape → HasSize shape s → at < shape.bits
+    → HoldsRows s at rows → k < shape.plane → i < 64
+    → nat_bit (row_word shape rows k) i ≡ state_bit shape.bits s (at * shape.plane + k) i
+row_held shape s at k i rows is size plane held within inside =
+    by_row ∙ sym (plane_law shape s at k i is size.columns size.rows (omega arith) within)
   where
-    by_column : row_bit shape columns k i ≡ column_bit shape.bits s at (64 * (k % row_words shape.nx) + i) (k / row_words shape.nx)
-    by_column = elim (cases_lt (64 * (k % row_words shape.nx) + i) (2 ^ shape.nx)) [
-      | inl column ↦
-          let low = row_below shape k is within in
-          rw (size.columns, lt_true _ _ column, lt_true at shape.bits plane)
-          (ap (λ ny. bit_in ny columns (64 * (k % row_words shape.nx) + i) (k / row_words shape.nx)) (sym size.rows)
-          ∙ held (64 * (k % row_words shape.nx) + i) (k / row_words shape.nx) (rw size.columns column) (rw size.rows low))
-      | inr past ↦ rw (size.columns, lt_false _ _ past) refl
+    c : ℕ
+    c = k % row_words shape.nx
+
+    y : ℕ
+    y = k / row_words shape.nx
+
+    low : y < 2 ^ shape.ny
+    low = row_below shape k is within
+
+    whole : 64 * (y / 64) + y % 64 ≡ y
+    whole = omega arith
+
+    in_row_words : c < row_words shape.nx
+    in_row_words = mod-lt k (omega (arith, pow_above shape.nx))
+
+    read : nat_bit (row_word shape rows k) i ≡ memory_in s at (64 * c + i) y
+    read =
+        ap (λ ny. nat_bit (get_or rows (64 * (c * column_words ny + y / 64) + y % 64) 0) i) (sym size.rows)
+        ∙ (held c (y / 64) (y % 64) i (rw size.columns in_row_words) (rw size.rows (omega (arith, low))) (omega arith) inside
+        (rw (size.rows, whole) low)
+        ∙ ap (memory_in s at (64 * c + i)) whole)
+
+    by_row : nat_bit (row_word shape rows k) i ≡ column_bit shape.bits s at (64 * c + i) y
+    by_row = read ∙ elim (cases_lt (64 * c + i) (2 ^ s.tree.nx)) [
+      | inl column ↦ rw (lt_true _ _ column, lt_true at shape.bits plane) refl
+      | inr past ↦ rw (lt_false _ _ past) refl
     ]
 
 -- the planes of memory are the first words of a state

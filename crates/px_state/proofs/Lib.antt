@@ -10,4 +10,5 @@ pub mod PutLemmas
 pub mod RefusalLemmas
 pub mod SceneLemmas
 pub mod TextLemmas
+pub mod TurningLemmas
 pub mod WordLemmas

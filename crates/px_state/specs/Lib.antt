@@ -12,4 +12,5 @@ pub mod Packing
 pub mod Parts
 pub mod Refusals
 pub mod States
+pub mod Turning
 pub mod Words

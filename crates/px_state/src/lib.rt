@@ -15,6 +15,7 @@ mod scene;
 mod shape;
 mod state;
 mod text;
+mod turning;
 mod whole;
 mod words;
 

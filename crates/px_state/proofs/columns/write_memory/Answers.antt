@@ -1,4 +1,4 @@
-use Rattle.std.proofs.Common.{◌≡◌, ℕ, ◌+◌, ◌-◌, ◌*◌, ◌<◌, ◌≤◌, get_or, ap, sym, ◌∙◌, arith, inl, inr}
+use Rattle.std.proofs.Common.{◌≡◌, ◌+◌, ◌-◌, ◌*◌, ◌<◌, get_or, ap, sym, ◌∙◌, arith, inl, inr}
 use Rattle.std.proofs.lemmas.Bool.{cases_lt}
 use Rattle.px_num.specs.Bits.{nat_bit}
 use Rattle.px_state.specs.Words.{state_bit}
@@ -25,7 +25,7 @@ loop-at-preserved g c =
             let within : j < plane = omega (arith, low, late) in
             ap (λ k. nat_bit (get_or c.write_plane.new.words k 0) i) (sym place)
             ∙ (c.write_plane.ensures.bit j i within inside
-            ∙ (row_held shape s at j i _ c.requires.shape c.requires.size below c.take_columns.ensures within
+            ∙ (row_held shape s at j i _ c.requires.shape c.requires.size below c.take_rows.ensures within inside
             ∙ ap (λ k. state_bit shape.bits s k i) place))
       ];
       behind = λ j past. c.write_plane.ensures.others j (inr (omega (arith, end, past))) ∙ before.behind j past;
