@@ -21,8 +21,13 @@ Progress = Callable[[float], Any]
 # Seconds of a call that is made in one's own process at most, by what a clock and a pixel in a clock took on a slow machine, and
 # between two looks at one that is made apart.
 SHORT, CLOCK, PIXEL, LOOK = 0.5, 2e-8, 4e-12, 0.05
-CHILD = "import sys; sys.path.insert(0, sys.argv[1]); from pxplanes.apart import main; main()"
-PACKAGE = os.path.dirname(os.path.dirname(os.path.realpath(__file__)))
+PACKAGE = os.path.join(os.path.dirname(os.path.realpath(__file__)), "__init__.py")
+# Loads this package from its own place, whatever stands in the folder where one works.
+CHILD = """import importlib.util, sys
+spec = importlib.util.spec_from_file_location("pxplanes", sys.argv[1])
+sys.modules["pxplanes"] = package = importlib.util.module_from_spec(spec)
+spec.loader.exec_module(package)
+package.apart.main()"""
 
 
 def is_long(clocks: int, pixels: int) -> bool:
@@ -42,7 +47,7 @@ def called(name: str, data: bytes, before: tuple[Any, ...], buffers: list[Buffer
     start = time.monotonic()
     with tempfile.TemporaryFile() as opened:
         answer: Any = opened
-        child = subprocess.Popen([sys.executable, "-c", CHILD, PACKAGE], stdin=subprocess.PIPE, stdout=answer, start_new_session=True)
+        child = subprocess.Popen([sys.executable, "-I", "-c", CHILD, PACKAGE], stdin=subprocess.PIPE, stdout=answer, start_new_session=True)
         try:
             assert child.stdin is not None
             child.stdin.write(len(asked).to_bytes(8, "little") + asked)
