@@ -20,7 +20,7 @@ WITH_PLACE = frozenset(("enable-bit", "fetch", "store-tree", "store-latch", "sto
 WITH_VALUE = frozenset(("enable-carry", "enable-tree", "enable-bit", "set-carry", "store-const"))
 TREES = ("hold", "clear", "feed")
 ENDLESS = 1 << 64
-# Planes that a state has: the bits of memory, the registers, and the nodes, which are as many as two more.
+# Planes that a state has: the bits of memory, three registers, the leaves, and four that the nodes fill.
 PLANES = 80
 
 
