@@ -1,6 +1,7 @@
 """A call in a process of its own, so that Ctrl-C, or whoever waits for it, ends it at once. `main` is what that process does."""
 from __future__ import annotations
 
+import contextlib
 import ctypes
 import os
 import pickle
@@ -48,8 +49,8 @@ def called(name: str, data: bytes, before: tuple[Any, ...], buffers: list[Buffer
     with tempfile.TemporaryFile() as opened:
         answer: Any = opened
         child = subprocess.Popen([sys.executable, "-I", "-c", CHILD, PACKAGE], stdin=subprocess.PIPE, stdout=answer, start_new_session=True)
+        assert child.stdin is not None
         try:
-            assert child.stdin is not None
             child.stdin.write(len(asked).to_bytes(8, "little") + asked)
             child.stdin.flush()
             while child.poll() is None:
@@ -61,7 +62,7 @@ def called(name: str, data: bytes, before: tuple[Any, ...], buffers: list[Buffer
         finally:
             child.kill()
             child.wait()
-            if child.stdin is not None:
+            with contextlib.suppress(OSError):
                 child.stdin.close()
         if child.returncode:
             raise NoLibrary("the process that called the library ended with %d" % child.returncode)

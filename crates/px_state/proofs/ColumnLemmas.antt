@@ -1,6 +1,6 @@
 -- Planes column by column, and the words of their rows.
 use Rattle.std.proofs.Common.{◌≡◌, ◌≢◌, ℕ, zero, suc, replicate, ◌+◌, ◌*◌, ◌/◌, ◌%◌, ◌^◌, ◌<◌, ◌≤◌, List, get_or, refl, sym, ap, ◌∙◌, arith, inl, inr}
-use Rattle.std.proofs.Math.Nat.{mod-lt, mul-le-mul_right}
+use Rattle.std.proofs.Math.Nat.{mod-lt}
 use Rattle.std.proofs.lemmas.Bool.{cases_lt}
 use Rattle.std.proofs.lemmas.List.{get_or_past}
 use Rattle.std.proofs.lemmas.Simd.{get_or-replicate, length-replicate}
@@ -60,12 +60,6 @@ column_read s at x w word i column is low within =
     omega (arith, plane_end x (2 ^ s.tree.nx) (2 ^ s.tree.ny) column, pow-add 2 s.tree.nx s.tree.ny) in
     moved_bit s at place word i is (in_one_word s.tree.ny x w i within low)
     ∙ (ap (memory_bit s at) whole ∙ rw (lt_true _ _ below) refl)
-
--- a word of a row is in a block
-pub few_blocks : (nx ny c w : ℕ) → row_words nx ≤ 8 → column_words ny ≤ 8 → c < row_words nx → w < column_words ny
-    → c * column_words ny + w < 64
-few_blocks nx ny c w few less column row =
-    omega (arith, row, less, plane_end c (row_words nx) (column_words ny) column, mul-le-mul_right (column_words ny) few)
 
 -- the word that the array lends
 pub in_row : (nx ny x w : ℕ) → x < 2 ^ nx → 64 * w < 2 ^ ny → 64 * ((x * 2 ^ ny + 64 * w) / 64) < 2 ^ (nx + ny)
