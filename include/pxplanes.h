@@ -54,8 +54,10 @@
  *   - malloc, realloc and free are those of one allocator.
  *
  * What you get:
- *   - Every call returns. None prints, exits, keeps state or memory, starts a thread or opens a file. Calls are
- *     independent of one another, so any number of threads may make them at once, each with buffers of its own.
+ *   - Every call returns, though a text of some kilobytes can take hours: pxplanes_check says in found.clocks what a
+ *     picture takes, before anything is drawn, and a process ends whatever it calls (examples/c/within.c).
+ *   - None prints, exits, keeps state or memory, starts a thread or opens a file. Calls are independent of one
+ *     another, so any number of threads may make them at once, each with buffers of its own.
  *   - A call takes memory only by malloc and realloc, and gives all of it back before it returns.
  *   - A buffer is written with PXPLANES_OK alone: its front is what the call says, and what lies behind that stays
  *     as it was. With every other status each buffer is as it was. *found and *state are written on every return.

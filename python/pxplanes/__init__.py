@@ -11,12 +11,12 @@ threads at once. docs/SCENES.md has the language, docs/MACHINE.md the machine.
 from .building import Expression, Scene, Solid
 from .calls import from_file
 from .comparing import Comparison, compare
-from .errors import Limit, Malformed, NoClock, NoLibrary, NoMicro, Refused
-from .machine import Micro, Pixel, State, clocked, micros, state
+from .errors import Limit, Malformed, NoClock, NoLibrary, NoMicro, OverBudget, Refused
+from .machine import Micro, Pixel, State, clocked, micros, pixels, state
 from .pictures import Cost, Picture, check, colour, products, render, version
 
-__all__ = ["Comparison", "Cost", "Expression", "Limit", "Malformed", "Micro", "NoClock", "NoLibrary", "NoMicro", "Picture", "Pixel",
-           "Refused", "Scene", "Solid", "State", "check", "clocked", "colour", "compare", "from_file", "micros", "products",
-           "render", "state", "version"]
+__all__ = ["Comparison", "Cost", "Expression", "Limit", "Malformed", "Micro", "NoClock", "NoLibrary", "NoMicro", "OverBudget", "Picture",
+           "Pixel", "Refused", "Scene", "Solid", "State", "check", "clocked", "colour", "compare", "from_file", "micros", "pixels",
+           "products", "render", "state", "version"]
 
 __version__ = "1.0.0"

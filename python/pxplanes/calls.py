@@ -90,22 +90,14 @@ def asked(name: str, text: Text, *arguments: Any) -> tuple[int, Found]:
 def answered(name: str, *arguments: Any) -> tuple[int, Found]:
     """The same of any call."""
     found = Found()
-    status = call(name)(*arguments, ctypes.byref(found))
+    return judged(call(name)(*arguments, ctypes.byref(found)), found)
+
+
+def judged(status: int, found: Found) -> tuple[int, Found]:
+    """A status with what was found, where it is `OK` or `NO_ROOM`."""
     if status in (OK, NO_ROOM):
         return status, found
     raise refusal(status, found)
-
-
-def filled(name: str, kinds: str, text: Text, *before: Any, behind: tuple[Any, ...] = ()) -> tuple[list[Buffer], Found]:
-    """The buffers of a call, one of each kind, which it filled: it is asked for their size first."""
-    room = 0
-    while True:
-        buffers = [Buffer(kind, room) for kind in kinds]
-        given = [word for buffer in buffers for word in buffer.given()]
-        status, found = asked(name, text, *before, *given, *behind)
-        if status == OK:
-            return buffers, found
-        room = found.room
 
 
 def refusal(status: int, found: Found) -> Exception:

@@ -51,6 +51,17 @@ class NoClock(IndexError):
         return NoClock, (self.clocks,)
 
 
+class OverBudget(RuntimeError):
+    """A picture takes more clocks than it may. `clocks` is how many it takes, and `budget` how many it may."""
+
+    def __init__(self, clocks: int, budget: int):
+        super().__init__("%d clocks are more than %d" % (clocks, budget))
+        self.clocks, self.budget = clocks, budget
+
+    def __reduce__(self) -> tuple[type, tuple[int, int]]:
+        return OverBudget, (self.clocks, self.budget)
+
+
 class NoMicro(ValueError):
     """An element is no microinstruction, or names a place past the memory. `index` is the first such one's."""
 

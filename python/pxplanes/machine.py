@@ -8,8 +8,9 @@ import operator
 from typing import Any, Iterable, Iterator, NamedTuple, Optional, Union
 
 from .arrays import Buffer, spread, weighed
-from .calls import FoundState, Text, answered, asked, filled
+from .calls import Found, FoundState, Text, answered, asked
 from .errors import NoClock
+from .filling import filled
 
 REGISTERS = ("enable", "carry", "latch", "leaf")
 ACTS = ("nop", "enable-all", "enable-carry", "enable-tree", "enable-bit", "set-carry", "fetch", "store-tree", "store-latch",
@@ -19,6 +20,8 @@ WITH_PLACE = frozenset(("enable-bit", "fetch", "store-tree", "store-latch", "sto
 WITH_VALUE = frozenset(("enable-carry", "enable-tree", "enable-bit", "set-carry", "store-const"))
 TREES = ("hold", "clear", "feed")
 ENDLESS = 1 << 64
+# Planes that a state has: the bits of memory, three registers, the leaves, and four that the nodes fill.
+PLANES = 80
 
 
 class Micro(NamedTuple):
@@ -143,12 +146,30 @@ class State:
 def state(text: Text, clock: int) -> State:
     """The state of a scene, or of a listing, after so many clocks, from 0 on.
 
-    Raises `Malformed`, `Limit` and `MemoryError`, and `NoClock` for a clock that is below 0 or past the last."""
+    Raises `Malformed`, `Limit` and `MemoryError`, and `NoClock` for a clock that is below 0 or past the last. Ctrl-C ends it, as it
+    ends `render`."""
     found, clock = FoundState(), operator.index(clock)
     if not 0 <= clock < ENDLESS:
         raise NoClock(clocks_of(text))
-    (words,), _ = filled("state", "Q", text, clock, behind=(ctypes.byref(found),))
+
+    def work(due: Found) -> tuple[int, int]:
+        return clock, 64 * due.room // PLANES
+
+    (words,), _ = filled("state", "Q", text, clock, behind=(ctypes.byref(found),), work=work)
     return State(found, memoryview(words.room).cast("B").cast("Q"))
+
+
+def pixels(text: Text, x: int, y: int, first: int, count: int) -> list[Pixel]:
+    """What the pixel at column x and row y holds after `first` clocks of a scene or of a listing, and behind each of the next
+    `count`: one state of the text, and then clock by clock.
+
+    Raises as `state` does, `NoClock` where the text has fewer clocks, and `IndexError` where the grid has no such pixel."""
+    broadcast, now = micros(text, first, count), state(text, first)
+    found = [now.pixel(x, y)]
+    for micro in broadcast:
+        now = clocked(now, [micro])
+        found.append(now.pixel(x, y))
+    return found
 
 
 def clocked(before: State, micros: Iterable[Micro]) -> State:

@@ -1,10 +1,14 @@
 """Scenes judged and drawn."""
 from __future__ import annotations
 
-from typing import Any, NamedTuple
+import operator
+from typing import Any, NamedTuple, Optional
 
-from .arrays import rows
-from .calls import Text, asked, filled, word_of
+from .apart import Progress
+from .arrays import Buffer, rows
+from .calls import Found, Text, asked, word_of
+from .errors import OverBudget
+from .filling import filled
 
 
 class Cost(NamedTuple):
@@ -64,18 +68,33 @@ def check(text: Text) -> Cost:
     return Cost(found.width, found.height, found.faces, found.operations, found.clocks)
 
 
-def render(text: Text) -> Picture:
-    """The depths and the faces of a scene. Raises as `check` does."""
-    (depths, faces), found = filled("render", "II", text)
+def render(text: Text, clocks: Optional[int] = None, progress: Optional[Progress] = None) -> Picture:
+    """The depths and the faces of a scene. Raises as `check` does, and `OverBudget`, before anything is drawn, where it takes more
+    than so many clocks. A picture that may take longer than some tenths of a second is drawn by a process of its own, which
+    Ctrl-C ends; `progress` is called meanwhile, twenty times a second, with the seconds that have passed, and what it raises ends the
+    drawing too."""
+    (depths, faces), found = drawn("render", "II", text, clocks, progress)
     shape = found.height, found.width
     return Picture(depths.shaped(*shape), faces.shaped(*shape), found.width, found.height)
 
 
-def colour(text: Text) -> Any:
+def colour(text: Text, clocks: Optional[int] = None, progress: Optional[Progress] = None) -> Any:
     """The picture in the colours of its faces: red, green and blue from 0 to 255, of shape (height, width, 3), rows from the
-    top; the background is black. Raises as `check` does."""
-    (rgb,), found = filled("colour", "B", text)
+    top; the background is black. Raises as `render` does, with the same budget and progress."""
+    (rgb,), found = drawn("colour", "B", text, clocks, progress)
     return rgb.shaped(found.height, found.width, 3)
+
+
+def drawn(name: str, kinds: str, text: Text, clocks: Optional[int], progress: Optional[Progress]) -> tuple[list[Buffer], Found]:
+    """The buffers of a call that draws, within so many clocks."""
+    budget = None if clocks is None else operator.index(clocks)
+
+    def work(found: Found) -> tuple[int, int]:
+        if budget is not None and found.clocks > budget:
+            raise OverBudget(found.clocks, budget)
+        return found.clocks, found.width * found.height
+
+    return filled(name, kinds, text, work=work, progress=progress)
 
 
 def products(text: Text) -> list[tuple[int, ...]]:

@@ -1,9 +1,9 @@
 -- What an act leaves of a pixel whose bits stand in words.
-use Rattle.std.proofs.Common.{◌≡◌, ◌≢◌, ℕ, ◌+◌, ◌*◌, ◌<◌, ◌≤◌, Bool, true, false, cond, List, length, get_or, set, drop, refl, sym, ap, ◌∙◌, arith}
+use Rattle.std.proofs.Common.{◌≡◌, ◌≢◌, ℕ, ◌+◌, ◌*◌, ◌<◌, ◌≤◌, Bool, true, false, cond, List, length, get_or, set, refl, sym, ap, ◌∙◌, arith}
 use Rattle.std.proofs.Common.{inl, inr, length-set}
 use Rattle.std.proofs.Math.Nat.{mul-le-mul_right}
 use Rattle.std.proofs.lemmas.Bool.{cases_eq, cases_lt}
-use Rattle.std.proofs.lemmas.List.{drop-set-lt, get_or-set_other, get_or-set_same}
+use Rattle.std.proofs.lemmas.List.{get_or-set_other, get_or-set_same}
 use Rattle.std.specs.Prelude.{if◌then◌else◌, slice_set}
 use Rattle.px_num.proofs.ListLaws.{get_or-tabulate, is_tabulate, length-tabulate}
 use Rattle.px_num.specs.Bits.{bit_at, nat_bit}
@@ -13,9 +13,8 @@ use Rattle.px_pixel.specs.Pixels.{PixelState}
 use Rattle.px_pixel.specs.declared.act.Act.{Act}
 use Rattle.px_pixel.specs.declared.act.Act.TheVariants as act
 use Rattle.px_planes.specs.Pixels.{acted_at}
-use Rattle.px_state.specs.Cells.{IsCell, leaf_in, pixel_in, word_bit}
+use Rattle.px_state.specs.Cells.{pixel_in, word_bit}
 use Rattle.px_state.specs.Packing.{place_of}
-use Rattle.px_state.specs.declared.acting.Cells.{Cells}
 
 -- a bit that is stored where the pixel is enabled
 pub stored_bit : (e v : Bool) (memory : List Bool) (at : ℕ) → at < length memory

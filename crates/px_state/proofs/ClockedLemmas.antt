@@ -1,12 +1,12 @@
 -- A state by the pixels and nodes that stand in its words, and one clock of it.
-use Rattle.std.proofs.Common.{◌≡◌, ◌≢◌, ℕ, ◌+◌, ◌-◌, ◌*◌, ◌/◌, ◌%◌, ◌^◌, ◌<◌, ◌≤◌, ◌==◌, nat_lt, Bool, true, false, cond, not, List, [], ◌∷◌, length, drop, take, map, get_or, replicate, None, Some, refl, sym, ap, ◌∙◌, arith}
-use Rattle.std.proofs.Common.{inl, inr, subst}
+use Rattle.std.proofs.Common.{◌≡◌, ℕ, ◌+◌, ◌-◌, ◌*◌, ◌/◌, ◌%◌, ◌^◌, ◌<◌, ◌≤◌, nat_lt, Bool, true, false, cond, not, List, [], ◌∷◌, length, drop, take, map, get_or, None, Some, refl, sym, ap, ◌∙◌, arith}
+use Rattle.std.proofs.Common.{inl, inr}
 use Rattle.px_num.proofs.BitLaws.{pow_above}
 use Rattle.px_num.proofs.TruthLaws.{power_grows}
 use Rattle.px_rows.proofs.BitLaws.{bit_of_zero}
 use Rattle.px_tree.specs.declared.lines.Lines.{Lines}
 use Rattle.px_tree.specs.declared.node.Node.{Node}
-use Rattle.std.proofs.Math.Nat.{div-add-mod, div-lt_iff_lt-mul, le-mul_of_pos_right, mod-lt, add-mul-div_right, add-mul-mod_self_right, mul_assoc, mul-le-mul_right}
+use Rattle.std.proofs.Math.Nat.{div-add-mod, div-lt_iff_lt-mul, le-mul_of_pos_right, mod-lt, add-mul-div_right, add-mul-mod_self_right, mul_assoc}
 use Rattle.std.proofs.lemmas.Bool.{cases_eq, cases_lt}
 use Rattle.std.proofs.lemmas.List.{get_or-drop, get_or-replicate, length-drop, length-replicate, map-append, take_more}
 use Rattle.std.proofs.lemmas.List.Sums.{fails_before_first}
@@ -25,12 +25,12 @@ use Rattle.px_pixel.specs.Pixels.{PixelState, zero_pixel}
 use Rattle.px_pixel.specs.declared.act.Act.{Act}
 use Rattle.px_planes.specs.Pixels.{acted_at}
 use Rattle.px_planes.proofs.GridLemmas.{acted_inside, acted_outside}
-use Rattle.px_tree.specs.Nodes.{IsGrid, TreeState, after_feed, at_place, cleared, leaf_bit, leaf_output, next_at, zero_node}
-use Rattle.px_state.specs.Cells.{HoldsLeaves, HoldsNodes, HoldsPixels, IsShape, fed_in, leaf_here, leaf_in, leaf_over, nodes_at, output_in, carry_in}
+use Rattle.px_tree.specs.Nodes.{TreeState, after_feed, at_place, cleared, leaf_bit, leaf_output, next_at, zero_node}
+use Rattle.px_state.specs.Cells.{HoldsLeaves, HoldsNodes, HoldsPixels, IsShape, fed_in, leaf_in, leaf_over, nodes_at, output_in, carry_in}
 use Rattle.px_state.specs.Cells.{pixel_here, pixel_in, word_bit}
 use Rattle.px_state.specs.Clocking.{HoldsState, first_stray}
 use Rattle.px_state.specs.Packing.{is_micro, micro_in}
-use Rattle.px_state.specs.Words.{HasWords, column_bit, node_bit, node_words, plane_bit, plane_words, planes_bit, room_of, row_words, state_bit}
+use Rattle.px_state.specs.Words.{HasWords, column_bit, node_bit, node_words, plane_bit, plane_words, room_of, row_words, state_bit}
 use Rattle.px_state.specs.declared.shape.Shape.{Shape}
 use Rattle.px_state.proofs.ActingLemmas.{plane_end}
 
@@ -52,7 +52,7 @@ some_plane shape is =
     omega (arith, is.plane, le-mul_of_pos_right (2 ^ shape.ny) (some_words shape.nx), pow_above shape.ny)
 
 -- the row of word k of a plane, and its column
-row_below : (shape : Shape) (k : ℕ) → IsShape shape → k < shape.plane → k / row_words shape.nx < 2 ^ shape.ny
+pub row_below : (shape : Shape) (k : ℕ) → IsShape shape → k < shape.plane → k / row_words shape.nx < 2 ^ shape.ny
 row_below shape k is below = (div-lt_iff_lt-mul (some_words shape.nx)).1 (omega (arith, is.plane))
 
 -- word k of plane b, by its row

@@ -1,5 +1,6 @@
 pub mod ShapeLemmas
 pub mod ClockedLemmas
+pub mod ColumnLemmas
 pub mod FeedingLemmas
 pub mod ActingLemmas
 pub mod CourseLemmas
@@ -9,4 +10,5 @@ pub mod PutLemmas
 pub mod RefusalLemmas
 pub mod SceneLemmas
 pub mod TextLemmas
+pub mod TurningLemmas
 pub mod WordLemmas

@@ -8,7 +8,7 @@ use Rattle.px_pixel.specs.declared.act.Act.TheVariants as act
 use Rattle.px_array.specs.declared.micro.Micro.{Micro}
 use Rattle.px_array.specs.declared.micro.TreeOp.{TreeOp}
 use Rattle.px_array.specs.declared.micro.TreeOp.TheVariants as tree
-use Rattle.px_state.specs.Packing.{HasFields, act_number, act_with, bit_number, is_micro, lines_number, micro_in, packed, place_of}
+use Rattle.px_state.specs.Packing.{act_number, act_with, bit_number, is_micro, lines_number, micro_in, packed, place_of}
 use Rattle.px_state.specs.Packing.{tree_number, tree_with, value_of}
 
 pub act_back : (a : Act) → act_with (act_number a) (value_of a) (place_of a) ≡ a

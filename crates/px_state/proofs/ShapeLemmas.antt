@@ -1,12 +1,11 @@
 -- The words of a grid.
-use Rattle.std.proofs.Common.{◌≡◌, ℕ, ◌+◌, ◌*◌, ◌/◌, ◌%◌, ◌^◌, ◌<◌, ◌≤◌, nat_lt, refl, sym, ◌∙◌, arith, inl, inr}
+use Rattle.std.proofs.Common.{◌≡◌, ℕ, ◌+◌, ◌*◌, ◌%◌, ◌^◌, ◌<◌, ◌≤◌, nat_lt, refl, sym, ◌∙◌, arith, inl, inr}
 use Rattle.std.proofs.Math.Nat.{mod-lt, mul-le-mul_right}
 use Rattle.std.proofs.lemmas.Bool.{cases_lt}
 use Rattle.std.proofs.lemmas.Nat.{pow-add}
 use Rattle.px_num.proofs.BitLaws.{pow_above}
 use Rattle.px_num.proofs.TruthLaws.{lt_true, power_grows}
 use Rattle.px_planes.proofs.GridLemmas.{whole_words}
-use Rattle.px_state.specs.Cells.{IsShape}
 use Rattle.px_state.specs.Words.{row_words}
 use Rattle.px_state.specs.declared.shape.Shape.{Shape}
 use Rattle.px_state.proofs.ActingLemmas.{plane_end}

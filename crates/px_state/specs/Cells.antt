@@ -1,5 +1,5 @@
 -- The pixels and nodes whose bits stand in words. Only proofs and private functions stand on it.
-use Rattle.std.specs.Prelude.{◌≡◌, ℕ, ◌+◌, ◌-◌, ◌*◌, ◌/◌, ◌%◌, ◌^◌, ◌<◌, ◌≤◌, ◌==◌, ◌&&◌, Bool, true, false, List, get_or, nat_lt, if◌then◌else◌}
+use Rattle.std.specs.Prelude.{◌≡◌, ℕ, ◌+◌, ◌*◌, ◌/◌, ◌%◌, ◌^◌, ◌<◌, ◌≤◌, ◌==◌, ◌&&◌, Bool, false, List, get_or, nat_lt, if◌then◌else◌}
 use Rattle.px_num.specs.Bits.{bit_at, nat_bit}
 use Rattle.px_num.specs.Lists.{tabulate}
 use Rattle.px_array.specs.Arrays.{State, pixel_of}

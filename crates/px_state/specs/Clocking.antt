@@ -1,5 +1,5 @@
 -- A state that is clocked where its words stand. Clauses of public calls stand on it.
-use Rattle.std.specs.Prelude.{◌≡◌, ℕ, ◌<◌, Bool, not, List, length, map, get_or}
+use Rattle.std.specs.Prelude.{◌≡◌, ℕ, ◌<◌, not, List, map, get_or}
 use Rattle.std.specs.List.{position}
 use Rattle.px_num.specs.Bits.{nat_bit}
 use Rattle.px_array.specs.Arrays.{HasGrid, State}

@@ -4,6 +4,7 @@ pub use Rattle.px_listing.specs.Listings
 pub use Rattle.px_playing.specs.PassesText
 pub mod Cells
 pub mod Clocking
+pub mod Columns
 pub mod Courses
 pub mod Keeping
 pub mod Packed
@@ -11,4 +12,5 @@ pub mod Packing
 pub mod Parts
 pub mod Refusals
 pub mod States
+pub mod Turning
 pub mod Words

@@ -3,6 +3,7 @@
 
 mod acting;
 mod clocks;
+mod columns;
 mod fault;
 mod feeding;
 mod leaves;
@@ -14,6 +15,7 @@ mod scene;
 mod shape;
 mod state;
 mod text;
+mod turning;
 mod whole;
 mod words;
 

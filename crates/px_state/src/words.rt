@@ -1,11 +1,13 @@
 //! The state of an array as words.
-ghost use Rattle.std.specs.Prelude.{◌≡◌, ℕ, ◌+◌, ◌*◌, ◌^◌, ◌<◌, ◌≤◌, ◌&&◌, length, nat_le, nat_lt};
+ghost use Rattle.std.specs.Prelude.{◌≡◌, ℕ, ◌+◌, ◌*◌, ◌^◌, ◌<◌, ◌≤◌, ◌&&◌, get_or, length, nat_le, nat_lt};
 ghost use Rattle.px_num.specs.Bits.{nat_bit};
 ghost use Rattle.px_array.specs.Arrays.{HasPixel, IsOpen, levels_of};
 ghost use Rattle.px_tree.specs.Nodes.{IsGrid, at_place};
 ghost use Rattle.px_state.specs.Parts.{IsInGrid, IsPart, part_bit};
-ghost use Rattle.px_state.specs.Words.{HasWords, node_words, plane_bit, plane_words, room_of, row_words};
+ghost use Rattle.px_state.specs.Words.{HasWords, node_words, plane_bit, plane_words, room_of, row_words, state_bit};
 
+use crate::columns::write_memory;
+use crate::shape::Shape;
 use px_array::Array;
 use px_num::power;
 
@@ -67,7 +69,26 @@ pub fn write_words<A: Array>(array: &A, words: &mut [u64])
     ensures length { length words.new ≡ length words.old }
 {
     let (nx, ny) = array.size();
-    for k in 0..room_of(A::BITS, nx, ny) {
+    let shape = Shape::of(A::BITS, nx, ny);
+    write_memory(array, &shape, words);
+    write_rest(array, words, shape.bits * shape.plane);
+}
+
+/// Writes the words from one on, where those before it are written.
+fn write_rest<A: Array>(array: &A, words: &mut [u64], first: usize)
+    requires is_open { IsOpen (A.device array.now) }
+    requires bits { A.BITS ≤ 256 }
+    requires room { room_of A.BITS (A.device array.now).state.tree.nx (A.device array.now).state.tree.ny
+        ≤ length words.old }
+    requires first { first
+        ≤ room_of A.BITS (A.device array.now).state.tree.nx (A.device array.now).state.tree.ny }
+    requires written { (k i : ℕ) → k < first → i < 64
+        → nat_bit (get_or words.old k 0) i ≡ state_bit A.BITS (A.device array.now).state k i }
+    ensures words { HasWords A.BITS (A.device array.now).state words.old words.new }
+    ensures length { length words.new ≡ length words.old }
+{
+    let (nx, ny) = array.size();
+    for k in first..room_of(A::BITS, nx, ny) {
         let part = part_of(A::BITS, nx, ny, k);
         words[k] = word_of(array, part);
     }
@@ -114,6 +135,7 @@ fn word_of<A: Array>(array: &A, part: Part) -> u64
 }
 
 /// Bit `i` of the word at a part of a state.
+#[inline(always)]
 fn bit_of<A: Array>(array: &A, part: Part, i: u32) -> bool
     requires is_open { IsOpen (A.device array.now) }
     requires bits { A.BITS ≤ 256 }
@@ -132,6 +154,7 @@ fn bit_of<A: Array>(array: &A, part: Part, i: u32) -> bool
 }
 
 /// The bit of a pixel in a plane.
+#[inline(always)]
 fn plane_bit<A: Array>(array: &A, plane: u32, x: u32, y: u32) -> bool
     requires pixel { HasPixel (A.device array.now) x y }
     requires bits { A.BITS ≤ 256 }
@@ -152,6 +175,7 @@ fn plane_bit<A: Array>(array: &A, plane: u32, x: u32, y: u32) -> bool
 }
 
 /// Whether there is a node at a place.
+#[inline(always)]
 fn is_node(nx: u32, ny: u32, place: u32) -> bool
     requires grid { IsGrid nx ny }
     ensures { result ≡ (nat_le 2 place && nat_lt place (2 ^ (nx + ny + 1))) }
@@ -160,6 +184,7 @@ fn is_node(nx: u32, ny: u32, place: u32) -> bool
 }
 
 /// The output and the carry latch of the node at a place.
+#[inline(always)]
 fn node<A: Array>(array: &A, place: u32) -> (bool, bool)
     requires is_open { IsOpen (A.device array.now) }
     requires within { place < 2 ^ (levels_of (A.device array.now).state.tree + 1) }
@@ -172,6 +197,7 @@ fn node<A: Array>(array: &A, place: u32) -> (bool, bool)
 }
 
 /// The level of the node at a place.
+#[inline(always)]
 fn level_of(place: u32) -> u32
     requires some { 1 ≤ place }
     ensures low { 2 ^ result ≤ place }

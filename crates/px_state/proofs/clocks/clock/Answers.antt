@@ -2,7 +2,6 @@ use Rattle.std.proofs.Common.{◌+◌, subst, sym, ◌∙◌, arith, inl, inr}
 use Rattle.px_array.specs.Clocks.{after_clock}
 use Rattle.px_array.specs.declared.micro.TreeOp.TheVariants.{Hold, Clear, Feed}
 use Rattle.px_tree.specs.Nodes.{after_feed, cleared}
-use Rattle.px_state.specs.Cells.{nodes_at}
 use Rattle.px_state.specs.Clocking.{HoldsState}
 use Rattle.px_state.proofs.ActingLemmas.{plane_end}
 use Rattle.px_state.proofs.ClockedLemmas.{acted_pixels, acted_state, cleared_nodes, clock_law, fed_nodes, kept_leaves}

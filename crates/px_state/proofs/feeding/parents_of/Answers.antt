@@ -2,7 +2,6 @@ use Rattle.std.proofs.Common.{◌≡◌, ◌+◌, ◌*◌, ◌/◌, ◌%◌, get
 use Rattle.std.proofs.lemmas.List.{get_or_default}
 use Rattle.px_num.proofs.TruthLaws.{lt_false}
 use Rattle.px_num.specs.Bits.{nat_bit}
-use Rattle.px_plane_tree.specs.Lanes.{IsDoubled}
 use Rattle.px_state.proofs.FeedingLemmas.{parents_root}
 use Rattle.px_state.proofs.feeding.parents_of.Goals as goal
 use Rattle.px_state.proofs.feeding.parents_of.Goals.{then-w-eq0, else-w-eq0}

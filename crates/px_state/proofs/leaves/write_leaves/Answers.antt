@@ -1,10 +1,10 @@
-use Rattle.std.proofs.Common.{◌≡◌, ◌+◌, ◌*◌, ◌/◌, ◌%◌, ◌^◌, ◌<◌, ◌&&◌, nat_lt, length, ap, ◌∙◌, arith, inl, inr, length-set}
+use Rattle.std.proofs.Common.{◌+◌, ◌*◌, ◌/◌, ◌%◌, ◌^◌, ◌<◌, ◌&&◌, nat_lt, length, ap, ◌∙◌, arith, inl, inr, length-set}
 use Rattle.std.proofs.lemmas.Bool.{cases_eq}
 use Rattle.std.proofs.lemmas.List.{get_or-set_other, get_or-set_same}
 use Rattle.px_num.specs.Bits.{nat_bit}
-use Rattle.px_state.specs.Cells.{leaf_over, nodes_at}
+use Rattle.px_state.specs.Cells.{nodes_at}
 use Rattle.px_state.specs.Words.{row_words}
-use Rattle.px_state.proofs.ActingLemmas.{beside, plane_end}
+use Rattle.px_state.proofs.ActingLemmas.{plane_end}
 use Rattle.px_state.proofs.leaves.write_leaves.Goals as goal
 
 pub loop-k-preserved : goal.loop-k-preserved

@@ -1,32 +1,25 @@
-use Rattle.std.proofs.Common.{◌≡◌, ◌≢◌, ℕ, ◌<◌, length, get_or, set, ap, ◌∙◌, arith, length-set, below_more}
-use Rattle.std.proofs.lemmas.List.{drop-set-lt, get_or-set_other, get_or-set_same}
-use Rattle.px_num.specs.Bits.{nat_bit}
-use Rattle.px_state.specs.Parts.{IsPart}
-use Rattle.px_state.specs.Words.{room_of, state_bit}
-use Rattle.px_state.proofs.PlaceLemmas.{part_is}
+use Rattle.std.proofs.Common.{◌∙◌, arith}
+use Rattle.px_state.specs.Words.{room_of}
+use Rattle.px_state.proofs.ClockedLemmas.{same_behind}
+use Rattle.px_state.proofs.ColumnLemmas.{memory_first}
 use Rattle.px_state.proofs.words.write_words.Goals as goal
 
-pub loop-k-preserved : goal.loop-k-preserved
-loop-k-preserved g c =
-    let bits = g.A.Array.BITS in
-    let s = (g.A.Array.device c.args.array.now).state in
-    let k = c.loop-k.k in
-    let words = c.loop-k.words in
-    let before = c.loop-k.invariant in
-    let in_room : k < room_of bits s.tree.nx s.tree.ny =
-    rw (c.room_of-k-end.ensures, c.BITS.ensures, c.size-nx.ensures.size) at c.loop-k-test.true in
-    let in_words : k < length words = omega (arith, in_room, before.same, c.requires.room) in
-    let part : IsPart bits s.tree.nx s.tree.ny k c.part_of-part.result =
-    rw (c.BITS-in-loop-k.ensures, c.size-nx.ensures.size) at c.part_of-part.ensures.part in
+pub write_rest-requires-clause-first : goal.write_rest-requires-clause-first
+write_rest-requires-clause-first g c =
+    let size = c.size-nx.ensures.size in
+    let is = c.of-shape.ensures in
+    memory_first c.of-shape.result _ _ _ is.shape (is.bits ∙ c.BITS.ensures) (rw size at is.columns) (rw size at is.rows)
+
+pub returns-clause-words : goal.returns-clause-words
+returns-clause-words g c =
+    let tree = (g.A.Array.device c.args.array.now).state.tree in
+    let size = c.size-nx.ensures.size in
+    let is = c.of-shape.ensures in
+    let first = memory_first c.of-shape.result g.A.Array.BITS tree.nx tree.ny is.shape (is.bits ∙ c.BITS.ensures)
+    (rw size at is.columns) (rw size at is.rows) in
     record {
-      bit = λ j i below inside.
-          below_more
-          (λ j. (i : ℕ) → i < 64 → nat_bit (get_or (set words k c.word_of.result) j 0) i ≡ state_bit bits s j i) k
-          (λ j low i inside. let other : j ≢ k = omega (arith, low) in
-          ap (λ w. nat_bit w i) (get_or-set_other words k j c.word_of.result 0 other) ∙ before.bit j i low inside)
-          (λ i inside. ap (λ w. nat_bit w i) (get_or-set_same words k c.word_of.result 0 in_words)
-          ∙ (c.word_of.ensures i inside ∙ part_is bits s k c.part_of-part.result i part))
-          j below i inside;
-      behind = drop-set-lt (room_of bits s.tree.nx s.tree.ny) words k c.word_of.result in_room ∙ before.behind;
-      same = length-set words k c.word_of.result ∙ before.same;
+      bit = c.write_rest.ensures.words.bit;
+      behind = c.write_rest.ensures.words.behind
+          ∙ same_behind (room_of g.A.Array.BITS tree.nx tree.ny) c.write_memory.new.words c.args.words.now c.write_memory.ensures.length
+          (λ j past. c.write_memory.ensures.behind j (omega (arith, past, first)));
     }

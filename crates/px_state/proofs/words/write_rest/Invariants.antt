@@ -1,7 +1,7 @@
 use Rattle.std.proofs.Common.{◌≡◌, ℕ, ◌<◌, length, get_or, drop}
 use Rattle.px_num.specs.Bits.{nat_bit}
 use Rattle.px_state.specs.Words.{room_of, state_bit}
-use Rattle.px_state.proofs.words.write_words.Given as goal
+use Rattle.px_state.proofs.words.write_rest.Given as goal
 
 abbrev pub invariant-loop-k : goal.invariant-loop-k
 invariant-loop-k g l =

@@ -1,0 +1,88 @@
+"""A call in a process of its own, so that Ctrl-C, or whoever waits for it, ends it at once. `main` is what that process does."""
+from __future__ import annotations
+
+import contextlib
+import ctypes
+import os
+import pickle
+import subprocess
+import sys
+import tempfile
+import threading
+import time
+from typing import Any, Callable, Optional
+
+from . import calls
+from .arrays import Buffer
+from .errors import NoLibrary
+from .finding import VARIABLE
+
+Progress = Callable[[float], Any]
+
+# Seconds of a call that is made in one's own process at most, by what a clock and a pixel in a clock took on a slow machine, and
+# between two looks at one that is made apart.
+SHORT, CLOCK, PIXEL, LOOK = 0.5, 2e-8, 4e-12, 0.05
+PACKAGE = os.path.join(os.path.dirname(os.path.realpath(__file__)), "__init__.py")
+# Loads this package from its own place, whatever stands in the folder where one works.
+CHILD = """import importlib.util, sys
+spec = importlib.util.spec_from_file_location("pxplanes", sys.argv[1])
+sys.modules["pxplanes"] = package = importlib.util.module_from_spec(spec)
+spec.loader.exec_module(package)
+package.apart.main()"""
+
+
+def is_long(clocks: int, pixels: int) -> bool:
+    """Whether so many clocks of so many pixels may take longer than one waits without a look at the keyboard, where a process can
+    be begun."""
+    return clocks * (CLOCK + PIXEL * pixels) > SHORT and bool(sys.executable)
+
+
+def called(name: str, data: bytes, before: tuple[Any, ...], buffers: list[Buffer], behind: tuple[Any, ...],
+           progress: Optional[Progress]) -> tuple[int, calls.Found]:
+    """Makes a call in a process of its own, which ends where this one does: its status and what it found, as `calls.asked` gives
+    them. What it writes is in `buffers` and in the structures `behind`, as `ctypes.byref` hands them over. `progress` is handed the
+    seconds that have passed, twenty times a second; what it raises ends the call, as Ctrl-C does, and then nothing is written."""
+    found, structures = calls.Found(), [each._obj for each in behind]
+    asked = pickle.dumps((calls.library()._name, name, data, before, [(each.kind, each.count) for each in buffers],
+                          [type(each) for each in structures]))
+    start = time.monotonic()
+    with tempfile.TemporaryFile() as opened:
+        answer: Any = opened
+        child = subprocess.Popen([sys.executable, "-I", "-c", CHILD, PACKAGE], stdin=subprocess.PIPE, stdout=answer, start_new_session=True)
+        assert child.stdin is not None
+        try:
+            child.stdin.write(len(asked).to_bytes(8, "little") + asked)
+            child.stdin.flush()
+            while child.poll() is None:
+                try:
+                    child.wait(LOOK)
+                except subprocess.TimeoutExpired:
+                    if progress is not None:
+                        progress(time.monotonic() - start)
+        finally:
+            child.kill()
+            child.wait()
+            with contextlib.suppress(OSError):
+                child.stdin.close()
+        if child.returncode:
+            raise NoLibrary("the process that called the library ended with %d" % child.returncode)
+        answer.seek(0)
+        status = int.from_bytes(answer.read(4), "little")
+        for room in (found, *structures, *(each.room for each in buffers if each.room is not None)):
+            answer.readinto(room)
+    return calls.judged(status, found)
+
+
+def main() -> None:
+    """Reads a call, makes it and writes what it wrote; and ends at once where its parent has ended."""
+    source = sys.stdin.buffer
+    path, name, data, before, kinds, structures = pickle.loads(source.read(int.from_bytes(source.read(8), "little")))
+    threading.Thread(target=lambda: os.read(source.fileno(), 1) or os._exit(1), daemon=True).start()
+    os.environ[VARIABLE] = path
+    buffers, behind, found = [Buffer(*each) for each in kinds], [each() for each in structures], calls.Found()
+    given = [word for each in buffers for word in each.given()]
+    status = calls.call(name)(data, len(data), *before, *given, *map(ctypes.byref, behind), ctypes.byref(found))
+    for room in (int(status).to_bytes(4, "little"), found, *behind, *(each.room for each in buffers if each.room is not None)):
+        sys.stdout.buffer.write(room)
+    sys.stdout.flush()
+    os._exit(0)
