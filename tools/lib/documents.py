@@ -146,7 +146,11 @@ def sources():
 
 
 def wrong_places():
-    """A file or folder that a document names in letters of a machine, and that is not there."""
+    """A file or folder that a document names in letters of a machine, or a document that a source names, and that is not there."""
+    for leaf in sources() + [MAN, WRAPPER]:
+        for place in re.findall(r"\bdocs/[\w/]+\.md", content(leaf)):
+            if not os.path.exists(os.path.join(ends.TOP, place)):
+                yield "%s: there is no %s" % (leaf, place)
     for leaf in names():
         if leaf != "CHANGES.md":
             for span in SPAN.findall(prose(leaf)):
@@ -344,7 +348,8 @@ def wrong_operations():
     lines = [span for row in rows("docs/LISTINGS.md", "Operations") for span in SPAN.findall(row[0])]
     yield from difference("docs/LISTINGS.md", lines, [list_cures.form_of(word) for word in list_cures.FORMS])
     spoken = re.findall(r'word == b"([a-z]+)"', content("crates/px_debug_text/src/command.rt"))
-    yield from difference("docs/DEBUGGER.md", [row[0].strip("`").split()[0] for row in rows("docs/DEBUGGER.md", "Lines") if "`" in row[0]], spoken)
+    told = [row[0].strip("`").split()[0] for row in rows("docs/DEBUGGER.md", "Lines") if "`" in row[0]]
+    yield from difference("docs/DEBUGGER.md", told, spoken)
 
 
 def wrong_lists():
