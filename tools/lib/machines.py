@@ -32,6 +32,7 @@ OPTIONS = ("-o", "BatchMode=yes", "-o", "ConnectTimeout=10", "-o", "ServerAliveI
 PROCESSORS = "$(nproc 2>/dev/null || echo 1)"
 RETRIES = 2
 LEAST_OF_A_JOB, MOST_OF_A_JOB = 4, 20
+MOST_SECONDS = 60
 USUAL_JOBS = 4
 LIBC = ctypes.CDLL(None)
 TERMINATE_WITH_PARENT = 1
@@ -197,6 +198,10 @@ class Slurm:
         self.process.wait()
 
     def terminate(self):
+        """Takes the array back, and waits until none of it writes into the folder any more."""
         if self.number:
             subprocess.run(["scancel", self.number], stdin=subprocess.DEVNULL, stdout=subprocess.DEVNULL, stderr=subprocess.DEVNULL)
-        self.process.terminate()
+        try:
+            self.process.wait(MOST_SECONDS if self.number else 0)
+        except subprocess.TimeoutExpired:
+            self.process.terminate()
