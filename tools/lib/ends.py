@@ -1,5 +1,6 @@
 """What the tools share: their words, files and standard streams, and one line for a bad file."""
 import argparse
+import difflib
 import importlib.machinery
 import importlib.util
 import os
@@ -98,7 +99,10 @@ class Words(argparse.ArgumentParser):
     """The words of a tool; bad ones are told in one line, as all else that goes wrong."""
 
     def error(self, message):
-        raise netpbm.Bad("%s; --help says more" % message)
+        unknown = re.match(r"unrecognized arguments: (--\S+)", message)
+        known = [option for action in self._actions for option in action.option_strings]
+        near = difflib.get_close_matches(unknown.group(1).split("=")[0], known, 1, 0.75) if unknown else []
+        raise netpbm.Bad("%s%s; --help says more" % (message, " (is it %s?)" % near[0] if near else ""))
 
 
 def glued(words, with_word):

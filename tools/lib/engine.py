@@ -1,17 +1,16 @@
-"""Pieces of work that are run on all processors, or on many machines, by GNU parallel. It is no tool itself.
+"""Pieces of work that are run on all processors, by GNU parallel, or on many machines (machines.py). It is no tool itself.
 
 A piece is a text that the program is given, and leaves three files below one folder: NAME.out, NAME.note and, last,
 NAME.status. Nothing else tells how far the work is, so it can be broken off anywhere."""
-import ctypes
 import fcntl
 import os
 import shutil
-import signal
-import socket
 import subprocess
 import sys
 import time
 
+import ends
+import machines
 import netpbm
 
 WORKER = '''#!/bin/sh
@@ -27,10 +26,15 @@ for piece; do
 done
 '''
 PARTS = ("in", "out", "note", "ended", "status")
-TERMINATE_WITH_PARENT = 1
 IN_A_TURN = 20
 TURNS_A_JOB = 8
 TURNS_OF_WAITING = 10
+
+
+def whole_number(word):
+    if not word.isdigit() or int(word) < 1:
+        raise netpbm.Bad("--retries wants a number from 1 on, and not %s" % word)
+    return int(word)
 
 
 class Piece:
@@ -47,10 +51,16 @@ class Piece:
 class Engine:
     """Runs pieces in a folder of its own, which is locked as long as anything of it runs."""
 
-    def __init__(self, folder, built, words, jobs, logins=None):
-        self.folder, self.jobs, self.logins = folder, jobs, logins
-        self.away = ".pxplanes-pieces-%s-%d" % (socket.gethostname(), os.getpid())
-        if (jobs != 1 or logins) and shutil.which("parallel") is None:
+    def __init__(self, folder, built, words, said):
+        """`said` has the options of a tool: --jobs, and --sshloginfile with --retries, or --slurm."""
+        self.folder, self.jobs, self.is_slurm = folder, ends.jobs(said.get("--jobs")), "--slurm" in said
+        self.logins = machines.logins_of(said["--sshloginfile"], said.get("--jobs")) if "--sshloginfile" in said else None
+        self.retries = whole_number(said.get("--retries", str(machines.RETRIES)))
+        if self.is_slurm and self.logins:
+            raise netpbm.Bad("--slurm and --sshloginfile do not go together")
+        if self.is_slurm and shutil.which("sbatch") is None:
+            raise netpbm.Bad("there is no sbatch; Slurm has it")
+        if not self.logins and not self.is_slurm and self.jobs != 1 and shutil.which("parallel") is None:
             raise netpbm.Bad("there is no parallel; `apt-get install parallel` installs it, and --jobs 1 goes without it")
         os.makedirs(folder, exist_ok=True)
         self.lock = open(os.path.join(folder, "lock"), "w")
@@ -58,7 +68,7 @@ class Engine:
         for leaf in os.listdir(folder):
             if leaf != "lock":
                 os.remove(os.path.join(folder, leaf))
-        (shutil.copy if logins else os.symlink)(os.path.abspath(built), os.path.join(folder, "program"))
+        (shutil.copy if self.is_slurm else os.symlink)(os.path.abspath(built), os.path.join(folder, "program"))
         self.write("words", "\n".join(words))
         self.write("worker", WORKER)
 
@@ -79,26 +89,23 @@ class Engine:
         return os.path.join(self.folder, "%s.%s" % (name, part))
 
     def command(self, pieces):
-        """The words of the engine, which takes the names of so many pieces from its input, a line each. On this machine
-        several go in one turn, so that small ones do not wait for the engine, and all jobs still end together."""
-        words = ["parallel", "--will-cite", "--jobs", str(self.jobs)]
-        if self.logins:
-            words += ["--sshloginfile", os.path.abspath(self.logins), "--workdir", self.away, "--cleanup", "--transferfile", "{}.in"]
-            words += [it for leaf in ("program", "words", "worker") for it in ("--basefile", leaf)]
-            words += [it for part in ("out", "note", "status") for it in ("--return", "{}." + part)]
-            return words + ["sh", "worker", "{}"]
+        """The words of the engine, which takes the names of so many pieces from its input, a line each. Several go in
+        one turn, so that small ones do not wait for the engine, and all jobs still end together."""
         turn = max(1, min(IN_A_TURN, pieces // (TURNS_A_JOB * self.jobs)))
-        return words + ["--max-args", str(turn), "sh", "worker"]
+        return ["parallel", "--will-cite", "--jobs", str(self.jobs), "--max-args", str(turn), "sh", "worker"]
 
     def start(self, names):
         """The engine at work on the pieces; it ends with this process, and keeps the lock until then."""
-        def begin():
-            ctypes.CDLL(None).prctl(TERMINATE_WITH_PARENT, signal.SIGTERM)
+        if self.logins:
+            return machines.Machines(self.folder, self.logins, names, self.retries)
+        if self.is_slurm:
+            return machines.Slurm(self.folder, list(names), self.jobs)
         with open(os.path.join(self.folder, "names"), "w") as file:
             file.writelines(name + "\n" for name in names)
-        words = self.command(len(names)) if self.jobs != 1 or self.logins else ["xargs", "sh", "worker"]
+        words = self.command(len(names)) if self.jobs != 1 else ["xargs", "sh", "worker"]
         return subprocess.Popen(words, cwd=self.folder, stdin=open(os.path.join(self.folder, "names")), stdout=subprocess.DEVNULL,
-                                stderr=open(os.path.join(self.folder, "trouble"), "w"), pass_fds=[self.lock.fileno()], preexec_fn=begin)
+                                stderr=open(os.path.join(self.folder, "trouble"), "w"), pass_fds=[self.lock.fileno()],
+                                preexec_fn=machines.end_with_parent)
 
     def ended(self, inputs):
         """Each piece as it ends; `inputs` has a name of letters and digits for each, and a call that gives its input."""
@@ -124,6 +131,8 @@ class Engine:
             engine.wait()
 
     def trouble(self):
+        if self.logins:
+            return "no machine is left"
         with open(os.path.join(self.folder, "trouble"), errors="replace") as file:
             return " ".join(file.read().split())[:200] or "the engine says nothing"
 
@@ -133,9 +142,6 @@ class Engine:
                 os.remove(self.place(name, part))
 
     def close(self):
-        if self.logins:
-            words = ["parallel", "--will-cite", "--nonall", "--sshloginfile", os.path.abspath(self.logins), "rm", "-rf", self.away]
-            subprocess.run(words, stdin=subprocess.DEVNULL, stdout=subprocess.DEVNULL, stderr=subprocess.DEVNULL)
         shutil.rmtree(self.folder, ignore_errors=True)
 
 

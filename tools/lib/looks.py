@@ -1,17 +1,24 @@
 """What an accepted scene looks like: where each of its solids is in the picture, and what is likely
-wrong with it. What `explain` tells; docs/PICTURE.md has the meaning that it tells it by."""
+wrong with it. What `explain` tells; docs/PICTURE.md has the meaning that it tells it by.
+
+A hint is a pair of a heading, LIKELY or LOOK, and a sentence. LIKELY is said where hardly anybody means what stands there,
+LOOK where a good scene may have it too."""
 import rays
 import texts
 
 # So many planes at pixels are tried in all, for what is taken away in vain.
 BUDGET = 3000000
+LIKELY, LOOK = "likely wrong", "worth a look"
+# The ways out of a picture: columns or rows, which end of them, and the direction.
+WAYS_OUT = (("to the left", "columns", 0, (-1, 0)), ("to the right", "columns", 1, (1, 0)),
+            ("above", "rows", 0, (0, -1)), ("below", "rows", 1, (0, 1)))
 
 
 class Look:
-    """Where a solid has cells: its first and last column, row and depth, or why it has none."""
+    """Where a solid has cells: its first and last column, row and depth; or why it has none, under which heading."""
 
     def __init__(self):
-        self.columns = self.rows = self.depths = self.why = None
+        self.columns = self.rows = self.depths = self.why = self.heading = None
 
     def add(self, x, y, first, last):
         self.columns = widened(self.columns, x, x)
@@ -85,7 +92,7 @@ def look(scene, solid):
             found.add(first, y, low, high - 1)
             found.add(last, y, low, high - 1)
     if found.columns is None:
-        found.why = why_none(scene, solid)
+        found.heading, found.why = why_none(scene, solid)
     return found
 
 
@@ -105,7 +112,7 @@ def plane_text(kind, plane):
 
 
 def why_none(scene, solid):
-    """Why a solid has no cell at any pixel of the picture."""
+    """A hint: why a solid has no cell at any pixel of the picture."""
     fronts, backs, sides = forms(scene, solid)
     rows = list(kept(scene, sides))
     if not rows:
@@ -116,21 +123,23 @@ def why_none(scene, solid):
     if back.kind == "far limit":
         behind = min([rays.value(plane, (first + last) // 2, y) for plane in backs[1:]], default=0)
         bits = (max(front.value, behind) >> scene.fraction_bits).bit_length()
-        return ("it begins behind the far limit: the front in line %d is at %s, and the far limit %d%s" % (
-            front.line, parts(front.value, scene), scene.far(),
-            "; depth %d has room" % bits if bits <= 24 - scene.fraction_bits and bits > scene.depth_bits else ""))
+        has_room = front.value < behind or not solid.backs
+        return (LIKELY if has_room else LOOK,
+                "it begins behind the far limit: the front in line %d is at %s, and the far limit %d%s" % (
+                    front.line, parts(front.value, scene), scene.far(), "; depth %d has room" % bits
+                    if has_room and bits <= 24 - scene.fraction_bits and bits > scene.depth_bits else ""))
     if front.kind == "near" and back.value <= 0:
-        return "it ends before the eye: the back in line %d is at %s" % (back.line, parts(back.value, scene))
+        return LIKELY, "it ends before the eye: the back in line %d is at %s" % (back.line, parts(back.value, scene))
     if front.value < back.value:
-        return "it passes between two depths: at %d %d from %s, line %d, up to %s%s" % (
+        return LIKELY, "it passes between two depths: at %d %d from %s, line %d, up to %s%s" % (
             (first + last) // 2, y, parts(front.value, scene), front.line, parts(back.value, scene),
             ", line %d" % back.line if back.line else "")
     said = "its backs are not behind its fronts: at %d %d the back in line %d is at %s, and the front %s at %s" % (
         (first + last) // 2, y, back.line, parts(back.value, scene),
         "in line %d is" % front.line if front.kind == "front" else "the near face", parts(front.value, scene))
-    if front.kind == "front" and back.value < front.value:
-        return said + "; are the words front and back the wrong way round?"
-    return said
+    if any(kept(scene, sides + gaps(fronts[:1] + backs[1:], backs[:1] + fronts[1:]))):
+        return LIKELY, said + "; are the words front and back the wrong way round?"
+    return LOOK, said
 
 
 def parts(value, scene):
@@ -139,17 +148,25 @@ def parts(value, scene):
 
 
 def why_no_pixel(scene, solid):
-    """Which sides leave no pixel of the picture."""
+    """A hint: which sides leave no pixel of the picture. Two that look away from each other are likely turned."""
     alone = next((side for side in solid.sides if not any(kept(scene, [side.plane]))), None)
     if alone:
-        return "its side in line %d, %s, keeps no pixel of the picture" % (alone.line, plane_text("side", alone.plane))
+        return LIKELY, "its side in line %d, %s, keeps no pixel of the picture" % (
+            alone.line, plane_text("side", alone.plane))
+    heading = LIKELY if any(look_away(scene, one, other) for one in solid.sides for other in solid.sides) else LOOK
     for side in solid.sides:
         turned = tuple(-part for part in side.plane)
         others = [other.plane for other in solid.sides if other is not side]
         if any(kept(scene, others + [turned])):
-            return "its sides leave no pixel; that in line %d may be the wrong way round: %s leaves some" % (
+            return heading, "its sides leave no pixel; that in line %d may be the wrong way round: %s leaves some" % (
                 side.line, plane_text("side", turned))
-    return "its sides leave no pixel"
+    return heading, "its sides leave no pixel"
+
+
+def look_away(scene, one, other):
+    """Whether two sides, each of which keeps some pixels, are parallel and have none together."""
+    (a, b, _), (p, q, _) = one.plane, other.plane
+    return a * q == b * p and not any(kept(scene, [one.plane, other.plane]))
 
 
 def ways(scene):
@@ -190,6 +207,28 @@ def is_vain(scene, index, rows):
     return True
 
 
+def box_of(looked):
+    """The columns, rows and depths of a solid, each the first and the last; None where it has no cell, or that is open."""
+    return looked.columns and (looked.columns, looked.rows, looked.depths)
+
+
+def apart(scene, looks):
+    """The solids that are taken away from what lies apart from them: whole columns, rows or depths are between."""
+    found = set()
+
+    def join(sign, left, right):
+        (box, _), (other, taken) = left, right
+        if sign == "-" and box:
+            found.update(at for at in taken if box_of(looks[at]) and any(
+                one[1] + 1 < two[0] or two[1] + 1 < one[0] for one, two in zip(box, box_of(looks[at]))))
+        joined = box if sign in "-*" or not other else other if not box else tuple(
+            widened(one, *two) for one, two in zip(box, other))
+        return joined, left[1] | taken
+
+    rays.folded(scene.show, lambda at: (box_of(looks[at]), {at}), join)
+    return found
+
+
 def taken_in_vain(scene, looks):
     """The solids that are taken away, and change no depth; of those that do, as many are tried as the budget has room for."""
     used, left = ways(scene), BUDGET
@@ -203,17 +242,81 @@ def taken_in_vain(scene, looks):
         if cost <= left:
             left -= cost
             if is_vain(scene, index, rows):
-                yield solid
+                yield index
 
 
-def wrong_before_drawing(scene, looks):
-    """What is likely wrong, by the solids alone."""
-    out = ["solid %s has no cell in the picture: %s" % (solid.name, looked.why)
+def before_drawing(scene, looks):
+    """The hints by the solids alone."""
+    out = [(looked.heading, "solid %s has no cell in the picture: %s" % (solid.name, looked.why))
            for solid, looked in zip(scene.solids, looks) if looked.why]
     for solid, looked in zip(scene.solids, looks):
-        out += vain_sides(scene, solid) if not looked.why else []
-    out += ["solid %s is taken away, and nothing is nearer or farther by that" % solid.name for solid in taken_in_vain(scene, looks)]
-    return out + of_fraction(scene, looks) + without_common(scene, looks)
+        out += [(LIKELY, each) for each in vain_sides(scene, solid)] if not looked.why else []
+    far = apart(scene, looks)
+    for index in taken_in_vain(scene, looks):
+        out.append((LIKELY if index in far else LOOK, "solid %s is taken away, and nothing is nearer or farther by that%s" % (
+            scene.solids[index].name, ": it lies apart from what it is taken from" if index in far else "")))
+    out += [(LIKELY, each) for each in of_fraction(scene, looks) + without_common(scene, looks)]
+    return out + unbounded(scene, looks)
+
+
+def unbounded(scene, looks):
+    """A hint for each solid that is added, and goes on where the picture ends with no plane of its own to end it."""
+    used, out = ways(scene), []
+    for index, (solid, looked) in enumerate(zip(scene.solids, looks)):
+        if (index, True) in used and looked.columns:
+            open_to = open_ways(scene, solid, looked)
+            if open_to:
+                out.append((LOOK, "solid %s is open %s: no plane of it ends it there" % (solid.name, ", ".join(open_to))))
+    return out
+
+
+def open_ways(scene, solid, looked):
+    """The ways out of the picture by which a solid goes on without end."""
+    fronts, backs = ([face.plane for face in faces] for faces in (solid.fronts, solid.backs))
+    held = {plane[:2] for plane in [side.plane for side in solid.sides] + gaps(fronts, backs)} - {(0, 0)}
+    out = []
+    for words, what, end, way in WAYS_OUT:
+        limit = (0, (scene.width if what == "columns" else scene.height) - 1)[end]
+        if getattr(looked, what)[end] == limit and is_open(held, way):
+            out.append(words)
+    return out + ["to the eye"] * (not fronts) + ["behind"] * (not backs)
+
+
+def is_open(held, way):
+    """Whether some direction with a part that way leads out of no half-plane with these A and B. It need only be looked for along
+    their edges, and straight that way."""
+    edges = {way} | {each for a, b in held for each in ((b, -a), (-b, a))}
+    return any(x * way[0] + y * way[1] > 0 and all(a * x + b * y >= 0 for a, b in held) for x, y in edges)
+
+
+def plural(count, word):
+    return "%d %s%s" % (count, word, "" if count == 1 else "s")
+
+
+def from_picture(scene, faces, looks):
+    """The hints by a picture's face numbers."""
+    if not any(faces):
+        return [(LIKELY, "the picture is blank: no pixel shows a face")]
+    out, seen, used = [], set(faces), ways(scene)
+    for index, (solid, looked) in enumerate(zip(scene.solids, looks)):
+        numbers = [solid.near] + [face.number for face in solid.fronts + solid.backs]
+        taken_away = (index, False) in used and (index, True) not in used
+        if (index, True) not in used and not taken_away:
+            out.append("solid %s is not in the shown expression" % solid.name)
+        elif not looked.why and not seen.intersection(numbers):
+            if not taken_away:
+                out.append("solid %s is never shown: others are in front of it, or take it away" % solid.name)
+            elif solid.backs:
+                out.append("solid %s is never shown: no back of it is where it is taken away" % solid.name)
+        if solid.near in seen and solid.fronts:
+            out.append("solid %s shows its near face at %s: its fronts are at or before the eye" % (
+                solid.name, plural(faces.count(solid.near), "pixel")))
+    return [(LOOK, each) for each in out]
+
+
+def sorted_hints(hints):
+    """First what is likely wrong."""
+    return sorted(hints, key=lambda hint: hint[0] != LIKELY)
 
 
 def of_fraction(scene, looks):

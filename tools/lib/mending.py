@@ -28,7 +28,7 @@ MINUS = re.compile("[\u2010-\u2015\u2212\ufe63\uff0d]")
 NUMBER = re.compile(r"[-+]?(?:0[xX][0-9a-fA-F]+|(?:\d[\d_']*\.?\d*|\.\d+)(?:[eE][-+]?\d+)?(?:/\d+)?)\Z")
 WHOLE = re.compile(r"-?[0-9]+\Z")
 LIGHT = ("light",)
-COMMANDS = ("step", "run", "back", "at", "pixel", "field", "tree", "trace", "quit", "go", "to", "micro", "macro")
+COMMANDS = ("step", "run", "until", "back", "at", "pixel", "field", "tree", "trace", "quit", "go", "to", "micro", "macro")
 
 
 class Statement:

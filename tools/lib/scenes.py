@@ -22,6 +22,19 @@ RANGES = {"picture": "width and height are from 1 to %d" % limits.MAX_PICTURE_SI
           "colour": "red, green and blue are from 0 to 255"}
 
 
+# The commands that alone take lines behind `end`, and what those begin with.
+BEHIND_END = (("shadow", "light lines", (b"light",)),
+              ("debug", "command lines", (b"step", b"macro", b"run", b"until", b"back", b"at", b"pixel", b"field", b"tree", b"trace", b"quit")))
+
+
+def cure_behind_end(first):
+    """What to do about a line behind `end` that begins with this word."""
+    for command, lines, words in BEHIND_END:
+        if first in words:
+            return "`pxplanes %s` alone takes %s behind end: call that, or drop this line" % (command, lines)
+    return "drop this line, or put it before end"
+
+
 class Refusal(Exception):
     """The first bad line: what the program says of it, and what else there is to say."""
 
@@ -138,8 +151,7 @@ class Reader:
             return self.header(words)
         first, span = words[0]
         if self.step == 7:
-            raise self.malformed("after-end", span, self.due(),
-                                 "drop this line, or put it before end")
+            raise self.malformed("after-end", span, self.due(), cure_behind_end(first))
         if first not in DUE[self.step]:
             raise self.malformed("unexpected", span, self.due(), self.cure_of_word(first))
         if first == b"show":

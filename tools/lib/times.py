@@ -108,7 +108,7 @@ def shadowed(built, words, scene, behind, factor=1):
 
 
 def shadow_operations(solid):
-    """The operations that ask whether the stored cell is inside a solid (docs/SHADOWS.md)."""
+    """The operations that ask whether the stored cell is inside a solid (docs/SCENES.md, "Shadow passes")."""
     faces = 2 + len(solid.fronts) + len(solid.backs)
     return 5 + faces * (faces - 1 + len(solid.sides) + 3)
 

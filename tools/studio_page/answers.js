@@ -2,7 +2,7 @@
 import {Refused, load} from "../../web/pxplanes.mjs";
 import {cureOf} from "./cures.js";
 import {compared, fill, mapsOf, marksOf, pictureOf, wordsOf} from "./differences.js";
-import {allLooks, fromPicture, rayOf, wrongBeforeDrawing} from "./looks.js";
+import {hintsOf, rayOf} from "./looks.js";
 import {Bad, rastersOf} from "./maps.js";
 import {clocksOf, operationsOf, operationsOfListing, readListing} from "./passes.js";
 import {OF_PRODUCTS, Refusal, bytesOf, cutLines, lettersOf, needMemory, readScene} from "./scene.js";
@@ -53,11 +53,8 @@ function draw(text) {
     depths: drawn.depths, faces: drawn.faces, rgb};
 }
 
-// What is likely wrong with an accepted scene, by its solids and by the faces that its picture shows.
-function hints(text, {faces}) {
-  const scene = sceneIn(text), looks = allLooks(scene);
-  return {hints: [...wrongBeforeDrawing(scene, looks), ...fromPicture(scene, faces, looks)]};
-}
+// What is likely wrong with an accepted scene, and what is worth a look.
+const hints = (text, {faces}) => ({hints: hintsOf(sceneIn(text), faces)});
 
 // The ray of a pixel: what is seen, and where it is inside each solid.
 function ray(text, words) {

@@ -1,11 +1,15 @@
 // What an accepted scene looks like: where each of its solids is in the picture, and what is likely wrong with it. It says the
-// same as tools/lib/looks.py and tools/explain.
+// same as tools/lib/looks.py. A hint is a heading, LIKELY or LOOK, and a sentence.
 import {rounded} from "./cures.js";
 import {Depths, cellOf, crossings, endsOf, folded, leftOut, pixelOf, runs, valueOf} from "./rays.js";
 
 // So many planes at pixels are tried in all, for what is taken away in vain.
 const BUDGET = 3000000;
 const DIGITS = 6;
+const LIKELY = "likely wrong", LOOK = "worth a look";
+// The ways out of a picture: columns or rows, which end of them, and the direction.
+const WAYS_OUT = [["to the left", "columns", 0, [-1, 0]], ["to the right", "columns", 1, [1, 0]],
+  ["above", "rows", 0, [0, -1]], ["below", "rows", 1, [0, 1]]];
 
 // The x from first to last where A*x + B*y + C is not negative.
 function spanOf([a, b, c], y, first, last) {
@@ -39,9 +43,9 @@ const gaps = (fronts, backs) => fronts.flatMap(f => backs.map(b => [b[0] - f[0],
 
 const pixelsOf = rows => rows.reduce((sum, [, first, last]) => sum + last + 1 - first, 0);
 
-// The look of each solid: its columns, rows and depths, each the first and the last, or why it has none. Where counting cells takes
-// too long, what it is stays open.
-export function allLooks(scene) {
+// The look of each solid: its columns, rows and depths, each the first and the last, or why it has none, under which heading. Where
+// counting cells takes too long, what it is stays open.
+function allLooks(scene) {
   let cost = 0;
   if (scene.fractionBits) for (const solid of scene.solids) {
     const [fronts, backs, sides] = formsOf(scene, solid);
@@ -71,7 +75,7 @@ function lookOf(scene, solid) {
       add(last, y, low, high - 1);
     }
   }
-  if (!found.columns) found.why = whyNone(scene, solid);
+  if (!found.columns) [found.heading, found.why] = whyNone(scene, solid);
   return found;
 }
 
@@ -86,27 +90,29 @@ function least(convex, first, last) {
 
 const planeText = (kind, plane) => [kind, ...plane.map(part => part + 0)].join(" ");
 
-// Why a solid has no cell at any pixel of the picture.
+// A hint: why a solid has no cell at any pixel of the picture.
 function whyNone(scene, solid) {
-  const [, backs, sides] = formsOf(scene, solid), rows = kept(scene, sides);
+  const [fronts, backs, sides] = formsOf(scene, solid), rows = kept(scene, sides);
   if (!rows.length) return whyNoPixel(scene, solid);
   const [y, first, last] = rows[Math.floor(rows.length / 2)], x = Math.floor((first + last) / 2);
   const {front, back} = endsOf(scene, solid, x, y);
   if (back.kind === "far limit") {
     const behind = backs.length > 1 ? Math.min(...backs.slice(1).map(plane => valueOf(plane, x, y))) : 0;
     const bits = bitsOf(Math.floor(Math.max(front.value, behind) / 2 ** scene.fractionBits));
-    const room = bits <= 24 - scene.fractionBits && bits > scene.depthBits ? `; depth ${bits} has room` : "";
-    return `it begins behind the far limit: the front in line ${front.line} is at ${parts(front.value, scene)}, and the far limit ${
-      scene.far()}${room}`;
+    const hasRoom = front.value < behind || !solid.backs.length;
+    const room = hasRoom && bits <= 24 - scene.fractionBits && bits > scene.depthBits ? `; depth ${bits} has room` : "";
+    return [hasRoom ? LIKELY : LOOK, `it begins behind the far limit: the front in line ${front.line} is at ${
+      parts(front.value, scene)}, and the far limit ${scene.far()}${room}`];
   }
   if (front.kind === "near" && back.value <= 0)
-    return `it ends before the eye: the back in line ${back.line} is at ${parts(back.value, scene)}`;
+    return [LIKELY, `it ends before the eye: the back in line ${back.line} is at ${parts(back.value, scene)}`];
   if (front.value < back.value)
-    return `it passes between two depths: at ${x} ${y} from ${parts(front.value, scene)}, line ${front.line}, up to ${
-      parts(back.value, scene)}${back.line ? `, line ${back.line}` : ""}`;
+    return [LIKELY, `it passes between two depths: at ${x} ${y} from ${parts(front.value, scene)}, line ${front.line}, up to ${
+      parts(back.value, scene)}${back.line ? `, line ${back.line}` : ""}`];
   const said = `its backs are not behind its fronts: at ${x} ${y} the back in line ${back.line} is at ${parts(back.value, scene)}, and ${
     front.kind === "front" ? `the front in line ${front.line} is` : "the front the near face"} at ${parts(front.value, scene)}`;
-  return front.kind === "front" && back.value < front.value ? said + "; are the words front and back the wrong way round?" : said;
+  const turned = gaps([fronts[0], ...backs.slice(1)], [backs[0], ...fronts.slice(1)]);
+  return kept(scene, [...sides, ...turned]).length ? [LIKELY, said + "; are the words front and back the wrong way round?"] : [LOOK, said];
 }
 
 function bitsOf(number) {
@@ -131,16 +137,23 @@ function parts(value, scene) {
   return sign + bare(text.slice(0, power + 1), text.slice(power + 1));
 }
 
-// Which sides leave no pixel of the picture.
+// A hint: which sides leave no pixel of the picture. Two that look away from each other are likely turned.
 function whyNoPixel(scene, solid) {
   const alone = solid.sides.find(side => !kept(scene, [side.plane]).length);
-  if (alone) return `its side in line ${alone.line}, ${planeText("side", alone.plane)}, keeps no pixel of the picture`;
+  if (alone) return [LIKELY, `its side in line ${alone.line}, ${planeText("side", alone.plane)}, keeps no pixel of the picture`];
+  const heading = solid.sides.some(one => solid.sides.some(other => lookAway(scene, one, other))) ? LIKELY : LOOK;
   for (const side of solid.sides) {
     const turned = side.plane.map(part => -part), others = solid.sides.filter(other => other !== side).map(other => other.plane);
     if (kept(scene, [...others, turned]).length)
-      return `its sides leave no pixel; that in line ${side.line} may be the wrong way round: ${planeText("side", turned)} leaves some`;
+      return [heading, `its sides leave no pixel; that in line ${side.line} may be the wrong way round: ${
+        planeText("side", turned)} leaves some`];
   }
-  return "its sides leave no pixel";
+  return [heading, "its sides leave no pixel"];
+}
+
+// Whether two sides, each of which keeps some pixels, are parallel and have none together.
+function lookAway(scene, {plane: [a, b, c]}, {plane: [p, q, r]}) {
+  return a * q === b * p && !kept(scene, [[a, b, c], [p, q, r]]).length;
 }
 
 // Of each solid of the expression whether it is added, taken away, or both: its number with a sign behind it.
@@ -179,12 +192,34 @@ function isVain(depths, rows, index) {
   return true;
 }
 
+// The columns, rows and depths of a solid; null where it has no cell, or that is open.
+const boxOf = look => look.columns ? [look.columns, look.rows, look.depths] : null;
+
+const joined = (one, two) => one.map(([low, high], at) => [Math.min(low, two[at][0]), Math.max(high, two[at][1])]);
+
+// The solids that are taken away from what lies apart from them: whole columns, rows or depths are between.
+function apartOf(scene, looks) {
+  const found = new Set();
+  folded(scene.show, at => ({box: boxOf(looks[at]), taken: new Set([at])}), (sign, left, right) => {
+    const isApart = at => boxOf(looks[at]) && left.box.some(([low, high], which) => {
+      const [first, last] = boxOf(looks[at])[which];
+      return high + 1 < first || last + 1 < low;
+    });
+    if (sign === "-" && left.box) for (const at of right.taken) if (isApart(at)) found.add(at);
+    const box = "-*".includes(sign) || !right.box ? left.box : !left.box ? right.box : joined(left.box, right.box);
+    return {box, taken: new Set([...left.taken, ...right.taken])};
+  });
+  return found;
+}
+
 const isTakenAway = (used, index) => used.has(`${index}-`) && !used.has(`${index}+`);
 
-// What is likely wrong, by the solids alone.
-export function wrongBeforeDrawing(scene, looks) {
-  const out = scene.solids.flatMap(({name}, at) => looks[at].why ? [`solid ${name} has no cell in the picture: ${looks[at].why}`] : []);
-  scene.solids.forEach((solid, at) => { if (!looks[at].why) out.push(...vainSides(solid)); });
+// The hints by the solids alone.
+function beforeDrawing(scene, looks) {
+  const likely = each => [LIKELY, each], apart = apartOf(scene, looks);
+  const out = scene.solids.flatMap(({name}, at) =>
+    looks[at].why ? [[looks[at].heading, `solid ${name} has no cell in the picture: ${looks[at].why}`]] : []);
+  scene.solids.forEach((solid, at) => { if (!looks[at].why) out.push(...vainSides(solid).map(likely)); });
   const used = waysOf(scene), planes = scene.solids.reduce((sum, each) => sum + 3 + each.fronts.length + each.backs.length, 0);
   const depths = new Depths(scene);
   let left = BUDGET;
@@ -194,9 +229,36 @@ export function wrongBeforeDrawing(scene, looks) {
     const cost = pixelsOf(rows) * planes;
     if (cost > left) return;
     left -= cost;
-    if (isVain(depths, rows, index)) out.push(`solid ${solid.name} is taken away, and nothing is nearer or farther by that`);
+    if (isVain(depths, rows, index))
+      out.push([apart.has(index) ? LIKELY : LOOK, `solid ${solid.name} is taken away, and nothing is nearer or farther by that${
+        apart.has(index) ? ": it lies apart from what it is taken from" : ""}`]);
   });
-  return [...out, ...ofFraction(scene, looks), ...withoutCommon(scene, looks)];
+  return [...out, ...[...ofFraction(scene, looks), ...withoutCommon(scene, looks)].map(likely), ...unbounded(scene, looks, used)];
+}
+
+// A hint for each solid that is added, and goes on where the picture ends with no plane of its own to end it.
+function unbounded(scene, looks, used) {
+  return scene.solids.flatMap((solid, index) => {
+    const open = used.has(`${index}+`) && looks[index].columns ? openWays(scene, solid, looks[index]) : [];
+    return open.length ? [[LOOK, `solid ${solid.name} is open ${open.join(", ")}: no plane of it ends it there`]] : [];
+  });
+}
+
+// The ways out of the picture by which a solid goes on without end.
+function openWays(scene, solid, look) {
+  const planes = faces => faces.map(face => face.plane), {fronts, backs} = solid, held = new Map();
+  for (const [a, b] of [...planes(solid.sides), ...gaps(planes(fronts), planes(backs))])
+    if (a || b) held.set(`${a + 0} ${b + 0}`, [a, b]);
+  const limits = {columns: [0, scene.width - 1], rows: [0, scene.height - 1]};
+  const out = WAYS_OUT.filter(([, what, end, way]) => look[what][end] === limits[what][end] && isOpen([...held.values()], way));
+  return [...out.map(([words]) => words), ...fronts.length ? [] : ["to the eye"], ...backs.length ? [] : ["behind"]];
+}
+
+// Whether some direction with a part that way leads out of no half-plane with these A and B. It need only be looked for along their
+// edges, and straight that way.
+function isOpen(held, way) {
+  return [way, ...held.flatMap(([a, b]) => [[b, -a], [-b, a]])].some(([x, y]) =>
+    x * way[0] + y * way[1] > 0 && held.every(([a, b]) => a * x + b * y >= 0));
 }
 
 // A scene whose planes seem to count cells where they count parts of them.
@@ -226,13 +288,13 @@ function withoutCommon(scene, looks) {
   return out;
 }
 
-export const plural = (count, word) => `${count} ${word}${count === 1 ? "" : "s"}`;
+const plural = (count, word) => `${count} ${word}${count === 1 ? "" : "s"}`;
 
-// What a picture's face numbers tell.
-export function fromPicture(scene, faces, looks) {
+// The hints by a picture's face numbers.
+function fromPicture(scene, faces, looks) {
   const counts = new Map(), out = [], used = waysOf(scene);
   for (const face of faces) counts.set(face, (counts.get(face) ?? 0) + 1);
-  if (![...counts.keys()].some(Boolean)) return ["the picture is blank: no pixel shows a face"];
+  if (![...counts.keys()].some(Boolean)) return [[LIKELY, "the picture is blank: no pixel shows a face"]];
   scene.solids.forEach((solid, index) => {
     const numbers = [solid.near, ...solid.fronts.map(face => face.number), ...solid.backs.map(face => face.number)];
     const isAway = isTakenAway(used, index);
@@ -241,11 +303,17 @@ export function fromPicture(scene, faces, looks) {
       if (!isAway) out.push(`solid ${solid.name} is never shown: others are in front of it, or take it away`);
       else if (solid.backs.length) out.push(`solid ${solid.name} is never shown: no back of it is where it is taken away`);
     }
-    if (counts.has(solid.near))
+    if (counts.has(solid.near) && solid.fronts.length)
       out.push(`solid ${solid.name} shows its near face at ${plural(counts.get(solid.near), "pixel")}: ${
-        solid.fronts.length ? "its fronts are at or before the eye" : "it has no front"}`);
+        "its fronts are at or before the eye"}`);
   });
-  return out;
+  return out.map(each => [LOOK, each]);
+}
+
+// The hints of an accepted scene by its solids and by the faces that its picture shows; first what is likely wrong.
+export function hintsOf(scene, faces) {
+  const looks = allLooks(scene), hints = [...beforeDrawing(scene, looks), ...fromPicture(scene, faces, looks)];
+  return [...hints.filter(([heading]) => heading === LIKELY), ...hints.filter(([heading]) => heading !== LIKELY)];
 }
 
 function named(end, scene) {

@@ -116,7 +116,8 @@ export class Picture {
   async hint(text) {
     const head = await ask("hints", {faces: this.maps.faces}, text);
     if (!head.hints || text !== this.text) return;
-    at("hints").replaceChildren(...head.hints.map(each => made("li", "", each)));
+    at("hints").replaceChildren(...head.hints.map(([heading, said]) =>
+      made("li", heading === "likely wrong" ? "likely" : "", "", made("span", "label", heading + ":"), " " + said)));
     document.body.dataset.hinted = head.hints.length;
   }
 

@@ -11,6 +11,16 @@ const FORMS = {picture: ["picture WIDTH HEIGHT"], depth: ["depth W"], solid: ["s
 const DUE = [[], [], ["picture"], ["depth"], ["solid", "show"], ["front", "back", "side", "solid", "show"], ["end"], []];
 const RANGES = {picture: `width and height are from 1 to ${LIMITS.side}`,
   depth: `the bits of a depth are from 1 to ${LIMITS.depthBits}`, colour: "red, green and blue are from 0 to 255"};
+// The commands that alone take lines behind `end`, and what those begin with.
+const BEHIND_END = [["shadow", "light lines", ["light"]], ["debug", "command lines",
+  ["step", "macro", "run", "until", "back", "at", "pixel", "field", "tree", "trace", "quit"]]];
+
+// What to do about a line behind `end` that begins with this word.
+function cureBehindEnd(first) {
+  const found = BEHIND_END.find(([, , words]) => words.includes(first));
+  return found ? `\`pxplanes ${found[0]}\` alone takes ${found[1]} behind end: call that, or drop this line`
+    : "drop this line, or put it before end";
+}
 
 export class Refusal extends Error {
   constructor(note, span = null, due = null, limit = null, cure = null) {
@@ -127,7 +137,7 @@ class Reader {
     if (!words.length) return;
     if (this.step === 1) return this.header(words);
     const [first, span] = words[0];
-    if (this.step === 7) throw this.malformed("after-end", span, this.due(), "drop this line, or put it before end");
+    if (this.step === 7) throw this.malformed("after-end", span, this.due(), cureBehindEnd(first));
     if (!DUE[this.step].includes(first)) throw this.malformed("unexpected", span, this.due(), this.cureOfWord(first));
     if (first === "show") return this.show(line, span[1]);
     this.planes(first, words);

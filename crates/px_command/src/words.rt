@@ -22,7 +22,7 @@ use crate::command::{Command, Fineness, Size, Work};
 use px_model::{MAX_BLOCKS, MAX_WIDE_PICTURE_SIZE};
 use px_text::number_of;
 
-/// Whether what the words ask wants pixels of 80 bits; else 72 are wanted (docs/SHADOWS.md,
+/// Whether what the words ask wants pixels of 80 bits; else 72 are wanted (docs/SCENES.md,
 /// "Memory").
 pub fn needs_wide_pixels(words: &[String]) -> bool
     ensures { result ≡ needs_wide_pixels (command_of (map string_bytes words.now)) }

@@ -11,7 +11,7 @@ use px_macro::Field;
 use px_sched::Layout;
 
 /// The depth, without its fraction, and the face number that the pixel (x, y) stores in key B, each
-/// below `2^24` (docs/PASSES.md, "Keys").
+/// below `2^24` (docs/PASSES.md, "Layout").
 pub fn stored<A: Array>(array: &A, layout: &Layout, x: u32, y: u32) -> (u32, u32)
     requires pixel { HasPixel (A.device array.now) x y }
     requires room { need_of layout.now ≤ A.BITS }

@@ -14,7 +14,7 @@ use px_show::Cause;
 use px_text::number_of;
 
 /// The numbers behind the first word of a line, or why the words of the line are bad
-/// (docs/LISTINGS.md, "Causes").
+/// (docs/LISTINGS.md, "Refusals").
 pub(crate) fn numbers_in(
     due: Due,
     keyword: Keyword,

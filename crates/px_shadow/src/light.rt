@@ -1,4 +1,4 @@
-//! Light lines (docs/SHADOWS.md, "Light lines").
+//! Light lines (docs/SCENES.md, "Light lines").
 ghost use Rattle.std.specs.Prelude.{◌≡◌, ◌<◌, ◌≤◌, ◌++◌, ◌∷◌, ◌&&◌, ◌+◌, ◌↔◌, [], All, IfErr, IfOk, IfSome, IsOk, List, None, Ok, OnOk, Some, length, true};
 ghost use Rattle.std.specs.List.{cons_option};
 ghost use Rattle.px_model.specs.Scenes.{SolidView};
@@ -25,7 +25,7 @@ use px_sets::{SolidSet, laws_of_sets};
 use px_text::{before_comment, is_blank, is_name, is_word, without_last_feed};
 use thiserror::Error;
 
-/// A line of lights is bad (docs/SHADOWS.md, "Light lines").
+/// A line of lights is bad (docs/SCENES.md, "Light lines").
 #[derive(Clone, Copy, Debug, PartialEq, Eq, Error)]
 pub enum LightFault {
     /// Its words are no light.
@@ -36,7 +36,7 @@ pub enum LightFault {
     Limit { line: u32, found: u32 },
 }
 
-/// Reads lines of lights, of which the first has the number `first_line` (docs/SHADOWS.md, "Light
+/// Reads lines of lights, of which the first has the number `first_line` (docs/SCENES.md, "Light
 /// lines").
 ///
 /// There is a light for each line with words, at most `MAX_LIGHTS`, in order: the set of the solids that the

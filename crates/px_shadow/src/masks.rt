@@ -22,7 +22,7 @@ use px_sched::Layout;
 const ROW_BYTES: usize = 3 * MAX_PICTURE_SIZE as usize;
 
 /// Appends the image of the lights that the array stores to the sink, or a front of it where a
-/// write fails (docs/SHADOWS.md, "Image"). The sink is not finished.
+/// write fails (docs/SCENES.md, "Image"). The sink is not finished.
 ///
 /// Bit `l - 1` of a pixel's number says whether light `l` lights it.
 pub fn write_masks<A: Array, O: Sink>(

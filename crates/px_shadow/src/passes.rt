@@ -42,7 +42,7 @@ pub const MAX_LIGHTS: usize = 8;
 const TURN_OPERATIONS: usize = 100;
 
 /// How many memory bits a pixel needs for the keys of a layout and so many lights, at most
-/// `MAX_LIGHTS` (docs/SHADOWS.md, "Memory").
+/// `MAX_LIGHTS` (docs/SCENES.md, "Memory").
 pub fn need(layout: &Layout, lights: usize) -> u32
     requires { lights ≤ MAX_LIGHTS }
     ensures { result ≡ need_with layout.now lights }
@@ -51,7 +51,7 @@ pub fn need(layout: &Layout, lights: usize) -> u32
 }
 
 /// Finds by which lights each pixel is lit, on an array that stores the picture of a scene
-/// (docs/SHADOWS.md, "Shadow passes").
+/// (docs/SCENES.md, "Shadow passes").
 ///
 /// Each light is the set of its shadow solids. Light `l`, counted from 1, has bit `par + l` of
 /// each pixel's memory. The layout is that of `Layout::of`, and the array is the one that the whole

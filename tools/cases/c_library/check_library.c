@@ -702,7 +702,7 @@ static void read_texts(const char *folder)
     free(list.at);
 }
 
-/* One pixel (docs/ARCHITECTURE.md counts its clocks), as the oracle has it: after 40 clocks memory bits 2 to 5, enable and the leaf
+/* One pixel (docs/dev/ARCHITECTURE.md counts its clocks), as the oracle has it: after 40 clocks memory bits 2 to 5, enable and the leaf
    of each of the four pixels are 1, and no other bit of a plane. Clock 0 is an enable-all. */
 static void compare_one_pixel(void)
 {

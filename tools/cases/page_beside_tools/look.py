@@ -75,7 +75,8 @@ def due_of(text):
     for number, name, numbers, words in operations:
         rows.append("%d %d %s: %s" % (number, clock, passes.line(name, numbers), words))
         clock += micros.clocks_of(name, numbers, (wide * high).bit_length() - 1)
-    return {"hints": looks.wrong_before_drawing(scene, found) + explain.from_picture(scene, faces, found), "rays": rays, "rgb": 0,
+    hints = looks.sorted_hints(looks.before_drawing(scene, found) + looks.from_picture(scene, faces, found))
+    return {"hints": [list(hint) for hint in hints], "rays": rays, "rgb": 0,
             "rows": rows, "passes": said}
 
 
