@@ -7,6 +7,7 @@ import os
 import random
 import re
 
+import hdl
 import micros
 import rtl
 
@@ -15,12 +16,13 @@ BETWEEN = "no clock"
 ROWS = micros.ACTS + ("open",)
 MOVES = ("hold", "clear", "feed")
 AROUND = 12
+KEPT = "as of inputs that had changed before the clock: is there a latch?"
 WIDE = 8
 # What of a pixel's state an act reads or may spoil: e(nable), c(arry), s(tored), l(atch), and t(ree), v(alue) of the inputs.
 READS = {"nop": "ecst", "enable-all": "ec", "enable-carry": "ecv", "enable-tree": "etv", "enable-bit": "esv", "set-carry": "ecv",
          "fetch": "es", "store-tree": "et", "store-latch": "el", "store-const": "ev", "toggle": "es", "carry-tree": "ects",
          "carry-latch": "ecls", "add-tree": "ects"}
-ANSWER = re.compile(r"^clock (\d+) row (\d+) found (\S+) due (\S+) before (\S+) late ([01x])$", re.M)
+ANSWER = re.compile(r"^clock (\d+) row (\d+) found (\S+) due (\S+) before (\S+) kept ([01x]) late ([01x])$", re.M)
 MOVED = re.compile(r"^moved ([01]+)$", re.M)
 NODE_ANSWER = re.compile(r"^clock (\d+) row (\d+) odd ([01]) found (\S+) due (\S+) before (\S+)$", re.M)
 TREE_ANSWER = re.compile(r"^clock (\d+) row (\d+) (\w+) (\d+) found (\S) due (\S)$", re.M)
@@ -106,10 +108,10 @@ def inputs(seed, count):
 
 
 class Fault:
-    """A row's first difference: at which clock, what is told of it, and the rest of the line."""
+    """A row's first difference: at which clock, what is told of it, and whether it comes of inputs that had changed before the clock."""
 
-    def __init__(self, row, clock, text):
-        self.row, self.clock, self.text = row, clock, text
+    def __init__(self, row, clock, text, is_kept=False):
+        self.row, self.clock, self.text, self.is_kept = row, clock, text, is_kept
 
 
 def parted(bits):
@@ -126,7 +128,7 @@ def wrong_of(found, due):
 
 def fault_of(match, told):
     """What a line of the bench's answers says, in words."""
-    clock, row, found, due, before, late = match
+    clock, row, found, due, before, kept, late = match
     if int(row) == len(ROWS):
         return Fault(BETWEEN, int(clock), "it changes between two clocks: %s" % "; ".join(wrong_of(parted(found), parted(due))))
     step, found, due, before = told[int(clock)], parted(found), parted(due), parted(before)
@@ -135,9 +137,14 @@ def fault_of(match, told):
         seen.insert(0, "its bit %s" % before[0][step.place])
     unset = "x" in "".join(found) or "z" in "".join(found)
     when = "a bit that is x was never set: does `open` make it 0?" if unset else \
-        "it comes one clock late" if late == "1" else "as before" if found == before else ""
+        "it comes one clock late" if late == "1" else KEPT if kept == "1" else "as before" if found == before else ""
     text = "`%s` with %s: %s%s" % (step.text(), ", ".join(seen), "; ".join(wrong_of(found, due)), when and "; " + when)
-    return Fault(ROWS[int(row)], int(clock), text)
+    return Fault(ROWS[int(row)], int(clock), text, when == KEPT)
+
+
+def latches(files, faults, folder):
+    """Lines that name the latches of a pixel that seems to have one."""
+    return hdl.latches(files["pixel"], "pixel", folder) if any(fault.is_kept for fault in faults) else []
 
 
 def shown(bench, faults, waves):
