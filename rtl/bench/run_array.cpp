@@ -12,6 +12,7 @@
 namespace {
 
 constexpr int kBits = 72, kWide = 1 << NX, kHigh = 1 << NY;
+constexpr int kNoPlace = 255;  // past the memory: there is no plane to make in each clock
 
 // Turns a square of 64 by 64 bits about: bit j of word i becomes bit i of word j.
 void transpose(uint64_t* rows) {
@@ -50,6 +51,7 @@ void write_state(Vsized& array) {
     array.eval();
     write(array.plane);
   }
+  array.scan = kNoPlace;
   write(array.enables);
   write(array.carries);
   write(array.latches);
@@ -60,6 +62,7 @@ void write_state(Vsized& array) {
 int main() {
   Vsized array;
   array.open = 1;
+  array.scan = kNoPlace;
   array.eval();
   clock(array);
   for (uint32_t micro; fread(&micro, sizeof micro, 1, stdin) == 1;) {

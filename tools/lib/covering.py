@@ -7,7 +7,6 @@ import os
 import random
 import re
 
-import hdl
 import micros
 import rtl
 
@@ -16,13 +15,12 @@ BETWEEN = "no clock"
 ROWS = micros.ACTS + ("open",)
 MOVES = ("hold", "clear", "feed")
 AROUND = 12
-KEPT = "as of inputs that had changed before the clock: is there a latch?"
 WIDE = 8
 # What of a pixel's state an act reads or may spoil: e(nable), c(arry), s(tored), l(atch), and t(ree), v(alue) of the inputs.
 READS = {"nop": "ecst", "enable-all": "ec", "enable-carry": "ecv", "enable-tree": "etv", "enable-bit": "esv", "set-carry": "ecv",
          "fetch": "es", "store-tree": "et", "store-latch": "el", "store-const": "ev", "toggle": "es", "carry-tree": "ects",
          "carry-latch": "ecls", "add-tree": "ects"}
-ANSWER = re.compile(r"^clock (\d+) row (\d+) found (\S+) due (\S+) before (\S+) kept ([01x]) late ([01x])$", re.M)
+ANSWER = re.compile(r"^clock (\d+) row (\d+) found (\S+) due (\S+) before (\S+) late ([01x])$", re.M)
 MOVED = re.compile(r"^moved ([01]+)$", re.M)
 NODE_ANSWER = re.compile(r"^clock (\d+) row (\d+) odd ([01]) found (\S+) due (\S+) before (\S+)$", re.M)
 TREE_ANSWER = re.compile(r"^clock (\d+) row (\d+) (\w+) (\d+) found (\S) due (\S)$", re.M)
@@ -108,10 +106,10 @@ def inputs(seed, count):
 
 
 class Fault:
-    """A row's first difference: at which clock, what is told of it, and whether it comes of inputs that had changed before the clock."""
+    """A row's first difference: at which clock, what is told of it, and the rest of the line."""
 
-    def __init__(self, row, clock, text, is_kept=False):
-        self.row, self.clock, self.text, self.is_kept = row, clock, text, is_kept
+    def __init__(self, row, clock, text):
+        self.row, self.clock, self.text = row, clock, text
 
 
 def parted(bits):
@@ -128,7 +126,7 @@ def wrong_of(found, due):
 
 def fault_of(match, told):
     """What a line of the bench's answers says, in words."""
-    clock, row, found, due, before, kept, late = match
+    clock, row, found, due, before, late = match
     if int(row) == len(ROWS):
         return Fault(BETWEEN, int(clock), "it changes between two clocks: %s" % "; ".join(wrong_of(parted(found), parted(due))))
     step, found, due, before = told[int(clock)], parted(found), parted(due), parted(before)
@@ -137,14 +135,9 @@ def fault_of(match, told):
         seen.insert(0, "its bit %s" % before[0][step.place])
     unset = "x" in "".join(found) or "z" in "".join(found)
     when = "a bit that is x was never set: does `open` make it 0?" if unset else \
-        "it comes one clock late" if late == "1" else KEPT if kept == "1" else "as before" if found == before else ""
+        "it comes one clock late" if late == "1" else "as before" if found == before else ""
     text = "`%s` with %s: %s%s" % (step.text(), ", ".join(seen), "; ".join(wrong_of(found, due)), when and "; " + when)
-    return Fault(ROWS[int(row)], int(clock), text, when == KEPT)
-
-
-def latches(files, faults, folder):
-    """Lines that name the latches of a pixel that seems to have one."""
-    return hdl.latches(files["pixel"], "pixel", folder) if any(fault.is_kept for fault in faults) else []
+    return Fault(ROWS[int(row)], int(clock), text)
 
 
 def shown(bench, faults, waves):
@@ -171,9 +164,12 @@ def pixel(folder, files, simulator, seconds, count, seed, waves=None):
     return len(told), faults, still
 
 
-def moves(draw, count):
-    """Inputs of a node or a tree: after a clear any, mostly feeds; line, parent, feed, clear from the top."""
+def moves(draw, count, levels=1):
+    """Inputs of a node or a tree: a clear, feeds until the last level has bits of its own, then any, mostly feeds; line, parent, feed,
+    clear from the top."""
     yield 1
+    for _ in range(2 * levels):
+        yield draw.randrange(4) << 2 | 2
     for _ in range(count):
         yield draw.randrange(4) << 2 | draw.choice((0, 1, 2, 2, 2, 2, 2, 2, 3))
 
@@ -210,7 +206,7 @@ def node(folder, files, simulator, seconds, seed, waves=None):
 def tree(folder, files, simulator, seconds, seed, waves=None, sizes=range(1, 10)):
     """The greatest size of a tree that was run, and the first fault of each row of the first size that has one."""
     for levels in sizes:
-        told = list(moves(random.Random(seed), 100 if levels < WIDE else 30))
+        told = list(moves(random.Random(seed), 100 if levels < WIDE else 14, levels))
         written(folder, told, "root")
         bench = rtl.Simulation(folder, "tree_bench", [files["node"], files["tree"], rtl.proof("nodes.v"), rtl.bench("tree_bench.v")],
                                {"LEVELS": levels, "CLOCKS": len(told)}, simulator, seconds=seconds)

@@ -291,6 +291,13 @@ def asked_of(folder, kind, parameters, sources, title):
     return [title] + list(lines_of(question, wrong, top["told"])), int(bool(wrong))
 
 
+def verdict(lines):
+    """What the lines of a proof say is wrong, in a few words."""
+    rows = ["%s%s" % (row, "" if word == "WRONG" else " not decided")
+            for row, word in re.findall(r"^  (\S+) +(WRONG|not decided)", "\n".join(lines), re.M)]
+    return ", ".join(rows + re.findall(r"REFUSED: (.*)$", "\n".join(lines), re.M))
+
+
 def pixel(folder, files):
     return asked_of(folder, "pixel", {"N": BITS}, [files["pixel"]], "pixel of %d bits, every state and lawful input:" % BITS)
 

@@ -1,25 +1,26 @@
 """Whole scenes on the array in Verilog, translated by Verilator and kept, beside the library: for tools/rtl whole. It is no tool itself."""
+import array
 import hashlib
 import os
-import re
 import subprocess
 import sys
 import tempfile
 import threading
 import time
 
-import array
 import beside
+import limits
 import listings
 import netpbm
 import rtl
 import scenes
 import sessions
+import texts
 
 SIZE = (6, 6)
 BITS = 72
 SHOWN = BITS + 3
-SMALL = 4
+SMALL = 6
 REGISTERS = ("enable", "carry", "latch")
 CONFIG, TOP, DRIVER = (rtl.bench(leaf) for leaf in ("columns.vlt", "sized.v", "run_array.cpp"))
 KEPT = os.path.join(tempfile.gettempdir(), "px-rtl-%d" % os.getuid())
@@ -43,29 +44,36 @@ def checksum(sources, words):
 
 
 def built(files, nx, ny):
-    """The program that runs the array at a size, and whether it was kept; it is made where it is not there."""
+    """The program that runs the array at a size; it is made where it is not kept."""
     verilator = rtl.needed("verilator")
     sources = [files[module] for module in rtl.MODULES] + [TOP]
-    sizes = "-DNX=%d -DNY=%d" % (nx, ny)
+    sizes, quick = "-DNX=%d -DNY=%d" % (nx, ny), "-O3" if nx + ny > SMALL else "-O0"
     words = ["--hierarchical", "--cc", "--exe", "--build", "-O3", "--x-assign", "fast", "--x-initial", "fast", "-Wno-fatal", "-Wno-lint",
-             "--top-module", "sized", "-CFLAGS", "%s %s" % ("-O3" if nx + ny > SMALL else "-O1", sizes)] + sizes.split()
+             "--top-module", "sized", "-CFLAGS", "%s %s" % (quick, sizes), "-MAKEFLAGS", "OPT_GLOBAL=" + quick] + sizes.split()
     version = rtl.made([verilator, "--version"], ".")
     path = os.path.join(folder_kept(), checksum(sources + [CONFIG, DRIVER], words + [version]))
     if os.path.exists(path):
-        return path, True
+        return path
     with tempfile.TemporaryDirectory(prefix="making-", dir=KEPT) as folder:
         rtl.made([verilator] + words + ["--Mdir", os.path.join(folder, "made"), CONFIG] + sources + [DRIVER], folder)
         os.replace(os.path.join(folder, "made", "Vsized"), path)
-    return path, False
+    return path
 
 
 def over(text, nx, ny):
-    """A scene's text over 2^nx by 2^ny of its pixels: each K-th column and row, by the least K that reaches over its picture."""
-    scene = scenes.read(text)
+    """A scene's text over 2^nx by 2^ny of its pixels, each K-th column and row around the middle: the least K that reaches over its
+    picture, or the greatest that its slopes allow."""
+    try:
+        scene = scenes.read(text)
+    except scenes.Refusal as refusal:
+        raise netpbm.Bad(refusal.note)
     wide, high = 1 << nx, 1 << ny
-    every = max(-(-scene.width // wide), -(-scene.height // high))
-    sized = lambda line: beside.PICTURE.sub(lambda match: b"%s%d%s%d%s" % (match[1], wide, match[3], high, match[5]), line)
-    return b"\n".join(map(sized, beside.coarser(text, every).split(b"\n")))
+    steepest = max([1] + [abs(slope) for solid in scene.solids for face in solid.fronts + solid.backs + solid.sides
+                          for slope in face.plane[:2]])
+    every = max(1, min(max(-(-scene.width // wide), -(-scene.height // high)), limits.MAX_SLOPE // steepest))
+    left, top = max(0, (scene.width - every * wide) // 2), max(0, (scene.height - every * high) // 2)
+    thinned = texts.changed(scene, wide, high, lambda a, b, c: (every * a, every * b, a * left + b * top + c))
+    return texts.text_of(thinned).encode()
 
 
 class Clocks:
@@ -108,6 +116,7 @@ class Clocks:
 
 def difference(due, found, nx, ny):
     """The first difference of two states of planes: what it is, found and due."""
+    due, found = (memoryview(planes).cast("Q") for planes in (due, found))
     for row in range(SHOWN):
         for y in range(1 << ny):
             at = (row << ny) + y
@@ -139,7 +148,7 @@ class Whole:
         state, done = self.first, 0
         for clock in behind:
             state, done = self.library.clocked(state, self.broadcast[done:clock]), clock
-            yield state.words[:self.size]
+            yield state.words[:self.size].tobytes()
 
     def differing(self, path, behind):
         """The first of these clocks behind which the array is not as the library says, and how; None where there is none."""
@@ -148,7 +157,7 @@ class Whole:
             for clock, due in zip(behind, self.due(behind)):
                 state = next(found, b"")
                 if state != due:
-                    return clock, difference(due, memoryview(state).cast("Q"), self.nx, self.ny)
+                    return clock, difference(due, state, self.nx, self.ny)
         return None
 
     def lines(self, path):
@@ -164,10 +173,10 @@ class Whole:
 
 def check(path, text, program_, files, size, times):
     """The lines and the status of a scene, run whole on an array of a size."""
-    begun = time.monotonic()
-    program_path, was_kept = built(files, *size)
-    built_at = time.monotonic()
-    whole = Whole(program_, over(sessions.parted(text)[0], *size), *size)
-    lines = whole.lines(program_path)
-    took = ["  made in %.0f seconds, run in %.0f" % (built_at - begun, time.monotonic() - built_at)] * times
+    thinned, begun = over(sessions.parted(text)[0], *size), time.monotonic()
+    whole, drawn = Whole(program_, thinned, *size), time.monotonic()
+    array_path = built(files, *size)
+    made = time.monotonic()
+    lines = whole.lines(array_path)
+    took = ["  array made in %.0f seconds, run in %.0f" % (made - drawn, time.monotonic() - made + drawn - begun)] * times
     return (["%s:" % path] + lines + took, 1) if lines else ([beside.same(path, whole.run, False)] + took, 0)
