@@ -351,10 +351,10 @@ def has_instance(path, module):
         return re.search(r"^\s*%s\s*(#|\w+\s*\()" % module, file.read(), re.M) is not None
 
 
-def tree(folder, files):
-    """Small sizes by their states, all sizes by their nodes, where it has ones."""
+def tree(folder, files, whole_to=SMALL):
+    """Sizes up to so many levels by their states, all sizes by their nodes, where it has ones."""
     answers, has_nodes = [], has_instance(files["tree"], "node")
-    small = SMALL if has_nodes else ALONE
+    small = whole_to if has_nodes else max(ALONE, whole_to)
     for levels in range(1, small + 1):
         lines, status = asked_of(folder, "tree", {"LEVELS": levels}, [files["node"], files["tree"]],
                                  "tree of %d levels, every state and input:" % levels)

@@ -2,6 +2,7 @@
 import array
 import hashlib
 import os
+import shutil
 import subprocess
 import sys
 import tempfile
@@ -9,7 +10,6 @@ import threading
 import time
 
 import beside
-import limits
 import listings
 import netpbm
 import rtl
@@ -47,9 +47,11 @@ def built(files, nx, ny):
     """The program that runs the array at a size; it is made where it is not kept."""
     verilator = rtl.needed("verilator")
     sources = [files[module] for module in rtl.MODULES] + [TOP]
-    sizes, quick = "-DNX=%d -DNY=%d" % (nx, ny), "-O3" if nx + ny > SMALL else "-O0"
+    sizes, quick = "-DNX=%d -DNY=%d" % (nx, ny), "-O3 -march=native" if nx + ny > SMALL else "-O0"
+    compiler = "CXX=clang++ LINK=clang++ " if shutil.which("clang++") else ""
     words = ["--hierarchical", "--cc", "--exe", "--build", "-O3", "--x-assign", "fast", "--x-initial", "fast", "-Wno-fatal", "-Wno-lint",
-             "--top-module", "sized", "-CFLAGS", "%s %s" % (quick, sizes), "-MAKEFLAGS", "OPT_GLOBAL=" + quick] + sizes.split()
+             "--top-module", "sized", "-CFLAGS", "%s %s" % (quick, sizes), "-MAKEFLAGS", "%sOPT_GLOBAL='%s'" % (compiler, quick)]
+    words += sizes.split()
     version = rtl.made([verilator, "--version"], ".")
     path = os.path.join(folder_kept(), checksum(sources + [CONFIG, DRIVER], words + [version]))
     if os.path.exists(path):
@@ -61,18 +63,14 @@ def built(files, nx, ny):
 
 
 def over(text, nx, ny):
-    """A scene's text over 2^nx by 2^ny of its pixels, each K-th column and row around the middle: the least K that reaches over its
-    picture, or the greatest that its slopes allow."""
+    """A scene's text over 2^nx by 2^ny of its pixels, each K-th column and row by the least K that reaches over its picture. A slope
+    past a scene's limits ends there."""
     try:
         scene = scenes.read(text)
     except scenes.Refusal as refusal:
         raise netpbm.Bad(refusal.note)
-    wide, high = 1 << nx, 1 << ny
-    steepest = max([1] + [abs(slope) for solid in scene.solids for face in solid.fronts + solid.backs + solid.sides
-                          for slope in face.plane[:2]])
-    every = max(1, min(max(-(-scene.width // wide), -(-scene.height // high)), limits.MAX_SLOPE // steepest))
-    left, top = max(0, (scene.width - every * wide) // 2), max(0, (scene.height - every * high) // 2)
-    thinned = texts.changed(scene, wide, high, lambda a, b, c: (every * a, every * b, a * left + b * top + c))
+    thinned = texts.coarser(scene, max(-(-scene.width >> nx), -(-scene.height >> ny)))
+    thinned.width, thinned.height = 1 << nx, 1 << ny
     return texts.text_of(thinned).encode()
 
 
