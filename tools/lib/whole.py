@@ -21,6 +21,7 @@ SIZE = (6, 6)
 BITS = 72
 SHOWN = BITS + 3
 SMALL = 6
+SECONDS = 600
 REGISTERS = ("enable", "carry", "latch")
 CONFIG, TOP, DRIVER = (rtl.bench(leaf) for leaf in ("columns.vlt", "sized.v", "run_array.cpp"))
 KEPT = os.path.join(tempfile.gettempdir(), "px-rtl-%d" % os.getuid())
@@ -81,7 +82,7 @@ class Clocks:
         self.codes = array.array("I", (micro.code() for micro in made))
         for clock in behind:
             self.codes[clock - 1] |= 1 << 31
-        self.process = subprocess.Popen([path], stdin=subprocess.PIPE, stdout=subprocess.PIPE)
+        self.process = subprocess.Popen(["/bin/sh", "-c", 'ulimit -t %d; exec "$0"' % SECONDS, path], stdin=subprocess.PIPE, stdout=subprocess.PIPE)
         self.writer = threading.Thread(target=self.write, daemon=True)
         self.writer.start()
 
