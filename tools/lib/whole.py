@@ -82,7 +82,8 @@ class Clocks:
         self.codes = array.array("I", (micro.code() for micro in made))
         for clock in behind:
             self.codes[clock - 1] |= 1 << 31
-        self.process = subprocess.Popen(["/bin/sh", "-c", 'ulimit -t %d; exec "$0"' % SECONDS, path], stdin=subprocess.PIPE, stdout=subprocess.PIPE)
+        limited = ["/bin/sh", "-c", 'ulimit -t %d; exec "$0"' % SECONDS, path]
+        self.process = subprocess.Popen(limited, stdin=subprocess.PIPE, stdout=subprocess.PIPE)
         self.writer = threading.Thread(target=self.write, daemon=True)
         self.writer.start()
 
