@@ -58,34 +58,42 @@ def answered(text, nx, ny):
     return ["".join(bit(row, pixel) for row in rows[:BITS]) + " e " + bit(rows[BITS], pixel) for pixel in range(count)]
 
 
-def run(folder, listing, said):
-    """Plays a listing on the chip, from serial bytes to serial bytes: what each pixel holds, by its number."""
-    nx, ny, operations = micros.read_listing(listing)
-    sent, answers = bytes_of(operations), (BITS + 1) * max(1, (1 << nx + ny) // 8)
+def accepted(text, words, said):
+    """What the program writes of a text; its own line of refusal as trouble."""
+    status, output, note = program.answer(program.needed(said.program), words, text)
+    if status != 0:
+        raise netpbm.Bad(note)
+    return output
+
+
+def operations(text, said):
+    """The size and the operations of a scene or a listing, and what `play` prints of them."""
+    if not listings.is_listing(text):
+        text = accepted(beside.coarser(sessions.parted(text)[0], said.coarser), ["list"], said)
+    played = accepted(text, ["play"], said)
+    return tuple(micros.read_listing(text)) + (played,)
+
+
+def run(folder, nx, ny, made, said):
+    """Plays operations on the chip, from serial bytes to serial bytes: what each pixel holds, by its number."""
+    sent, answers = bytes_of(made), (BITS + 1) * max(1, (1 << nx + ny) // 8)
     with open(os.path.join(folder, "bytes.hex"), "w") as file:
         file.writelines("%02x\n" % byte for byte in sent)
     values = {"NX": nx, "NY": ny, "N": BITS, "BYTES": len(sent), "ANSWERS": answers}
     bench = rtl.Simulation(folder, "chip_bench", SOURCES + [rtl.bench("chip_bench.v")], values, said.simulator, seconds=said.seconds)
-    return nx, ny, len(operations), answered(bench.run("answers.txt"), nx, ny)
+    return answered(bench.run("answers.txt"), nx, ny)
 
 
 def check(path, text, said, folder):
     """The line and the status of a scene or a listing, sent to the chip, beside what `play` prints."""
-    built = program.needed(said.program)
-    if not listings.is_listing(text):
-        status, text, note = program.answer(built, ["list"], beside.coarser(sessions.parted(text)[0], said.coarser))
-        if status != 0:
-            raise netpbm.Bad(note)
-    status, output, note = program.answer(built, ["play"], text)
-    if status != 0:
-        raise netpbm.Bad(note)
-    nx, ny, operations, found = run(folder, text, said)
-    for x, y, memory, enable in beside.MEMORY.findall(output):
+    nx, ny, made, played = operations(text, said)
+    found = run(folder, nx, ny, made, said)
+    for x, y, memory, enable in beside.MEMORY.findall(played):
         due = "%s e %s" % (memory.decode(), enable.decode())
         if found[(int(x) << ny) + int(y)] != due:
             return "%s: pixel (%s, %s) holds %s, and %s is played" % (path, x.decode(), y.decode(), found[(int(x) << ny) + int(y)], due), 1
     return "%s: %d operations sent to a chip of %d by %d pixels, and what came back is what `play` prints" % (
-        path, operations, 1 << nx, 1 << ny), 0
+        path, len(made), 1 << nx, 1 << ny), 0
 
 
 def fitted(folder, board, nx, ny):

@@ -1,7 +1,7 @@
 """Directed runs of a module in Verilog beside its table: for tools/rtl check and marks. It is no tool itself.
 
 A pixel is told each act at each place, enabled and not, with both carries and both bits of all that the act reads, and
-opened in the midst; behind each such clock comes one in which nothing is done, so that what comes late is seen."""
+opened in the midst; behind each such act comes a clock in which nothing is done, so that what comes late is seen."""
 import itertools
 import os
 import random
@@ -62,7 +62,6 @@ def tried(draw, act, place):
         for step in prepared(draw, place, bits):
             step.tree = draw.randrange(2)
             yield step
-            yield Input(tree=draw.randrange(2), place=draw.randrange(256))
         tree = bits.get("t", draw.randrange(2))
         at = place if act in micros.HAVE_A_PLACE else draw.randrange(256)
         yield Input(act, at, bits.get("v", draw.randrange(2)), tree)
@@ -141,6 +140,13 @@ def fault_of(match, told):
     return Fault(ROWS[int(row)], int(clock), text)
 
 
+def shown(bench, faults, waves):
+    """Has the bench write the waveforms of the clocks around the first fault."""
+    if faults and waves:
+        first = min(fault.clock for fault in faults)
+        bench.run("answers.txt", "+vcd=" + os.path.abspath(waves), "+from=%d" % max(0, first - AROUND), "+to=%d" % (first + 3))
+
+
 def pixel(folder, files, simulator, seconds, count, seed, waves=None):
     """How many clocks were run, the first fault of each act that has one, and the acts that never had anything to change."""
     told = inputs(seed, count)
@@ -154,28 +160,37 @@ def pixel(folder, files, simulator, seconds, count, seed, waves=None):
     faults = [fault_of(match, told) for match in ANSWER.findall(answers)]
     moved = MOVED.search(answers).group(1)[::-1]
     still = [row for row, bit in zip(ROWS, moved) if bit == "0" and row != "nop"]
-    if faults and waves:
-        first = min(fault.clock for fault in faults)
-        bench.run("answers.txt", "+vcd=" + os.path.abspath(waves), "+from=%d" % max(0, first - AROUND), "+to=%d" % (first + 3))
+    shown(bench, faults, waves)
     return len(told), faults, still
 
 
-def moves(draw, count):
-    """Inputs of a node or a tree: after a clear any, mostly feeds; line, parent, feed, clear from the top."""
+def moves(draw, count, levels=1):
+    """Inputs of a node or a tree: a clear, feeds until the last level has bits of its own, then any, mostly feeds; line, parent, feed,
+    clear from the top."""
     yield 1
+    for _ in range(2 * levels):
+        yield draw.randrange(4) << 2 | 2
     for _ in range(count):
         yield draw.randrange(4) << 2 | draw.choice((0, 1, 2, 2, 2, 2, 2, 2, 3))
 
 
-def written(folder, told):
+def move_text(code, above):
+    """What a node or a tree is told, in words."""
+    move = MOVES[1 if code & 1 else 2 if code & 2 else 0]
+    return "%s, %s %d, line %d" % (move, above, code >> 2 & 1, code >> 3)
+
+
+def written(folder, told, above):
     with open(os.path.join(folder, "inputs.hex"), "w") as file:
         file.writelines("%x\n" % it for it in told)
+    with open(os.path.join(folder, "texts.hex"), "w") as file:
+        file.writelines(rtl.in_hex(move_text(it, above), 24) + "\n" for it in told)
 
 
-def node(folder, files, simulator, seconds, seed):
+def node(folder, files, simulator, seconds, seed, waves=None):
     """How many clocks were run on both nodes, and the first fault of each row of each kind."""
     told = list(moves(random.Random(seed), 400))
-    written(folder, told)
+    written(folder, told, "parent")
     bench = rtl.Simulation(folder, "node_bench", [files["node"], rtl.bench("node_bench.v")], {"CLOCKS": len(told)}, simulator,
                            seconds=seconds)
     faults = []
@@ -184,14 +199,15 @@ def node(folder, files, simulator, seconds, seed):
         wrong = ["%s is %s, and %s is due" % it for it in zip(("its output", "its carry"), found, due) if it[1] != it[2]]
         faults.append(Fault("%s %s" % (kind, MOVES[int(row)]), int(clock), "parent %d, line %d, output %s, carry %s: %s" % (
             step >> 2 & 1, step >> 3, before[0], before[1], "; ".join(wrong))))
+    shown(bench, faults, waves)
     return len(told), faults
 
 
-def tree(folder, files, simulator, seconds, seed, sizes=range(1, 10)):
+def tree(folder, files, simulator, seconds, seed, waves=None, sizes=range(1, 10)):
     """The greatest size of a tree that was run, and the first fault of each row of the first size that has one."""
     for levels in sizes:
-        told = list(moves(random.Random(seed), 100 if levels < WIDE else 14))
-        written(folder, told)
+        told = list(moves(random.Random(seed), 100 if levels < WIDE else 14, levels))
+        written(folder, told, "root")
         bench = rtl.Simulation(folder, "tree_bench", [files["node"], files["tree"], rtl.proof("nodes.v"), rtl.bench("tree_bench.v")],
                                {"LEVELS": levels, "CLOCKS": len(told)}, simulator, seconds=seconds)
         faults = []
@@ -201,5 +217,6 @@ def tree(folder, files, simulator, seconds, seed, sizes=range(1, 10)):
                 "node %d of level %d, its %s" % (int(at) - (1 << level), level, "output" if vector == "outs" else "carry")
             faults.append(Fault(MOVES[int(row)], int(clock), "tree of %d levels: %s is %s, and %s is due" % (levels, name, found, due)))
         if faults:
+            shown(bench, faults, waves)
             return levels, faults
     return max(sizes), []

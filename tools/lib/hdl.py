@@ -1,6 +1,7 @@
 """Files in a hardware language, made ready for the simulators and for Yosys: for tools/rtl. It is no tool itself."""
 import os
 import re
+import shutil
 import subprocess
 
 import ends
@@ -21,6 +22,16 @@ def line_of(src):
     """Where a thing stands, from what Yosys says of it: the file's name and the line."""
     match = re.match(r"(?:.*/)?([^/:|]+):(\d+)", src.split("|")[-1])
     return " (%s, line %s)" % match.groups() if match else ""
+
+
+def latches(path, module, folder):
+    """The latches that Yosys finds in a file's module, by their names and lines; none where Yosys is not there or gives no answer."""
+    if shutil.which("yosys") is None:
+        return []
+    script = "read_verilog %s%s; hierarchy -top %s; proc" % ("-sv " if path.endswith(".sv") else "", path, module)
+    printed = subprocess.run(["yosys", "-Q", "-T", "-p", script], cwd=folder, capture_output=True, text=True).stdout
+    found = re.findall(r"^Latch inferred for signal `\\?\S*?\.\\(\S+)' from process `[^']*?\$proc\$([^']*?)\$\d+':", printed, re.M)
+    return ["%s is a latch: it keeps its value without a clock%s" % (name, line_of(where)) for name, where in dict(found).items()]
 
 
 def has_module(text, module):

@@ -33,10 +33,11 @@ An act is unseen where it had nothing to change in any state that the pixel reac
 
 
 class Mark:
-    """What came of a file: the faults by their acts, trouble in a line, and whether it is proved (None where it was not asked)."""
+    """What came of a file: the faults by their acts, trouble in a line, and the lines of its proof (None where it was not asked)."""
 
     def __init__(self, name, faults, still=(), trouble=None, proof=None):
         self.name, self.faults, self.still, self.trouble, self.proof = name, {fault.row: fault for fault in faults}, still, trouble, proof
+        self.not_proved = proving.verdict(proof or [])
 
     def of(self, row):
         """What came of an act: right, wrong, or unseen, since nothing was due to change in the states that the pixel reached."""
@@ -44,7 +45,19 @@ class Mark:
 
     @property
     def is_right(self):
-        return not self.faults and self.trouble is None and self.proof != "no"
+        return not self.faults and self.trouble is None and not self.not_proved
+
+    @property
+    def proved(self):
+        """Whether it is proved, and what is not: yes, or no."""
+        return "no: " + self.not_proved if self.not_proved else "yes"
+
+    def told(self):
+        """A line for each thing that is wrong, in the order of the clocks."""
+        if self.trouble:
+            return [self.trouble]
+        ran = ["clock %d, %s" % (fault.clock, fault.text) for fault in sorted(self.faults.values(), key=lambda fault: fault.clock)]
+        return ran + ["proof: " + line.strip() for line in (self.proof or [])[1:] if self.not_proved and not line.endswith(" right")]
 
 
 def marked_file(path, simulator, seconds, is_asked):
@@ -56,7 +69,7 @@ def marked_file(path, simulator, seconds, is_asked):
             files["pixel"] = hdl.ready(path, "pixel", folder)
             _, faults, still = covering.pixel(folder, files, simulator, seconds, 1000, SEED)
             if is_asked:
-                proof = "no" if proving.pixel(folder, files)[1] else "yes"
+                proof, _ = proving.pixel(folder, files)
         except (netpbm.Bad, OSError) as trouble:
             return Mark(name, [], trouble=str(trouble).replace(path, name))
     return Mark(name, faults, still, None, proof)
@@ -72,7 +85,7 @@ def table(found, is_asked):
             continue
         cells = " ".join(" %s " % SIGNS[mark.of(row)] for row in covering.ROWS)
         between = "  and between the clocks" if covering.BETWEEN in mark.faults else ""
-        yield ("%-*s %s%s%s" % (wide, mark.name, cells, "  " + mark.proof if is_asked else "", between)).rstrip()
+        yield ("%-*s %s%s%s" % (wide, mark.name, cells, between, "  " + mark.proved if is_asked else "")).rstrip()
     if any(mark.still for mark in found):
         yield "? nothing was due to change, in the states that the pixel reached"
     yield "%d files, %d right" % (len(found), sum(mark.is_right for mark in found))
@@ -88,15 +101,13 @@ def page_rows(found, is_asked):
             cells = '<td class="none" colspan="%d">not run</td>' % (len(covering.ROWS) + is_asked)
         else:
             cells = "".join('<td class="%s">%s</td>' % (mark.of(row), mark.of(row)) for row in covering.ROWS)
-            cells += "<td class=\"%s\">%s</td>" % ("right" if mark.proof == "yes" else "wrong", mark.proof) if is_asked else ""
+            cells += "<td class=\"%s\">%s</td>" % (("wrong", "no") if mark.not_proved else ("right", "yes")) if is_asked else ""
         yield "<tr><td>%s</td>%s</tr>" % (link, cells)
     yield "</table>\n<dl>"
     for mark in found:
         if not mark.is_right:
-            told = [mark.trouble] if mark.trouble else [
-                "clock %d, %s" % (fault.clock, fault.text) for fault in sorted(mark.faults.values(), key=lambda fault: fault.clock)]
             name = html.escape(mark.name)
-            yield '<dt id="%s">%s</dt>%s' % (name, name, "".join("<dd>%s</dd>" % html.escape(line) for line in told))
+            yield '<dt id="%s">%s</dt>%s' % (name, name, "".join("<dd>%s</dd>" % html.escape(line) for line in mark.told()))
     yield "</dl>\n</html>"
 
 

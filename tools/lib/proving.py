@@ -2,9 +2,11 @@
 
 A module is read without the values that it begins with, and no register is simplified before it is asked: one that is never
 set may hold anything. A proof goes from every state of its registers, over one clock with every lawful input."""
+import concurrent.futures
 import json
 import os
 import re
+import tempfile
 
 import hdl
 import micros
@@ -291,6 +293,13 @@ def asked_of(folder, kind, parameters, sources, title):
     return [title] + list(lines_of(question, wrong, top["told"])), int(bool(wrong))
 
 
+def verdict(lines):
+    """What the lines of a proof say is wrong, in a few words."""
+    rows = ["%s%s" % (row, "" if word == "WRONG" else " not decided")
+            for row, word in re.findall(r"^  (\S+) +(WRONG|not decided)", "\n".join(lines), re.M)]
+    return ", ".join(rows + re.findall(r"REFUSED: (.*)$", "\n".join(lines), re.M))
+
+
 def pixel(folder, files):
     return asked_of(folder, "pixel", {"N": BITS}, [files["pixel"]], "pixel of %d bits, every state and lawful input:" % BITS)
 
@@ -344,10 +353,10 @@ def has_instance(path, module):
         return re.search(r"^\s*%s\s*(#|\w+\s*\()" % module, file.read(), re.M) is not None
 
 
-def tree(folder, files):
-    """Small sizes by their states, all sizes by their nodes, where it has ones."""
+def tree(folder, files, whole_to=SMALL):
+    """Sizes up to so many levels by their states, all sizes by their nodes, where it has ones."""
     answers, has_nodes = [], has_instance(files["tree"], "node")
-    small = SMALL if has_nodes else ALONE
+    small = whole_to if has_nodes else max(ALONE, whole_to)
     for levels in range(1, small + 1):
         lines, status = asked_of(folder, "tree", {"LEVELS": levels}, [files["node"], files["tree"]],
                                  "tree of %d levels, every state and input:" % levels)
@@ -422,12 +431,22 @@ def array(folder, files):
                            "array of 2 by 2 to %d pixels, each under its leaf:" % (1 << FEW), named)]
     if answers[0][1]:
         return answers[0]
-    for nx, ny, bits in SECOND:
-        wrong = beside_the_second(folder, files, nx, ny, bits)
-        answers.append(wired_lines(wrong and ({"NX": nx, "NY": ny}, wrong), "array of %d by %d pixels of %d bits, every state and input:" % (
-            1 << nx, 1 << ny, bits), named))
-    answers.append(of_columns(folder, files))
-    return both(answers)
+    parts = [(second, files, named) + size for size in SECOND] + [(of_columns, files)]
+    with concurrent.futures.ThreadPoolExecutor(len(parts)) as pool:
+        return both(answers + list(pool.map(lambda part: in_its_folder(folder, *part), parts)))
+
+
+def in_its_folder(folder, proof, *of):
+    """A proof in a folder of its own, so that several run side by side."""
+    with tempfile.TemporaryDirectory(dir=folder) as own:
+        return proof(own, *of)
+
+
+def second(folder, files, named, nx, ny, bits):
+    """An array of a size beside its second text."""
+    wrong = beside_the_second(folder, files, nx, ny, bits)
+    return wired_lines(wrong and ({"NX": nx, "NY": ny}, wrong), "array of %d by %d pixels of %d bits, every state and input:" % (
+        1 << nx, 1 << ny, bits), named)
 
 
 def sequencer(folder, files):

@@ -11,6 +11,7 @@ from ends import TOP
 RTL = os.path.join(TOP, "rtl")
 MODULES = ("pixel", "node", "tree", "column", "array")
 INSTALL = {"vvp": "iverilog", "yosys-smtbmc": "yosys", "icepack": "fpga-icestorm"}
+NOT_IN_DEBIAN = ("nextpnr-ecp5", "ecppack")
 REGISTERS = ("enable", "carry", "latch", "leaf")
 ERROR = re.compile(r"error|syntax|unable|unknown|not found", re.I)
 END = re.compile(r"^end \d+$", re.M)
@@ -33,7 +34,8 @@ def needed(command):
     """A command's path, or how Debian installs it."""
     path = shutil.which(command)
     if path is None:
-        raise netpbm.Bad("there is no %s; `apt-get install %s` installs it" % (command, INSTALL.get(command, command)))
+        raise netpbm.Bad("there is no %s%s" % (command, ", and Debian 12 has no package of it" if command in NOT_IN_DEBIAN else
+                                               "; `apt-get install %s` installs it" % INSTALL.get(command, command)))
     return path
 
 
