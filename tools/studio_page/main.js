@@ -18,6 +18,8 @@ const at = id => document.getElementById(id), main = document.querySelector("mai
 const TABS = ["write", "machine", "compare", "lesson"], PARTS = ["write", "machine", "compare"];
 const MODELS = ["csg", "off", "stl"], TEXTS = ["scene", "listing"], IMAGES = /^(P[1-7fF]\s|\x89PNG|\x76\x2f\x31\x01|\s*[-+.]?\d)/;
 const LARGEST_DROP = 1 << 26, TOLD = 6000, SMALLEST = 12, LARGEST = 30, FIRST = "first", NOTHING = "none";
+// What a page opens by itself, and how it is shown then: in the midst of being drawn, and going on.
+const OPENING = "letters", SIGHT = {view: "best colours", beside: "", isPlayed: true, share: 0.55, pixel: [60, 180]};
 
 // Where a text is opened at a clock, `pending` says it until the text is drawn; `stale` is what the machine has not taken.
 const page = {tab: "write", served: null, pending: null, stale: null};
@@ -60,9 +62,9 @@ function drawn(text, head, maps) {
 // Gives the machine the text that stands, where it is shown.
 function freshen() {
   if (page.tab !== "machine" || !page.stale) return;
-  const {text, head, clock, view, pixel} = page.stale;
+  const {text, head, ...place} = page.stale;
   page.stale = null;
-  machine.load(text, head, clock ?? machine.wanted, view, pixel).catch(tell);
+  machine.load(text, head, place).catch(tell);
 }
 
 function open(name, text, pending = null, more = {}) {
@@ -133,14 +135,14 @@ function readable(name, bytes) {
 
 // The text that stands with what is shown of it.
 function shown() {
-  const place = page.tab === "machine" ? {clock: machine.wanted, view: machine.view, pixel: machine.pixel} : {pixel: picture.screen.kept};
+  const place = page.tab === "machine" ? {clock: machine.wanted, view: machine.view, beside: machine.beside, pixel: machine.pixel} : {pixel: picture.screen.kept};
   return {name: texts.now.name, text: texts.text, tab: page.tab === "lesson" ? "write" : page.tab, image: picture.image, ...place};
 }
 
 // Opens such a text.
-function show({name, text, tab, image, clock, view, pixel}, more) {
+function show({name, text, tab, image, clock, view, beside, pixel}, more) {
   const isMachine = tab === "machine";
-  open(String(name ?? "scene"), text, isMachine ? {clock, view, pixel} : null, more);
+  open(String(name ?? "scene"), text, isMachine ? {clock, view, beside, pixel} : null, more);
   if (image) picture.choose(image);
   if (!isMachine && pixel) picture.screen.keep(pixel);
   choose(TABS.includes(tab) ? tab : "write");
@@ -181,8 +183,9 @@ function choose(tab) {
     at("tab-" + each).tabIndex = each === tab ? 0 : -1;
   }
   if (tab !== "machine") machine.stop();
+  if (tab !== "machine") teach(false);
   freshen();
-  machine.drawPasses();
+  machine.strip.drawPasses();
 }
 
 function letters(way) {
@@ -195,7 +198,7 @@ function theme() {
   const root = document.documentElement, system = matchMedia("(prefers-color-scheme: dark)").matches ? "dark" : "light";
   root.dataset.theme = (root.dataset.theme ?? system) === "dark" ? "light" : "dark";
   remember({theme: root.dataset.theme});
-  machine.drawPasses();
+  machine.strip.drawPasses();
 }
 
 // Theme and size of letters stay, where the browser keeps anything for the page.
@@ -217,6 +220,8 @@ function remember(more) {
 
 function toggleText() { at("show-text").setAttribute("aria-pressed", String(main.classList.toggle("with-text"))); }
 
+function teach(isOn = !document.body.classList.contains("teaching")) { document.body.classList.toggle("teaching", isOn); }
+
 function write() {
   if (page.tab === "machine" && !main.classList.contains("with-text")) toggleText();
   if (page.tab === "lesson") choose("write");
@@ -227,19 +232,22 @@ function nextImage(way) { page.tab === "machine" ? machine.nextView(way) : pictu
 
 const nameOf = file => file.replace(/\.scene$/, "");
 
-// Opens the first text: the studio's file, a scene in the address, the page's own, or the first of the documents.
+// Opens the first text: the studio's file, a scene in the address, the page's own, a draft, or a scene of the gallery that the machine
+// is drawing.
 async function opened() {
   const head = await server.begin(), linked = await link.unpacked(location.hash.slice(1));
-  const first = given.gallery.find(([, name]) => name === FIRST);
+  const named = wanted => given.gallery.find(([, name]) => name === wanted), first = named(FIRST), [, name, text] = named(OPENING);
   const served = head?.name && {isServed: true, file: head.name, sum: head.sum};
   // (a file that is not there begins as the first scene of the documents)
   if (served && head.sum === NOTHING) open(nameOf(head.name), first[2], null, {...served, saved: ""});
   else if (served) open(nameOf(head.name), head.text, null, served);
-  else if (!own && !linked) open(FIRST, first[2]);
+  else if (!own && !linked) open(name, text, SIGHT);
   texts.restore();
+  const isAlone = !served && !own && !linked && texts.open.length === 1 && !texts.now.isDraft;
   if (own) show(own);
   if (linked) show(linked);
-  if (texts.open.length > 1 && !own && !linked) texts.choose(texts.open[0]);
+  if (isAlone) choose("machine");
+  if (texts.open.length > 1 && !own && !linked) texts.choose(texts.open[served ? 0 : texts.open.length - 1]);
 }
 
 async function start() {
@@ -299,7 +307,7 @@ document.addEventListener("drop", event => {
 });
 addEventListener("hashchange", () => link.unpacked(location.hash.slice(1)).then(scene => { if (scene) show(scene); }).catch(tell));
 listen({
-  save: () => save().catch(tell), choose: number => choose(TABS[number]), parts: TABS.length, letters, write, nextImage,
+  save: () => save().catch(tell), choose: number => choose(TABS[number]), parts: TABS.length, letters, write, nextImage, teach: () => teach(), stop: way => machine.stopAt(way).catch(tell), teachNoMore: () => teach(false),
   toggleText, isMachine: () => page.tab === "machine", machine});
 // For whoever asks by the browser's console (docs/STUDIO.md).
 globalThis.studio = {ask, library: () => load(library())};

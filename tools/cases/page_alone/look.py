@@ -68,7 +68,7 @@ def put(page, text):
 
 
 def pick(page, name):
-    called(page, "name => [...document.querySelectorAll('#scenes button')].find(each => each.textContent === name).click()", name)
+    called(page, "name => [...document.querySelectorAll('#scenes button')].find(each => each.firstChild.textContent === name).click()", name)
 
 
 def dropped(page, name, content):
@@ -210,7 +210,6 @@ def linked(page, text):
         file.write(content)
     print("a link of %s letters" % ("few" if len(link) < 1500 else len(link)))
     for what, path, behind in (("the link", pages.PAGE, "#" + link.split("#")[1]), ("the page", "own.html", "")):
-        page.open("about:blank")
         alone(page, path, behind)
         page.until("document.body.dataset.shown === '1200' && document.body.dataset.wave === '14 16 1200'")
         print("%s: %s, %s, the text is there: %s" % (what, page.run("document.querySelector('main').dataset.tab"), page.run(
