@@ -28,6 +28,8 @@ export class Machine {
     this.wall = new Wall(at("planes"), (name, isBeside) => this.choose(name, isBeside));
     this.life = new PixelLife(clock => this.go(clock), tell);
     this.screens = ["array", "array-beside"].map(name => new Screen(at(name), pixel => this.point(pixel), pixel => this.keep(pixel)));
+    // What the page does when another pixel is pointed at, and when another state is shown.
+    this.onPoint = this.onShow = () => {};
     this.edges = new Edges(this.screens[0]);
     at("edges").addEventListener("click", () => this.turnEdges());
     this.fetchState = latest(() => this.take().catch(tell));
@@ -153,6 +155,7 @@ export class Machine {
     }
     at("until").value = state.clock;
     this.paint();
+    this.onShow();
     this.showWall();
     this.strip.at(state.clock);
     this.showEdges();
@@ -263,8 +266,20 @@ export class Machine {
     return plane === undefined ? "" : `${onesOf(state, plane).toLocaleString("en")} of ${(state.width * state.height).toLocaleString("en")} are 1`;
   }
 
+  // The numbers of the faces in key B, row by row; null where there are none.
+  faces() {
+    const field = this.isShown && this.fields.find(each => each.name === "best face");
+    return field ? this.state.numbers(field.at, field.length) : null;
+  }
+
+  faceAt(x, y) {
+    const {at: first, length} = this.fields.find(each => each.name === "best face");
+    return this.state.number(first, length, x, y);
+  }
+
   point(pixel) {
     this.pixel = pixel;
+    this.onPoint(pixel);
     if (this.isShown) this.showEdges();
     this.inside();
   }

@@ -6,6 +6,7 @@ import {Editor} from "./editor.js";
 import {given, library, own, pageWith} from "./given.js";
 import {listen} from "./keys.js";
 import {Lesson} from "./lesson.js";
+import {Light} from "./light.js";
 import * as link from "./link.js";
 import {List} from "./list.js";
 import {Machine} from "./machine.js";
@@ -36,6 +37,14 @@ function tell(error) {
 const editor = new Editor(at("editor")), texts = new Texts(editor, changed, tell);
 const machine = new Machine(tell), compare = new Compare(tell), picture = new Picture(editor, tell, drawn, () => { page.pending = null; });
 
+// A face lights up in the text, on the time line and in both images.
+const light = new Light(editor, machine.strip);
+machine.screens.forEach(screen => light.add(screen, () => machine.faces()));
+light.add(picture.screen, () => picture.maps?.faces ?? null);
+machine.onPoint = pixel => light.on(pixel && machine.isShown && machine.head.layout ? machine.faceAt(...pixel) : 0);
+machine.onShow = () => light.again();
+picture.onPoint = pixel => light.on(pixel && picture.maps ? picture.maps.faces[pixel[1] * picture.head.width + pixel[0]] : 0);
+
 // The text that stands is another one: what is shown is not of it until it is drawn.
 function changed(isOther) {
   const {now, text} = texts;
@@ -54,6 +63,7 @@ function changed(isOther) {
 function drawn(text, head, maps) {
   const pending = page.pending?.of === text ? page.pending : {};
   page.stale = {text, head, ...pending};
+  light.load(head.facesOf);
   page.pending = null;
   freshen();
   if (maps) compare.load(text, head, maps);

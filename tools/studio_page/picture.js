@@ -14,7 +14,8 @@ export class Picture {
   // `onDrawn` is called with the text, what it is, and its maps (null for a listing), once it is accepted; `onRefused` with the text.
   constructor(editor, tell, onDrawn, onRefused) {
     Object.assign(this, {editor, tell, onDrawn, onRefused, text: null, drawnText: null, head: null, maps: null, image: "colours", rayOf: null});
-    this.screen = new Screen(at("picture"), pixel => this.point(pixel));
+    this.onPoint = () => {};
+    this.screen = new Screen(at("picture"), pixel => { this.onPoint(pixel); this.point(pixel); });
     this.ray = latest((x, y) => this.rayShown(x, y).catch(tell));
     for (const image of IMAGES) {
       const button = made("button", "", image);

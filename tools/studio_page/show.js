@@ -2,7 +2,7 @@
 // one of them.
 import {packed} from "./palette.js";
 
-const SCALES = [1, 2, 3, 4, 6, 8, 12, 16, 24, 32, 48, 64], DRAGGED = 4;
+const SCALES = [1, 2, 3, 4, 6, 8, 12, 16, 24, 32, 48, 64], DRAGGED = 4, LIT = 0xb000d6ff;
 
 export class Screen {
   // `onPixel` is called with x and y of the pixel under the pointer, or chosen by a click or the arrow keys; or with null. `onKeep` is
@@ -20,7 +20,8 @@ export class Screen {
     this.margins = [0, 0];
     this.onPlace = () => {};
     [this.mark, this.frame] = ["mark", "frame"].map(name => this.stage.appendChild(made("div", name)));
-    this.mark.hidden = this.frame.hidden = true;
+    this.lit = this.stage.appendChild(made("canvas", "lit"));
+    this.mark.hidden = this.frame.hidden = this.lit.hidden = true;
     new ResizeObserver(() => this.place()).observe(this.stage);
     canvas.addEventListener("mousemove", event => this.point(this.under(event)));
     canvas.addEventListener("mouseleave", () => this.point(this.kept));
@@ -62,7 +63,19 @@ export class Screen {
     const part = this.inner && (this.inner[0] < width || this.inner[1] < height);
     this.frame.hidden = !part;
     if (part) this.lay(this.frame, 0, 0, ...this.inner);
+    if (!this.lit.hidden) this.lay(this.lit, 0, 0, width, height);
     this.onPlace();
+  }
+
+  // Lights the pixels that have a number, of those that `numbers` has row by row; none where it is null.
+  glow(numbers, number) {
+    const {width, height} = this.canvas;
+    // (an image that was never shown has no pixels yet)
+    this.lit.hidden = numbers?.length !== width * height;
+    if (this.lit.hidden) return;
+    Object.assign(this.lit, {width, height});
+    put(this.lit, Uint32Array.from(numbers, each => each === number ? LIT : 0));
+    this.lay(this.lit, 0, 0, width, height);
   }
 
   // The next larger scale, or the next smaller one, by whole numbers; what is smaller than all that there is room for is that again.

@@ -10,6 +10,8 @@ export class Strip {
   // `go` is called with a clock.
   constructor(go, tell) {
     Object.assign(this, {go, tell, text: null, course: null, thumbs: [], isScene: false});
+    this.isLit = null;
+    this.onPass = () => {};
     this.under = latest((clock, x) => this.previewed(clock, x).catch(tell));
     const line = at("line-of-passes"), clockAt = event => {
       const {left, width} = line.getBoundingClientRect(), share = Math.max(0, Math.min(1, (event.clientX - left) / width));
@@ -73,6 +75,7 @@ export class Strip {
     this.wanted = clock;
     const pass = this.course.passAt(Math.max(0, clock - 1)), said = this.course.passes[pass] ?? "";
     at("under-words").replaceChildren(made("i", "chip pass-" + kindOf(said)), `clock ${clock}: ${said.replaceAll("`", "")}`);
+    this.onPass(said);
     at("under").hidden = false;
     this.placed(x);
     if (this.isScene) this.under(clock, x);
@@ -94,6 +97,7 @@ export class Strip {
 
   left() {
     this.wanted = null;
+    this.onPass("");
     at("under").hidden = true;
   }
 
@@ -122,6 +126,12 @@ export class Strip {
     this.go(to.clock);
   }
 
+  // Lights the passes whose words are such, or none where it is null.
+  light(isLit) {
+    this.isLit = isLit;
+    this.drawPasses();
+  }
+
   // The line of passes above the slider: a colour for what each is for.
   drawPasses() {
     const canvas = at("line-of-passes"), {course} = this;
@@ -134,6 +144,9 @@ export class Strip {
       const wide = (course.startOfPass(pass + 1) - start) * scale;
       pen.fillStyle = style.getPropertyValue("--pass-" + kindOf(course.passes[pass]));
       pen.fillRect(start * scale, 0, Math.max(1, wide > GAP ? wide - 1 : wide), canvas.height);
+      if (!this.isLit?.(course.passes[pass])) return;
+      pen.fillStyle = style.getPropertyValue("--ink");
+      pen.fillRect(start * scale, 0, Math.max(2, wide), canvas.height / 2);
     });
   }
 }

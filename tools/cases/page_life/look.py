@@ -6,11 +6,13 @@ import sys
 sys.path.insert(0, os.path.join(os.getcwd(), "tools", "lib"))
 import ends
 import micros
+import netpbm
+import passes
 import program
 import scenes
 import sessions
 from browser import Browser
-from pages import alone, asked, called, click, go, link, point, text_of
+from pages import alone, asked, called, click, go, link, text_of
 
 BUILT, LOT = os.environ["PROGRAM"], 55
 SCENES = (("docs/scenes/triangle.scene", (7, 8)), ("docs/scenes/two_fronts.scene", (1, 1)), ("docs/scenes/first.scene", (24, 16)), ("docs/scenes/first.scene", (50, 3)))
@@ -171,6 +173,66 @@ def edges(page, text):
     print(text_of(page, "#sum"))
 
 
+# What is lit: the face, the line of the text, the pixels of an image, and of each pass whether it is, by the middle of its place.
+LIT = """(image, middles) => {
+  const canvas = document.getElementById(image), over = canvas.parentElement.querySelector(".lit"), line = document.getElementById("line-of-passes");
+  // (the picture is 48 pixels wide, and the array 64)
+  const pixels = over.hidden ? [] : [...over.getContext("2d").getImageData(0, 0, 48, over.height).data].filter((_, at) => at % 4 === 3);
+  const ink = getComputedStyle(document.documentElement).getPropertyValue("--ink"), pen = line.getContext("2d");
+  return [Number(document.body.dataset.lit), document.querySelector(".ink .lit")?.textContent.trim() ?? "", pixels.map(each => Number(each > 0)),
+    middles.map(share => [...pen.getImageData(Math.floor(share * line.width), 1, 1, 1).data.slice(0, 3)].map(each => each.toString(16).padStart(2, "0")).join("") === ink.slice(1))];
+}"""
+
+
+def lights(page, text):
+    """A face's line, its passes and its pixels, from whichever of them the pointer is on."""
+    print("-- a face lights up")
+    scene, lines = scenes.read(text), text.decode().split("\n")
+    numbers, products = {solid.name: at for at, solid in enumerate(scene.solids, 1)}, []
+    for line in program.answer(BUILT, ["plan"], text)[1].decode().split("\n")[1:-1]:
+        words = line.split(" ") if line.startswith("- ") else ["*"] + line.split(" ")
+        products.append(tuple(-numbers[name] if sign == "-" else numbers[name] for sign, name in zip(words[0::2], words[1::2])))
+    rows, said = passes.operations(scene, products)
+    _, clocks, levels = operations_of(text)
+    starts, clock = [], 0
+    for number, name, operands, _ in rows:
+        starts += [clock] if number == len(starts) else []
+        clock += micros.clocks_of(name, operands, levels)
+    middles = [(one + other) / 2 / clocks for one, other in zip(starts, starts[1:] + [clocks])]
+    shown = netpbm.images(program.answer(BUILT, ["render"], text)[1])[1].numbers()
+    named = {face.number: (solid, face) for solid in scene.solids for faces in passes.faces_of(scene, solid) for face in faces if face.number}
+    alone(page, behind=link("docs/scenes/first.scene", "machine", clock=clocks))
+    page.until("document.body.dataset.shown")
+    page.press("t")
+    line_of = {number: line for number, _, _, _, _, line in scene.faces()}
+    for number, (solid, face) in named.items():
+        due = [number, lines[line_of[number] - 1], [int(each == number) for each in shown],
+               [each.startswith("candidate: face %d," % number) or each == "against `%s`: count %s" % (solid.name, face.said) for each in said]]
+        ways = {"its line": over_line(page, line_of[number])}
+        if number in shown:
+            place = shown.index(number)
+            ways["a pixel"] = over(page, "array", (place % 48 + 0.5) / 64, (place // 48 + 0.5) / 32)
+        if any(due[3]):
+            ways["a pass"] = over(page, "line-of-passes", middles[due[3].index(True)], 0.5)
+        for what, (x, y) in ways.items():
+            page.point(2, 2)
+            page.until("document.body.dataset.lit !== '%d'" % number)
+            page.point(x, y)
+            page.until("document.body.dataset.lit === '%d'" % number)
+            if called(page, LIT, "array", middles) != due:
+                print("face %d, from %s: other things light up" % (number, what))
+    page.point(2, 2)
+    print("%d faces, from their lines, pixels and passes; and none:" % len(named), called(page, LIT, "array", [])[:3])
+
+
+def over(page, canvas, across, down):
+    return called(page, "(id, x, y) => { const r = document.getElementById(id).getBoundingClientRect(); return [r.left + r.width * x, r.top + r.height * y] }", canvas, across, down)
+
+
+def over_line(page, line):
+    return called(page, "line => { const r = document.querySelectorAll('.ink div')[line - 1].getBoundingClientRect(); return [r.left + 60, r.top + r.height / 2] }", line)
+
+
 with Browser() as page:
     page.call("Emulation.setFocusEmulationEnabled", enabled=True)
     alone(page)
@@ -183,4 +245,5 @@ with Browser() as page:
     rows(page, "docs/scenes/first.scene", (24, 16), ends.content("docs/scenes/first.scene"))
     by_keys(page, ends.content("docs/scenes/first.scene"))
     edges(page, ends.content("docs/scenes/first.scene"))
+    lights(page, ends.content("docs/scenes/first.scene"))
     print("faults of the page:", page.faults())

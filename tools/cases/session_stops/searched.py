@@ -56,4 +56,4 @@ for path, wide, high in SCENES:
             print("%s: from %d stop %s: %s in place of %s" % (path, now, words, answer, due))
             break
         now, compared, nowhere = now if due is None else due, compared + 1, nowhere + (due is None)
-print("%d stops as searched, of them nowhere: %s" % (compared, "some" if 0 < nowhere < compared / 2 else nowhere))
+print("%d stops as searched, of them nowhere: %s" % (compared, "some" if 0 < nowhere < compared else nowhere))
