@@ -56,7 +56,7 @@ export class Editor {
     this.gutter = root.querySelector(".gutter");
     this.sheet = root.querySelector(".sheet");
     this.bad = null;
-    this.onInput = this.onLine = () => {};
+    this.onInput = this.onLine = this.onCursor = () => {};
     this.lit = 0;
     new ResizeObserver(() => { if (this.area) this.follow(); }).observe(this.sheet);
   }
@@ -73,6 +73,7 @@ export class Editor {
     area.addEventListener("keydown", event => { if (event.key === "Escape") area.blur(); });
     area.addEventListener("mousemove", event => this.onLine(this.lineAt(event)));
     area.addEventListener("mouseleave", () => this.onLine(0));
+    for (const event of ["keyup", "click", "focus"]) area.addEventListener(event, () => this.onCursor());
     area.addEventListener("keyup", () => this.onLine(area.value.slice(0, area.selectionStart).split("\n").length));
     this.sheet.append(area);
     return area;

@@ -2,6 +2,7 @@
 import {load} from "../../web/pxplanes.mjs";
 import {Dropped, Trouble, ask, begin, newest} from "./ask.js";
 import {Compare} from "./compare.js";
+import {Drag} from "./drag.js";
 import {Editor} from "./editor.js";
 import {given, library, own, pageWith} from "./given.js";
 import {listen} from "./keys.js";
@@ -36,6 +37,8 @@ function tell(error) {
 
 const editor = new Editor(at("editor")), texts = new Texts(editor, changed, tell);
 const machine = new Machine(tell), compare = new Compare(tell), picture = new Picture(editor, tell, drawn, () => { page.pending = null; });
+
+new Drag(editor, picture.screen, () => document.body.dataset.drawn !== "no");
 
 // A face lights up in the text, on the time line and in both images.
 const light = new Light(editor, machine.strip);
