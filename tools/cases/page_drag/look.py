@@ -49,14 +49,14 @@ def by_grip(page):
 
 def follows(page):
     """Many moves, one behind the other, over a scene that takes a while: each text is drawn before the next one comes."""
-    alone(page, behind=link("gallery/house.scene"))
+    alone(page, behind=link("gallery/pawn.scene"))
     page.run("globalThis.early = globalThis.texts = 0; document.addEventListener('input', () => { texts += 1; early += document.body.dataset.drawn === 'no'; }, true)")
-    mouse(page, "mouseMoved", called(page, NUMBER, 7, 2), False)
+    mouse(page, "mouseMoved", called(page, NUMBER, 6, 2), False)
     x, y = page.until("(%s)()" % GRIP)
     mouse(page, "mousePressed", (x, y))
     for step in range(1, 41):
         mouse(page, "mouseMoved", (x + 4 * step, y))
-    page.until("(%s)(7) === 'front 19 6 -1666 52 75 39'" % LINE)
+    page.until("(%s)(6) === 'back 0 -42052 11033745 178 138 85'" % LINE)
     mouse(page, "mouseReleased", (x + 160, y))
     print("the picture follows:", page.run("[texts > 1, early].join(', and before it was drawn: ')"))
 
