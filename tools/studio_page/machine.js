@@ -218,6 +218,20 @@ export class Machine {
     return new Set(fields.flatMap(([first, length]) => Array.from({length}, (_, bit) => first + bit)));
   }
 
+  // What is shown large, as it stands behind some clocks, picture by picture.
+  async pictures(clocks, onEach) {
+    const {text, head} = this, view = this.viewNamed(this.view), out = [];
+    for (const clock of clocks) {
+      const {words, trouble, ...fields} = await ask("state", {clock}, text);
+      if (trouble || text !== this.text) throw new Trouble(trouble ?? "the text is another one now: there is no film");
+      const state = new State(fields, words), pixels = new Uint32Array(state.width * state.height);
+      view.fill(state, pixels);
+      out.push(cut(pixels, state.width, head.layout ? head : state));
+      onEach(out.length);
+    }
+    return out;
+  }
+
   viewNamed(name) { return this.views.find(view => view.name === name); }
 
   // Shows a view large, or beside the one that is.
@@ -318,6 +332,13 @@ export class Machine {
     at("wave").replaceChildren(waveform(head, at("wave").clientWidth - GAP, bits));
     document.body.dataset.wave = `${x} ${y} ${state.clock}`;
   }
+}
+
+// The part of an image of the array that is the picture.
+function cut(pixels, wide, {width, height}) {
+  const out = new Uint32Array(width * height);
+  for (let y = 0; y < height; y++) out.set(pixels.subarray(y * wide, y * wide + width), y * width);
+  return {width, height, pixels: out};
 }
 
 // Words in which names stand between backticks.

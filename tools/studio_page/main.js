@@ -4,6 +4,7 @@ import {Dropped, Trouble, ask, begin, newest} from "./ask.js";
 import {Compare} from "./compare.js";
 import {Drag} from "./drag.js";
 import {Editor} from "./editor.js";
+import * as film from "./film.js";
 import {given, library, own, pageWith} from "./given.js";
 import {listen} from "./keys.js";
 import {Lesson} from "./lesson.js";
@@ -29,10 +30,7 @@ const page = {tab: "write", served: null, pending: null, stale: null};
 function tell(error) {
   if (error instanceof Dropped) return;
   if (!(error instanceof Trouble)) console.error(error);
-  at("notice").textContent = error.message;
-  at("notice").hidden = false;
-  clearTimeout(tell.timer);
-  tell.timer = setTimeout(() => { at("notice").hidden = true; }, TOLD);
+  note(error.message);
 }
 
 const editor = new Editor(at("editor")), texts = new Texts(editor, changed, tell);
@@ -179,12 +177,46 @@ async function takeAway(what) {
   if (what === "page") return take.away(new Blob([pageWith(shown())], {type: "text/html"}), name + ".html");
   if (!picture.isFresh || PARTS.includes(page.tab) && at(page.tab).classList.contains("old"))
     throw new Trouble("what is shown is not of this text: it is refused, or not drawn yet");
+  if (what === "film") return askForFilm();
   if (what === "png") {
     const compared = page.tab === "compare" && !at("differences").hidden;
     return take.away(await take.png(at(page.tab === "machine" ? "array" : compared ? "differences" : "picture")), name + ".png");
   }
   if (!picture.maps) throw new Trouble("there is no picture");
   take.away(take[what](picture.head, picture.maps), `${name}-${what}.ppm`);
+}
+
+// Asks which stretch is filmed, and how; the machine is on its way where it was not shown yet.
+async function askForFilm() {
+  choose("machine");
+  if (!machine.course) throw new Trouble("the machine is not there yet: ask once more");
+  machine.stop();
+  at("film-first").value = machine.wanted === machine.course.clocks ? 0 : machine.wanted;
+  at("film-last").value = machine.course.clocks;
+  at("film-webm").hidden = !film.hasWebm();
+  at("film").returnValue = "";
+  at("film").showModal();
+}
+
+async function takeFilm(form) {
+  const [first, last, speed] = ["first", "last", "speed"].map(name => Number(at("film-" + name).value)), {clocks} = machine.course;
+  if (![first, last].every(clock => Number.isInteger(clock) && clock >= 0 && clock <= clocks) || first > last)
+    throw new Trouble(`a film goes from a clock to a later one, from 0 to ${clocks}`);
+  if (!Number.isInteger(speed) || speed < 1 || speed > 60) throw new Trouble("a film has 1 to 60 pictures a second");
+  const stops = film.stretch(machine.course, first, last, at("film-pace").value);
+  const pictures = await machine.pictures(stops, count => note(`a film: ${count} of ${stops.length} pictures`));
+  note("a film: it is packed");
+  const blob = await (form === "webm" ? film.webm : film.animatedPng)(pictures, speed);
+  take.away(blob, `${texts.now.name}.${form}`);
+  note(`a film of ${stops.length} pictures, ${Math.ceil(blob.size / 1024)} KiB`);
+}
+
+// Says something that is no trouble.
+function note(words) {
+  at("notice").textContent = words;
+  at("notice").hidden = false;
+  clearTimeout(tell.timer);
+  tell.timer = setTimeout(() => { at("notice").hidden = true; }, TOLD);
 }
 
 function choose(tab) {
@@ -300,6 +332,7 @@ at("smaller").addEventListener("click", () => letters(-1));
 at("larger").addEventListener("click", () => letters(1));
 at("theme").addEventListener("click", theme);
 at("help").addEventListener("click", () => at("keys").showModal());
+at("film").addEventListener("close", () => { if (at("film").returnValue) takeFilm(at("film").returnValue).catch(tell); });
 at("show-text").addEventListener("click", toggleText);
 at("take").addEventListener("click", event => {
   if (!event.target.dataset.take) return;

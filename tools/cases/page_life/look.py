@@ -188,17 +188,10 @@ def lights(page, text):
     """A face's line, its passes and its pixels, from whichever of them the pointer is on."""
     print("-- a face lights up")
     scene, lines = scenes.read(text), text.decode().split("\n")
-    numbers, products = {solid.name: at for at, solid in enumerate(scene.solids, 1)}, []
-    for line in program.answer(BUILT, ["plan"], text)[1].decode().split("\n")[1:-1]:
-        words = line.split(" ") if line.startswith("- ") else ["*"] + line.split(" ")
-        products.append(tuple(-numbers[name] if sign == "-" else numbers[name] for sign, name in zip(words[0::2], words[1::2])))
-    rows, said = passes.operations(scene, products)
-    _, clocks, levels = operations_of(text)
-    starts, clock = [], 0
-    for number, name, operands, _ in rows:
-        starts += [clock] if number == len(starts) else []
-        clock += micros.clocks_of(name, operands, levels)
-    middles = [(one + other) / 2 / clocks for one, other in zip(starts, starts[1:] + [clocks])]
+    products = passes.products_of(scene, program.answer(BUILT, ["plan"], text)[1])
+    said, (_, clocks, levels) = passes.operations(scene, products)[1], operations_of(text)
+    starts = passes.starts(scene, products, levels)
+    middles = [(one + other) / 2 / clocks for one, other in zip(starts, starts[1:])]
     shown = netpbm.images(program.answer(BUILT, ["render"], text)[1])[1].numbers()
     named = {face.number: (solid, face) for solid in scene.solids for faces in passes.faces_of(scene, solid) for face in faces if face.number}
     alone(page, behind=link("docs/scenes/first.scene", "machine", clock=clocks))

@@ -7,7 +7,6 @@ import sys
 
 sys.path.insert(0, os.path.join(os.getcwd(), "tools", "lib"))
 import ends
-import micros
 import netpbm
 import passes
 import program
@@ -20,7 +19,6 @@ from pages import FIRST, PAGE, alone, called, click, go, link, pixels, text_of
 BUILT, OPENING = os.environ["PROGRAM"], "gallery/letters.scene"
 LOT, CLOCKS, PLACES, WHITE = 55, 200, 12, [255, 255, 255]
 REGISTERS = {"enable": 6, "carry": 8, "latch": 10, "leaf": 12}
-KEYS = {"B": 0, "T": 1}
 # Of each image of the wall its caption, its words, whether it is framed, and the colours of some places.
 WALL = """places => [...document.querySelectorAll("#planes .tile")].map(tile => {
   const canvas = tile.querySelector("canvas"), {data} = canvas.getContext("2d").getImageData(0, 0, canvas.width, canvas.height);
@@ -43,22 +41,6 @@ def held(text, clocks, places):
     return [[answers[at * wide + 2 + each][0].decode().split() for each in range(len(places))] for at in range(len(clocks))]
 
 
-class Keys:
-    """The numbers and colours of a scene's keys, by a pixel's memory."""
-
-    def __init__(self, text):
-        self.scene = scenes.read(text)
-        self.face, self.depth = self.scene.number_bits(), self.scene.depth_bits
-        self.length = self.face + self.scene.fraction_bits + self.depth
-        self.colours = {0: [0, 0, 0]}
-        for number, _, _, _, colour, _ in self.scene.faces():
-            self.colours[number] = list(colour)
-
-    def number(self, memory, key, what):
-        first = KEYS[key] * self.length + (0 if what == "face" else self.length - self.depth)
-        return int(memory[first:first + (self.face if what == "face" else self.depth)][::-1], 2)
-
-
 def tile_is_wrong(keys, caption, words, shown, told):
     """Whether an image of the wall shows some places otherwise than the debugger tells them."""
     bit = re.match(r"bit (\d+)", words)
@@ -76,7 +58,7 @@ def tile_is_wrong(keys, caption, words, shown, told):
 
 
 def walls(page, text):
-    lot, keys = random.Random(LOT), Keys(text)
+    lot, keys = random.Random(LOT), passes.Keys(scenes.read(text))
     clocks = [lot.randrange(5397) for _ in range(CLOCKS // 2)]
     clocks = [clock for each in clocks for clock in (each, min(5396, each + 1))]
     places = [(lot.randrange(48), lot.randrange(32)) for _ in range(PLACES - 2)] + [(63, 0), (50, 31)]
@@ -100,25 +82,15 @@ def walls(page, text):
 
 
 def starts_of(text):
-    """The clocks at which the passes of a scene begin, and its end; of a scene that `plan` draws by single solids and products."""
-    scene, numbers = scenes.read(text), {}
-    numbers = {solid.name: at for at, solid in enumerate(scene.solids, 1)}
-    products = []
-    for line in program.answer(BUILT, ["plan"], text)[1].decode().split("\n")[1:-1]:
-        words = line.split(" ") if line.startswith("- ") else ["*"] + line.split(" ")
-        products.append(tuple(-numbers[name] if sign == "-" else numbers[name] for sign, name in zip(words[0::2], words[1::2])))
+    """The clocks at which the passes of a scene begin, and its end."""
+    scene = scenes.read(text)
     wide, high = program.grid(scene.width, scene.height)
-    clock, starts = 0, []
-    for number, name, operands, _ in passes.operations(scene, products)[0]:
-        if number == len(starts):
-            starts.append(clock)
-        clock += micros.clocks_of(name, operands, (wide * high).bit_length() - 1)
-    return starts + [clock]
+    return passes.starts(scene, passes.products_of(scene, program.answer(BUILT, ["plan"], text)[1]), (wide * high).bit_length() - 1)
 
 
 def timeline(page, text):
     print("-- the time line")
-    keys, starts = Keys(text), starts_of(text)
+    keys, starts = passes.Keys(scenes.read(text)), starts_of(text)
     page.until("document.body.dataset.thumbs === '%d of %d'" % (len(starts) - 1, len(starts) - 1))
     places = [(x, y) for x in (2, 14, 22, 24, 33, 45) for y in (1, 9, 16, 30)]
     shown = called(page, THUMBS, places)
