@@ -42,9 +42,11 @@ export class Drag {
   over(event) {
     const {area} = this.editor, {wide, high, left, top} = this.sizes(), row = this.editor.lineAt(event) - 1;
     const column = Math.floor((event.offsetX + area.scrollLeft - left) / wide), found = numberAt(this.rows()[row] ?? "", column);
-    this.place = found && {row, found};
-    this.grip.hidden = !found;
-    if (!found) return;
+    // (the grip stands behind the number, and never under the pointer)
+    const isOn = found !== null && column < found[1];
+    this.place = isOn ? {row, found} : null;
+    this.grip.hidden = !isOn;
+    if (!isOn) return;
     this.grip.style.left = left + found[1] * wide - area.scrollLeft + "px";
     this.grip.style.top = top + row * high - area.scrollTop + "px";
   }
