@@ -73,7 +73,7 @@ export class Machine {
     at("of").textContent = `of ${course.clocks.toLocaleString("en")}`;
     if (view) Object.assign(this, {view, beside: beside ?? ""});
     if (pixel) this.screens[0].keep(this.pixel = pixel);
-    this.strip.load(text, this.course, head.layout !== null);
+    this.strip.load(text, this.course, head.layout && head);
     this.life.load(text, this.course);
     this.goTo(share ? this.course.startOfPass(Math.round(share * course.passes.length)) : clock);
     if (isPlayed) this.player.begin();

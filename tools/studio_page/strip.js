@@ -9,7 +9,7 @@ const MOST = 40, SMALL = 64, LARGER = 160, GAP = 4;
 export class Strip {
   // `go` is called with a clock.
   constructor(go, tell) {
-    Object.assign(this, {go, tell, text: null, course: null, thumbs: [], isScene: false});
+    Object.assign(this, {go, tell, text: null, course: null, thumbs: [], picture: null});
     this.isLit = null;
     this.onPass = () => {};
     this.under = latest((clock, x) => this.previewed(clock, x).catch(tell));
@@ -31,10 +31,11 @@ export class Strip {
     at("strip").addEventListener("keydown", event => this.key(event));
   }
 
-  load(text, course, isScene) {
-    Object.assign(this, {text, course, isScene});
+  // Takes another text with its course; `picture` has the size of its picture, and is null for a listing.
+  load(text, course, picture) {
+    Object.assign(this, {text, course, picture});
     this.left();
-    const count = course.passes.length, many = isScene ? Math.min(MOST, count) : 0;
+    const count = course.passes.length, many = picture ? Math.min(MOST, count) : 0;
     this.thumbs = Array.from({length: many}, (_, place) => this.thumb(Math.ceil((place + 1) * count / many) - 1));
     at("strip").replaceChildren(...this.thumbs.map(each => each.button));
     at("strip").hidden = !many;
@@ -49,7 +50,7 @@ export class Strip {
     button.addEventListener("click", () => this.go(clock));
     button.addEventListener("pointerenter", event => this.over(clock, event.clientX));
     button.addEventListener("focus", () => this.focusable(this.thumbs.findIndex(each => each.button === button)));
-    canvas.width = canvas.height = 1;
+    Object.assign(canvas, {width: this.picture.width, height: this.picture.height});
     return {pass, clock, canvas, button};
   }
 
@@ -78,7 +79,7 @@ export class Strip {
     this.onPass(said);
     at("under").hidden = false;
     this.placed(x);
-    if (this.isScene) this.under(clock, x);
+    if (this.picture) this.under(clock, x);
   }
 
   placed(x) {

@@ -2,7 +2,7 @@
 // changed is framed, and only that is drawn anew.
 import {made, put} from "./show.js";
 
-const CAPTION = 18, LEAST = 40, GAP = 6;
+const CAPTION = 18, LEAST = 40, GAP = 6, COARSE = 64;
 const SHORT = {"best colours": "B colours", "best depth": "B depth", "best face": "B face", "candidate colours": "T colours",
   "candidate depth": "T depth", "candidate face": "T face"};
 
@@ -33,7 +33,7 @@ export class Wall {
 
   tile(view) {
     const canvas = made("canvas"), caption = made("span", "", SHORT[view.name] ?? view.name);
-    const button = made("button", "tile " + (view.field || view.group), "", canvas, caption);
+    const button = made("button", "tile " + (view.field ?? "").split(" ")[0], "", canvas, caption);
     button.title = view.label;
     button.addEventListener("click", event => this.onChoose(view.name, event.shiftKey));
     button.addEventListener("focus", () => this.focusable(this.tiles.findIndex(tile => tile.view === view)));
@@ -60,6 +60,7 @@ export class Wall {
   size({width, height}) {
     this.of = `${width} ${height}`;
     this.pixels = new Uint32Array(width * height);
+    this.root.classList.toggle("coarse", width <= COARSE);
     for (const tile of this.tiles) Object.assign(tile.canvas, {width, height});
     this.fit();
   }
