@@ -241,8 +241,7 @@ def sizes(page):
 
 def fresh(page):
     """The page with the first scene alone, and no draft of any."""
-    page.open("about:blank")
-    page.call("Storage.clearDataForOrigin", origin="file://", storageTypes="local_storage")
+    page.run("Storage.prototype.setItem = () => {}; localStorage.clear()")
     alone(page)
 
 
