@@ -28,6 +28,7 @@ COMMENT = re.compile(r"(?m)^ *//.*\n")
 POLICY = ("default-src 'none'; script-src 'wasm-unsafe-eval' blob: '%s'; style-src '%s'; img-src blob: data:; worker-src blob:; "
           "connect-src 'self'")
 LIBRARY = re.compile(r'<script type="text/plain" id="library" data-of="(\w+)" data-check="\d+">\n([A-Za-z0-9+/=\n]*)</script>')
+OWN = re.compile(r'(<script type="application/json" id="own">)null')
 LINE = 120
 
 
@@ -117,6 +118,14 @@ def page(wasm, crates):
     if len(text.encode("utf-8")) > LARGEST:
         raise Bad("the page has more than %d bytes" % LARGEST)
     return text
+
+
+def with_scene(text, scene):
+    """A page with a scene of its own, and how it is shown, as the page itself writes it."""
+    out, count = OWN.subn(lambda match: match.group(1) + data(scene), text)
+    if count != 1:
+        raise Bad("the page has no place for a scene of its own")
+    return out
 
 
 def library_in(text):

@@ -58,8 +58,8 @@ export class Machine {
     new ResizeObserver(() => { this.strip.drawPasses(); this.life.draw(); this.inside(); if (this.state) this.arrange(); }).observe(at("machine"));
   }
 
-  // Takes another text, at a clock or behind a share of its passes, and where they are said with views and a pixel; where `isPlayed`, it
-  // plays from there.
+  // Takes another text, at a clock or behind a share of its passes, and where they are said with views and a pixel; where `isPlayed`
+  // says by what, it plays from there.
   async load(text, head, {clock = this.wanted, share, view, beside, pixel, isPlayed}) {
     this.text = text;
     this.course = this.before = null;
@@ -76,7 +76,7 @@ export class Machine {
     this.strip.load(text, this.course, head.layout && head);
     this.life.load(text, this.course);
     this.goTo(share ? this.course.startOfPass(Math.round(share * course.passes.length)) : clock);
-    if (isPlayed) this.player.begin();
+    if (isPlayed) this.player.begin(isPlayed);
   }
 
   // Goes to a clock, as who looks on wants it: what plays stops.

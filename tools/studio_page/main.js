@@ -22,7 +22,7 @@ const TABS = ["write", "machine", "compare", "lesson"], PARTS = ["write", "machi
 const MODELS = ["csg", "off", "stl"], TEXTS = ["scene", "listing"], IMAGES = /^(P[1-7fF]\s|\x89PNG|\x76\x2f\x31\x01|\s*[-+.]?\d)/;
 const LARGEST_DROP = 1 << 26, TOLD = 6000, SMALLEST = 12, LARGEST = 30, FIRST = "first", NOTHING = "none";
 // What a page opens by itself, and how it is shown then: in the midst of being drawn, and going on.
-const OPENING = "letters", SIGHT = {view: "best colours", beside: "", isPlayed: true, share: 0.55, pixel: [60, 180]};
+const OPENING = "letters", SIGHT = {view: "best colours", beside: "", isPlayed: "pass", share: 0.55, pixel: [60, 180]};
 
 // Where a text is opened at a clock, `pending` says it until the text is drawn; `stale` is what the machine has not taken.
 const page = {tab: "write", served: null, pending: null, stale: null};
@@ -150,10 +150,11 @@ function shown() {
   return {name: texts.now.name, text: texts.text, tab: page.tab === "lesson" ? "write" : page.tab, image: picture.image, ...place};
 }
 
-// Opens such a text.
-function show({name, text, tab, image, clock, view, beside, pixel}, more) {
+// Opens such a text; a film has the machine alone, and plays.
+function show({name, text, tab, image, clock, view, beside, pixel, isFilm}, more) {
   const isMachine = tab === "machine";
-  open(String(name ?? "scene"), text, isMachine ? {clock, view, beside, pixel} : null, more);
+  if (isFilm) document.body.classList.add("film");
+  open(String(name ?? "scene"), text, isMachine ? {clock, view, beside, pixel, isPlayed: isFilm && "operation"} : null, more);
   if (image) picture.choose(image);
   if (!isMachine && pixel) picture.screen.keep(pixel);
   choose(TABS.includes(tab) ? tab : "write");
@@ -263,11 +264,12 @@ function remember(more) {
   } catch {}
 }
 
-function toggleText() { at("show-text").setAttribute("aria-pressed", String(main.classList.toggle("with-text"))); }
+function toggleText() { if (!own?.isFilm) at("show-text").setAttribute("aria-pressed", String(main.classList.toggle("with-text"))); }
 
 function teach(isOn = !document.body.classList.contains("teaching")) { document.body.classList.toggle("teaching", isOn); }
 
 function write() {
+  if (own?.isFilm) return;
   if (page.tab === "machine" && !main.classList.contains("with-text")) toggleText();
   if (page.tab === "lesson") choose("write");
   at("source").focus();
@@ -353,7 +355,7 @@ document.addEventListener("drop", event => {
 });
 addEventListener("hashchange", () => link.unpacked(location.hash.slice(1)).then(scene => { if (scene) show(scene); }).catch(tell));
 listen({
-  save: () => save().catch(tell), choose: number => choose(TABS[number]), parts: TABS.length, letters, write, nextImage, teach: () => teach(), stop: way => machine.stopAt(way).catch(tell), teachNoMore: () => teach(false),
+  save: () => save().catch(tell), choose: number => choose(TABS[number]), parts: own?.isFilm ? 0 : TABS.length, letters, write, nextImage, teach: () => teach(), stop: way => machine.stopAt(way).catch(tell), teachNoMore: () => teach(false),
   toggleText, isMachine: () => page.tab === "machine", machine});
 // For whoever asks by the browser's console (docs/STUDIO.md).
 globalThis.studio = {ask, library: () => load(library())};

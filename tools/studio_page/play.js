@@ -41,9 +41,9 @@ export class Player {
     if (machine.wanted === machine.course.clocks) this.stop();
   }
 
-  // Plays by passes without being asked, slowly; not where motion is unwelcome.
-  begin() {
-    at("pace").value = "pass";
+  // Plays without being asked, slowly; not where motion is unwelcome.
+  begin(pace) {
+    at("pace").value = pace;
     at("speed").value = USUAL;
     if (!isStill()) this.play();
   }
