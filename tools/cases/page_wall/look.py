@@ -130,7 +130,7 @@ def large(page):
     print("both as the debugger has them:", [[int(each[2][9 * 64 + x] == (255, 255, 255)) for x in range(64)] for each in (one, other)] ==
           [[int(each[at]) for each in told] for at in (8, 10)])
     page.run("document.activeElement.blur()")
-    for _ in range(40):
+    for _ in range(14):
         page.press("z")
     page.run("document.getElementById('array').focus()")
     for key in ["ArrowLeft"] * 3 + ["ArrowUp"] * 2:
@@ -140,7 +140,7 @@ def large(page):
       return [scale, m.left >= s.left - 1 && m.right <= s.right + 1 && m.top >= s.top - 1 && m.bottom <= s.bottom + 1].join(', the pixel in sight: ') })()"""))
     page.run("document.activeElement.blur()")
     scales = set()
-    for _ in range(40):
+    for _ in range(14):
         page.press("Z")
         scales.add(page.run("document.getElementById('array').clientWidth / 64"))
     print("each scale a whole number:", all(abs(each - round(each)) < 0.01 for each in scales), len(scales) > 4)
