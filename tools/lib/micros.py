@@ -7,6 +7,8 @@ ACTS = ("nop", "enable-all", "enable-carry", "enable-tree", "enable-bit", "set-c
 HAVE_A_PLACE = frozenset(("enable-bit", "fetch", "store-tree", "store-latch", "store-const", "toggle", "carry-tree",
                           "carry-latch", "add-tree"))
 HAVE_A_VALUE = frozenset(("enable-carry", "enable-tree", "enable-bit", "set-carry", "store-const"))
+OPERATIONS = ("all", "keep-sign", "keep-bit", "keep-at-most", "keep-less", "set-bit", "toggle", "load-linear", "add-linear", "load-const",
+              "copy")
 SIGN_BIT = 40
 
 

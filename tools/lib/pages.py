@@ -1,17 +1,31 @@
 """What is done on the page by those who look at it in a browser (browser.py). It is no tool itself."""
+import base64
 import json
 import os
+import zlib
 
 import ends
 import netpbm
 
 PAGE = os.path.join(ends.TOP, "page", "pxplanes.html")
+FIRST = os.path.join(ends.TOP, "docs", "scenes", "first.scene")
 
 
-def alone(page, path=PAGE, behind=""):
-    """Opens the page as a file, and waits until its first text is drawn or refused."""
+def link(path, tab="write", **more):
+    """The part of an address that opens a scene's file in a part of the page, as the page packs it."""
+    scene = {"name": os.path.splitext(os.path.basename(path))[0], "text": ends.content(path).decode(), "tab": tab, **more}
+    packing = zlib.compressobj(9, zlib.DEFLATED, -15)
+    packed = packing.compress(json.dumps(scene).encode()) + packing.flush()
+    return "#" + base64.urlsafe_b64encode(packed).decode().rstrip("=")
+
+
+def alone(page, path=PAGE, behind=None):
+    """Opens the page as a file, with the first scene of the documents or what its address says, and waits until the text is drawn or refused."""
+    behind = link(FIRST) if behind is None else behind
     if not os.path.isfile(path):
         raise netpbm.Bad("there is no page at %s; tools/package --web makes it" % path)
+    # (a page that is open at this address would stay)
+    page.open("about:blank")
     page.open("file://" + os.path.abspath(path) + behind)
     return page.until("document.body.dataset.drawn !== 'no' && document.body.dataset.drawn")
 

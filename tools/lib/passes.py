@@ -156,6 +156,24 @@ class Passes:
         yield "copy", (self.length, self.length, 0), "copy key T into key B"
 
 
+def products_of(scene, plan):
+    """The products that `plan` prints: of each the solids' numbers from 1 on, below 0 where one is taken away."""
+    numbers, found = {solid.name: at for at, solid in enumerate(scene.solids, 1)}, []
+    for line in plan.decode().split("\n")[1:-1]:
+        words = line.split(" ") if line.startswith("- ") else ["*"] + line.split(" ")
+        found.append(tuple(-numbers[name] if sign == "-" else numbers[name] for sign, name in zip(words[0::2], words[1::2])))
+    return found
+
+
+def starts(scene, products, levels):
+    """The clocks at which the passes begin, in an array whose tree has so many levels, and behind them the end of the last."""
+    clock, found = 0, []
+    for number, name, numbers, _ in operations(scene, products)[0]:
+        found += [clock] if number == len(found) else []
+        clock += micros.clocks_of(name, numbers, levels)
+    return found + [clock]
+
+
 def operations(scene, products):
     """Of each operation in order: the number of its pass, its name, its numbers, and what it is for; and the passes' words."""
     found, said = [], []
@@ -164,6 +182,20 @@ def operations(scene, products):
         found += [(len(said), name, numbers, words) for name, numbers, words in each]
         said.append(says)
     return found, said
+
+
+class Keys:
+    """The numbers in the keys of a scene's pixels, by the bits of their memory (docs/PASSES.md, "Layout"); and the colours of faces."""
+
+    def __init__(self, scene):
+        self.face, self.depth = scene.number_bits(), scene.depth_bits
+        self.length = self.face + scene.fraction_bits + self.depth
+        self.colours = {0: [0, 0, 0], **{number: list(colour) for number, _, _, _, colour, _ in scene.faces()}}
+
+    def number(self, memory, key, what):
+        """A number of key "B" or "T": its "face" or its "depth"."""
+        first = "BT".index(key) * self.length + (0 if what == "face" else self.length - self.depth)
+        return int(memory[first:first + (self.face if what == "face" else self.depth)][::-1], 2)
 
 
 def of_listing(found):

@@ -1,6 +1,6 @@
 """The page as one file: its modules, its style, what it offers, and the library, put into tools/studio_page/index.html. It is no tool
-itself. Nothing is changed in the modules but how they name each other and themselves: each becomes a function that gives what it
-exports, as the workers of a page from a disk are no modules."""
+itself. Nothing is changed in the modules but that lines of comment are left out, and how they name each other and themselves: each becomes
+a function that gives what it exports, as the workers of a page from a disk are no modules."""
 import base64
 import hashlib
 import json
@@ -19,12 +19,16 @@ PAGE = os.path.join(ends.TOP, "page", "pxplanes.html")
 LARGEST = 600000
 # The scenes that the page offers, by folders.
 OFFERED = (("gallery", "gallery"), ("docs/scenes", "of the documents"), ("suite", "the suite"))
+GALLERY = os.path.join(ends.TOP, "docs", "GALLERY.md")
+TAUGHT = re.compile(r"(?m)^\| \[\w+\]\(\.\./gallery/(\w+\.scene)\) \| (.*?) \| \d+ \| \d+ \|$")
 PARTS = ("main.js", "answers.js")
 IMPORT = re.compile(r'(?m)^import (\* as \w+|\{[^}]*\}) from "([^"]+)";\n')
 EXPORT = re.compile(r"(?m)^export ((?:async )?function|class|const) (\w+)")
+COMMENT = re.compile(r"(?m)^ *//.*\n")
 POLICY = ("default-src 'none'; script-src 'wasm-unsafe-eval' blob: '%s'; style-src '%s'; img-src blob: data:; worker-src blob:; "
           "connect-src 'self'")
 LIBRARY = re.compile(r'<script type="text/plain" id="library" data-of="(\w+)" data-check="\d+">\n([A-Za-z0-9+/=\n]*)</script>')
+OWN = re.compile(r'(<script type="application/json" id="own">)null')
 LINE = 120
 
 
@@ -43,7 +47,7 @@ def module(name, found):
     if name in found:
         return
     found[name] = None
-    text = read(place_of(name))
+    text = COMMENT.sub("", read(place_of(name)))
 
     def imported(match):
         what, other = match.groups()
@@ -70,15 +74,16 @@ def code():
 
 
 def offered():
-    """Group, name and text of each scene that the page offers."""
-    out = []
+    """Group, name and text of each scene that the page offers, and what one of the gallery teaches."""
+    out, taught = [], dict(TAUGHT.findall(read(GALLERY)))
     for folder, group in OFFERED:
         for place, folders, leaves in os.walk(os.path.join(ends.TOP, folder)):
             folders.sort()
             for leaf in sorted(leaves):
                 if leaf.endswith(".scene"):
                     own = os.path.relpath(place, os.path.join(ends.TOP, folder))
-                    out.append([group if own == "." else "%s: %s" % (group, own), leaf[:-len(".scene")], read(os.path.join(place, leaf))])
+                    out.append([group if own == "." else "%s: %s" % (group, own), leaf[:-len(".scene")], read(os.path.join(place, leaf)),
+                                taught.get(leaf, "") if folder == "gallery" else ""])
     return out
 
 
@@ -113,6 +118,14 @@ def page(wasm, crates):
     if len(text.encode("utf-8")) > LARGEST:
         raise Bad("the page has more than %d bytes" % LARGEST)
     return text
+
+
+def with_scene(text, scene):
+    """A page with a scene of its own, and how it is shown, as the page itself writes it."""
+    out, count = OWN.subn(lambda match: match.group(1) + data(scene), text)
+    if count != 1:
+        raise Bad("the page has no place for a scene of its own")
+    return out
 
 
 def library_in(text):

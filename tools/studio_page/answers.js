@@ -4,12 +4,14 @@ import {cureOf} from "./cures.js";
 import {compared, fill, mapsOf, marksOf, pictureOf, wordsOf} from "./differences.js";
 import {hintsOf, rayOf} from "./looks.js";
 import {Bad, rastersOf} from "./maps.js";
+import {coloursOf, packed} from "./palette.js";
 import {clocksOf, operationsOf, operationsOfListing, readListing} from "./passes.js";
+import {Life} from "./replay.js";
 import {OF_PRODUCTS, Refusal, bytesOf, cutLines, lettersOf, needMemory, readScene} from "./scene.js";
 
-const MOST_CLOCKS = 64, MOST_GROUPS = 200, FIRST = 8, MALFORMED = 3, LIMIT = 4, NO_CLOCK = 9, IDLE = 200;
-// `idle` makes ready what may be asked next, where nothing is asked for a moment.
-let px = null, idle = null;
+const MOST_CLOCKS = 64, MOST_SMALL = 256, MOST_GROUPS = 200, FIRST = 8, MALFORMED = 3, LIMIT = 4, NO_CLOCK = 9, IDLE = 200;
+// `idle` makes ready what may be asked next, where nothing is asked for a moment; `lived` is the pixel whose life was asked last.
+let px = null, idle = null, lived = null;
 
 // What is made of a text, kept for the text that came last.
 function kept(make) {
@@ -42,8 +44,7 @@ function draw(text) {
     return {kind: "listing", width, height, layout: null, clocks};
   }
   const drawn = px.render(text), scene = sceneIn(text), faces = facesOf(scene), rgb = new Uint8Array(3 * drawn.faces.length);
-  const colours = [[0, 0, 0]];
-  for (const [number, , , colour] of faces) colours[number] = colour;
+  const colours = coloursOf(faces);
   for (let place = 0, to = 0; place < drawn.faces.length; place++, to += 3) {
     const colour = colours[drawn.faces[place]];
     rgb[to] = colour[0]; rgb[to + 1] = colour[1]; rgb[to + 2] = colour[2];
@@ -84,6 +85,46 @@ function state(text, words) {
   const machine = machineIn(text), {next, ...fields} = machine.state(wholeNumber(words, "clock"));
   idle = setTimeout(() => machine.prepare(words.clock), IDLE);
   return {...fields, micro: next && String(next)};
+}
+
+// A small picture of key B behind a clock: of some of its pixels the colours of their faces, at most so many in a row.
+function thumb(text, words) {
+  const scene = sceneIn(text), most = wholeNumber(words, "most", MOST_SMALL), own = px.state(text, wholeNumber(words, "clock"));
+  const step = Math.ceil(Math.max(scene.width, scene.height) / Math.max(1, most)), [width, height] = [scene.width, scene.height].map(side => Math.ceil(side / step));
+  const faces = own.numbers(0, scene.numberBits()), colours = coloursOf(facesOf(scene)), pixels = new Uint32Array(width * height);
+  for (let place = 0; place < pixels.length; place++) {
+    const x = place % width * step, y = Math.floor(place / width) * step;
+    pixels[place] = packed(colours[faces[y * own.width + x]]);
+  }
+  return {width, height, pixels};
+}
+
+// The life of a pixel: enable behind each operation, and the number in key B's face, 0 where the text is a listing.
+function life(text, words) {
+  const own = lifeIn(text, words), bits = isListing(text) ? 0 : sceneIn(text).numberBits(), faces = new Uint16Array(own.enable.length);
+  for (let place = 0; place < faces.length; place++) for (let bit = 0; bit < bits; bit++) faces[place] |= own.at(place, bit) << bit;
+  return {enable: own.enable, faces};
+}
+
+function lifeIn(text, words) {
+  const {width, height} = machineIn(text).first, x = wholeNumber(words, "x", width - 1), y = wholeNumber(words, "y", height - 1);
+  if (lived?.text !== text || lived.x !== x || lived.y !== y) lived = {text, x, y, life: new Life(px, courseIn(text).operations, x, y)};
+  return lived.life;
+}
+
+// The next clock, or the last one before, behind which a pixel's enable, a bit of its memory or the face in its key B is another one.
+function stop(text, words) {
+  const own = lifeIn(text, words), {operations, clocks} = courseIn(text), now = wholeNumber(words, "clock", clocks), way = words.back ? -1 : 1;
+  const what = {enable: () => "enable", bit: () => [wholeNumber(words, "bit", machineIn(text).first.bits - 1), 1],
+    face: () => [0, isListing(text) ? 0 : sceneIn(text).numberBits()]}[words.what]();
+  const endOf = operation => operations[operation + 1]?.[3] ?? clocks;
+  let operation = operations.findLastIndex(([, , , start]) => start <= now);
+  for (; operation >= 0 && operation < operations.length; operation += way) {
+    if (!own.isChanged(operation, what)) continue;
+    const clock = own.clockOf(operation, what, endOf(operation));
+    if (way * (clock - now) > 0) return {clock};
+  }
+  return {clock: null};
 }
 
 // What a pixel held after each of some clocks, and the microinstructions between them.
@@ -135,7 +176,7 @@ function columnsOf(line, span) {
   return span.map(at => new TextDecoder("utf-8", {ignoreBOM: true}).decode(bytesOf(line.slice(0, at))).length + Math.max(0, at - line.length));
 }
 
-const QUESTIONS = {draw, hints, ray, program: courseIn, state, wave, compare};
+const QUESTIONS = {draw, hints, ray, program: courseIn, state, wave, thumb, life, stop, compare};
 
 async function answered({name, words, text}) {
   try {

@@ -3,7 +3,7 @@
 import {lacking} from "../../web/pxplanes.mjs";
 import {code, library} from "./given.js";
 
-const PATIENCE = 200, LANE = {draw: "draw", hints: "slow", compare: "slow"};
+const PATIENCE = 200, LANE = {draw: "draw", hints: "slow", compare: "slow", thumb: "small", life: "life", stop: "life"};
 
 export class Trouble extends Error {}
 

@@ -1,6 +1,6 @@
 // Another renderer's map beside the picture: what differs, in groups, as an image and pixel by pixel.
 import {ask, latest} from "./ask.js";
-import {Screen, made} from "./show.js";
+import {Screen, made, painted} from "./show.js";
 
 const at = id => document.getElementById(id);
 
@@ -71,11 +71,11 @@ export class Compare {
 
   paint() {
     const {only, head} = this, {rgb: colours, marks} = head;
-    this.screen.draw(head.width, head.height, place => {
+    this.screen.draw(head.width, head.height, painted(head.width, head.height, place => {
       const colour = [colours[3 * place], colours[3 * place + 1], colours[3 * place + 2]];
       if (only === null || !marks[place]) return colour;
       return marks[place] === only ? [255, 214, 0] : colour.map(part => Math.round(part / 3));
-    });
+    }));
   }
 
   point(pixel) {

@@ -8,6 +8,19 @@ export const KINDS = [
 
 export const kindOf = words => KINDS.find(([, pattern]) => pattern.test(words))?.[0] ?? "open";
 
+// The operations by name (docs/LISTINGS.md).
+export const NAMES = ["all", "keep-sign", "keep-bit", "keep-at-most", "keep-less", "set-bit", "toggle", "load-linear", "add-linear", "load-const", "copy"];
+
+// The places in memory that an operation names, each a first bit and a length.
+function placesOf(name, ...words) {
+  const numbers = words.map(Number), pair = first => [numbers[first], numbers[first + 1]];
+  const places = {
+    "keep-bit": () => [[numbers[0], 1]], "set-bit": () => [[numbers[0], 1]], "toggle": () => [[numbers[0], 1]],
+    "load-const": () => [pair(0)], "copy": () => [pair(0), [numbers[2], numbers[1]]], "keep-less": () => [pair(0), [numbers[2], numbers[1]]],
+    "load-linear": () => [pair(3)], "add-linear": () => [pair(3)], "keep-at-most": () => [pair(3)]};
+  return places[name]?.() ?? [];
+}
+
 export class Course {
   // The answer to `program`: of each operation its pass, line, words and first clock; and the words of each pass.
   constructor({operations, passes, clocks}) {
@@ -30,6 +43,15 @@ export class Course {
   startOf(operation) { return this.operations[operation]?.[3] ?? this.clocks; }
 
   startOfPass(pass) { return this.passStarts[pass] ?? this.clocks; }
+
+  // The places in memory that the operations name, each a first bit and a length.
+  bitsNamed() { return this.operations.flatMap(([, line]) => placesOf(...line.split(" "))); }
+
+  // Where an operation of a name begins next, or began last before a clock; null where none does.
+  named(name, now, way) {
+    const begin = this.operations.filter(([, line]) => line.split(" ")[0] === name).map(([, , , clock]) => clock);
+    return (way > 0 ? begin.find(clock => clock > now) : begin.findLast(clock => clock < now)) ?? null;
+  }
 
   // The clock to which a move leads from another.
   moved(move, now) {

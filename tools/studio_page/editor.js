@@ -56,7 +56,8 @@ export class Editor {
     this.gutter = root.querySelector(".gutter");
     this.sheet = root.querySelector(".sheet");
     this.bad = null;
-    this.onInput = () => {};
+    this.onInput = this.onLine = this.onCursor = () => {};
+    this.lit = 0;
     new ResizeObserver(() => { if (this.area) this.follow(); }).observe(this.sheet);
   }
 
@@ -70,6 +71,10 @@ export class Editor {
     area.addEventListener("input", () => { this.bad = null; this.paintSoon(); this.onInput(); });
     area.addEventListener("scroll", () => this.follow());
     area.addEventListener("keydown", event => { if (event.key === "Escape") area.blur(); });
+    area.addEventListener("mousemove", event => this.onLine(this.lineAt(event)));
+    area.addEventListener("mouseleave", () => this.onLine(0));
+    for (const event of ["keyup", "click", "focus"]) area.addEventListener(event, () => this.onCursor());
+    area.addEventListener("keyup", () => this.onLine(area.value.slice(0, area.selectionStart).split("\n").length));
     this.sheet.append(area);
     return area;
   }
@@ -95,6 +100,19 @@ export class Editor {
   mark(line, span) {
     this.bad = line ? {line, span} : null;
     this.paint();
+  }
+
+  // The line under the pointer.
+  lineAt({offsetY}) {
+    const style = getComputedStyle(this.area), padding = parseFloat(style.paddingTop), height = parseFloat(style.lineHeight);
+    return Math.floor((offsetY + this.area.scrollTop - padding) / height) + 1;
+  }
+
+  // Lights a line, or none where it is 0.
+  light(line) {
+    this.lit = line;
+    for (const [at, each] of [...this.ink.children].entries()) each.classList.toggle("lit", at + 1 === line);
+    for (const [at, each] of [...this.gutter.children].entries()) each.classList.toggle("lit", at + 1 === line);
   }
 
   show(line) {
@@ -136,6 +154,7 @@ export class Editor {
     });
     this.gutter.replaceChildren(numbers);
     this.ink.replaceChildren(ink);
+    if (this.lit) this.light(this.lit);
     this.follow();
   }
 

@@ -1,4 +1,5 @@
 // What the page holds beside its modules: the scenes and exercises that it offers, a scene of its own, and the library.
+import {crc} from "./crc.js";
 
 const at = id => document.getElementById(id);
 // The page as it came, before anything on it was changed: what "save this page" writes again.
@@ -8,16 +9,6 @@ export const given = JSON.parse(at("given").textContent);
 
 export const own = JSON.parse(at("own").textContent);
 
-// A checksum of bytes: the remainder of CRC-32.
-function checkOf(bytes) {
-  let left = -1;
-  for (const byte of bytes) {
-    left ^= byte;
-    for (let bit = 0; bit < 8; bit++) left = left >>> 1 ^ (left & 1 ? 0xedb88320 : 0);
-  }
-  return ~left >>> 0;
-}
-
 // The bytes of the library; they are as they were made, or the page says that it is damaged.
 export function library() {
   const {textContent, dataset} = at("library"), letters = textContent.replace(/\s/g, "");
@@ -25,7 +16,7 @@ export function library() {
   try {
     bytes = Uint8Array.from(atob(letters), letter => letter.charCodeAt(0));
   } catch {}
-  if (!bytes || checkOf(bytes) !== Number(dataset.check)) throw new Error("the library in this page is damaged: take the page anew");
+  if (!bytes || crc(bytes) !== Number(dataset.check)) throw new Error("the library in this page is damaged: take the page anew");
   return bytes;
 }
 

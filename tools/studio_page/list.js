@@ -8,17 +8,18 @@ export class List {
   // `open` is called with a name and a text; `begin` makes an empty scene.
   constructor(open, begin) {
     const list = at("scenes"), close = call => () => { at("gallery").open = false; call(); };
-    const entry = (words, call) => {
+    const entry = (words, call, teaches = "") => {
       const button = made("button", "", words);
+      if (teaches) button.append(made("span", "quiet small", teaches));
       button.addEventListener("click", close(call));
       list.append(button);
     };
     let last = null;
     entry("an empty scene", begin);
-    for (const [group, name, text] of given.gallery) {
+    for (const [group, name, text, teaches] of given.gallery) {
       if (group !== last) list.append(made("h2", "", group));
       last = group;
-      entry(name.replaceAll("_", " "), () => open(name, text));
+      entry(name.replaceAll("_", " "), () => open(name, text), teaches);
     }
     list.addEventListener("keydown", event => this.key(event));
     at("gallery").addEventListener("toggle", () => { if (at("gallery").open) list.querySelector("button").focus(); });

@@ -1,44 +1,66 @@
-// The machine at any clock of a scene: by a slider, by moves and by play; as an image, and what one pixel holds.
+// The machine at any clock of a scene: by a slider, by moves and by play; as images of its planes, and what one pixel holds.
 import {State} from "../../web/pxplanes.mjs";
 import {Trouble, ask, latest} from "./ask.js";
-import {Course, KINDS, kindOf} from "./course.js";
+import {Course, KINDS, NAMES, kindOf} from "./course.js";
+import {PixelLife} from "./life.js";
+import {coloursOf} from "./palette.js";
+import {Edges, saidOf} from "./edges.js";
+import {formOf} from "./passes.js";
 import {pixelOf} from "./pixel.js";
+import {Player} from "./play.js";
 import {Screen, made} from "./show.js";
 import {fieldsOf, onesOf, viewsOf} from "./state.js";
+import {Strip} from "./strip.js";
 import {isShown, treeOf} from "./tree.js";
+import {Wall} from "./wall.js";
 import {waveform} from "./wave.js";
 
 const at = id => document.getElementById(id);
-const CLOCKS_OF_WAVE = 24, GAP = 4, CALM = 3;
+const CLOCKS_OF_WAVE = 24, GAP = 4, PICTURE = "best colours", FIRST_VIEW = "enable";
 
 export class Machine {
   constructor(tell) {
     Object.assign(this, {tell, text: null, head: null, course: null, state: null, before: null, pixel: null});
-    Object.assign(this, {view: "enable", wanted: 0, playing: null});
-    this.screen = new Screen(at("array"), pixel => this.point(pixel));
+    // What is shown large, and what beside it: names of views; none beside it is "".
+    Object.assign(this, {view: PICTURE, beside: "", wanted: 0, frames: 0});
+    this.player = new Player(this);
+    this.strip = new Strip(clock => this.go(clock), tell);
+    this.wall = new Wall(at("planes"), (name, isBeside) => this.choose(name, isBeside));
+    this.life = new PixelLife(clock => this.go(clock), tell);
+    this.screens = ["array", "array-beside"].map(name => new Screen(at(name), pixel => this.point(pixel), pixel => this.keep(pixel)));
+    // What the page does when another pixel is pointed at, and when another state is shown.
+    this.onPoint = this.onShow = () => {};
+    this.edges = new Edges(this.screens[0]);
+    at("edges").addEventListener("click", () => this.turnEdges());
     this.fetchState = latest(() => this.take().catch(tell));
     this.fetchWave = latest((x, y) => this.takeWave(x, y).catch(tell));
-    at("view").addEventListener("change", () => { this.view = at("view").value; this.paint(); });
+    at("view").addEventListener("change", () => this.choose(at("view").value, false));
+    at("beside").addEventListener("change", () => this.choose(at("beside").value, true));
     at("clock").addEventListener("input", () => this.go(Number(at("clock").value)));
     at("until").addEventListener("change", () => this.until());
     at("until").addEventListener("keydown", event => {
       if (event.key === "Escape") at("until").value = this.wanted;
       if (event.key === "Escape" || event.key === "Enter") at("until").blur();
     });
-    at("speed").addEventListener("change", () => { if (this.mayFlash() && this.playing) { this.stop(); this.play(); } });
-    at("play").addEventListener("click", () => this.play());
-    at("line-of-passes").addEventListener("click", event => {
-      if (this.course) this.go(Math.round(event.offsetX / event.target.clientWidth * this.course.clocks));
-    });
     for (const button of document.querySelectorAll("[data-move]"))
       button.addEventListener("click", () => this.move(button.dataset.move));
+    at("stop").addEventListener("keydown", event => {
+      if (event.key === "Enter") this.stopAt(event.shiftKey ? -1 : 1).catch(tell);
+      if (event.key === "Escape" || event.key === "Enter") at("stop").blur();
+    });
+    at("stops").append(...["enable", "face", ...NAMES].map(name => new Option(name)));
+    for (const button of document.querySelectorAll("[data-stop]"))
+      button.addEventListener("click", () => this.stopAt(Number(button.dataset.stop)).catch(tell));
+    for (const button of document.querySelectorAll("[data-zoom]"))
+      button.addEventListener("click", () => this.zoom(Number(button.dataset.zoom)));
     for (const [kind, , words] of KINDS)
       at("legend").append(made("span", "", "", made("i", "chip pass-" + kind), words + " "));
-    new ResizeObserver(() => { this.drawPasses(); this.inside(); }).observe(at("machine"));
+    new ResizeObserver(() => { this.strip.drawPasses(); this.life.draw(); this.inside(); if (this.state) this.arrange(); }).observe(at("machine"));
   }
 
-  // Takes another text, at a clock, and where they are said with a view and a pixel.
-  async load(text, head, clock, view, pixel) {
+  // Takes another text, at a clock or behind a share of its passes, and where they are said with views and a pixel; where `isPlayed`
+  // says by what, it plays from there.
+  async load(text, head, {clock = this.wanted, share, view, beside, pixel, isPlayed}) {
     this.text = text;
     this.course = this.before = null;
     const course = await ask("program", {}, text);
@@ -47,23 +69,31 @@ export class Machine {
     this.head = head;
     this.course = new Course(course);
     this.fields = fieldsOf(head.layout);
-    at("clock").max = course.clocks;
+    at("clock").max = this.course.clocks;
     at("of").textContent = `of ${course.clocks.toLocaleString("en")}`;
-    if (view) this.view = view;
-    if (pixel) {
-      this.pixel = pixel;
-      this.screen.keep(pixel);
-    }
-    this.drawPasses();
-    this.go(clock);
+    if (view) Object.assign(this, {view, beside: beside ?? ""});
+    if (pixel) this.screens[0].keep(this.pixel = pixel);
+    this.strip.load(text, this.course, head.layout && head);
+    this.life.load(text, this.course);
+    this.goTo(share ? this.course.startOfPass(Math.round(share * course.passes.length)) : clock);
+    if (isPlayed) this.player.begin(isPlayed);
   }
 
+  // Goes to a clock, as who looks on wants it: what plays stops.
   go(clock) {
+    this.player.stop();
+    this.goTo(clock);
+  }
+
+  goTo(clock) {
     if (!this.course) return;
     this.wanted = Math.max(0, Math.min(this.course.clocks, clock));
     at("clock").value = this.wanted;
     this.fetchState();
   }
+
+  // Whether what is wanted is shown, and may be explained.
+  get isShown() { return this.course !== null && this.state !== null && this.stateOf === this.text && this.state.clock === this.wanted; }
 
   // Goes to the clock that is written; what is no number of a clock is said, and changes nothing.
   until() {
@@ -73,32 +103,32 @@ export class Machine {
     if (this.course) this.tell(new Trouble(`${word || "nothing"} is no clock from 0 to ${this.course.clocks}`));
   }
 
-  // Whether it may go as fast as is chosen: images that change more than three times a second are asked about first.
-  mayFlash() {
-    if (Number(at("speed").value) <= CALM || this.isAllowed) return true;
-    this.isAllowed = confirm("The array then flashes more than three times a second, which can harm people with photosensitive epilepsy. Play so fast?");
-    if (!this.isAllowed) at("speed").value = "2";
-    return this.isAllowed;
+  // Goes on to where what is written in the field comes about, or back to where it last did.
+  async stopAt(way) {
+    const {course, text, pixel, wanted: now} = this, words = at("stop").value.trim().split(/\s+/), [what, bit] = words;
+    if (!course) return;
+    const isOperation = words.length === 1 && NAMES.includes(what);
+    if (!isOperation && !(words.length === 1 && ["enable", "face"].includes(what)) && !(words.length === 2 && what === "bit" && /^\d+$/.test(bit)))
+      throw new Trouble("a stop is enable, face, bit and its number, or an operation as keep-sign");
+    if (!isOperation && !pixel) throw new Trouble("point at a pixel, or choose one by the arrow keys, and then stop");
+    const {clock, trouble} = isOperation ? {clock: course.named(what, now, way)}
+      : await ask("stop", {what, bit: Number(bit), x: pixel[0], y: pixel[1], clock: now, back: way < 0}, text);
+    if (text !== this.text) return;
+    if (trouble) throw new Trouble(trouble);
+    if (clock === null) throw new Trouble(`${words.join(" ")}: ${way > 0 ? "nothing of it comes any more" : "nothing of it was before"}`);
+    this.go(clock);
   }
 
-  move(name) { if (this.course) this.go(this.course.moved(name, this.wanted)); }
-
-  play() {
-    if (this.playing) return this.stop();
-    if (!this.course || !this.mayFlash()) return;
-    if (this.wanted === this.course.clocks) this.go(0);
-    at("play").textContent = "stop";
-    this.playing = setInterval(() => {
-      this.move(at("pace").value + "-on");
-      if (!this.course || this.wanted === this.course.clocks) this.stop();
-    }, 1000 / Number(at("speed").value));
+  move(name) {
+    this.player.stop();
+    this.goOn(name);
   }
 
-  stop() {
-    clearInterval(this.playing);
-    this.playing = null;
-    at("play").textContent = "play";
-  }
+  goOn(name) { if (this.course) this.goTo(this.course.moved(name, this.wanted)); }
+
+  play() { this.player.toggle(); }
+
+  stop() { this.player.stop(); }
 
   async take() {
     const text = this.text, clock = this.wanted, began = performance.now();
@@ -114,18 +144,44 @@ export class Machine {
     this.show();
     document.body.dataset.shown = clock;
     document.body.dataset.took = Math.round(performance.now() - began);
+    document.body.dataset.frames = this.frames += 1;
   }
 
   show() {
-    const {state} = this, layout = JSON.stringify(this.head.layout);
-    if (at("view").dataset.of !== layout) {
-      at("view").dataset.of = layout;
+    const {state} = this, of = JSON.stringify([this.head.layout, this.head.layout ? this.head.facesOf : this.text]);
+    if (this.viewsOf !== of) {
+      this.viewsOf = of;
       this.fillViews();
     }
     at("until").value = state.clock;
     this.paint();
+    this.onShow();
+    this.showWall();
+    this.strip.at(state.clock);
+    this.showEdges();
     this.tellPlace();
     this.inside();
+  }
+
+  turnEdges() {
+    this.edges.turn();
+    at("edges").setAttribute("aria-pressed", String(this.edges.isOn));
+    if (this.isShown) this.showEdges();
+  }
+
+  // The numbers along the edges, while the tree makes their sums; a clear takes a clock, and each level of the tree one more.
+  showEdges() {
+    const {state, course} = this, operation = course.operations[state.operation], found = operation ? formOf(operation[1]) : null;
+    const {width, height} = state, now = state.operationClock - 1 - state.levels;
+    this.edges.show(found && {...found, width, height, now});
+    const isSaid = this.edges.isOn && found && this.pixel;
+    at("sum").textContent = isSaid ? saidOf({...found, now}, this.pixel) : "";
+    at("sum").hidden = !isSaid;
+  }
+
+  showWall() {
+    const isAlike = this.before?.width === this.state.width && this.before.height === this.state.height;
+    document.body.dataset.read = this.wall.show(this.state, isAlike ? this.before : null);
   }
 
   // The pass, the operation and the microinstruction that come next, in words.
@@ -142,40 +198,110 @@ export class Machine {
     at("line").replaceChildren(made("code", "", isDone ? "" : line), made("span", "quiet", place));
     at("micro").replaceChildren(made("span", "label", "next"), made("code", "", state.micro ?? "nothing"),
       made("span", "quiet", state.micro ? treeWords(state.micro) : ""));
-    at("line-of-passes").title = said;
   }
 
   fillViews() {
-    const groups = {};
-    this.views = viewsOf(this.head.layout, this.state.bits);
-    at("view").replaceChildren();
-    for (const {group, label, name} of this.views) {
-      groups[group] ??= at("view").appendChild(Object.assign(document.createElement("optgroup"), {label: group}));
-      groups[group].append(new Option(label, name));
+    this.views = viewsOf(this.head.layout, this.state.bits, coloursOf(this.head.facesOf ?? []));
+    this.wall.load(this.views, this.used());
+    const groupsOf = () => {
+      const groups = {};
+      for (const {group, label, name} of this.views) (groups[group] ??= Object.assign(made("optgroup"), {label: group})).append(new Option(label, name));
+      return Object.values(groups);
+    };
+    at("view").replaceChildren(...groupsOf());
+    at("beside").replaceChildren(new Option("nothing", ""), ...groupsOf());
+  }
+
+  // The bits of the memory that a text uses: the fields of a scene, or what the operations of a listing name.
+  used() {
+    const fields = this.fields.length ? this.fields.map(({at: first, length}) => [first, length]) : this.course.bitsNamed();
+    return new Set(fields.flatMap(([first, length]) => Array.from({length}, (_, bit) => first + bit)));
+  }
+
+  // What is shown large, as it stands behind some clocks, picture by picture.
+  async pictures(clocks, onEach) {
+    const {text, head} = this, view = this.viewNamed(this.view), out = [];
+    for (const clock of clocks) {
+      const {words, trouble, ...fields} = await ask("state", {clock}, text);
+      if (trouble || text !== this.text) throw new Trouble(trouble ?? "the text is another one now: there is no film");
+      const state = new State(fields, words), pixels = new Uint32Array(state.width * state.height);
+      view.fill(state, pixels);
+      out.push(cut(pixels, state.width, head.layout ? head : state));
+      onEach(out.length);
     }
+    return out;
+  }
+
+  viewNamed(name) { return this.views.find(view => view.name === name); }
+
+  // Shows a view large, or beside the one that is.
+  choose(name, isBeside) {
+    this[isBeside ? "beside" : "view"] = isBeside && name === this.beside ? "" : name;
+    this.paint();
   }
 
   nextView(way) {
     if (!this.views) return;
     const now = this.views.findIndex(view => view.name === this.view);
-    this.view = this.views[(now + way + this.views.length) % this.views.length].name;
-    this.paint();
+    this.choose(this.views[(now + way + this.views.length) % this.views.length].name, false);
   }
+
+  zoom(way) { for (const screen of this.screens) if (!screen.stage.hidden) screen.zoomed(way); }
 
   paint() {
     if (!this.state) return;
-    const {state, head} = this, view = this.views.find(each => each.name === this.view) ?? this.views[0];
-    this.view = at("view").value = view.name;
-    this.screen.draw(state.width, state.height, view.paint(state), head.layout ? [head.width, head.height] : null);
-    const ones = view.plane === undefined ? null : onesOf(state, view.plane), all = state.width * state.height;
-    const count = ones === null ? "" : `${ones.toLocaleString("en")} of ${all.toLocaleString("en")} are 1`;
-    at("count").textContent = count;
-    at("array").setAttribute("aria-label", `the array at clock ${state.clock}, ${view.label}${count && `: ${count}`}; arrow keys choose a pixel`);
+    this.view = (this.viewNamed(this.view) ?? this.viewNamed(FIRST_VIEW)).name;
+    this.beside = this.viewNamed(this.beside)?.name ?? "";
+    at("view").value = this.view;
+    at("beside").value = this.beside;
+    this.screens[1].stage.hidden = !this.beside;
+    this.arrange();
+    [this.view, this.beside].forEach((name, place) => { if (name) this.paintOne(this.screens[place], this.viewNamed(name)); });
+    this.wall.mark([this.view, this.beside]);
+    at("count").textContent = this.onesSaid(this.viewNamed(this.view));
+  }
+
+  // Two images stand one above the other where they are larger so.
+  arrange() {
+    const {clientWidth: wide, clientHeight: high} = at("stages"), {width, height} = this.state;
+    const scale = (columns, rows) => Math.min(wide / columns / width, high / rows / height);
+    at("stages").classList.toggle("stacked", scale(1, 2) > scale(2, 1));
+  }
+
+  paintOne(screen, view) {
+    const {state, head} = this, {width, height} = state, pixels = new Uint32Array(width * height), count = this.onesSaid(view);
+    view.fill(state, pixels);
+    screen.draw(width, height, pixels, head.layout ? [head.width, head.height] : null);
+    screen.canvas.setAttribute("aria-label", `the array at clock ${state.clock}, ${view.label}${count && `: ${count}`}; arrow keys choose a pixel`);
+  }
+
+  onesSaid({plane}) {
+    const {state} = this;
+    return plane === undefined ? "" : `${onesOf(state, plane).toLocaleString("en")} of ${(state.width * state.height).toLocaleString("en")} are 1`;
+  }
+
+  // The numbers of the faces in key B, row by row; null where there are none.
+  faces() {
+    const field = this.isShown && this.fields.find(each => each.name === "best face");
+    return field ? this.state.numbers(field.at, field.length) : null;
+  }
+
+  faceAt(x, y) {
+    const {at: first, length} = this.fields.find(each => each.name === "best face");
+    return this.state.number(first, length, x, y);
   }
 
   point(pixel) {
     this.pixel = pixel;
+    this.onPoint(pixel);
+    if (this.isShown) this.showEdges();
     this.inside();
+  }
+
+  // Both images mark the pixel that is kept in one of them.
+  keep(pixel) {
+    for (const screen of this.screens) if (String(screen.kept) !== String(pixel)) screen.keep(pixel);
+    if (String(this.life.pixel) !== String(pixel)) this.life.show(pixel);
   }
 
   // What stands beside the array: the pixel, the tree and the waveform.
@@ -200,27 +326,19 @@ export class Machine {
     if (!state || this.stateOf !== text) return;
     const head = await ask("wave", {x, y, first: Math.max(0, state.clock - CLOCKS_OF_WAVE), last: state.clock}, text);
     if (head.trouble || head.refused || text !== this.text || !this.pixel) return;
-    const view = this.views.find(each => each.name === this.view);
+    const view = this.viewNamed(this.view);
     const alive = this.fields.find(field => field.name === "alive");
     const bits = view.group === "memory" ? [[`bit ${view.plane}`, view.plane]] : alive ? [["alive", alive.at]] : [];
     at("wave").replaceChildren(waveform(head, at("wave").clientWidth - GAP, bits));
     document.body.dataset.wave = `${x} ${y} ${state.clock}`;
   }
+}
 
-  // The line of passes above the slider: a colour for what each is for.
-  drawPasses() {
-    const canvas = at("line-of-passes"), {course} = this;
-    if (!course || !canvas.clientWidth) return;
-    canvas.width = canvas.clientWidth * devicePixelRatio;
-    canvas.height = canvas.clientHeight * devicePixelRatio;
-    const pen = canvas.getContext("2d"), style = getComputedStyle(document.documentElement);
-    const scale = canvas.width / Math.max(1, course.clocks);
-    course.passStarts.forEach((start, pass) => {
-      const wide = (course.startOfPass(pass + 1) - start) * scale;
-      pen.fillStyle = style.getPropertyValue("--pass-" + kindOf(course.passes[pass]));
-      pen.fillRect(start * scale, 0, Math.max(1, wide > GAP ? wide - 1 : wide), canvas.height);
-    });
-  }
+// The part of an image of the array that is the picture.
+function cut(pixels, wide, {width, height}) {
+  const out = new Uint32Array(width * height);
+  for (let y = 0; y < height; y++) out.set(pixels.subarray(y * wide, y * wide + width), y * width);
+  return {width, height, pixels: out};
 }
 
 // Words in which names stand between backticks.

@@ -2,10 +2,13 @@
 import {load} from "../../web/pxplanes.mjs";
 import {Dropped, Trouble, ask, begin, newest} from "./ask.js";
 import {Compare} from "./compare.js";
+import {Drag} from "./drag.js";
 import {Editor} from "./editor.js";
+import * as film from "./film.js";
 import {given, library, own, pageWith} from "./given.js";
 import {listen} from "./keys.js";
 import {Lesson} from "./lesson.js";
+import {Light} from "./light.js";
 import * as link from "./link.js";
 import {List} from "./list.js";
 import {Machine} from "./machine.js";
@@ -18,6 +21,8 @@ const at = id => document.getElementById(id), main = document.querySelector("mai
 const TABS = ["write", "machine", "compare", "lesson"], PARTS = ["write", "machine", "compare"];
 const MODELS = ["csg", "off", "stl"], TEXTS = ["scene", "listing"], IMAGES = /^(P[1-7fF]\s|\x89PNG|\x76\x2f\x31\x01|\s*[-+.]?\d)/;
 const LARGEST_DROP = 1 << 26, TOLD = 6000, SMALLEST = 12, LARGEST = 30, FIRST = "first", NOTHING = "none";
+// What a page opens by itself, and how it is shown then: in the midst of being drawn, and going on.
+const OPENING = "letters", SIGHT = {view: "best colours", beside: "", isPlayed: "pass", share: 0.55, pixel: [60, 180]};
 
 // Where a text is opened at a clock, `pending` says it until the text is drawn; `stale` is what the machine has not taken.
 const page = {tab: "write", served: null, pending: null, stale: null};
@@ -25,14 +30,21 @@ const page = {tab: "write", served: null, pending: null, stale: null};
 function tell(error) {
   if (error instanceof Dropped) return;
   if (!(error instanceof Trouble)) console.error(error);
-  at("notice").textContent = error.message;
-  at("notice").hidden = false;
-  clearTimeout(tell.timer);
-  tell.timer = setTimeout(() => { at("notice").hidden = true; }, TOLD);
+  note(error.message);
 }
 
 const editor = new Editor(at("editor")), texts = new Texts(editor, changed, tell);
 const machine = new Machine(tell), compare = new Compare(tell), picture = new Picture(editor, tell, drawn, () => { page.pending = null; });
+
+new Drag(editor, picture.screen, () => document.body.dataset.drawn !== "no");
+
+// A face lights up in the text, on the time line and in both images.
+const light = new Light(editor, machine.strip);
+machine.screens.forEach(screen => light.add(screen, () => machine.faces()));
+light.add(picture.screen, () => picture.maps?.faces ?? null);
+machine.onPoint = pixel => light.on(pixel && machine.isShown && machine.head.layout ? machine.faceAt(...pixel) : 0);
+machine.onShow = () => light.again();
+picture.onPoint = pixel => light.on(pixel && picture.maps ? picture.maps.faces[pixel[1] * picture.head.width + pixel[0]] : 0);
 
 // The text that stands is another one: what is shown is not of it until it is drawn.
 function changed(isOther) {
@@ -52,6 +64,7 @@ function changed(isOther) {
 function drawn(text, head, maps) {
   const pending = page.pending?.of === text ? page.pending : {};
   page.stale = {text, head, ...pending};
+  light.load(head.facesOf);
   page.pending = null;
   freshen();
   if (maps) compare.load(text, head, maps);
@@ -60,9 +73,9 @@ function drawn(text, head, maps) {
 // Gives the machine the text that stands, where it is shown.
 function freshen() {
   if (page.tab !== "machine" || !page.stale) return;
-  const {text, head, clock, view, pixel} = page.stale;
+  const {text, head, ...place} = page.stale;
   page.stale = null;
-  machine.load(text, head, clock ?? machine.wanted, view, pixel).catch(tell);
+  machine.load(text, head, place).catch(tell);
 }
 
 function open(name, text, pending = null, more = {}) {
@@ -133,14 +146,15 @@ function readable(name, bytes) {
 
 // The text that stands with what is shown of it.
 function shown() {
-  const place = page.tab === "machine" ? {clock: machine.wanted, view: machine.view, pixel: machine.pixel} : {pixel: picture.screen.kept};
+  const place = page.tab === "machine" ? {clock: machine.wanted, view: machine.view, beside: machine.beside, pixel: machine.pixel} : {pixel: picture.screen.kept};
   return {name: texts.now.name, text: texts.text, tab: page.tab === "lesson" ? "write" : page.tab, image: picture.image, ...place};
 }
 
-// Opens such a text.
-function show({name, text, tab, image, clock, view, pixel}, more) {
+// Opens such a text; a film has the machine alone, and plays.
+function show({name, text, tab, image, clock, view, beside, pixel, isFilm}, more) {
   const isMachine = tab === "machine";
-  open(String(name ?? "scene"), text, isMachine ? {clock, view, pixel} : null, more);
+  if (isFilm) document.body.classList.add("film");
+  open(String(name ?? "scene"), text, isMachine ? {clock, view, beside, pixel, isPlayed: isFilm && "operation"} : null, more);
   if (image) picture.choose(image);
   if (!isMachine && pixel) picture.screen.keep(pixel);
   choose(TABS.includes(tab) ? tab : "write");
@@ -164,12 +178,46 @@ async function takeAway(what) {
   if (what === "page") return take.away(new Blob([pageWith(shown())], {type: "text/html"}), name + ".html");
   if (!picture.isFresh || PARTS.includes(page.tab) && at(page.tab).classList.contains("old"))
     throw new Trouble("what is shown is not of this text: it is refused, or not drawn yet");
+  if (what === "film") return askForFilm();
   if (what === "png") {
     const compared = page.tab === "compare" && !at("differences").hidden;
     return take.away(await take.png(at(page.tab === "machine" ? "array" : compared ? "differences" : "picture")), name + ".png");
   }
   if (!picture.maps) throw new Trouble("there is no picture");
   take.away(take[what](picture.head, picture.maps), `${name}-${what}.ppm`);
+}
+
+// Asks which stretch is filmed, and how; the machine is on its way where it was not shown yet.
+async function askForFilm() {
+  choose("machine");
+  if (!machine.course) throw new Trouble("the machine is not there yet: ask once more");
+  machine.stop();
+  at("film-first").value = machine.wanted === machine.course.clocks ? 0 : machine.wanted;
+  at("film-last").value = machine.course.clocks;
+  at("film-webm").hidden = !film.hasWebm();
+  at("film").returnValue = "";
+  at("film").showModal();
+}
+
+async function takeFilm(form) {
+  const [first, last, speed] = ["first", "last", "speed"].map(name => Number(at("film-" + name).value)), {clocks} = machine.course;
+  if (![first, last].every(clock => Number.isInteger(clock) && clock >= 0 && clock <= clocks) || first > last)
+    throw new Trouble(`a film goes from a clock to a later one, from 0 to ${clocks}`);
+  if (!Number.isInteger(speed) || speed < 1 || speed > 60) throw new Trouble("a film has 1 to 60 pictures a second");
+  const stops = film.stretch(machine.course, first, last, at("film-pace").value);
+  const pictures = await machine.pictures(stops, count => note(`a film: ${count} of ${stops.length} pictures`));
+  note("a film: it is packed");
+  const blob = await (form === "webm" ? film.webm : film.animatedPng)(pictures, speed);
+  take.away(blob, `${texts.now.name}.${form}`);
+  note(`a film of ${stops.length} pictures, ${Math.ceil(blob.size / 1024)} KiB`);
+}
+
+// Says something that is no trouble.
+function note(words) {
+  at("notice").textContent = words;
+  at("notice").hidden = false;
+  clearTimeout(tell.timer);
+  tell.timer = setTimeout(() => { at("notice").hidden = true; }, TOLD);
 }
 
 function choose(tab) {
@@ -181,8 +229,9 @@ function choose(tab) {
     at("tab-" + each).tabIndex = each === tab ? 0 : -1;
   }
   if (tab !== "machine") machine.stop();
+  if (tab !== "machine") teach(false);
   freshen();
-  machine.drawPasses();
+  machine.strip.drawPasses();
 }
 
 function letters(way) {
@@ -195,7 +244,7 @@ function theme() {
   const root = document.documentElement, system = matchMedia("(prefers-color-scheme: dark)").matches ? "dark" : "light";
   root.dataset.theme = (root.dataset.theme ?? system) === "dark" ? "light" : "dark";
   remember({theme: root.dataset.theme});
-  machine.drawPasses();
+  machine.strip.drawPasses();
 }
 
 // Theme and size of letters stay, where the browser keeps anything for the page.
@@ -215,9 +264,12 @@ function remember(more) {
   } catch {}
 }
 
-function toggleText() { at("show-text").setAttribute("aria-pressed", String(main.classList.toggle("with-text"))); }
+function toggleText() { if (!own?.isFilm) at("show-text").setAttribute("aria-pressed", String(main.classList.toggle("with-text"))); }
+
+function teach(isOn = !document.body.classList.contains("teaching")) { document.body.classList.toggle("teaching", isOn); }
 
 function write() {
+  if (own?.isFilm) return;
   if (page.tab === "machine" && !main.classList.contains("with-text")) toggleText();
   if (page.tab === "lesson") choose("write");
   at("source").focus();
@@ -227,19 +279,22 @@ function nextImage(way) { page.tab === "machine" ? machine.nextView(way) : pictu
 
 const nameOf = file => file.replace(/\.scene$/, "");
 
-// Opens the first text: the studio's file, a scene in the address, the page's own, or the first of the documents.
+// Opens the first text: the studio's file, a scene in the address, the page's own, a draft, or a scene of the gallery that the machine
+// is drawing.
 async function opened() {
   const head = await server.begin(), linked = await link.unpacked(location.hash.slice(1));
-  const first = given.gallery.find(([, name]) => name === FIRST);
+  const named = wanted => given.gallery.find(([, name]) => name === wanted), first = named(FIRST), [, name, text] = named(OPENING);
   const served = head?.name && {isServed: true, file: head.name, sum: head.sum};
   // (a file that is not there begins as the first scene of the documents)
   if (served && head.sum === NOTHING) open(nameOf(head.name), first[2], null, {...served, saved: ""});
   else if (served) open(nameOf(head.name), head.text, null, served);
-  else if (!own && !linked) open(FIRST, first[2]);
+  else if (!own && !linked) open(name, text, SIGHT);
   texts.restore();
+  const isAlone = !served && !own && !linked && texts.open.length === 1 && !texts.now.isDraft;
   if (own) show(own);
   if (linked) show(linked);
-  if (texts.open.length > 1 && !own && !linked) texts.choose(texts.open[0]);
+  if (isAlone) choose("machine");
+  if (texts.open.length > 1 && !own && !linked) texts.choose(texts.open[served ? 0 : texts.open.length - 1]);
 }
 
 async function start() {
@@ -279,6 +334,7 @@ at("smaller").addEventListener("click", () => letters(-1));
 at("larger").addEventListener("click", () => letters(1));
 at("theme").addEventListener("click", theme);
 at("help").addEventListener("click", () => at("keys").showModal());
+at("film").addEventListener("close", () => { if (at("film").returnValue) takeFilm(at("film").returnValue).catch(tell); });
 at("show-text").addEventListener("click", toggleText);
 at("take").addEventListener("click", event => {
   if (!event.target.dataset.take) return;
@@ -299,7 +355,7 @@ document.addEventListener("drop", event => {
 });
 addEventListener("hashchange", () => link.unpacked(location.hash.slice(1)).then(scene => { if (scene) show(scene); }).catch(tell));
 listen({
-  save: () => save().catch(tell), choose: number => choose(TABS[number]), parts: TABS.length, letters, write, nextImage,
+  save: () => save().catch(tell), choose: number => choose(TABS[number]), parts: own?.isFilm ? 0 : TABS.length, letters, write, nextImage, teach: () => teach(), stop: way => machine.stopAt(way).catch(tell), teachNoMore: () => teach(false),
   toggleText, isMachine: () => page.tab === "machine", machine});
 // For whoever asks by the browser's console (docs/STUDIO.md).
 globalThis.studio = {ask, library: () => load(library())};

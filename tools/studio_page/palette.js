@@ -23,4 +23,14 @@ export function greys(depths, far) {
   };
 }
 
+// Red, green and blue of each face by its number, of faces as the page is told them; 0 is the background.
+export function coloursOf(faces) {
+  const colours = [NOTHING];
+  for (const [number, , , colour] of faces) colours[number] = colour;
+  return colours;
+}
+
+// A colour as a word of an image: red is its lowest byte.
+export const packed = ([red, green, blue]) => (0xff000000 | blue << 16 | green << 8 | red) >>> 0;
+
 export const css = rgb => `rgb(${rgb.join(" ")})`;

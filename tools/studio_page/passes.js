@@ -1,7 +1,7 @@
 // The broadcast operations of a scene with what each is for: docs/PASSES.md, step by step. It says the same as tools/lib/passes.py,
 // and of a listing what tools/lib/micros.py says.
 
-const SIGN_BIT = 40;
+const SIGN_BIT = 40, FORMS = new Set(["keep-sign", "keep-at-most", "load-linear", "add-linear"]);
 
 // The faces of a solid in the order of their index: the near face and the fronts; the backs and the far limit.
 function facesOf(scene, solid) {
@@ -186,4 +186,10 @@ function spoken(name, numbers) {
     "copy": () => `copy ${fieldText(one, other)} into ${fieldText(third, other)}`,
     "set-bit": () => `make bit ${one} ${other}`,
     "toggle": () => `turn bit ${one}`}[name]();
+}
+
+// The form of an operation's line with the bits that it wants of it; null where it has none.
+export function formOf(line) {
+  const [name, ...words] = line.split(" "), numbers = words.map(Number);
+  return FORMS.has(name) ? {form: numbers.slice(0, 3), bits: name === "keep-sign" ? SIGN_BIT : numbers[4]} : null;
 }

@@ -1,7 +1,7 @@
 // The picture beside the text: drawn anew at each change, with a pixel, its ray, and what is likely wrong.
 import {Trouble, ask, latest} from "./ask.js";
 import {css, greys, hue} from "./palette.js";
-import {Screen, made} from "./show.js";
+import {Screen, made, painted} from "./show.js";
 
 const at = id => document.getElementById(id);
 const FEW_MISSED = 4, MOST_NAMED = 12;
@@ -14,7 +14,8 @@ export class Picture {
   // `onDrawn` is called with the text, what it is, and its maps (null for a listing), once it is accepted; `onRefused` with the text.
   constructor(editor, tell, onDrawn, onRefused) {
     Object.assign(this, {editor, tell, onDrawn, onRefused, text: null, drawnText: null, head: null, maps: null, image: "colours", rayOf: null});
-    this.screen = new Screen(at("picture"), pixel => this.point(pixel));
+    this.onPoint = () => {};
+    this.screen = new Screen(at("picture"), pixel => { this.onPoint(pixel); this.point(pixel); });
     this.ray = latest((x, y) => this.rayShown(x, y).catch(tell));
     for (const image of IMAGES) {
       const button = made("button", "", image);
@@ -102,13 +103,14 @@ export class Picture {
   nextImage(way) { this.choose(IMAGES[(IMAGES.indexOf(this.image) + way + IMAGES.length) % IMAGES.length]); }
 
   paint() {
-    if (!this.maps) return this.screen.draw(1, 1, () => [0, 0, 0]);
+    if (!this.maps) return this.screen.draw(1, 1, painted(1, 1, () => [0, 0, 0]));
     const {depths, faces, rgb} = this.maps, grey = greys(depths, this.head.far);
     const paints = {
       colours: place => [rgb[3 * place], rgb[3 * place + 1], rgb[3 * place + 2]],
       depths: place => grey(depths[place]),
       faces: place => hue(faces[place])};
-    this.screen.draw(this.head.width, this.head.height, paints[this.image]);
+    const {width, height} = this.head;
+    this.screen.draw(width, height, painted(width, height, paints[this.image]));
     at("picture").setAttribute("aria-label", this.said());
     this.point(this.screen.kept);
   }

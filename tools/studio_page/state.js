@@ -1,6 +1,6 @@
 // What there is to show of a state of the array: its fields, and images of its planes and of numbers made of them.
 import {REGISTERS} from "../../web/pxplanes.mjs";
-import {ON, OFF, greys, hue} from "./palette.js";
+import {ON, OFF, greys, hue, packed} from "./palette.js";
 
 // How many bits of a plane are 1.
 export function onesOf(state, plane) {
@@ -22,38 +22,50 @@ export function fieldsOf(layout) {
   return [...found, {name: "alive", at: 2 * key, length: 1}, {name: "par", at: 2 * key + 1, length: 1}];
 }
 
-// What there is to show of the array: each has a name, a label, a group, and `paint(state)`, which gives the colour of a
-// place; one of bits has its plane.
-export function viewsOf(layout, bits) {
+// What there is to show of the array: each has a name, a label, a group, the planes that it is made of, and `fill(state, pixels)`, which
+// gives each place its colour, row by row, as an image holds them; one of bits has its plane. `layout` is null for a listing, and
+// `faces` has the colour of each face of a scene.
+export function viewsOf(layout, bits, faces) {
   const fields = fieldsOf(layout), labels = {leaf: "leaf: the tree's bit"};
   const registers = REGISTERS.map((name, number) => bitView(name, labels[name] ?? name, "registers", bits + number));
   const memory = Array.from({length: bits}, (_, at) => {
     const own = fields.find(each => at >= each.at && at < each.at + each.length), single = own?.length === 1;
     const label = own ? `bit ${at}: ${own.name}${single ? "" : `, bit ${at - own.at}`}` : `bit ${at}`;
-    return bitView(single ? own.name : String(at), label, "memory", at);
+    return bitView(single ? own.name : String(at), label, "memory", at, own?.name);
   });
   const keys = layout ? [["best", "key B, the best"], ["candidate", "key T, the candidate"]] : [];
-  return [...registers, ...keys.flatMap(([key, label]) => keyViews(fields, key, label)), ...memory];
+  return [...registers, ...keys.flatMap(([key, label]) => keyViews(fields, key, label, faces)), ...memory];
 }
 
-function bitView(name, label, group, plane) {
-  const paint = ({words, width, perRow, perPlane}) => at => {
-    const x = at % width, y = (at - x) / width;
-    return words[plane * perPlane + y * perRow + (x >> 5)] >>> (x & 31) & 1 ? ON : OFF;
+function bitView(name, label, group, plane, field = "") {
+  return {name, label, group, plane, planes: [plane, plane + 1], field, fill: (state, pixels) => fillBits(state, plane, pixels)};
+}
+
+const [ONE, ZERO] = [ON, OFF].map(packed);
+
+function fillBits({words, width, height, perRow, perPlane}, plane, pixels) {
+  for (let y = 0, to = 0; y < height; y++) {
+    for (let x = 0; x < width; x += 32) {
+      let word = words[plane * perPlane + y * perRow + (x >> 5)];
+      for (const end = Math.min(to + 32, (y + 1) * width); to < end; to++, word >>>= 1) pixels[to] = word & 1 ? ONE : ZERO;
+    }
+  }
+}
+
+function keyViews(fields, key, label, faces) {
+  const view = (what, field, colour) => {
+    const {at, length} = fields.find(each => each.name === `${key} ${field}`);
+    return {name: `${key} ${what}`, label: `${label}: ${what}`, group: "numbers", planes: [at, at + length], field: `${key} ${field}`,
+      fill: (state, pixels) => fillNumbers(state.numbers(at, length), colour, 2 ** length - 1, pixels)};
   };
-  return {name, label, group, plane, paint};
+  return [view("colours", "face", () => number => faces[number] ?? OFF), view("depth", "depth", greys), view("face", "face", () => hue)];
 }
 
-function keyViews(fields, key, label) {
-  const view = (what, colour) => {
-    const {at, length} = fields.find(each => each.name === `${key} ${what}`);
-    const paint = state => numberPaint(state, at, length, colour);
-    return {name: `${key} ${what}`, label: `${label}: ${what}`, group: "numbers", paint};
-  };
-  return [view("depth", (numbers, far) => greys(numbers, far)), view("face", () => hue)];
-}
-
-function numberPaint(state, at, length, colour) {
-  const numbers = state.numbers(at, length), of = colour(numbers, 2 ** length - 1);
-  return place => of(numbers[place]);
+function fillNumbers(numbers, colour, far, pixels) {
+  const of = colour(numbers, far), known = new Map();
+  numbers.forEach((number, at) => {
+    let own = known.get(number);
+    if (own === undefined) known.set(number, own = packed(of(number)));
+    pixels[at] = own;
+  });
 }

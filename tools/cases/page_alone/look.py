@@ -68,7 +68,7 @@ def put(page, text):
 
 
 def pick(page, name):
-    called(page, "name => [...document.querySelectorAll('#scenes button')].find(each => each.textContent === name).click()", name)
+    called(page, "name => [...document.querySelectorAll('#scenes button')].find(each => each.firstChild.textContent === name).click()", name)
 
 
 def dropped(page, name, content):
@@ -210,7 +210,6 @@ def linked(page, text):
         file.write(content)
     print("a link of %s letters" % ("few" if len(link) < 1500 else len(link)))
     for what, path, behind in (("the link", pages.PAGE, "#" + link.split("#")[1]), ("the page", "own.html", "")):
-        page.open("about:blank")
         alone(page, path, behind)
         page.until("document.body.dataset.shown === '1200' && document.body.dataset.wave === '14 16 1200'")
         print("%s: %s, %s, the text is there: %s" % (what, page.run("document.querySelector('main').dataset.tab"), page.run(
@@ -238,6 +237,72 @@ def sizes(page):
             if over or not in_sight:
                 print("%d by %d, %s: over one another %s, in sight %s" % (width, height, tab, over[:4], in_sight))
     print("nothing lies over anything")
+
+
+def fresh(page):
+    """The page with the first scene alone, and no draft of any."""
+    page.run("Storage.prototype.setItem = () => {}; localStorage.clear()")
+    alone(page)
+
+
+def waits(page):
+    """The bar of a drawing that takes long, by when it is seen; a worker is asked late for it."""
+    print("-- a drawing that takes long")
+    fresh(page)
+    page.run("""globalThis.post = Worker.prototype.postMessage; Worker.prototype.postMessage = function (message, ...more) {
+      if (message.name === "draw") setTimeout(() => post.call(this, message, ...more), 600); else post.call(this, message, ...more); }""")
+    found = called(page, """async () => {
+      const s = document.getElementById("source"), bar = document.querySelector("#write .working"), seen = () => getComputedStyle(bar).visibility === "visible";
+      const pale = () => Number(getComputedStyle(document.getElementById("picture")).opacity) < 1, early = [seen(), pale()], began = performance.now();
+      s.setRangeText("#", 9, 9); s.dispatchEvent(new Event("input"));
+      let first = null;
+      const paleAtOnce = pale();
+      while (document.body.dataset.drawn === "no") {
+        if (first === null && seen()) first = performance.now() - began;
+        await new Promise(done => setTimeout(done, 5));
+      }
+      return [early, paleAtOnce, first >= 140 && first < 600, seen(), pale()];
+    }""")
+    page.run("Worker.prototype.postMessage = post")
+    print("bar and pale before: %s; pale at once: %s; the bar behind 150 ms: %s; both when it is drawn: %s, %s" % tuple(found))
+
+
+def dialog(page):
+    """The browser's own dialog: a file that is chosen once, one that is not, and one that cannot be written."""
+    print("-- the browser's dialog")
+    fresh(page)
+    page.run("""globalThis.names = []; globalThis.kept = []; globalThis.showSaveFilePicker = async ({suggestedName}) => { names.push(suggestedName);
+      return {createWritable: async () => ({write: async text => { kept.push(text); }, close: async () => { kept.push("closed"); }})}; }""")
+    for words, other in (("- shaft)", "+ shaft)"), ("+ shaft)", "- shaft)")):
+        choose(page, words)
+        written(page, other)
+        page.run("delete document.body.dataset.saved")
+        page.press("s", modifiers=2)
+        page.until("document.body.dataset.saved === 'first.scene' && kept.at(-1) === 'closed'")
+        print("written as it stands:", page.run("kept.at(-2) === document.getElementById('source').value"), "| asked:", page.run("names.join()"), "|", names(page))
+    dropped(page, "other.scene", open(FIRST).read())
+    page.until(DRAWN)
+    choose(page, "- shaft)")
+    written(page, "+ shaft)")
+    for what, error in (("let be", 'new DOMException("", "AbortError")'), ("full", 'new Error("the disk is full")')):
+        page.run("document.getElementById('notice').hidden = true; globalThis.showSaveFilePicker = async () => { throw %s; }" % error)
+        page.press("s", modifiers=2)
+        if what == "full":
+            page.until("!document.getElementById('notice').hidden")
+        print("%s: %s, told: %s" % (what, names(page), page.run("document.getElementById('notice').hidden ? '' : document.getElementById('notice').textContent")))
+    page.run("delete globalThis.showSaveFilePicker")
+
+
+def long_text(page):
+    """The squares of colour beside the numbers of a long text, which they do not touch."""
+    print("-- a long text")
+    fresh(page)
+    put(page, open(FIRST).read().replace("pxscene 1\n", "pxscene 1\n" + "#\n" * 1200))
+    page.until(DRAWN)
+    print("squares:", page.run("document.querySelectorAll('.gutter .chip').length > 5"), "| nearest to a number, in pixels, above 0:", called(page, """() => {
+      const range = document.createRange();
+      return Math.min(...[...document.querySelectorAll(".gutter .chip")].map(chip => { range.selectNodeContents(chip.parentElement.firstChild);
+        return range.getBoundingClientRect().left - chip.getBoundingClientRect().right; })) > 0; }"""))
 
 
 def many_keys(page):
@@ -292,6 +357,9 @@ with Browser() as page:
     drafts(page)
     linked(page, text)
     sizes(page)
+    waits(page)
+    dialog(page)
+    long_text(page)
     many_keys(page)
     print("faults of the page:", page.faults())
     lacking(page)

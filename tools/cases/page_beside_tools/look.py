@@ -69,7 +69,7 @@ def due_of(text):
     found = looks.all_looks(scene)
     rays = [looks.ray(scene, (scene.width - 1) * at // 3, (scene.height - 1) * over // 8) for at, over in RAYS]
     listed = [line for line in program.answer(BUILT, ["list"], text)[1].decode().split("\n")[2:-2]]
-    operations, said = passes.operations(scene, products_of(scene, text))
+    operations, said = passes.operations(scene, passes.products_of(scene, program.answer(BUILT, ["plan"], text)[1]))
     assert [passes.line(name, numbers) for _, name, numbers, _ in operations] == listed
     clock, rows, (wide, high) = 0, [], program.grid(scene.width, scene.height)
     for number, name, numbers, words in operations:
@@ -78,14 +78,6 @@ def due_of(text):
     hints = looks.sorted_hints(looks.before_drawing(scene, found) + looks.from_picture(scene, faces, found))
     return {"hints": [list(hint) for hint in hints], "rays": rays, "rgb": 0,
             "rows": rows, "passes": said}
-
-
-def products_of(scene, text):
-    numbers, out = {solid.name: at for at, solid in enumerate(scene.solids, 1)}, []
-    for line in program.answer(BUILT, ["plan"], text)[1].decode().split("\n")[1:-1]:
-        words = line.split(" ") if line.startswith("- ") else ["*"] + line.split(" ")
-        out.append(tuple(-numbers[name] if sign == "-" else numbers[name] for sign, name in zip(words[0::2], words[1::2])))
-    return out
 
 
 def texts():

@@ -70,7 +70,7 @@ def look(page):
         page.run("(() => { const field = document.getElementById('until'); field.value = %r; field.dispatchEvent(new Event('change')) })()" % word)
         print("until %s: %s, and the clock is %s" % (word, text_of(page, "#notice"), page.run("document.getElementById('until').value")))
     print("played fast:", page.run("(() => { let asked = 0; globalThis.confirm = () => { asked += 1; return false; }; const s = document.getElementById('speed'); "
-                                   "s.value = '15'; s.dispatchEvent(new Event('change')); return `asked ${asked}, and ${s.value} a second`; })()"))
+                                   "s.value = '10'; s.dispatchEvent(new Event('change')); return `asked ${asked}, and ${s.value} a second`; })()"))
     for name, words in (("state", {"clock": 5397}), ("state", {"clock": -1}), ("state", {"clock": 1.5}), ("state", {}),
                         ("wave", {"x": 0, "y": 0, "first": 0, "last": 64}), ("wave", {"x": 0, "y": 0, "first": 9, "last": 8}),
                         ("wave", {"x": 64, "y": 0, "first": 0, "last": 9}), ("ray", {"x": 48, "y": 0})):

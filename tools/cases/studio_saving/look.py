@@ -4,6 +4,7 @@ import os
 import socket
 import subprocess
 import sys
+import time
 import urllib.parse
 
 sys.path.insert(0, os.path.join(os.getcwd(), "tools", "lib"))
@@ -103,6 +104,22 @@ def with_ends(page, address):
     print("kept:", content("dos.scene") == b"\r\n".join(lines[:3] + [b"# one more", b""] + lines[3:]))
 
 
+def asked_a_while(server, address):
+    """A question that takes many seconds, and Ctrl-C in the midst of it: what came of the question, and the server's status."""
+    spheres = "".join("multmatrix([[1,0,0,%d],[0,1,0,%d],[0,0,1,0],[0,0,0,1]]) { sphere($fn = 24, $fa = 12, $fs = 2, r = 3); }\n" % (7 * (at % 20), 7 * (at // 20))
+                      for at in range(400))
+    model, parts = ("union() {\n%s}\n" % spheres).encode(), urllib.parse.urlsplit(address)
+    with socket.create_connection((parts.hostname, parts.port)) as plain:
+        plain.sendall(b"POST %smodel?kind=csg HTTP/1.1\r\nHost: %s\r\nContent-Length: %d\r\n\r\n%s" % (parts.path.encode(), parts.netloc.encode(), len(model), model))
+        time.sleep(0.5)
+        server.send_signal(2)
+        status = server.wait(2)
+        try:
+            return plain.recv(1 << 16), status
+        except OSError:
+            return b"", status
+
+
 server, address = served("own.scene")
 try:
     with Browser() as page:
@@ -118,5 +135,10 @@ try:
         with_ends(page, address)
     server.send_signal(2)
     print("interrupted: status", server.wait(2))
+finally:
+    server.kill()
+server, address = served("own.scene")
+try:
+    print("interrupted in a question: its answer %r, status %d" % asked_a_while(server, address))
 finally:
     server.kill()
