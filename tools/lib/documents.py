@@ -35,6 +35,7 @@ NOT_RUN = {
     ("docs/INSTALL.md", ".ci/run"): "it is the gate",
     ("docs/MODELLING.md", "openscad --preview"): "it wants a display",
     ("docs/LIBRARY.md", "tools/package"): "it writes into the checkout's package/; the cases package_of_* and python_* do both",
+    ("rust/README.md", "tools/package"): "it writes into the checkout's package/; the case rust_crates does both",
     ("docs/SCALE.md", "tools/wide gallery/house.scene 16384"): "it writes 1.6 GB; the case wide_beside_tile writes less",
     ("docs/STUDIO.md", "tools/studio my.scene"): "it serves until it is ended; the cases studio_* do it",
 }
