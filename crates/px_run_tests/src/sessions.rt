@@ -107,7 +107,14 @@ fn asks_told(
     text.extend_from_slice(lines)?;
     let mut input = TellingSource::new(alloc, source_of(alloc, text.as_slice(), piece, failing)?);
     let mut array = PixelArray::<72>::new(alloc);
-    let left = run_words(alloc, &["debug"], &mut input, sink_of(alloc, 0)?, 100, &mut array)?;
+    let left = run_words(
+        alloc,
+        &["debug"],
+        &mut input,
+        sink_of(alloc, 0)?,
+        100,
+        &mut array,
+    )?;
     let Some(notes) = input.notes() else {
         return Err(Fail::new("memory was refused for what is told"));
     };
