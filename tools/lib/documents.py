@@ -54,7 +54,7 @@ OWN_TROUBLE = "1"
 MADE = ("examples/c/draw",)
 MOST_WORDS = 1000
 # Options of programs of others that documents name by themselves.
-OF_OTHERS = ("--projection=o", "--camera", "--sshlogin", "--viewall", "--autocenter", "--imgsize", "--preview")
+OF_OTHERS = ("--projection=o", "--camera", "--sshlogin", "--viewall", "--autocenter", "--imgsize", "--preview", "--experimental-wasm-memory64")
 
 
 @functools.lru_cache(None)
