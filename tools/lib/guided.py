@@ -97,7 +97,7 @@ def smaller(fuzzer, corpus, out):
     """Keeps of a corpus the texts that all its branches want, in a folder; how many."""
     small = os.path.join(out, "corpus")
     os.makedirs(small, exist_ok=True)
-    web.done([fuzzer, "-merge=1", "-max_len=%d" % LARGEST, small, corpus], "the fuzzer")
+    web.done([fuzzer, "-merge=1", "-use_counters=0", "-max_len=%d" % LARGEST, small, corpus], "the fuzzer")
     return len(os.listdir(small))
 
 
