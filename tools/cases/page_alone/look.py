@@ -30,7 +30,7 @@ OVER = """tab => {
 TAKEN = """() => { const own = URL.createObjectURL; globalThis.taken = []; URL.createObjectURL = blob => { taken.push(blob); return own(blob); };
   HTMLAnchorElement.prototype.click = function () { taken.push(this.download); }; }"""
 # What is lacking, put into the page before it begins.
-LACKING = {"no WebAssembly": "delete globalThis.WebAssembly", "no 64-bit memory": "WebAssembly.validate = () => false"}
+LACKING = {"no DecompressionStream": "delete globalThis.DecompressionStream", "no WebAssembly": "delete globalThis.WebAssembly", "no 64-bit memory": "WebAssembly.validate = () => false"}
 
 
 def colours_are_the_programs(page, text):
@@ -329,7 +329,7 @@ def many_keys(page):
 def lacking(page):
     print("-- what it lacks")
     content = open(pages.PAGE, encoding="utf-8").read()
-    wasm = re.search(r'id="library" data-of="\w+" data-check="\d+">\n([A-Za-z0-9+/=]+)', content).group(1)
+    wasm = re.search(r'id="library" data-of="\w+">\n([A-Za-z0-9+/=]+)', content).group(1)
     with open("flipped.html", "w", encoding="utf-8") as file:
         file.write(content.replace(wasm, wasm[:60] + ("A" if wasm[60] != "A" else "B") + wasm[61:]))
     told = lambda path: page.open("file://" + os.path.abspath(path)) or page.until(
