@@ -71,6 +71,23 @@ def pick(page, name):
     called(page, "name => [...document.querySelectorAll('#scenes button')].find(each => each.firstChild.textContent === name).click()", name)
 
 
+def lines_under_pictures(name):
+    """The list that stands below a scene's pictures in docs/GALLERY.md."""
+    behind = open("docs/GALLERY.md").read().split("](../gallery/%s.png)" % name)[1].split("```")[0]
+    return [line[2:] for line in behind.split("\n") if line.startswith("- ")]
+
+
+def taught(page):
+    """How many scenes of the gallery show the three lines of what they teach when they are chosen in the list."""
+    names = [leaf[:-len(".scene")] for leaf in sorted(os.listdir("gallery")) if leaf.endswith(".scene")]
+    shown = called(page, """names => names.map(name => {
+      [...document.querySelectorAll("#scenes button")].find(each => each.textContent === name.replaceAll("_", " ")).focus();
+      return [...document.querySelectorAll("#taught li")].map(each => each.textContent);
+    })""", names)
+    right = [len(lines) == 3 and lines == lines_under_pictures(name) for name, lines in zip(names, shown)]
+    return "%d of %d" % (sum(right), len(names))
+
+
 def dropped(page, name, content):
     page.run("document.body.dataset.drawn = 'waits'")
     called(page, "(name, content) => { const files = new DataTransfer(); files.items.add(new File([content], name)); "
@@ -141,6 +158,7 @@ def opened(page, text):
         page.press("ArrowDown", 40)
     print("the list by arrows:", names(page), "| at entry", page.run(
         "[...document.querySelectorAll('#scenes button')].indexOf(document.activeElement)"))
+    print("what they teach:", taught(page))
     pick(page, "die")
     page.until("document.querySelectorAll('.text-tab').length === 2")
     print("opened:", names(page), "| own text untouched:", page.run("document.querySelectorAll('.sheet textarea')[0].value") ==
