@@ -1,5 +1,5 @@
-"""The page as one file: its modules, its style, what it offers, and the library, put into tools/studio_page/index.html. It is no tool
-itself. Nothing is changed in the modules but that lines of comment are left out, and how they name each other and themselves: each becomes
+"""The page as one file: its modules, its style, what it offers and the library, both packed, put into tools/studio_page/index.html.
+It is no tool itself. Nothing is changed in the modules but that lines of comment are left out, and how they name each other and themselves: each becomes
 a function that gives what it exports, as the workers of a page from a disk are no modules."""
 import base64
 import hashlib

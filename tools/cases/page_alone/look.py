@@ -347,13 +347,16 @@ def many_keys(page):
 def lacking(page):
     print("-- what it lacks")
     content = open(pages.PAGE, encoding="utf-8").read()
-    wasm = re.search(r'id="library" data-of="\w+">\n([A-Za-z0-9+/=]+)', content).group(1)
-    with open("flipped.html", "w", encoding="utf-8") as file:
-        file.write(content.replace(wasm, wasm[:60] + ("A" if wasm[60] != "A" else "B") + wasm[61:]))
+    parts = ("library", "offered")
+    for part in parts:
+        packed = re.search(r'id="%s"[^>]*>\n([A-Za-z0-9+/=]+)' % part, content).group(1)
+        with open(part + ".html", "w", encoding="utf-8") as file:
+            file.write(content.replace(packed, packed[:60] + ("A" if packed[60] != "A" else "B") + packed[61:]))
     told = lambda path: page.open("file://" + os.path.abspath(path)) or page.until(
         "document.readyState === 'complete' && document.getElementById('needs').textContent.length > 60 && "
         "document.getElementById('needs').checkVisibility() && document.getElementById('needs').textContent")
-    print("a byte flipped:", told("flipped.html"))
+    for part in parts:
+        print("a byte flipped, %s:" % part, told(part + ".html"))
     for what, script in LACKING.items():
         number = page.call("Page.addScriptToEvaluateOnNewDocument", source=script)["identifier"]
         print("%s:" % what, told(pages.PAGE))
