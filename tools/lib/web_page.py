@@ -1,5 +1,5 @@
-"""The page as one file: its modules, its style, what it offers, and the library, put into tools/studio_page/index.html. It is no tool
-itself. Nothing is changed in the modules but that lines of comment are left out, and how they name each other and themselves: each becomes
+"""The page as one file: its modules, its style, what it offers and the library, both packed, put into tools/studio_page/index.html.
+It is no tool itself. Nothing is changed in the modules but that lines of comment are left out, and how they name each other and themselves: each becomes
 a function that gives what it exports, as the workers of a page from a disk are no modules."""
 import base64
 import hashlib
@@ -20,14 +20,15 @@ LARGEST = 600000
 # The scenes that the page offers, by folders.
 OFFERED = (("gallery", "gallery"), ("docs/scenes", "of the documents"), ("suite", "the suite"))
 GALLERY = os.path.join(ends.TOP, "docs", "GALLERY.md")
-TAUGHT = re.compile(r"(?m)^\| \[\w+\]\(\.\./gallery/(\w+\.scene)\) \| (.*?) \| \d+ \| \d+ \|$")
+TAUGHT = re.compile(r"(?m)^!\[its colours\]\(\.\./gallery/(\w+)\.png\).*\n\n- (.+)\n- (.+)\n- (.+)\n$")
 PARTS = ("main.js", "answers.js")
 IMPORT = re.compile(r'(?m)^import (\* as \w+|\{[^}]*\}) from "([^"]+)";\n')
 EXPORT = re.compile(r"(?m)^export ((?:async )?function|class|const) (\w+)")
 COMMENT = re.compile(r"(?m)^ *//.*\n")
 POLICY = ("default-src 'none'; script-src 'wasm-unsafe-eval' blob: '%s'; style-src '%s'; img-src blob: data:; worker-src blob:; "
           "connect-src 'self'")
-LIBRARY = re.compile(r'<script type="text/plain" id="library" data-of="(\w+)" data-check="\d+">\n([A-Za-z0-9+/=\n]*)</script>')
+LIBRARY = re.compile(r'<script type="text/plain" id="library" data-of="(\w+)">\n([A-Za-z0-9+/=\n]*)</script>')
+PACKED = re.compile(r'(<script type="text/plain" id="\w+"[^>]*>\n)([A-Za-z0-9+/=\n]*)(?=</script>)')
 OWN = re.compile(r'(<script type="application/json" id="own">)null')
 LINE = 120
 
@@ -74,22 +75,44 @@ def code():
 
 
 def offered():
-    """Group, name and text of each scene that the page offers, and what one of the gallery teaches."""
-    out, taught = [], dict(TAUGHT.findall(read(GALLERY)))
+    """Group, name and text of each scene that the page offers, and the three lines of what one of the gallery teaches."""
+    out, taught = [], {name: lines for name, *lines in TAUGHT.findall(read(GALLERY))}
     for folder, group in OFFERED:
         for place, folders, leaves in os.walk(os.path.join(ends.TOP, folder)):
             folders.sort()
             for leaf in sorted(leaves):
-                if leaf.endswith(".scene"):
-                    own = os.path.relpath(place, os.path.join(ends.TOP, folder))
-                    out.append([group if own == "." else "%s: %s" % (group, own), leaf[:-len(".scene")], read(os.path.join(place, leaf)),
-                                taught.get(leaf, "") if folder == "gallery" else ""])
+                name, kind = os.path.splitext(leaf)
+                if kind != ".scene":
+                    continue
+                if folder == "gallery" and name not in taught:
+                    raise Bad("docs/GALLERY.md has not three lines of what %s teaches" % name)
+                own = os.path.relpath(place, os.path.join(ends.TOP, folder))
+                out.append([group if own == "." else "%s: %s" % (group, own), name, read(os.path.join(place, leaf)),
+                            taught[name] if folder == "gallery" else []])
     return out
 
 
 def data(value):
     """JSON that may stand in a page."""
     return json.dumps(value, ensure_ascii=True, separators=(",", ":")).replace("<", "\\u003c")
+
+
+def packed(content):
+    """Bytes as the page holds them: in lines of base64, by zlib, with its checksum."""
+    encoded = base64.b64encode(zlib.compress(content, 9)).decode("ascii")
+    return "".join(encoded[at:at + LINE] + "\n" for at in range(0, len(encoded), LINE))
+
+
+def unpacked(letters):
+    try:
+        return zlib.decompress(base64.b64decode(letters))
+    except (ValueError, zlib.error) as error:
+        raise Bad("the page is damaged") from error
+
+
+def opened(text):
+    """A page with what its packed parts hold in their place: another release of zlib packs the same into other bytes."""
+    return PACKED.sub(lambda match: match.group(1) + unpacked(match.group(2)).decode("latin-1"), text)
 
 
 def sum_of(text):
@@ -100,16 +123,14 @@ def page(wasm, crates):
     """The page that holds a module of WebAssembly, which was made of crates with that checksum."""
     style, script = "\n" + read(os.path.join(SOURCES, "studio.css")), "\n" + code()
     given = {"version": installing.version(), "gallery": offered(), "lesson": lessons.exercises()}
-    encoded = base64.b64encode(wasm).decode("ascii")
-    lines = "".join(encoded[at:at + LINE] + "\n" for at in range(0, len(encoded), LINE))
     parts = {
         '<link rel="stylesheet" href="studio.css">': "<style>%s</style>" % style,
         '<meta charset="utf-8">': '<meta charset="utf-8">\n<meta http-equiv="Content-Security-Policy" content="%s">' % (
             POLICY % (sum_of(script), sum_of(style))),
         '<script type="module" src="main.js"></script>\n': "",
-        "</body>": '<script type="application/json" id="given">%s</script>\n<script type="application/json" id="own">null</script>\n'
-                   '<script type="text/plain" id="library" data-of="%s" data-check="%d">\n%s</script>\n<script type="module" id="code">%s</script>\n</body>' % (
-                       data(given), crates, zlib.crc32(wasm), lines, script)}
+        "</body>": '<script type="text/plain" id="offered">\n%s</script>\n<script type="application/json" id="own">null</script>\n'
+                   '<script type="text/plain" id="library" data-of="%s">\n%s</script>\n<script type="module" id="code">%s</script>\n</body>' % (
+                       packed(data(given).encode("ascii")), crates, packed(wasm), script)}
     text = read(os.path.join(SOURCES, "index.html"))
     for mark, part in parts.items():
         if text.count(mark) != 1:
@@ -133,4 +154,4 @@ def library_in(text):
     found = LIBRARY.search(text)
     if found is None:
         raise Bad("the page holds no library")
-    return base64.b64decode(found.group(2)), found.group(1)
+    return unpacked(found.group(2)), found.group(1)

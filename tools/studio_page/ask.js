@@ -72,7 +72,7 @@ const laneOf = name => lanes[LANE[name] ?? "look"] ??= new Lane();
 export async function begin() {
   const why = lacking();
   if (why) throw new Error(why);
-  compiled = WebAssembly.compile(library());
+  compiled = library().then(bytes => WebAssembly.compile(bytes));
   await compiled;
 }
 

@@ -1,6 +1,7 @@
 // A film of the machine: what is shown large at each place of a stretch, as an animated PNG that is written here, or as WebM by the browser.
 import {Trouble} from "./ask.js";
 import {crc} from "./crc.js";
+import {through} from "./pack.js";
 import {put} from "./show.js";
 
 const MOST = 1000, SIDE = 512, SIGNATURE = [0x89, 0x50, 0x4e, 0x47, 0x0d, 0x0a, 0x1a, 0x0a], FORMS = ["video/webm;codecs=vp9", "video/webm;codecs=vp8", "video/webm"];
@@ -52,7 +53,7 @@ function rows({width, height, pixels}) {
   return bytes;
 }
 
-const deflated = async bytes => new Uint8Array(await new Response(new Blob([bytes]).stream().pipeThrough(new CompressionStream("deflate"))).arrayBuffer());
+const deflated = bytes => through(bytes, new CompressionStream("deflate"));
 
 const words = (...numbers) => numbers.flatMap(number => [number >>> 24, number >>> 16 & 255, number >>> 8 & 255, number & 255]);
 

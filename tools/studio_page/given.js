@@ -1,24 +1,27 @@
-// What the page holds beside its modules: the scenes and exercises that it offers, a scene of its own, and the library.
-import {crc} from "./crc.js";
+// What the page holds beside its modules: packed, the library and what it offers; and a scene of its own.
+import {through} from "./pack.js";
 
 const at = id => document.getElementById(id);
 // The page as it came, before anything on it was changed: what "save this page" writes again.
 const source = document.documentElement.outerHTML, OWN = /(<script type="application\/json" id="own">)[^<]*/;
 
-export const given = JSON.parse(at("given").textContent);
-
 export const own = JSON.parse(at("own").textContent);
 
-// The bytes of the library; they are as they were made, or the page says that it is damaged.
-export function library() {
-  const {textContent, dataset} = at("library"), letters = textContent.replace(/\s/g, "");
-  let bytes = null;
+// The bytes of a packed part; they are as they were packed, which their checksum tells, or the page says that it is damaged.
+async function unpacked(id) {
+  if (!globalThis.DecompressionStream) throw new Error("DecompressionStream is not there");
   try {
-    bytes = Uint8Array.from(atob(letters), letter => letter.charCodeAt(0));
-  } catch {}
-  if (!bytes || crc(bytes) !== Number(dataset.check)) throw new Error("the library in this page is damaged: take the page anew");
-  return bytes;
+    const bytes = Uint8Array.from(atob(at(id).textContent), letter => letter.charCodeAt(0));
+    return await through(bytes, new DecompressionStream("deflate"));
+  } catch {
+    throw new Error("this page is damaged: take it anew");
+  }
 }
+
+export const library = () => unpacked("library");
+
+// The scenes and exercises that the page offers.
+export const offered = async () => JSON.parse(new TextDecoder().decode(await unpacked("offered")));
 
 // The page once more, with a scene of its own.
 export function pageWith(scene) {

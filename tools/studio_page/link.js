@@ -1,14 +1,13 @@
 // A scene in an address: its text, and what of it is shown, packed behind the #.
 import {Trouble} from "./ask.js";
+import {through} from "./pack.js";
 
 const MOST = 16384, FORM = "deflate-raw";
-
-const through = (bytes, stream) => new Response(new Blob([bytes]).stream().pipeThrough(stream)).arrayBuffer();
 
 // The part of an address behind its #.
 export async function packed(scene) {
   if (new TextEncoder().encode(scene.text).length > MOST) throw new Trouble("a link holds texts of up to 16 KiB: take the page away with this scene");
-  const bytes = new Uint8Array(await through(JSON.stringify(scene), new CompressionStream(FORM)));
+  const bytes = await through(JSON.stringify(scene), new CompressionStream(FORM));
   return btoa(String.fromCharCode(...bytes)).replaceAll("+", "-").replaceAll("/", "_").replaceAll("=", "");
 }
 

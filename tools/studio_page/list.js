@@ -1,22 +1,22 @@
 // The list of scenes that the page offers: nothing opens but by a click or Enter.
-import {given} from "./given.js";
 import {made} from "./show.js";
 
 const at = id => document.getElementById(id);
 
 export class List {
-  // `open` is called with a name and a text; `begin` makes an empty scene.
-  constructor(open, begin) {
+  // `open` is called with a name and a text; `begin` makes an empty scene. What the chosen one teaches stands below the list.
+  constructor(scenes, open, begin) {
     const list = at("scenes"), close = call => () => { at("gallery").open = false; call(); };
-    const entry = (words, call, teaches = "") => {
+    const entry = (words, call, teaches = []) => {
       const button = made("button", "", words);
-      if (teaches) button.append(made("span", "quiet small", teaches));
       button.addEventListener("click", close(call));
+      for (const way of ["focus", "pointerenter"])
+        button.addEventListener(way, () => at("taught").replaceChildren(...teaches.map(line => made("li", "", line))));
       list.append(button);
     };
     let last = null;
     entry("an empty scene", begin);
-    for (const [group, name, text, teaches] of given.gallery) {
+    for (const [group, name, text, teaches] of scenes) {
       if (group !== last) list.append(made("h2", "", group));
       last = group;
       entry(name.replaceAll("_", " "), () => open(name, text), teaches);

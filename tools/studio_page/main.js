@@ -5,7 +5,7 @@ import {Compare} from "./compare.js";
 import {Drag} from "./drag.js";
 import {Editor} from "./editor.js";
 import * as film from "./film.js";
-import {given, library, own, pageWith} from "./given.js";
+import {library, offered, own, pageWith} from "./given.js";
 import {listen} from "./keys.js";
 import {Lesson} from "./lesson.js";
 import {Light} from "./light.js";
@@ -281,9 +281,9 @@ const nameOf = file => file.replace(/\.scene$/, "");
 
 // Opens the first text: the studio's file, a scene in the address, the page's own, a draft, or a scene of the gallery that the machine
 // is drawing.
-async function opened() {
+async function opened(scenes) {
   const head = await server.begin(), linked = await link.unpacked(location.hash.slice(1));
-  const named = wanted => given.gallery.find(([, name]) => name === wanted), first = named(FIRST), [, name, text] = named(OPENING);
+  const named = wanted => scenes.find(([, name]) => name === wanted), first = named(FIRST), [, name, text] = named(OPENING);
   const served = head?.name && {isServed: true, file: head.name, sum: head.sum};
   // (a file that is not there begins as the first scene of the documents)
   if (served && head.sum === NOTHING) open(nameOf(head.name), first[2], null, {...served, saved: ""});
@@ -301,20 +301,22 @@ async function start() {
   const look = remembered();
   if (look.theme) document.documentElement.dataset.theme = look.theme;
   if (look.letters) document.documentElement.style.fontSize = look.letters;
+  let given = null;
   try {
     await begin();
+    given = await offered();
   } catch (error) {
     at("needs").append(` ${error.message}.`);
     return;
   }
   at("needs").hidden = true;
-  new List((name, text) => { open(name, text); if (page.tab === "lesson") choose("write"); },
+  new List(given.gallery, (name, text) => { open(name, text); if (page.tab === "lesson") choose("write"); },
     () => { open("new", ""); choose("write"); at("source").focus(); });
   new Lesson(given.lesson, ({name, text, clock, view, pixel}) => {
     open(nameOf(name), text, {clock, view, pixel});
     choose("machine");
   });
-  await opened();
+  await opened(given.gallery);
 }
 
 TABS.forEach(tab => at("tab-" + tab).addEventListener("click", () => choose(tab)));
@@ -358,5 +360,5 @@ listen({
   save: () => save().catch(tell), choose: number => choose(TABS[number]), parts: own?.isFilm ? 0 : TABS.length, letters, write, nextImage, teach: () => teach(), stop: way => machine.stopAt(way).catch(tell), teachNoMore: () => teach(false),
   toggleText, isMachine: () => page.tab === "machine", machine});
 // For whoever asks by the browser's console (docs/STUDIO.md).
-globalThis.studio = {ask, library: () => load(library())};
+globalThis.studio = {ask, library: async () => load(await library())};
 start().catch(tell);

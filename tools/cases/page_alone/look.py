@@ -30,7 +30,7 @@ OVER = """tab => {
 TAKEN = """() => { const own = URL.createObjectURL; globalThis.taken = []; URL.createObjectURL = blob => { taken.push(blob); return own(blob); };
   HTMLAnchorElement.prototype.click = function () { taken.push(this.download); }; }"""
 # What is lacking, put into the page before it begins.
-LACKING = {"no WebAssembly": "delete globalThis.WebAssembly", "no 64-bit memory": "WebAssembly.validate = () => false"}
+LACKING = {"no DecompressionStream": "delete globalThis.DecompressionStream", "no WebAssembly": "delete globalThis.WebAssembly", "no 64-bit memory": "WebAssembly.validate = () => false"}
 
 
 def colours_are_the_programs(page, text):
@@ -69,6 +69,23 @@ def put(page, text):
 
 def pick(page, name):
     called(page, "name => [...document.querySelectorAll('#scenes button')].find(each => each.firstChild.textContent === name).click()", name)
+
+
+def lines_under_pictures(name):
+    """The list that stands below a scene's pictures in docs/GALLERY.md."""
+    behind = open("docs/GALLERY.md").read().split("](../gallery/%s.png)" % name)[1].split("```")[0]
+    return [line[2:] for line in behind.split("\n") if line.startswith("- ")]
+
+
+def taught(page):
+    """How many scenes of the gallery show the three lines of what they teach when they are chosen in the list."""
+    names = [leaf[:-len(".scene")] for leaf in sorted(os.listdir("gallery")) if leaf.endswith(".scene")]
+    shown = called(page, """names => names.map(name => {
+      [...document.querySelectorAll("#scenes button")].find(each => each.textContent === name.replaceAll("_", " ")).focus();
+      return [...document.querySelectorAll("#taught li")].map(each => each.textContent);
+    })""", names)
+    right = [len(lines) == 3 and lines == lines_under_pictures(name) for name, lines in zip(names, shown)]
+    return "%d of %d" % (sum(right), len(names))
 
 
 def dropped(page, name, content):
@@ -141,6 +158,7 @@ def opened(page, text):
         page.press("ArrowDown", 40)
     print("the list by arrows:", names(page), "| at entry", page.run(
         "[...document.querySelectorAll('#scenes button')].indexOf(document.activeElement)"))
+    print("what they teach:", taught(page))
     pick(page, "die")
     page.until("document.querySelectorAll('.text-tab').length === 2")
     print("opened:", names(page), "| own text untouched:", page.run("document.querySelectorAll('.sheet textarea')[0].value") ==
@@ -329,13 +347,16 @@ def many_keys(page):
 def lacking(page):
     print("-- what it lacks")
     content = open(pages.PAGE, encoding="utf-8").read()
-    wasm = re.search(r'id="library" data-of="\w+" data-check="\d+">\n([A-Za-z0-9+/=]+)', content).group(1)
-    with open("flipped.html", "w", encoding="utf-8") as file:
-        file.write(content.replace(wasm, wasm[:60] + ("A" if wasm[60] != "A" else "B") + wasm[61:]))
+    parts = ("library", "offered")
+    for part in parts:
+        packed = re.search(r'id="%s"[^>]*>\n([A-Za-z0-9+/=]+)' % part, content).group(1)
+        with open(part + ".html", "w", encoding="utf-8") as file:
+            file.write(content.replace(packed, packed[:60] + ("A" if packed[60] != "A" else "B") + packed[61:]))
     told = lambda path: page.open("file://" + os.path.abspath(path)) or page.until(
         "document.readyState === 'complete' && document.getElementById('needs').textContent.length > 60 && "
         "document.getElementById('needs').checkVisibility() && document.getElementById('needs').textContent")
-    print("a byte flipped:", told("flipped.html"))
+    for part in parts:
+        print("a byte flipped, %s:" % part, told(part + ".html"))
     for what, script in LACKING.items():
         number = page.call("Page.addScriptToEvaluateOnNewDocument", source=script)["identifier"]
         print("%s:" % what, told(pages.PAGE))
