@@ -27,7 +27,7 @@ TOOL = re.compile(r"(?:^|[\s(])(?:\./|\S*/)?(tools/[\w/]+|pxplanes(?:-\w+)?)(?=\
 OPTION = re.compile(r"(?<![\w-])(--[a-z][\w-]*)")
 COMMAND = re.compile(r"^ *(?:\$ |\./|\.ci/|tools/|sudo |rt |pip |openscad |cmake |PYTHONPATH=)", re.M)
 SOURCES = (("crates", (".rt", ".antt", ".edit")), ("tools", (".py", ".js", "")), ("include", (".h", ".hpp")), ("python", (".py",)),
-           ("rtl", (".v", ".vh")), ("web", (".c", ".mjs")))
+           ("rtl", (".v", ".vh")), ("rust", (".rs",)), ("web", (".c", ".mjs")))
 # The blocks of commands that no check runs, by their document and how they begin, each with the reason. All others are runs.
 NOT_RUN = {
     ("docs/INSTALL.md", "sudo apt install"): "it installs; the case package_of_all unpacks that package and draws with it",
