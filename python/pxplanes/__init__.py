@@ -10,13 +10,14 @@ threads at once. docs/SCENES.md has the language, docs/MACHINE.md the machine.
 """
 from .building import Expression, Scene, Solid
 from .calls import from_file
+from .commands import listing, play, refine, shadow, tidy, tile
 from .comparing import Comparison, compare
 from .errors import Limit, Malformed, NoClock, NoLibrary, NoMicro, OverBudget, Refused
 from .machine import Micro, Pixel, State, clocked, micros, pixels, state
 from .pictures import Cost, Picture, check, colour, products, render, version
 
 __all__ = ["Comparison", "Cost", "Expression", "Limit", "Malformed", "Micro", "NoClock", "NoLibrary", "NoMicro", "OverBudget", "Picture",
-           "Pixel", "Refused", "Scene", "Solid", "State", "check", "clocked", "colour", "compare", "from_file", "micros", "pixels",
-           "products", "render", "state", "version"]
+           "Pixel", "Refused", "Scene", "Solid", "State", "check", "clocked", "colour", "compare", "from_file", "listing", "micros",
+           "pixels", "play", "products", "refine", "render", "shadow", "state", "tidy", "tile", "version"]
 
 __version__ = "1.0.0"
