@@ -42,39 +42,39 @@ def tile(text: Text, width: int, height: int, clocks: Optional[int] = None, prog
     (docs/PICTURE.md, "Tiles").
 
     Raises, before anything is drawn, as `check` does of any tile, `Limit` of `tiles`, and `OverBudget` where all tiles together
-    take more than so many clocks; `progress` is as in `render`."""
+    take more than so many clocks. `progress` is as in `render`, with the seconds of the tile that is drawn."""
     width, height = operator.index(width), operator.index(height)
     most = module("limits").MAX_WIDE_PICTURE_SIZE
     if not (1 <= width <= most and 1 <= height <= most):
         raise ValueError("a wide picture has 1 to %d columns and rows, and not %d by %d" % (most, width, height))
     scene = scene_of(text)
+    count = -(-width // scene.width) * -(-height // scene.height)
+    if count > module("limits").MAX_TILES:
+        raise Limit(0, "tiles", count)
     tiles = list(tiles_of(scene, width, height))
-    if len(tiles) > module("limits").MAX_TILES:
-        raise Limit(0, "tiles", len(tiles))
-    for each in tiles:
-        need_constants(each.scene)
-    texts = [module("texts").text_of(each.scene) for each in tiles]
-    need_budget(sum(check(each).clocks for each in texts), clocks)
+    need_budget(sum(check(each.text).clocks for each in tiles), clocks)
     depths, faces = Buffer("I", width * height), Buffer("I", width * height)
-    for each, own in zip(tiles, texts):
-        put(each, render(own, progress=progress), width, depths, faces)
+    for each in tiles:
+        put(each, render(each.text, progress=progress), width, depths, faces)
     return Picture(depths.shaped(height, width), faces.shaped(height, width), width, height)
 
 
 class Tile(NamedTuple):
-    """A tile: its first column and row, and its scene."""
+    """A tile: its first column and row, and the text of its scene."""
 
     left: int
     top: int
-    scene: Any
+    text: str
 
 
 def tiles_of(scene: Any, width: int, height: int) -> Iterator[Tile]:
-    """The tiles of a wide picture, by rows."""
+    """The tiles of a wide picture, by rows. Raises `Limit` for the first that has a constant past its limit."""
+    texts = module("texts")
     for top in range(0, height, scene.height):
         for left in range(0, width, scene.width):
-            size = min(scene.width, width - left), min(scene.height, height - top)
-            yield Tile(left, top, module("texts").tile(scene, left, top, *size))
+            own = texts.tile(scene, left, top, min(scene.width, width - left), min(scene.height, height - top))
+            need_constants(own)
+            yield Tile(left, top, texts.text_of(own))
 
 
 def put(tile: Tile, picture: Picture, width: int, *wide: Buffer) -> None:
