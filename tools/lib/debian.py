@@ -148,11 +148,13 @@ def compressed(path):
 
 
 def policy(usr):
-    """What Debian asks of a package's documents: the manual packed, and the changes beside them."""
-    manual = os.path.join(usr, "share", "man", "man1", "pxplanes.1")
-    os.remove(manual)
-    shutil.copy(os.path.join(ends.TOP, "man", "pxplanes.1"), manual)
-    compressed(manual)
+    """What Debian asks of a package's documents: the manual packed."""
+    folder = os.path.join(usr, installing.MANUALS)
+    own = os.path.join(folder, "pxplanes.1")
+    os.remove(own)
+    shutil.copy(os.path.join(ends.TOP, "man", "pxplanes.1"), own)
+    for leaf in os.listdir(folder):
+        compressed(os.path.join(folder, leaf))
 
 
 def package(built, library, out):
@@ -165,9 +167,10 @@ def package(built, library, out):
     with tempfile.TemporaryDirectory(prefix="px-deb-") as root:
         os.chmod(root, 0o755)
         usr = os.path.join(root, "usr")
-        names = [os.path.join(usr, name) for name in installing.lay_out(usr, built, library)]
-        files = [name for name in names if not os.path.islink(name)]
+        installing.lay_out(usr, built, library)
         policy(usr)
+        names = [os.path.join(place, leaf) for place, _, leaves in os.walk(usr) for leaf in leaves]
+        files = [name for name in names if not os.path.islink(name)]
         for name in filter(os.path.isfile, names):
             os.chmod(name, 0o755 if os.stat(name).st_mode & 0o100 else 0o644)
         control, prerm = (os.path.join(root, "DEBIAN", leaf) for leaf in ("control", "prerm"))
