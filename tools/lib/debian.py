@@ -173,7 +173,7 @@ def package(built, library, out):
         files = [name for name in names if not os.path.islink(name)]
         for name in filter(os.path.isfile, names):
             os.chmod(name, 0o755 if os.stat(name).st_mode & 0o100 else 0o644)
-        control, prerm = (os.path.join(root, "DEBIAN", leaf) for leaf in ("control", "prerm"))
+        control, prerm, checked = (os.path.join(root, "DEBIAN", leaf) for leaf in ("control", "prerm", "md5sums"))
         os.mkdir(os.path.dirname(control))
         with open(control, "w", encoding="ascii") as file:
             file.write(CONTROL.format(
@@ -182,7 +182,11 @@ def package(built, library, out):
                 needs=wanted(name for name in files if os.access(name, os.X_OK) or ".so" in name)))
         with open(prerm, "w", encoding="ascii") as file:
             file.write(PRERM)
+        with open(checked, "w", encoding="utf-8") as file:
+            for name in sorted(files):
+                file.write("%s  %s\n" % (hashlib.md5(ends.content(name)).hexdigest(), os.path.relpath(name, root)))
         os.chmod(prerm, 0o755)
+        os.chmod(checked, 0o644)
         done = subprocess.run(["dpkg-deb", "--root-owner-group", "-Zxz", "--build", root, path], capture_output=True, text=True)
         if done.returncode != 0:
             raise netpbm.Bad("dpkg-deb: %s" % done.stderr.strip().split("\n")[-1])
