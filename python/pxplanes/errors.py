@@ -71,3 +71,7 @@ class NoMicro(ValueError):
 
     def __reduce__(self) -> tuple[type, tuple[int]]:
         return NoMicro, (self.index,)
+
+
+class NoModel(ValueError):
+    """A model makes no scene; `str` of it says why, as tools/model does."""

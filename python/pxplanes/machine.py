@@ -120,6 +120,20 @@ class State:
         memory = "".join(str(self.bit(at, x, y)) for at in range(self.bits))
         return Pixel(memory, *(self.bit(name, x, y) for name in REGISTERS))
 
+    def memory(self) -> str:
+        """A line for each pixel, the rows from the top and each row from the left, as the command `play` writes them
+        (docs/LISTINGS.md, "Memory")."""
+        lines = []
+        for y in range(self.grid_height):
+            planes = [self._row_of(which, y) for which in (*range(self.bits), "enable")]
+            lines += ["pixel %d %d m %s e %s\n" % (x, y, "".join(pixel[:-1]), pixel[-1]) for x, pixel in enumerate(zip(*planes))]
+        return "".join(lines)
+
+    def _row_of(self, which: Union[int, str], y: int) -> str:
+        """A row of a plane as 0 and 1."""
+        words = self._words_of(which)[y * self.words_per_row:(y + 1) * self.words_per_row]
+        return format(int.from_bytes(bytes(words.cast("B")), "little"), "0%db" % self.grid_width)[::-1]
+
     def node(self, level: int, index: int) -> tuple[int, int]:
         """The output and the carry of a node of the tree: levels from 1 on, a level's nodes from 0 on."""
         level, index = operator.index(level), operator.index(index)

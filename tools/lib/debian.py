@@ -148,11 +148,13 @@ def compressed(path):
 
 
 def policy(usr):
-    """What Debian asks of a package's documents: the manual packed, and the changes beside them."""
-    manual = os.path.join(usr, "share", "man", "man1", "pxplanes.1")
-    os.remove(manual)
-    shutil.copy(os.path.join(ends.TOP, "man", "pxplanes.1"), manual)
-    compressed(manual)
+    """What Debian asks of a package's documents: the manual packed."""
+    folder = os.path.join(usr, installing.MANUALS)
+    own = os.path.join(folder, "pxplanes.1")
+    os.remove(own)
+    shutil.copy(os.path.join(ends.TOP, "man", "pxplanes.1"), own)
+    for leaf in os.listdir(folder):
+        compressed(os.path.join(folder, leaf))
 
 
 def package(built, library, out):
@@ -165,12 +167,13 @@ def package(built, library, out):
     with tempfile.TemporaryDirectory(prefix="px-deb-") as root:
         os.chmod(root, 0o755)
         usr = os.path.join(root, "usr")
-        names = [os.path.join(usr, name) for name in installing.lay_out(usr, built, library)]
-        files = [name for name in names if not os.path.islink(name)]
+        installing.lay_out(usr, built, library)
         policy(usr)
+        names = [os.path.join(place, leaf) for place, _, leaves in os.walk(usr) for leaf in leaves]
+        files = [name for name in names if not os.path.islink(name)]
         for name in filter(os.path.isfile, names):
             os.chmod(name, 0o755 if os.stat(name).st_mode & 0o100 else 0o644)
-        control, prerm = (os.path.join(root, "DEBIAN", leaf) for leaf in ("control", "prerm"))
+        control, prerm, checked = (os.path.join(root, "DEBIAN", leaf) for leaf in ("control", "prerm", "md5sums"))
         os.mkdir(os.path.dirname(control))
         with open(control, "w", encoding="ascii") as file:
             file.write(CONTROL.format(
@@ -179,7 +182,11 @@ def package(built, library, out):
                 needs=wanted(name for name in files if os.access(name, os.X_OK) or ".so" in name)))
         with open(prerm, "w", encoding="ascii") as file:
             file.write(PRERM)
+        with open(checked, "w", encoding="utf-8") as file:
+            for name in sorted(files):
+                file.write("%s  %s\n" % (hashlib.md5(ends.content(name)).hexdigest(), os.path.relpath(name, root)))
         os.chmod(prerm, 0o755)
+        os.chmod(checked, 0o644)
         done = subprocess.run(["dpkg-deb", "--root-owner-group", "-Zxz", "--build", root, path], capture_output=True, text=True)
         if done.returncode != 0:
             raise netpbm.Bad("dpkg-deb: %s" % done.stderr.strip().split("\n")[-1])

@@ -1,5 +1,7 @@
 """What the tools share: their words, files and standard streams, and one line for a bad file."""
 import argparse
+import contextlib
+import contextvars
 import difflib
 import importlib.machinery
 import importlib.util
@@ -12,10 +14,26 @@ import netpbm
 
 TOP = os.path.dirname(os.path.dirname(os.path.dirname(os.path.abspath(__file__))))
 TROUBLE = 2
+HEARD = contextvars.ContextVar("heard", default=None)
 
 
 def say(tool, line):
-    print("%s: %s" % (tool, line), file=sys.stderr)
+    """Tells a line on standard error, or who listens."""
+    if HEARD.get() is None:
+        print("%s: %s" % (tool, line), file=sys.stderr)
+    else:
+        HEARD.get().append(line)
+
+
+@contextlib.contextmanager
+def heard():
+    """Within it what is said goes to the list that it gives."""
+    lines = []
+    before = HEARD.set(lines)
+    try:
+        yield lines
+    finally:
+        HEARD.reset(before)
 
 
 def content(path):

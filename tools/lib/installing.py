@@ -5,7 +5,7 @@
     lib/libpxplanes.*, lib/pkgconfig/, lib/cmake/    the library, as tools/package makes it
     include/pxplanes.h, pxplanes.hpp, pxplanes_scene.h
     lib/python3/dist-packages/pxplanes   the Python module
-    share/man/man1/, share/doc/pxplanes  the manual, and the documents
+    share/man/man1/, share/doc/pxplanes  the manual, with a page for each tool, and the documents
 """
 import functools
 import os
@@ -14,6 +14,7 @@ import shutil
 import subprocess
 
 import ends
+import manuals
 import netpbm
 import program
 
@@ -24,6 +25,7 @@ FILES = ("CHANGES.md", "README.md", "pxplanes", os.path.join("tools", "README.md
 BUILT = ("draw",)
 # Of no use without the checkout.
 OF_CHECKOUTS = ("check", "install", "package")
+MANUALS = os.path.join("share", "man", "man1")
 LISTED = os.path.join(TREE, "installed")
 
 
@@ -88,7 +90,7 @@ def links():
     for name in tools():
         yield os.path.join("bin", "pxplanes-" + name), os.path.join(TREE, "tools", name)
     yield os.path.join("lib", "python3", "dist-packages", "pxplanes"), os.path.join(TREE, "python", "pxplanes")
-    yield os.path.join("share", "man", "man1", "pxplanes.1"), os.path.join(TREE, "man", "pxplanes.1")
+    yield os.path.join(MANUALS, "pxplanes.1"), os.path.join(TREE, "man", "pxplanes.1")
     yield os.path.join("share", "doc", "pxplanes"), os.path.join(TREE, "docs")
 
 
@@ -123,6 +125,10 @@ def lay_out(prefix, built, library):
         if os.path.lexists(path):
             os.remove(path)
         os.symlink(os.path.relpath(target, os.path.dirname(name)), path)
+    for name in tools():
+        names.append(os.path.join(MANUALS, "pxplanes-%s.1" % name))
+        with open(made(os.path.join(prefix, names[-1])), "w", encoding="utf-8") as file:
+            file.write(manuals.page(name, version()))
     return names
 
 

@@ -7,9 +7,9 @@ import tempfile
 import csg
 import ends
 import mesh_files
+import modelling
 import netpbm
-
-model = ends.script("model")
+import views
 
 # The checksum of a file that is not there.
 NOTHING = "none"
@@ -83,10 +83,10 @@ def modelled(asked, data):
         raise netpbm.Bad("a model is a .csg, .off or .stl")
     if tree is None:
         raise netpbm.Bad("the model has no solid")
-    said = dict(model.USUAL)
-    view = model.views.fitted(said["--view"], said["--size"], None, 2 ** said["--depth"][0] - 1, tree)
-    text, _ = model.scene_of(tree, view, said)
-    model.checked(text)
+    said = dict(modelling.USUAL)
+    view = views.fitted(said["--view"], said["--size"], None, 2 ** said["--depth"][0] - 1, tree)
+    text, _ = modelling.scene_of(tree, view, said)
+    modelling.checked(text)
     return {"text": text}
 
 

@@ -12,6 +12,9 @@ import netpbm
 
 MODULE = os.path.join("python", "pxplanes")
 LIBRARY = "libpxplanes.so"
+SHARED = os.path.join("pxplanes", "_tools")
+ASKED = re.compile(r'\bmodule\("(\w+)"\)')
+IMPORTED = re.compile(r"(?m)^ *(?:import|from) (\w+)")
 # The oldest glibc that the tag names.
 OLDEST = (2, 17)
 TAG = "py3-none-manylinux_%d_%d_x86_64" % OLDEST
@@ -51,6 +54,19 @@ def record_of(files, path):
     return "".join(lines + ["%s,,\n" % path]).encode("utf-8")
 
 
+def of_tools(module):
+    """The modules of tools/lib that the files of the Python module ask for, and those that these import: a content for each name."""
+    due = [name for content in module.values() for name in ASKED.findall(content.decode("utf-8"))]
+    found = {}
+    while due:
+        name = due.pop()
+        path = os.path.join(ends.TOP, "tools", "lib", name + ".py")
+        if name not in found and os.path.isfile(path):
+            found[name] = ends.content(path)
+            due += IMPORTED.findall(found[name].decode("utf-8"))
+    return {os.path.join(SHARED, name + ".py"): found[name] for name in sorted(found)}
+
+
 def wheel(library, out):
     """Makes the wheel of a folder that tools/package made, and answers where it is."""
     version = installing.version()
@@ -58,6 +74,7 @@ def wheel(library, out):
     need_old(shared)
     names = installing.known(installing.inside(MODULE))
     files = {os.path.relpath(name, "python"): ends.content(os.path.join(ends.TOP, name)) for name in names}
+    files.update(of_tools(files))
     files["pxplanes/" + LIBRARY] = ends.content(shared)
     about = "pxplanes-%s.dist-info/" % version
     files[about + "METADATA"] = (METADATA % version).encode("utf-8")

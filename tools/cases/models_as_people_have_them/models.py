@@ -14,6 +14,7 @@ sys.path.insert(0, os.path.realpath(os.path.join("tools", "lib")))
 import ends
 import facets
 import mesh_files
+import modelling
 import netpbm
 import rays
 import solids
@@ -165,7 +166,7 @@ def of_model(model, name, text):
 
 
 def main():
-    model = ends.script("model")
+    model = modelling
     rows = [line.split(": ", 1) for line in MODELS.strip().split("\n")]
     with concurrent.futures.ProcessPoolExecutor(3) as pool:
         lines = [line for found in pool.map(of_model_alone, rows) for line in found]
@@ -177,7 +178,7 @@ def main():
 
 
 def of_model_alone(row):
-    return of_model(ends.script("model"), *row)
+    return of_model(modelling, *row)
 
 
 main()

@@ -23,8 +23,7 @@ def note_of(call):
         return b"", 4, b"%s\n" % str(refusal).encode()
 
 
-def colours(text):
-    rgb = pxplanes.colour(text)
+def coloured(rgb):
     return b"P6\n%d %d\n255\n" % (rgb.shape[1], rgb.shape[0]) + bytes(memoryview(rgb).cast("B"))
 
 
@@ -43,11 +42,22 @@ def plan(text):
     return "".join(lines).encode()
 
 
-ASKED = {"render": lambda text: pxplanes.render(text).maps(), "colour": colours, "cost": cost, "plan": plan}
+def lit(text):
+    """The image of `shadow`, which has its numbers as three bytes."""
+    numbers = pxplanes.shadow(text)
+    flat = b"".join(number.to_bytes(3, "big") for row in numbers.tolist() for number in row)
+    return b"P6\n%d %d\n255\n" % (numbers.shape[1], numbers.shape[0]) + flat
 
 
-def wrong_answer(word, text, wanted):
-    output, status, note = note_of(lambda: ASKED[word](text))
+ASKED = {"render": lambda text: pxplanes.render(text).maps(), "colour": lambda text: coloured(pxplanes.colour(text)), "cost": cost,
+         "plan": plan, "tidy": lambda text: pxplanes.tidy(text).encode(), "list": lambda text: pxplanes.listing(text).encode(),
+         "tile": lambda text, width, height: pxplanes.tile(text, int(width), int(height)).maps(), "shadow": lit,
+         "refine": lambda text, factor: coloured(pxplanes.refine(text, int(factor))),
+         "play": lambda text: pxplanes.play(text).memory().encode()}
+
+
+def wrong_answer(word, others, text, wanted):
+    output, status, note = note_of(lambda: ASKED[word](text, *others))
     status_wanted, output_wanted, note_wanted = wanted
     if word == "plan":
         output_wanted = output_wanted.partition(b"\n")[2]
@@ -57,9 +67,9 @@ def wrong_answer(word, text, wanted):
 counts = dict.fromkeys(ASKED, 0)
 for name in cases.names():
     words, text, wanted = cases.read_case(os.path.join(cases.CASES, name))
-    word = words[0].decode("latin-1") if len(words) == 1 else "render" if not words else ""
+    word, *others = [word.decode("latin-1") for word in words] or ["render"]
     if word in ASKED and wanted[0] in (0, 3, 4):
-        wrong = wrong_answer(word, text, wanted)
+        wrong = wrong_answer(word, others, text, wanted)
         counts[word] += 1
         if wrong:
             print("%s: %s" % (name, wrong))
