@@ -90,17 +90,25 @@ def through(text, cut, scene):
         head, name[:16], cut << scene.fraction_bits, show.rsplit("\n", 1)[0], name[:16])
 
 
+def is_beside(side, x, y, cut, ours, right, down, grow):
+    """Whether the mesh has a depth a little beside a pixel, or what is there goes on to it in a straight line; its
+    spans are longer by `grow` at both ends."""
+    far, room = side.scene.far(), side.near + abs(grow)
+    other = side.crossings.depth(x + right, y + down, cut, far, grow)
+    if abs(ours - other) <= room:
+        return True
+    further = side.crossings.depth(x + 2 * right, y + 2 * down, cut, far, grow)
+    return max(other, further) < far and abs(ours - (2 * other - further)) <= room + 1
+
+
 def word_of(side, x, y, cut, ours):
     """What is at a pixel, and the mesh's depth there."""
     far = side.scene.far()
     theirs = side.crossings.depth(x, y, cut, far)
     if abs(ours - theirs) <= side.near:
         return ALIKE, theirs
-    for right, down in AROUND:
-        for grow in (0, side.near, -side.near):
-            other = side.crossings.depth(x + right, y + down, cut, far, grow)
-            if abs(ours - other) <= side.near + abs(grow):
-                return ROUNDING, theirs
+    if any(is_beside(side, x, y, cut, ours, *way, grow) for way in AROUND for grow in (0, side.near, -side.near)):
+        return ROUNDING, theirs
     return (MISSING if theirs > ours else TOO_MUCH), theirs
 
 

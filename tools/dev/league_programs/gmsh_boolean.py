@@ -44,12 +44,11 @@ def triangles(volumes):
     points = {tag: numbers[3 * i:3 * i + 3] for i, tag in enumerate(tags)}
     out = []
     for volume in volumes:
-        for _, surface in gmsh.model.getBoundary([volume], oriented=True):
-            kinds, _, nodes = gmsh.model.mesh.getElements(2, abs(surface))
+        for _, surface in gmsh.model.getBoundary([volume], oriented=False):
+            kinds, _, nodes = gmsh.model.mesh.getElements(2, surface)
             for kind, own in zip(kinds, nodes):
                 if kind == 2:
-                    corners = [list(own[i:i + 3]) for i in range(0, len(own), 3)]
-                    out += [corner if surface > 0 else corner[::-1] for corner in corners]
+                    out += [list(own[i:i + 3]) for i in range(0, len(own), 3)]
     return points, out
 
 
@@ -66,8 +65,11 @@ def main(out, words):
             right, left = stack.pop(), stack.pop()
             stack.append(joined(word, left, right))
     gmsh.model.occ.synchronize()
+    volumes = stack.pop()
+    for _, tag in volumes:
+        gmsh.model.mesh.setOutwardOrientation(tag)
     gmsh.model.mesh.generate(2)
-    points, facets = triangles(stack.pop())
+    points, facets = triangles(volumes)
     own = {tag: i for i, tag in enumerate(sorted({at for facet in facets for at in facet}))}
     with open(out, "w") as file:
         file.write("OFF\n%d %d 0\n" % (len(own), len(facets)) + "".join("%.17g %.17g %.17g\n" % tuple(points[tag]) for tag in own)
