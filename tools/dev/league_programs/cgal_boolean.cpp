@@ -1,7 +1,7 @@
-// CGAL's corefinement, as its manual has it: an exact kernel with square roots of doubles left out, meshes of the
-// type Surface_mesh, and boolean operations in turn.
+// CGAL's corefinement, as its manual has it: exact constructions, meshes of the type Surface_mesh, and one operation
+// after another.
 //
-// Use: boolean OUT.off WORD ..    (a postfix expression: OFF files, and + - * for union, difference, intersection)
+// Use: cgal_boolean OUT.off WORD ..    (a postfix expression: OFF files, and + - * for union, difference, intersection)
 // Ends with 0; with 3 where CGAL says that a result is no manifold, or a mesh is not one that it takes.
 #include <CGAL/Exact_predicates_exact_constructions_kernel.h>
 #include <CGAL/Polygon_mesh_processing/IO/polygon_mesh_io.h>
