@@ -159,16 +159,21 @@ def mesh(scene, solid, camera=None):
     """Points and facets of a solid, whose facets go round to the left from outside; None for nothing.
     With a camera the points are those of its model."""
     planes = half_spaces(scene, solid)
-    near = max(scene.width, scene.height, scene.far()) * NEAR
+    found = planes and mesh_of(planes, max(scene.width, scene.height, scene.far()) * NEAR)
+    if found and camera:
+        return [camera.point(x, -y, -z) for x, y, z in found[0]], found[1]
+    return found or None
+
+
+def mesh_of(planes, near):
+    """Points and facets of what half-spaces leave; None for nothing. Points as near as that are one."""
     numbers, points, out = {}, [], []
-    for plane, polygon in facets.sides_of(planes, near) if planes else ():
+    for plane, polygon in facets.sides_of(planes, near):
         if facets.dot(facets.area_normal(polygon), plane[0]) < 0:
             polygon = polygon[::-1]
         own = [numbered(point, points, numbers, near) for point in polygon]
         own = [at for i, at in enumerate(own) if at != own[i - 1]]
         out += [own] if len(own) > 2 else []
-    if camera:
-        points = [camera.point(x, -y, -z) for x, y, z in points]
     return (points, out) if len(out) > 3 else None
 
 

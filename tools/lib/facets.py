@@ -313,16 +313,72 @@ def best_plane(polygons, near):
     return min((plane for _, plane in tried), key=cost)
 
 
+def crossed(points, facets, near):
+    """A point where two facets pass through one another, along more than a few times `near`; None where none do."""
+    found = []
+    for facet in facets:
+        for i in range(1, len(facet) - 1):
+            corners = [points[at] for at in (facet[0], facet[i], facet[i + 1])]
+            plane = plane_of(corners)
+            if plane and plane[2] > 4 * near:
+                found.append((corners, plane[:2], *box_of(corners)))
+    found.sort(key=lambda each: each[2][0])
+    before = []
+    for one in found:
+        before = [other for other in before if other[3][0] >= one[2][0]]
+        for other in before:
+            if all(one[2][i] <= other[3][i] and other[2][i] <= one[3][i] for i in (1, 2)):
+                long, point = shared(one, other, near)
+                if long > 4 * near:
+                    return point
+        before.append(one)
+    return None
+
+
+def box_of(points):
+    return [min(point[i] for point in points) for i in range(3)], [max(point[i] for point in points) for i in range(3)]
+
+
+def shared(one, other, near):
+    """How long the line is in which two triangles pass through one another, and where it begins; 0 where they do not."""
+    way = [one[1][0][(i + 1) % 3] * other[1][0][(i + 2) % 3] - one[1][0][(i + 2) % 3] * other[1][0][(i + 1) % 3] for i in range(3)]
+    long = lengthwise(way)
+    spans = long > 1e-3 and [span_of(corners, plane, way, near) for corners, plane in ((one[0], other[1]), (other[0], one[1]))]
+    if not spans or None in spans:
+        return 0, None
+    low, point = max(low for low, _ in spans)
+    return (min(high for _, high in spans)[0] - low) / long, point
+
+
+def span_of(corners, plane, way, near):
+    """Where a plane cuts a triangle that is on both sides of it, the two ends along a way, each as how far
+    it is and its point; None where it is not."""
+    rooms = [plane[1] - dot(plane[0], corner) for corner in corners]
+    if min(rooms) > -near or max(rooms) < near:
+        return None
+    ends = [corner for corner, room in zip(corners, rooms) if abs(room) <= near]
+    for i, room in enumerate(rooms):
+        if room * rooms[i - 1] < 0 and min(abs(room), abs(rooms[i - 1])) > near:
+            part = rooms[i - 1] / (rooms[i - 1] - room)
+            ends.append([a + part * (b - a) for a, b in zip(corners[i - 1], corners[i])])
+    ends = sorted((dot(way, point), point) for point in ends)
+    return ends[0], ends[-1]
+
+
 def cells(points, facets):
     """The convex parts of a solid, each as its planes and points: its facets' planes divide space,
-    and what is behind a facet and before none is inside. `Bad` where the facets do not close it, or
-    where there are more parts than a scene has solids."""
+    and what is behind a facet and before none is inside. `Bad` where the facets do not close it, or pass through
+    one another, or where there are more parts than a scene has solids."""
     closed(facets)
     if not is_turned_alike(facets):
         raise Bad("is not convex, and its facets are not turned alike, so that its inside cannot be told")
     turned = facets if volume(points, facets) > 0 else [facet[::-1] for facet in facets]
     size, wide = extent(points)
     near = NEAR * SIX_DIGITS * size
+    point = crossed(points, turned, near)
+    if point:
+        raise Bad("passes through itself, at %.4g %.4g %.4g, so that its inside cannot be told; "
+                  "write it as a union of parts that do not" % tuple(part + 0.0 for part in point))
     polygons = [([points[at] for at in facet], plane_of([points[at] for at in facet])) for facet in turned]
     polygons = [(polygon, plane[:2]) for polygon, plane in polygons
                 if plane and SIX_DIGITS * size * (2 + 2 * wide / plane[2]) <= SLIM * wide]

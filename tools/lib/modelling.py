@@ -197,7 +197,7 @@ def arguments(words):
             at, count = words.index(option), len(usual)
             given, words = words[at + 1:at + 1 + count], words[:at] + words[at + 1 + count:]
             several[option] = numbers_of(option, given, count)
-    others, said = ends.options(words, ("--flat", "--fit"), ("--scale", "--as", "--camera", "--projection") + OF_PERSPECTIVE)
+    others, said = ends.options(words, ("--flat", "--fit"), ("--scale", "--as", "--seconds", "--camera", "--projection") + OF_PERSPECTIVE)
     if len(others) != 1:
         raise netpbm.Bad("one model is wanted; --help says more")
     said["perspective"] = projected(said)

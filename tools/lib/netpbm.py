@@ -26,8 +26,7 @@ class Image:
             return list(self.samples)
         if self.largest != 255:
             raise Bad("a pixel map with samples to %d holds no numbers; 255 is due" % self.largest)
-        flat = self.samples
-        return [flat[i] << 16 | flat[i + 1] << 8 | flat[i + 2] for i in range(0, len(flat), 3)]
+        return of_three_bytes(self.samples)
 
     def colours(self):
         """Red, green and blue to 255 of each pixel."""
@@ -36,6 +35,15 @@ class Image:
         if self.channels == 1:
             return [(grey, grey, grey) for grey in flat]
         return [tuple(flat[i:i + 3]) for i in range(0, len(flat), 3)]
+
+
+def of_three_bytes(samples):
+    """The numbers of three bytes each, highest byte first."""
+    count = len(samples) // 3
+    padded = bytearray(4 * count)
+    for at in range(3):
+        padded[at + 1::4] = bytes(samples[at::3])
+    return list(struct.unpack(">%dI" % count, padded))
 
 
 def word_at(data, at):

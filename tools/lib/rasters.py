@@ -51,8 +51,7 @@ class Raster:
             return list(self.grey().samples)
         if self.largest != 255:
             raise Bad("a picture of colours with samples to %d holds no numbers; 255 is due" % self.largest)
-        flat = self.samples
-        return [flat[i] << 16 | flat[i + 1] << 8 | flat[i + 2] for i in range(0, len(flat), 3)]
+        return netpbm.of_three_bytes(self.samples)
 
 
 READ = "Netpbm's P2, P3, P5, P6 and P7, PNG, PFM, EXR, TIFF, NPY, numbers as text, and float32 or float64 without a head"

@@ -73,8 +73,19 @@ rooms: difference() { cube([40, 30, 10]); for (x = [2, 21], y = [2, 16]) transla
 coplanar cut: difference() { cube(10); translate([2, 2, 0]) cube([6, 6, 10]); }
 two that touch: cube(10); translate([10, 0, 0]) cube(10);
 one within another: cube(10); translate([2, 2, 2]) cube(5);
+pyramid: cylinder(h = 8, r1 = 6, r2 = 0, $fn = 4);
+octahedron: sphere(6, $fn = 4);
+tilted tray: rotate([15, 25, 35]) difference() { cube([20, 12, 8]); translate([3, 3, 3]) cube([14, 6, 8]); }
+washers: for (i = [0 : 3]) translate([0, 0, i * 3]) difference() { cylinder(h = 2, r = 8 - i, $fn = 16); translate([0, 0, -1]) cylinder(h = 4, r = 3, $fn = 8); }
+three cubes in common: intersection() { cube(12, center = true); rotate([45, 0, 0]) cube(12, center = true); rotate([0, 45, 0]) cube(12, center = true); }
+die: difference() { intersection() { cube(10, center = true); sphere(7, $fn = 16); } for (z = [-5, 5]) translate([0, 0, z]) sphere(1.5, $fn = 8); }
+house: union() { cube([12, 8, 6]); translate([0, 0, 6]) rotate([90, 0, 90]) linear_extrude(height = 12) polygon([[0, 0], [8, 0], [4, 4]]); }
+arrow: linear_extrude(height = 2) polygon([[0, 2], [8, 2], [8, 0], [12, 3], [8, 6], [8, 4], [0, 4]]);
+slotted cylinder: difference() { cylinder(h = 12, r = 6, $fn = 12); translate([-1, -10, 4]) cube([2, 20, 10]); }
+frames: for (i = [0 : 2]) translate([i * 8, 0, 0]) rotate([i * 90, 0, 0]) difference() { cube([12, 8, 3], center = true); cube([8, 4, 4], center = true); }
+a ball of many facets: sphere(10, $fn = 100);
 """
-AS_MESHES = ("cube", "cone", "drilled", "concave prism", "a dent", "two that touch", "snowman", "box with a lid", "rooms", "star", "colours")
+AS_MESHES = ("cube", "cone", "drilled", "concave prism", "a dent", "two that touch", "snowman", "box with a lid", "rooms", "star", "colours", "house", "tilted tray")
 SIZE, CELLS, SAMPLES, SECONDS = (64, 48), 4095, 300, 60
 BESIDE = 0.05
 TURN = (55.0, 0.0, 25.0)
