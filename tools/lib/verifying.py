@@ -4,8 +4,8 @@ import collections
 import math
 import os
 
-import ends
 import facets
+import modelling
 import netpbm
 import program
 import scenes
@@ -54,20 +54,19 @@ def turn_of(at, count):
 
 def of_tree(tree, mesh, count, size=SIZE):
     """The sides of a model's tree. Both the model and the mesh are within each picture."""
-    model, (bits, fraction) = ends.script("model"), BITS
-    far = 2 ** bits - 1
+    far = 2 ** BITS[0] - 1
     both = ("+", [tree, solids.Solid("result", 0, mesh.points, [], None)]) if mesh.points else tree
     for at in range(count):
         turn = turn_of(at, count)
         view = views.fitted(turn, size, None, far, both)
-        text, (off, _) = model.scene_of(tree, view, {"--size": list(size), "--depth": list(BITS), "--flat": True})
+        text, (off, _) = modelling.scene_of(tree, view, {"--size": list(size), "--depth": list(BITS), "--flat": True})
 
         def place(point):
             column, row = view.places([point])[0]
             return column, row, (view.turned(point)[1] - view.nearest) * view.cells
 
         crossings, digits = mesh.seen(place, view.cells)
-        yield Side("%.0f %.0f" % (turn[0], turn[2]), model.checked(text), text, crossings, 1 + 2 * off + digits)
+        yield Side("%.0f %.0f" % (turn[0], turn[2]), modelling.checked(text), text, crossings, 1 + 2 * off + digits)
 
 
 def of_scene(content, mesh):
