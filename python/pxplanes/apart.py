@@ -5,6 +5,7 @@ import contextlib
 import ctypes
 import os
 import pickle
+import select
 import subprocess
 import sys
 import tempfile
@@ -46,19 +47,21 @@ def called(name: str, data: bytes, before: tuple[Any, ...], buffers: list[Buffer
     asked = pickle.dumps((calls.library()._name, name, data, before, [(each.kind, each.count) for each in buffers],
                           [type(each) for each in structures]))
     start = time.monotonic()
-    with tempfile.TemporaryFile() as opened:
+    reading, writing = os.pipe()
+    with open(reading, "rb", 0) as ended, open(writing, "wb", 0) as held, tempfile.TemporaryFile() as opened:
         answer: Any = opened
-        child = subprocess.Popen([sys.executable, "-I", "-c", CHILD, PACKAGE], stdin=subprocess.PIPE, stdout=answer, start_new_session=True)
+        child = subprocess.Popen([sys.executable, "-I", "-c", CHILD, PACKAGE], stdin=subprocess.PIPE, stdout=answer,
+                                 pass_fds=[held.fileno()], start_new_session=True)
+        held.close()
         assert child.stdin is not None
         try:
             child.stdin.write(len(asked).to_bytes(8, "little") + asked)
             child.stdin.flush()
-            while child.poll() is None:
-                try:
-                    child.wait(LOOK)
-                except subprocess.TimeoutExpired:
-                    if progress is not None:
-                        progress(time.monotonic() - start)
+            # The child has the other end until it is gone. `Popen.wait` keeps a lock for good where Ctrl-C comes at a bad moment.
+            while not select.select([ended], [], [], LOOK)[0]:
+                if progress is not None:
+                    progress(time.monotonic() - start)
+            child.wait()
         finally:
             child.kill()
             child.wait()

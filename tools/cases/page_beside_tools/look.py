@@ -10,6 +10,8 @@ import tarfile
 sys.path.insert(0, os.path.join(os.getcwd(), "tools", "lib"))
 import cures
 import ends
+import explaining
+import listings
 import looks
 import micros
 import netpbm
@@ -20,7 +22,7 @@ import rasters
 import scenes
 from browser import Browser
 
-cases, compare, explain = (ends.script(leaf) for leaf in ("dev/run_cases", "compare", "explain"))
+cases, compare = (ends.script(leaf) for leaf in ("dev/run_cases", "compare"))
 BUILT, CASES, SCENE = os.environ["PROGRAM"], os.path.join("tools", "cases"), "cases/drilled_block_and_post"
 RAYS = ((0, 0), (1, 2), (2, 4), (3, 8))
 MOST = 4000
@@ -53,9 +55,9 @@ COMPARED = """async (text, map, tolerance) => {
 
 def refusal_of(text, note):
     """What the tools tell of a refused text: due, limit and cure, and the columns of what is wrong."""
-    known = explain.own_reading(text)[1]
+    known = explaining.own_reading(text)[1]
     if note.startswith("limit line 0: products") and known is None:
-        known = scenes.Refusal(note, None, None, *explain.OF_PRODUCTS)
+        known = scenes.Refusal(note, None, None, *explaining.OF_PRODUCTS)
     span = known.span
     if span:
         line = scenes.cut_lines(text)[int(note.split(":")[0].split(" ")[-1]) - 1]
@@ -103,7 +105,7 @@ def texts():
 
 def looked(page, name, text, told, counts):
     raw = text.encode()
-    if explain.listings.is_listing(raw):
+    if listings.is_listing(raw):
         return
     status, _, note = program.answer(BUILT, ["cost"], raw)
     if told.get("trouble"):
