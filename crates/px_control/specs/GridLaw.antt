@@ -15,7 +15,7 @@ abbrev pub GridLaw : Type 0
 GridLaw = (bits : ℕ) (scene : SceneView) (n : ℕ) (device : Device) → IsLawfulScene scene → IsAt bits scene n device →
     CoversThePicture scene device
 
--- the grid of a scene's program is the scene's: the least powers of 2 for its columns and its rows
+-- the grid of a scene's program is the scene's: for its columns and its rows the least power of 2 from 2 to 512
 pub record IsScenesGrid (scene : SceneView) : Type 0 where
   pub columns : IsGridExponent scene.width (columns_of scene)
   pub rows : IsGridExponent scene.height (rows_of scene)

@@ -18,7 +18,7 @@ passes_listing scene = record {
   macros = passes scene;
 }
 
--- the grid of a listing is a scene's: the least powers of 2 for its columns and its rows
+-- the grid of a listing is a scene's: for its columns and its rows the least power of 2 from 2 to 512
 pub record HasScenesGrid (scene : SceneView) (l : ListingView) : Type 0 where
   pub columns : IsGridExponent scene.width l.nx
   pub rows : IsGridExponent scene.height l.ny
