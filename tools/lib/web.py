@@ -11,8 +11,8 @@ import subprocess
 import tempfile
 import time
 
-import debian
 import ends
+import gate
 import program
 from netpbm import Bad
 
@@ -92,12 +92,12 @@ def keep(place):
         raise Bad("rt lib handed no module to clang; this is another kit than web/README.md tells of")
     shutil.copyfile(copy, KEPT)
     with open(KEPT_OF, "w", encoding="ascii") as file:
-        file.write(debian.sum_crates())
+        file.write(gate.sum_crates())
 
 
 def is_kept():
     """Whether the module that is kept is of the crates as they stand."""
-    return os.path.isfile(KEPT) and os.path.isfile(KEPT_OF) and ends.content(KEPT_OF).decode("ascii") == debian.sum_crates()
+    return os.path.isfile(KEPT) and os.path.isfile(KEPT_OF) and ends.content(KEPT_OF).decode("ascii") == gate.sum_crates()
 
 
 def translated(text, layout):
@@ -147,7 +147,7 @@ def compiled(module, out, place):
 
 def make(out):
     """Makes the module of WebAssembly of crates that the gate has passed."""
-    debian.need_passed()
+    gate.need_passed()
     with tempfile.TemporaryDirectory(prefix="px-web-") as place:
         if not is_kept():
             keep(place)
