@@ -50,13 +50,13 @@ def kit():
     return os.path.dirname(os.path.dirname(os.path.realpath(found)))
 
 
-def handed(pid):
-    """The module that a compiler below a process reads, if there is one now."""
+def handed(pid, word=MODULE.encode()):
+    """The module that a compiler below a process reads, called with a word, if there is one now."""
     for child in program.descendants(pid):
         try:
             with open("/proc/%d/cmdline" % child, "rb") as file:
                 words = file.read().split(b"\0")
-            if os.path.basename(words[0]) == b"clang" and MODULE.encode() in words:
+            if os.path.basename(words[0]) == b"clang" and MODULE.encode() in words and word in words:
                 return os.path.join(os.readlink("/proc/%d/cwd" % child), MODULE)
         except OSError:
             continue
