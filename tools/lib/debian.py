@@ -20,7 +20,8 @@ import netpbm
 import program
 import wheel
 
-REVISION = "1"
+# No package of Debian's own, which would begin at 1, and be newer.
+REVISION = "0upstream1"
 FOLDER = "debian"
 # What the kit has built, where a source package holds it.
 PREBUILT = "prebuilt"
