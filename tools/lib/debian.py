@@ -41,6 +41,7 @@ fi
 """
 HEADERS = tuple(os.path.join("include", leaf) for leaf in ("pxplanes.h", "pxplanes.hpp", "pxplanes_scene.h"))
 ARCHIVE = os.path.join("crates", "px_c", "out", "libpx_c.a")
+NEWER_ARCHIVE = os.path.join("crates", "px_c", "out", "libpx_c-x86-64-v3.a")
 LIBC = "liblibc_c.a"
 # They make the libraries, and the page.
 MAKERS = (os.path.join("tools", "package"), "web", os.path.join("tools", "studio_page"))
@@ -68,8 +69,10 @@ def sum_crates():
 
 def packed(archive, libc):
     """What packages are made of: a name of each file, and where it is."""
-    yield os.path.relpath(program.DEFAULT, ends.TOP), program.DEFAULT
+    for place, path in program.builds(program.DEFAULT):
+        yield os.path.relpath(place, ends.TOP), path
     yield ARCHIVE, archive
+    yield NEWER_ARCHIVE, os.path.join(ends.TOP, NEWER_ARCHIVE)
     yield LIBC, libc
     yield os.path.relpath(web_page.PAGE, ends.TOP), web_page.PAGE
     for name in (*HEADERS, *installing.sources(), *installing.known(name for maker in MAKERS for name in installing.inside(maker))):
