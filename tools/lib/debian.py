@@ -12,6 +12,7 @@ import subprocess
 import tarfile
 import tempfile
 
+import building
 import ends
 import gate
 import installing
@@ -96,16 +97,16 @@ def add_built(top, built):
 
 
 def built(archive, libc):
-    """What the kit has built: by the names that it has in a source package."""
-    return {os.path.basename(program.DEFAULT): program.DEFAULT, os.path.basename(gate.ARCHIVE): archive, gate.LIBC: libc}
+    """What the kit has built: by the names that it has in a source package. The builds for newer processors stand behind the others."""
+    found = {place: path for place, path in program.builds(program.DEFAULT)}
+    found.update({gate.ARCHIVE: archive, gate.NEWER_ARCHIVE: building.newer_of(archive), gate.LIBC: libc})
+    return {os.path.basename(place): path for place, path in found.items() if path}
 
 
 def prebuilt():
     """The same where this is a source package that holds it; None where it is not."""
     folder = os.path.join(ends.TOP, PREBUILT)
-    if not os.path.isdir(folder):
-        return None
-    return {name: os.path.join(folder, name) for name in built(None, None)}
+    return {leaf: os.path.join(folder, leaf) for leaf in os.listdir(folder)} if os.path.isdir(folder) else None
 
 
 def pack(path, top, folder, names):
@@ -188,7 +189,7 @@ def pages():
         yield "pxplanes-%s.1" % name, manuals.page(name, installing.version())
 
 
-def stage(usr, built):
+def stage(usr, held):
     """Lays out all but the library, which tools/package lays out: what debian/*.install divide."""
     for name in installing.sources():
         to = place_of(name)
@@ -198,7 +199,9 @@ def stage(usr, built):
     for name, content in wheel.of_tools(module).items():
         with open(installing.made(os.path.join(usr, MODULES, name)), "wb") as file:
             file.write(content)
-    installing.put(built, os.path.join(usr, installing.TREE, os.path.relpath(program.DEFAULT, ends.TOP)))
+    for place in (program.DEFAULT, program.NEWER):
+        if os.path.basename(place) in held:
+            installing.put(held[os.path.basename(place)], os.path.join(usr, installing.TREE, os.path.relpath(place, ends.TOP)))
     for name, target in links():
         os.symlink(os.path.relpath(target, os.path.dirname(name)), installing.made(os.path.join(usr, name)))
     for name, text in pages():

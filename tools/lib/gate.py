@@ -12,6 +12,7 @@ import web_page
 PASSED = os.path.join(ends.TOP, "crates", "px_program", "out", "passed")
 HEADERS = tuple(os.path.join("include", leaf) for leaf in ("pxplanes.h", "pxplanes.hpp", "pxplanes_scene.h"))
 ARCHIVE = os.path.join("crates", "px_c", "out", "libpx_c.a")
+NEWER_ARCHIVE = os.path.join("crates", "px_c", "out", "libpx_c-x86-64-v3.a")
 LIBC = "liblibc_c.a"
 # They make the libraries, the packages and the page.
 MAKERS = (os.path.join("tools", "package"), "debian", "web", os.path.join("tools", "studio_page"))
@@ -39,8 +40,10 @@ def sum_crates():
 
 def packed(archive, libc):
     """What packages are made of: a name of each file, and where it is."""
-    yield os.path.relpath(program.DEFAULT, ends.TOP), program.DEFAULT
+    for place, path in program.builds(program.DEFAULT):
+        yield os.path.relpath(place, ends.TOP), path
     yield ARCHIVE, archive
+    yield NEWER_ARCHIVE, "-x86-64-v3".join(os.path.splitext(archive))
     yield LIBC, libc
     yield os.path.relpath(web_page.PAGE, ends.TOP), web_page.PAGE
     for name in (*HEADERS, *installing.sources(), *installing.known(name for maker in MAKERS for name in installing.inside(maker))):
@@ -93,7 +96,7 @@ def need_packed(files):
     files = dict(files)
     for name in differing(files.items()):
         path = files.get(name, name)
-        shown = path if name in (ARCHIVE, LIBC) and path != os.path.join(ends.TOP, name) else name
+        shown = path if name in (ARCHIVE, NEWER_ARCHIVE, LIBC) and path != os.path.join(ends.TOP, name) else name
         raise netpbm.Bad("%s is not what the gate passed; .ci/run tries it" % shown)
 
 

@@ -1,6 +1,6 @@
 """Texts for the library by a fuzzer that is guided by the branches they take (libFuzzer). It is no tool itself.
 
-The module that `rt lib` compiles to the library is compiled once more, with counters at its branches and AddressSanitizer, and
+The module that tools/dev/build compiles to the library is compiled once more, with counters at its branches and AddressSanitizer, and
 linked with tools/fuzzing/target.c, which calls it, and plain.c, which says what is due."""
 import os
 import re
@@ -8,8 +8,9 @@ import shutil
 import subprocess
 import tempfile
 
+import building
 import ends
-import web
+from building import done, in_kit
 from netpbm import Bad
 
 FOLDER = os.path.join(ends.TOP, "tools", "fuzzing")
@@ -17,7 +18,6 @@ CORPUS = os.path.join(FOLDER, "corpus")
 WORDS = os.path.join(FOLDER, "words.dictionary")
 TARGET = "--target=x86_64-unknown-linux-gnu"
 WATCHED = ["-fsanitize=address", "-fsanitize-coverage=inline-8bit-counters,pc-table,trace-cmp"]
-SYSTEM_PARTS = ("liblibc_c.a", "libos_c.a")
 LARGEST = 8192
 SECONDS_OF_ONE, MEMORY_OF_ONE = 30, 4096
 COUNTED = re.compile(r"INFO: Loaded \d+ modules\s+\((\d+) inline 8-bit counters\)")
@@ -27,15 +27,15 @@ FOUND = re.compile(r"(?m)^(DIFFERS: .*|SUMMARY: .*|==\d+== ERROR: .*)$")
 
 def watched(place):
     """The library of the module that is kept, with counters and AddressSanitizer, as an object in a folder."""
-    clang = os.path.join(web.kit(), "toolchain", "bin", "clang")
+    clang = in_kit("toolchain", "bin", "clang")
     plain, object_file = (os.path.join(place, leaf) for leaf in ("library.ll", "library.o"))
     words = [TARGET, "-S", "-emit-llvm", "-O0", "-Xclang", "-disable-llvm-passes", "-x", "ir"]
-    web.done([clang, *words, web.KEPT, "-o", plain], "clang")
+    done([clang, *words, building.KEPT, "-o", plain], "clang")
     with open(plain, encoding="utf-8", errors="surrogateescape") as file:
         text = re.sub(r"(?m)^(attributes #\d+ = \{)", r"\1 sanitize_address", file.read())
     with open(plain, "w", encoding="utf-8", errors="surrogateescape") as file:
         file.write(text)
-    web.done([clang, TARGET, "-O1", *WATCHED, "-c", "-x", "ir", plain, "-o", object_file], "clang")
+    done([clang, TARGET, "-O1", *WATCHED, "-c", "-x", "ir", plain, "-o", object_file], "clang")
     return object_file
 
 
@@ -43,12 +43,12 @@ def built(place):
     """The fuzzer, in a folder."""
     if shutil.which("clang") is None:
         raise Bad("there is no clang; Debian's clang and libclang-rt-14-dev have what is wanted")
-    if not web.is_kept():
-        web.keep(place)
+    if not building.is_kept():
+        building.Proved(ends.TOP, 2).make_library(building.FIRST)
     fuzzer = os.path.join(place, "fuzzer")
     sources = [os.path.join(FOLDER, leaf) for leaf in ("target.c", "plain.c")]
-    parts = [os.path.join(web.kit(), "c", leaf) for leaf in SYSTEM_PARTS]
-    web.done(["clang", "-std=c11", "-O2", "-g", "-fsanitize=address,fuzzer", "-I", os.path.join(ends.TOP, "include"), *sources,
+    parts = [in_kit("c", leaf) for leaf in building.SYSTEM_PARTS]
+    done(["clang", "-std=c11", "-O2", "-g", "-fsanitize=address,fuzzer", "-I", os.path.join(ends.TOP, "include"), *sources,
               watched(place), *parts, "-o", fuzzer], "clang")
     return fuzzer
 
@@ -97,7 +97,7 @@ def smaller(fuzzer, corpus, out):
     """Keeps of a corpus the texts that all its branches want, in a folder; how many."""
     small = os.path.join(out, "corpus")
     os.makedirs(small, exist_ok=True)
-    web.done([fuzzer, "-merge=1", "-use_counters=0", "-max_len=%d" % LARGEST, small, corpus], "the fuzzer")
+    done([fuzzer, "-merge=1", "-use_counters=0", "-max_len=%d" % LARGEST, small, corpus], "the fuzzer")
     return len(os.listdir(small))
 
 

@@ -118,8 +118,9 @@ def lay_out(prefix, built, library):
     for name in sources():
         names.append(os.path.join(TREE, name))
         put(os.path.join(ends.TOP, name), os.path.join(prefix, names[-1]))
-    names.append(os.path.join(TREE, os.path.relpath(program.DEFAULT, ends.TOP)))
-    put(built, os.path.join(prefix, names[-1]))
+    for leaf, path in program.builds(built):
+        names.append(os.path.join(TREE, os.path.relpath(leaf, ends.TOP)))
+        put(path, os.path.join(prefix, names[-1]))
     for place, _, leaves in os.walk(library):
         for leaf in sorted(leaves):
             names.append(os.path.relpath(os.path.join(place, leaf), library))

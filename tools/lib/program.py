@@ -11,12 +11,44 @@ import netpbm
 from ends import TOP
 
 DEFAULT = os.path.join(TOP, "crates", "px_program", "out", "px_program")
+# The same for processors of x86-64-v3, and what these have beyond x86-64-v2.
+NEWER = DEFAULT + "-x86-64-v3"
+NEWER_FLAGS = {"avx", "avx2", "bmi1", "bmi2", "f16c", "fma", "abm", "movbe", "xsave"}
 SLOW = 2 * 10 ** 7
+
+
+def is_newer():
+    """Whether the processor has all that x86-64-v3 names."""
+    try:
+        with open("/proc/cpuinfo") as file:
+            flags = next((line for line in file if line.startswith("flags")), "")
+    except OSError:
+        return False
+    return NEWER_FLAGS <= set(flags.split())
+
+
+def is_current():
+    """Whether the program for newer processors is there, and no older than the other."""
+    return os.access(NEWER, os.X_OK) and (not os.path.isfile(DEFAULT) or os.path.getmtime(DEFAULT) <= os.path.getmtime(NEWER))
+
+
+def built():
+    """The program that was built for this processor."""
+    return NEWER if is_current() and is_newer() else DEFAULT
+
+
+def builds(path):
+    """The places that a program is installed at, the one that was built or another, each with the file that comes there: for newer
+    processors too, where it is the one that was built."""
+    is_own = os.path.realpath(path) in (DEFAULT, NEWER)
+    yield DEFAULT, DEFAULT if is_own else path
+    if is_own and is_current():
+        yield NEWER, NEWER
 
 
 def place_of(path):
     """Where the program is: as said, or as the environment's PXPLANES_PROGRAM says, or as built."""
-    return os.path.abspath(path or os.environ.get("PXPLANES_PROGRAM") or DEFAULT)
+    return os.path.abspath(path or os.environ.get("PXPLANES_PROGRAM") or built())
 
 
 def find(path):

@@ -12,10 +12,10 @@ import subprocess
 import tempfile
 import time
 
+import building
 import ends
 import installing
-import program
-import web
+from building import done, in_kit
 from netpbm import Bad
 
 CRATE = "px_c"
@@ -119,9 +119,9 @@ def tried(own, copy):
         try:
             limit = time.monotonic() + SECONDS
             while running.poll() is None and time.monotonic() < limit:
-                if web.copied(web.handed(running.pid, CHECKED), copy):
+                if building.copied(building.handed(running.pid, CHECKED), copy):
                     return
-                time.sleep(web.LOOKED_AFTER)
+                time.sleep(building.LOOKED_AFTER)
         finally:
             if running.poll() is None:
                 os.killpg(running.pid, signal.SIGTERM)
@@ -144,13 +144,13 @@ def named(text):
 
 def archive(place):
     """Makes the archive of the library in a folder, and answers where it is."""
-    clang = os.path.join(web.kit(), "toolchain", "bin", "clang")
+    clang = in_kit("toolchain", "bin", "clang")
     path = lambda leaf: os.path.join(place, leaf)
     tried(lay_out(os.path.join(place, "tree")), path("module.bc"))
-    web.done([clang, FLAGS[0], "-S", "-emit-llvm", "-O0", "-Xclang", "-disable-llvm-passes", "-x", "ir", path("module.bc"), "-o",
+    done([clang, FLAGS[0], "-S", "-emit-llvm", "-O0", "-Xclang", "-disable-llvm-passes", "-x", "ir", path("module.bc"), "-o",
               path("tried.ll")], "clang")
     with open(path("named.ll"), "w", encoding="utf-8") as file:
         file.write(named(ends.content(path("tried.ll")).decode("utf-8")))
-    web.done([clang, *FLAGS, "-c", "-x", "ir", path("named.ll"), "-o", path("library.o")], "clang")
-    web.done(["ar", "rcsD", path("library.a"), path("library.o")], "ar")
+    done([clang, *FLAGS, "-c", "-x", "ir", path("named.ll"), "-o", path("library.o")], "clang")
+    done(["ar", "rcsD", path("library.a"), path("library.o")], "ar")
     return path("library.a")

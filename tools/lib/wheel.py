@@ -12,6 +12,7 @@ import netpbm
 
 MODULE = os.path.join("python", "pxplanes")
 LIBRARY = "libpxplanes.so"
+NEWER = os.path.join("glibc-hwcaps", "x86-64-v3", LIBRARY)
 SHARED = os.path.join("pxplanes", "_tools")
 ASKED = re.compile(r'\bmodule\("(\w+)"\)')
 IMPORTED = re.compile(r"(?m)^ *(?:import|from) (\w+)")
@@ -70,12 +71,14 @@ def of_tools(module):
 def wheel(library, out):
     """Makes the wheel of a folder that tools/package made, and answers where it is."""
     version = installing.version()
-    shared = os.path.join(library, "lib", LIBRARY)
-    need_old(shared)
+    shared = {leaf: os.path.join(library, "lib", leaf) for leaf in (LIBRARY, NEWER)}
+    shared = {leaf: path for leaf, path in shared.items() if leaf == LIBRARY or os.path.isfile(path)}
+    for path in shared.values():
+        need_old(path)
     names = installing.known(installing.inside(MODULE))
     files = {os.path.relpath(name, "python"): ends.content(os.path.join(ends.TOP, name)) for name in names}
     files.update(of_tools(files))
-    files["pxplanes/" + LIBRARY] = ends.content(shared)
+    files.update(("pxplanes/" + leaf, ends.content(path)) for leaf, path in shared.items())
     about = "pxplanes-%s.dist-info/" % version
     files[about + "METADATA"] = (METADATA % version).encode("utf-8")
     files[about + "WHEEL"] = WHEEL.encode("utf-8")

@@ -1,0 +1,209 @@
+"""Builds of the crates that `rt ci` has proved here what `rt ci` does not build. It is no tool itself.
+
+`rt ci` leaves in each library's folder what the crates above it may cite, its statements, and proves all crates over those. So
+does `rattle build`, by which this proves the library for C, or the program, once more over them, and compiles it. `rt lib` knows no
+such way: it proves every crate below anew."""
+import os
+import re
+import shutil
+import signal
+import subprocess
+import tempfile
+import time
+
+import ends
+import gate
+import program
+from netpbm import Bad
+
+# Of the processors that Rattle compiles for: the one of the first build, and the one of the second.
+FIRST, SECOND = "x86-64-v2", "x86-64-v3"
+LIBRARY, PROGRAM = "px_c", "px_program"
+LINE = re.compile(r"(?m)^([a-z]\w*)( staticlib)?:(.*)$")
+PROVED = re.compile(r"(?m)^logic=proved .*\bstatements=trusted\b.*$")
+TARGET = "x86_64-unknown-linux-gnu"
+SYSTEM_PARTS = ("libos_c.a", "liblibc_c.a")
+# The module of the library that was kept last, and the checksum of the crates that it was made of.
+KEPT, KEPT_OF = (os.path.join(ends.TOP, "crates", LIBRARY, "out", leaf) for leaf in ("module.bc", "module.of"))
+MODULE = "module.bc"
+# The module is compiled for some seconds.
+LOOKED_AFTER = 0.02
+
+
+def done(words, name, **more):
+    """What a command writes; its trouble is the tool's."""
+    run = subprocess.run(words, capture_output=True, text=True, errors="replace", **more)
+    if run.returncode != 0:
+        lines = (run.stderr.strip() or run.stdout.strip()).split("\n")
+        raise Bad("%s: %s" % (name, lines[-1][:200] or "status %d" % run.returncode))
+    return run.stdout
+
+
+def kit():
+    """The folder of the kit, by its command."""
+    found = shutil.which("rt")
+    if found is None:
+        raise Bad("there is no command rt; README.md says what is needed")
+    return os.path.dirname(os.path.dirname(os.path.realpath(found)))
+
+
+def in_kit(*leaves):
+    return os.path.join(kit(), *leaves)
+
+
+def handed(pid, word=MODULE.encode()):
+    """The module that a compiler below a process reads, called with a word, if there is one now."""
+    for child in program.descendants(pid):
+        try:
+            with open("/proc/%d/cmdline" % child, "rb") as file:
+                words = file.read().split(b"\0")
+            if os.path.basename(words[0]) == b"clang" and MODULE.encode() in words and word in words:
+                return os.path.join(os.readlink("/proc/%d/cwd" % child), MODULE)
+        except OSError:
+            continue
+    return None
+
+
+def copied(path, copy):
+    """Whether a file is there, and was copied."""
+    try:
+        return bool(path and shutil.copyfile(path, copy))
+    except OSError:
+        return False
+
+
+def is_kept():
+    """Whether the module that is kept is of the crates as they stand."""
+    return os.path.isfile(KEPT) and os.path.isfile(KEPT_OF) and ends.content(KEPT_OF).decode("ascii") == gate.sum_crates()
+
+
+def keep(module):
+    """Keeps the module of the crates as they stand."""
+    shutil.copyfile(module, KEPT)
+    with open(KEPT_OF, "w", encoding="ascii") as file:
+        file.write(gate.sum_crates())
+
+
+def of_cpu(path, cpu):
+    """The name of a build for a processor, by that of the first."""
+    stem, end = os.path.splitext(path)
+    return path if cpu == FIRST else "%s-%s%s" % (stem, cpu, end)
+
+
+def newer_of(path):
+    """A library as it is built for newer processors; None where there is none, or an older one."""
+    newer = of_cpu(path, SECOND)
+    return newer if os.path.isfile(newer) and os.path.getmtime(path) <= os.path.getmtime(newer) else None
+
+
+def run(words, folder, copy):
+    """Runs a command of the kit in a folder, and answers what it says. Where a copy is wanted, that is of the module which is
+    handed to clang meanwhile."""
+    kept = copy is None
+    with tempfile.TemporaryFile() as notes:
+        running = subprocess.Popen(words, cwd=folder, stdin=subprocess.DEVNULL, stdout=notes, stderr=notes, start_new_session=True)
+        try:
+            while not kept and running.poll() is None:
+                kept = copied(handed(running.pid), copy)
+                time.sleep(LOOKED_AFTER)
+            status = running.wait()
+        finally:
+            if running.poll() is None:
+                os.killpg(running.pid, signal.SIGTERM)
+                running.wait()
+        notes.seek(0)
+        said = notes.read().decode("utf-8", "replace")
+    if status != 0:
+        raise Bad("%s: %s" % (os.path.basename(words[0]), (said.strip() or "status %d" % status).split("\n")[-1][:200]))
+    if not kept:
+        raise Bad("rattle handed no module to clang; this is another kit than web/README.md tells of")
+    return said
+
+
+def link(part, to):
+    words = [in_kit("bin", "rattle-link"), "--target", TARGET, "--toolchain", in_kit("toolchain"), "-o", to, part]
+    done([*words, *(in_kit("c", leaf) for leaf in SYSTEM_PARTS)], "rattle-link")
+
+
+def calls_of(path):
+    """What a program calls of the system."""
+    clang = in_kit("toolchain", "bin", "clang")
+    said = done(["llvm-nm", "-D", "--undefined-only", "-j", path], "llvm-nm", executable=clang)
+    return {name.partition("@")[0] for name in said.split()}
+
+
+class Proved:
+    """A folder of crates in which `rt ci` has proved all that crates.txt names."""
+
+    def __init__(self, top, jobs):
+        self.top, self.jobs = os.path.abspath(top), str(jobs)
+        text = ends.content(os.path.join(self.top, "crates.txt")).decode("utf-8")
+        self.lines = {name: rest.split() for name, _, rest in LINE.findall(text)}
+
+    def folder(self, crate):
+        return os.path.join(self.top, "crates", crate)
+
+    def statements(self, crate):
+        """The folder of what the crates above one may cite."""
+        found = os.path.join(self.folder(crate), "out", "rlib", crate + ".rlib")
+        if not os.path.isdir(found):
+            raise Bad("crates/%s is not proved in %s; rt ci proves all" % (crate, self.top))
+        return found
+
+    def below(self, crate):
+        """The libraries of this folder below a crate."""
+        found, left = [], list(self.lines[crate])
+        while left:
+            name = left.pop()
+            if name in self.lines and name not in found:
+                found.append(name)
+                left += self.lines[name]
+        return sorted(found)
+
+    def words(self, crate, cpu):
+        """What is said to `rattle` of a crate."""
+        kept, every = in_kit("rlibs"), self.below(crate)
+        yield from ("--crate-name", crate, os.path.join("src", "main.rt" if crate == PROGRAM else "lib.rt"))
+        for name in ("std", *self.lines[crate]):
+            yield from ("--extern", "%s=%s" % (name, self.statements(name) if name in every else os.path.join(kept, name + ".rlib")))
+        for place in (kept, *(os.path.dirname(self.statements(name)) for name in every)):
+            yield from ("-L", "dependency=" + place)
+        yield from ("--antt-project", in_kit("rattle", "logic", "antt-project.json"), "--logic-built", in_kit("logic_built"))
+        yield from ("--links", crate + "=", "--empty-contracts", "--cpu", cpu, "--jobs", self.jobs, "--backend", "llvm")
+        yield from ("--toolchain", in_kit("toolchain"))
+        yield from () if crate == PROGRAM else ("--crate-type", "staticlib")
+
+    def compile(self, crate, cpu, to, copy=None):
+        """Proves a crate over the statements below it, and compiles it to a file; the line of its proof."""
+        said = run([in_kit("bin", "rattle"), "build", *self.words(crate, cpu), "-o", to], self.folder(crate), copy)
+        found = PROVED.search(said)
+        if found is None:
+            raise Bad("%s: no line of what was built says that it is proved" % crate)
+        return found[0]
+
+    def make_library(self, cpu):
+        """Builds the library for C, and of the checkout's first build keeps the module; the file, and the line of its proof."""
+        made = of_cpu(os.path.join(self.folder(LIBRARY), "out", "libpx_c.a"), cpu)
+        with tempfile.TemporaryDirectory(prefix="px-build-") as place:
+            archive, module = (os.path.join(place, leaf) for leaf in ("library.a", MODULE))
+            line = self.compile(LIBRARY, cpu, archive, module if cpu == FIRST else None)
+            shutil.move(archive, made)
+            if cpu == FIRST and self.top == ends.TOP:
+                keep(module)
+        return made, line
+
+    def make_program(self, cpu):
+        """Builds the program for a processor, which may call nothing that the one of `rt ci` does not; the file, and the line."""
+        first = os.path.join(self.folder(PROGRAM), "out", PROGRAM)
+        made = of_cpu(first, cpu)
+        if not os.path.isfile(first):
+            raise Bad("no program at %s; rt ci builds it" % first)
+        with tempfile.TemporaryDirectory(prefix="px-build-") as place:
+            part, whole = (os.path.join(place, leaf) for leaf in ("program.o", "program"))
+            line = self.compile(PROGRAM, cpu, part)
+            link(part, whole)
+            more = sorted(calls_of(whole) - calls_of(first))
+            if more:
+                raise Bad("the program for %s calls %s, which the other does not" % (cpu, ", ".join(more)))
+            shutil.move(whole, made)
+        return made, line
