@@ -374,6 +374,13 @@ def wrong_times():
             yield "%s tells minutes, which %s does" % (leaf, README)
 
 
+def wrong_rooms():
+    """A crate that no room of the map has, or one that it has and crates.txt has not."""
+    leaf = "docs/dev/ARCHITECTURE.md"
+    part = re.split(r"(?m)^## ", content(leaf))[1]
+    yield from difference(leaf, re.findall(r"\bpx_\w+", part), re.findall(r"(?m)^(px_\w+)", content("crates.txt")))
+
+
 def wrong_size():
     words = len(content(README).split())
     if words > MOST_WORDS:
@@ -389,5 +396,5 @@ def forget():
 CHECKS = {"links of documents": wrong_links, "headings that are named": wrong_headings, "places in documents": wrong_places,
           "options in documents": wrong_options, "blocks of documents": wrong_blocks, "commands in documents": wrong_commands,
           "statuses in documents": wrong_statuses, "causes in documents": wrong_causes, "limits in documents": wrong_limits,
-          "clocks of operations": wrong_clocks, "forms of lines": wrong_operations, "tools in their list": wrong_lists, "times in documents": wrong_times,
+          "clocks of operations": wrong_clocks, "forms of lines": wrong_operations, "tools in their list": wrong_lists, "times in documents": wrong_times, "rooms of crates": wrong_rooms,
           "words of README": wrong_size}
