@@ -365,7 +365,7 @@ def wrong_lists():
 
 def wrong_times():
     """The time of the first proof stands in README.md alone, and as the wrapper says it."""
-    told = re.search(r"\| (\d+ to \d+ minutes on 4 processors); by", content(README))
+    told = re.search(r"\| (\d+ to \d+ minutes on 4 processors)\b", content(README))
     said = re.search(r'(?m)^time_to_prove="about (.*)"$', content(WRAPPER)).group(1)
     if told is None or told.group(1) != said:
         yield "%s says %s, and %s %s" % (README, told and told.group(1), WRAPPER, said)
