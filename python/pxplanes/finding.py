@@ -55,5 +55,5 @@ def loaded() -> ctypes.CDLL:
                 return ctypes.CDLL(place)
             except OSError as error:
                 raise NoLibrary("%s cannot be loaded: %s" % (place, error)) from None
-    raise NoLibrary("no %s at %s; tools/package makes it, and %s names another"
+    raise NoLibrary("no %s at %s; ./pxplanes --library makes it, and %s names another"
                     % (LEAF, os.environ.get(VARIABLE) or "package/lib", VARIABLE))

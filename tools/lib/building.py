@@ -11,8 +11,8 @@ import subprocess
 import tempfile
 import time
 
-import debian
 import ends
+import gate
 import program
 from netpbm import Bad
 
@@ -51,13 +51,13 @@ def in_kit(*leaves):
     return os.path.join(kit(), *leaves)
 
 
-def handed(pid):
-    """The module that a compiler below a process reads, if there is one now."""
+def handed(pid, word=MODULE.encode()):
+    """The module that a compiler below a process reads, called with a word, if there is one now."""
     for child in program.descendants(pid):
         try:
             with open("/proc/%d/cmdline" % child, "rb") as file:
                 words = file.read().split(b"\0")
-            if os.path.basename(words[0]) == b"clang" and MODULE.encode() in words:
+            if os.path.basename(words[0]) == b"clang" and MODULE.encode() in words and word in words:
                 return os.path.join(os.readlink("/proc/%d/cwd" % child), MODULE)
         except OSError:
             continue
@@ -74,14 +74,14 @@ def copied(path, copy):
 
 def is_kept():
     """Whether the module that is kept is of the crates as they stand."""
-    return os.path.isfile(KEPT) and os.path.isfile(KEPT_OF) and ends.content(KEPT_OF).decode("ascii") == debian.sum_crates()
+    return os.path.isfile(KEPT) and os.path.isfile(KEPT_OF) and ends.content(KEPT_OF).decode("ascii") == gate.sum_crates()
 
 
 def keep(module):
     """Keeps the module of the crates as they stand."""
     shutil.copyfile(module, KEPT)
     with open(KEPT_OF, "w", encoding="ascii") as file:
-        file.write(debian.sum_crates())
+        file.write(gate.sum_crates())
 
 
 def of_cpu(path, cpu):

@@ -1,196 +1,207 @@
-"""What the gate passed, which is all that is packed; and a package for Debian of it. It is no tool itself."""
-import hashlib
+"""The source package for Debian, and the packages that dpkg-buildpackage makes of it. It is no tool itself.
+
+debian/ of the checkout says what is in each of them. Its rules have tools/package lay all of it out (`stage`), of the program and the
+library in prebuilt/ or of those that the kit has built, and its *.install divide that."""
+import email.utils
+import functools
+import lzma
 import os
 import re
 import shutil
 import subprocess
+import tarfile
 import tempfile
 
 import ends
+import gate
 import installing
+import manuals
 import netpbm
 import program
-import web_page
+import wheel
 
-# What .ci/run passed last, beside what it built: the checksum of its crates, and a line for each file that packages are made of.
-PASSED = os.path.join(ends.TOP, "crates", "px_program", "out", "passed")
-CONTROL = """Package: pxplanes
-Version: {version}
-Architecture: amd64
-Maintainer: {maintainer}
-Installed-Size: {size}
-Depends: {needs}
-Recommends: python3
-Suggests: python3-numpy, python3-scipy, openscad, povray, parallel, gtkwave, iverilog, yosys
-Section: graphics
-Priority: optional
-Description: Pixel-Planes 4, the frame buffer that computes, as a proved program
- Draws a text scene of convex solids with whole-number planes and one set
- expression: at each pixel the depth of the first cell that belongs to the
- expression and the lowest-numbered face shown there. With a debugger of the
- machine, a library for C and Python, a page in the browser, the machine in
- Verilog, and tools to bring models and to compare renderers.
+REVISION = "1"
+FOLDER = "debian"
+# What the kit has built, where a source package holds it.
+PREBUILT = "prebuilt"
+# What is built is for this processor alone.
+ARCHITECTURE, MULTIARCH = "amd64", "x86_64-linux-gnu"
+LIBRARIES = os.path.join("lib", MULTIARCH)
+MODULES = os.path.join("lib", "python3", "dist-packages")
+DOCUMENTS = os.path.join("share", "doc", "pxplanes")
+EXAMPLES = os.path.join("share", "doc", "libpxplanes-dev")
+# What the documents name beside themselves, with where it stands.
+BESIDE = {**{name: os.path.join(installing.TREE, name) for name in ("editors", "gallery", "page", "rtl", "suite")},
+          "examples": os.path.join(EXAMPLES, "examples")}
+CHANGELOG = """pxplanes (%s) unstable; urgency=medium
+
+  * CHANGES.md tells what is new.
+
+ -- %s  %s
 """
-
-# Python leaves byte code beside the modules that are run, which dpkg does not know of.
-PRERM = """#!/bin/sh
-set -e
-if [ -d "$DPKG_ROOT/usr/lib/pxplanes" ]; then
-  find "$DPKG_ROOT/usr/lib/pxplanes" -name __pycache__ -type d -prune -exec rm -r {} +
-fi
-"""
-HEADERS = tuple(os.path.join("include", leaf) for leaf in ("pxplanes.h", "pxplanes.hpp", "pxplanes_scene.h"))
-ARCHIVE = os.path.join("crates", "px_c", "out", "libpx_c.a")
-NEWER_ARCHIVE = os.path.join("crates", "px_c", "out", "libpx_c-x86-64-v3.a")
-LIBC = "liblibc_c.a"
-# They make the libraries, and the page.
-MAKERS = (os.path.join("tools", "package"), "web", os.path.join("tools", "studio_page"))
+WANTED = (("dpkg-source", "dpkg-dev"), ("dpkg-buildpackage", "dpkg-dev"), ("dh", "debhelper"), ("dh_python3", "dh-python"))
 
 
-def crates():
-    """The files that the gate passes."""
-    for name in ("HANDLES", "crates.txt"):
-        yield name
-    for place, folders, leaves in os.walk(os.path.join(ends.TOP, "crates")):
-        folders[:] = sorted(name for name in folders if name != "out")
-        for leaf in sorted(leaves):
-            yield os.path.relpath(os.path.join(place, leaf), ends.TOP)
+def done(words, place, **more):
+    """Runs a command in a folder; its trouble is the tool's."""
+    package = dict(WANTED).get(words[0])
+    if shutil.which(words[0]) is None:
+        raise netpbm.Bad("there is no command %s; Debian's %s has it" % (words[0], package))
+    run = subprocess.run(words, cwd=place, capture_output=True, text=True, errors="replace", env=dict(os.environ, LC_ALL="C", **more))
+    if run.returncode != 0:
+        lines = run.stderr.strip().split("\n")
+        raise netpbm.Bad("%s: %s" % (words[0], lines[-1][:200] or "status %d" % run.returncode))
 
 
-def sum_crates():
-    """One checksum of their names and contents."""
-    all_of = hashlib.sha256()
-    for name in crates():
-        content = ends.content(os.path.join(ends.TOP, name))
-        all_of.update(("%s %d\n" % (name, len(content))).encode())
-        all_of.update(content)
-    return all_of.hexdigest()
+@functools.lru_cache(maxsize=1)
+def when():
+    """The time of the commit, in seconds."""
+    return int(installing.git("log", "-1", "--format=%ct"))
 
 
-def packed(archive, libc):
-    """What packages are made of: a name of each file, and where it is."""
-    for place, path in program.builds(program.DEFAULT):
-        yield os.path.relpath(place, ends.TOP), path
-    yield ARCHIVE, archive
-    yield NEWER_ARCHIVE, os.path.join(ends.TOP, NEWER_ARCHIVE)
-    yield LIBC, libc
-    yield os.path.relpath(web_page.PAGE, ends.TOP), web_page.PAGE
-    for name in (*HEADERS, *installing.sources(), *installing.known(name for maker in MAKERS for name in installing.inside(maker))):
-        yield name, os.path.join(ends.TOP, name)
+def control():
+    return ends.content(os.path.join(ends.TOP, FOLDER, "control")).decode("utf-8")
 
 
-def sums(files):
-    """The checksum of each file that is there, by its name."""
-    found = {}
-    for name, path in files:
-        if os.path.islink(path):
-            found[name] = hashlib.sha256(os.fsencode("link to " + os.readlink(path))).hexdigest()
-        elif os.path.isfile(path):
-            found[name] = hashlib.sha256(ends.content(path)).hexdigest()
-    return found
+def version():
+    return "%s-%s" % (installing.version(), REVISION)
 
 
-def note(passed, found):
-    """Notes the checksum of crates that the gate passed, and those of files by their names."""
-    with open(PASSED, "w", encoding="utf-8") as file:
-        file.write("%s\n" % passed)
-        file.writelines("%s %s\n" % (one, name) for name, one in found.items())
+def changelog():
+    maintainer = re.search(r"(?m)^Maintainer: (.*)$", control()).group(1)
+    return CHANGELOG % (version(), maintainer, email.utils.formatdate(when(), usegmt=True).replace("GMT", "+0000"))
 
 
-def noted():
-    """The checksum of the crates that the gate passed, and of each file by its name."""
-    if not os.path.isfile(PASSED):
-        return None, {}
-    passed, *lines = ends.content(PASSED).decode("utf-8").splitlines()
-    return passed.strip(), {name: one for one, _, name in (line.partition(" ") for line in lines)}
+def packages():
+    """The names of the files of all packages."""
+    found = re.findall(r"(?ms)^Package: (\S+)$.*?^Architecture: (\S+)$", control())
+    return ["%s_%s_%s.deb" % (name, version(), architecture) for name, architecture in found]
 
 
-def need_passed():
-    """Refuses crates that are not those of a gate that passed."""
-    if noted()[0] != sum_crates():
-        raise netpbm.Bad("the gate has not passed these crates; .ci/run tries them")
+def tree(place, names):
+    """Lays out files of the checkout in a folder, as the source package has them, and answers where."""
+    top = os.path.join(place, "pxplanes-" + installing.version())
+    for name in names:
+        installing.put(os.path.join(ends.TOP, name), os.path.join(top, name))
+    with open(installing.made(os.path.join(top, FOLDER, "changelog")), "w", encoding="utf-8") as file:
+        file.write(changelog())
+    return top
 
 
-def differing(files):
-    """The names of files that are not as the gate passed them: other, new, or gone."""
-    passed, found = noted()[1], sums(files)
-    return [name for name in {**found, **passed} if found.get(name) != passed.get(name)]
+def add_built(top, built):
+    """Puts what the kit has built into the source package."""
+    for name, path in built.items():
+        installing.put(path, os.path.join(top, PREBUILT, name))
 
 
-def need_packed(files):
-    """Refuses to pack anything else than what the gate passed."""
-    need_passed()
-    if installing.tracked() is None:
+def built(archive, libc):
+    """What the kit has built, for newer processors too where it has: by the names that it has in a source package."""
+    newer = (path for path in (program.NEWER, os.path.join(ends.TOP, gate.NEWER_ARCHIVE)) if os.path.isfile(path))
+    return {os.path.basename(program.DEFAULT): program.DEFAULT, os.path.basename(gate.ARCHIVE): archive, gate.LIBC: libc,
+            **{os.path.basename(path): path for path in newer}}
+
+
+def prebuilt():
+    """The same where this is a source package that holds it; None where it is not."""
+    folder = os.path.join(ends.TOP, PREBUILT)
+    if not os.path.isdir(folder):
+        return None
+    return {name: os.path.join(folder, name) for name in sorted(os.listdir(folder))}
+
+
+def pack(path, top, folder, names):
+    """Packs files below a folder: the same bytes each time."""
+    with lzma.open(path, "wb") as packed, tarfile.open(fileobj=packed, mode="w", format=tarfile.GNU_FORMAT) as archive:
+        for name in sorted(names):
+            whole = os.path.join(top, name)
+            entry = archive.gettarinfo(whole, os.path.join(folder, name))
+            entry.mtime, entry.uid, entry.gid, entry.uname, entry.gname = when(), 0, 0, "root", "root"
+            entry.mode = 0o755 if entry.mode & 0o100 else 0o644
+            with open(whole, "rb") as file:
+                archive.addfile(entry, file)
+
+
+def source(out, held):
+    """Makes the source package of the files that git tracks, and of what is built where some is held; answers where its files are."""
+    names = sorted(filter(None, installing.tracked() or ()))
+    if not names:
         raise netpbm.Bad("only files that git tracks are packed, and this is no repository")
-    files = dict(files)
-    for name in differing(files.items()):
-        path = files.get(name, name)
-        shown = path if name in (ARCHIVE, LIBC) and path != os.path.join(ends.TOP, name) else name
-        raise netpbm.Bad("%s is not what the gate passed; .ci/run tries it" % shown)
+    with tempfile.TemporaryDirectory(prefix="px-deb-") as place:
+        top = tree(place, names)
+        path = os.path.join(place, "pxplanes_%s.orig%%s.tar.xz" % installing.version())
+        pack(path % "", top, os.path.basename(top), [name for name in names if name.split(os.sep)[0] != FOLDER])
+        if held:
+            add_built(top, held)
+            pack(path % ("-" + PREBUILT), os.path.join(top, PREBUILT), PREBUILT, held)
+        done(["dpkg-source", "-b", top], place)
+        return taken(place, [leaf for leaf in sorted(os.listdir(place)) if os.path.isfile(os.path.join(place, leaf))], out)
 
 
-def note_again(name, files):
-    """Notes a file that was made anew of what the gate passed: where all else is as it was passed."""
-    files = dict(files)
-    if differing(files.items()) == [name]:
-        note(noted()[0], sums(files.items()))
-
-
-def wanted(paths):
-    """The packages that programs and libraries want, by the versions of the C library's calls that they name."""
-    newest = (2, 3)
-    for path in paths:
-        named = subprocess.run(["objdump", "-T", path], capture_output=True, text=True, errors="replace").stdout
-        for found in re.findall(r"GLIBC_(\d+)\.(\d+)", named):
-            newest = max(newest, tuple(map(int, found)))
-    return "bash, coreutils, findutils, libc6 (>= %d.%d)" % newest
-
-
-def compressed(path):
-    subprocess.run(["gzip", "-9n", path], check=True)
-
-
-def policy(usr):
-    """What Debian asks of a package's documents: the manual packed."""
-    folder = os.path.join(usr, installing.MANUALS)
-    own = os.path.join(folder, "pxplanes.1")
-    os.remove(own)
-    shutil.copy(os.path.join(ends.TOP, "man", "pxplanes.1"), own)
-    for leaf in os.listdir(folder):
-        compressed(os.path.join(folder, leaf))
-
-
-def package(built, library, out):
-    """Makes the package, and answers where it is."""
-    if shutil.which("dpkg-deb") is None:
-        raise netpbm.Bad("there is no command dpkg-deb")
-    version = installing.version()
+def taken(place, leaves, out):
+    """Moves files to a folder, and answers where they are, a line each."""
     os.makedirs(out, exist_ok=True)
-    path = os.path.join(out, "pxplanes_%s_amd64.deb" % version)
-    with tempfile.TemporaryDirectory(prefix="px-deb-") as root:
-        os.chmod(root, 0o755)
-        usr = os.path.join(root, "usr")
-        installing.lay_out(usr, built, library)
-        policy(usr)
-        names = [os.path.join(place, leaf) for place, _, leaves in os.walk(usr) for leaf in leaves]
-        files = [name for name in names if not os.path.islink(name)]
-        for name in filter(os.path.isfile, names):
-            os.chmod(name, 0o755 if os.stat(name).st_mode & 0o100 else 0o644)
-        control, prerm, checked = (os.path.join(root, "DEBIAN", leaf) for leaf in ("control", "prerm", "md5sums"))
-        os.mkdir(os.path.dirname(control))
-        with open(control, "w", encoding="ascii") as file:
-            file.write(CONTROL.format(
-                version=version, maintainer="Calvungoi maintainers <maintainers@users.noreply.calvungoi.example>",
-                size=sum(map(os.path.getsize, files)) // 1024,
-                needs=wanted(name for name in files if os.access(name, os.X_OK) or ".so" in name)))
-        with open(prerm, "w", encoding="ascii") as file:
-            file.write(PRERM)
-        with open(checked, "w", encoding="utf-8") as file:
-            for name in sorted(files):
-                file.write("%s  %s\n" % (hashlib.md5(ends.content(name)).hexdigest(), os.path.relpath(name, root)))
-        os.chmod(prerm, 0o755)
-        os.chmod(checked, 0o644)
-        done = subprocess.run(["dpkg-deb", "--root-owner-group", "-Zxz", "--build", root, path], capture_output=True, text=True)
-        if done.returncode != 0:
-            raise netpbm.Bad("dpkg-deb: %s" % done.stderr.strip().split("\n")[-1])
-    return "%s: %d KB" % (path, round(os.path.getsize(path) / 1000))
+    paths = [os.path.join(out, leaf) for leaf in leaves]
+    for leaf, path in zip(leaves, paths):
+        shutil.copyfile(os.path.join(place, leaf), path)
+    return ["%s: %d KB" % (path, round(os.path.getsize(path) / 1000)) for path in paths]
+
+
+def package(files, held, out):
+    """Makes the packages of files of the checkout and of what is built; answers where they are, a line each."""
+    for command, _ in WANTED:
+        if shutil.which(command) is None:
+            done([command], None)
+    with tempfile.TemporaryDirectory(prefix="px-deb-") as place:
+        top = tree(place, files)
+        add_built(top, held)
+        done(["dpkg-buildpackage", "-us", "-uc", "-b"], top)
+        return taken(place, packages(), out)
+
+
+def place_of(name):
+    """Where a file of the checkout stands, below usr/; None where no package has it as it is."""
+    folder, _, rest = name.partition(os.sep)
+    if folder == "man":
+        return None
+    if folder == "python":
+        return os.path.join(MODULES, rest)
+    if folder == "docs" or os.path.basename(name) == "README.md" and folder in ("README.md", "tools"):
+        return os.path.join(DOCUMENTS, name)
+    if folder == "examples":
+        return os.path.join(EXAMPLES, name)
+    return os.path.join(installing.TREE, name)
+
+
+def links():
+    """The links: where each stands, and what it leads to."""
+    for name, target in installing.links():
+        if name.startswith("bin"):
+            yield name, target
+    yield os.path.join(installing.TREE, wheel.MODULE), os.path.join(MODULES, "pxplanes")
+    for name, target in BESIDE.items():
+        yield os.path.join(DOCUMENTS, name), target
+
+
+def pages():
+    """The manual: a name of each page, and its text."""
+    yield "pxplanes.1", ends.content(manuals.OWN).decode("utf-8")
+    for name in installing.tools():
+        yield "pxplanes-%s.1" % name, manuals.page(name, installing.version())
+
+
+def stage(usr, built):
+    """Lays out all but the library, which tools/package lays out: what debian/*.install divide."""
+    for name in installing.sources():
+        to = place_of(name)
+        if to:
+            installing.put(os.path.join(ends.TOP, name), os.path.join(usr, to))
+    module = {name: ends.content(os.path.join(ends.TOP, name)) for name in installing.known(installing.inside(wheel.MODULE))}
+    for name, content in wheel.of_tools(module).items():
+        with open(installing.made(os.path.join(usr, MODULES, name)), "wb") as file:
+            file.write(content)
+    installing.put(built, os.path.join(usr, installing.TREE, os.path.relpath(program.DEFAULT, ends.TOP)))
+    for name, target in links():
+        os.symlink(os.path.relpath(target, os.path.dirname(name)), installing.made(os.path.join(usr, name)))
+    for name, text in pages():
+        with open(installing.made(os.path.join(usr, installing.MANUALS, name)), "w", encoding="utf-8") as file:
+            file.write(text)

@@ -30,11 +30,12 @@ SOURCES = (("crates", (".rt", ".antt", ".edit")), ("tools", (".py", ".js", "")),
            ("rtl", (".v", ".vh")), ("rust", (".rs",)), ("web", (".c", ".mjs")))
 # The blocks of commands that no check runs, by their document and how they begin, each with the reason. All others are runs.
 NOT_RUN = {
-    ("docs/INSTALL.md", "sudo apt install"): "it installs; the case package_of_all unpacks that package and draws with it",
+    ("docs/INSTALL.md", "sudo apt install"): "it installs; the case debian_in_a_chroot installs those packages, and draws with them",
     ("docs/INSTALL.md", "tools/install --prefix"): "it installs; the cases package_of_all and package_wheel do",
     ("docs/INSTALL.md", ".ci/run"): "it is the gate",
+    ("docs/INSTALL.md", "tools/package --source"): "it wants a gate; the case debian_from_source does it",
     ("docs/MODELLING.md", "openscad --preview"): "it wants a display",
-    ("docs/LIBRARY.md", "tools/package"): "it writes into the checkout's package/; the cases package_of_* and python_* do both",
+    ("docs/LIBRARY.md", "./pxplanes --library"): "it proves; the case wrapper_library begins it, and package_of_* and python_* do the rest",
     ("rust/README.md", "tools/package"): "it writes into the checkout's package/; the case rust_crates does both",
     ("docs/SCALE.md", "tools/wide gallery/house.scene 16384"): "it writes 1.6 GB; the case wide_beside_tile writes less",
     ("docs/STUDIO.md", "tools/studio my.scene"): "it serves until it is ended; the cases studio_* do it",

@@ -38,17 +38,22 @@ def version():
     return found.group(1)
 
 
+def git(*words):
+    """What git says of the checkout."""
+    here = {name: word for name, word in os.environ.items() if not name.startswith("GIT_")}
+    words = ["git", "-C", ends.TOP, "-c", "safe.directory=" + ends.TOP, "-c", "core.fsmonitor=false", *words]
+    run = subprocess.run(words, capture_output=True, env=dict(here, GIT_CEILING_DIRECTORIES=os.path.dirname(ends.TOP)))
+    if run.returncode != 0:
+        raise netpbm.Bad("git: %s" % run.stderr.decode("utf-8", "replace").strip().split("\n")[-1])
+    return os.fsdecode(run.stdout)
+
+
 @functools.lru_cache(maxsize=1)
 def tracked():
     """The files that git tracks here; None in a copy without its history."""
     if not os.path.exists(os.path.join(ends.TOP, ".git")):
         return None
-    here = {name: word for name, word in os.environ.items() if not name.startswith("GIT_")}
-    words = ["git", "-C", ends.TOP, "-c", "safe.directory=" + ends.TOP, "-c", "core.fsmonitor=false", "ls-files", "-z"]
-    run = subprocess.run(words, capture_output=True, env=dict(here, GIT_CEILING_DIRECTORIES=os.path.dirname(ends.TOP)))
-    if run.returncode != 0:
-        raise netpbm.Bad("git: %s" % run.stderr.decode("utf-8", "replace").strip().split("\n")[-1])
-    return set(os.fsdecode(run.stdout).split("\0"))
+    return set(git("ls-files", "-z").split("\0"))
 
 
 def known(names):

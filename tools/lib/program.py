@@ -12,7 +12,8 @@ from ends import TOP
 
 DEFAULT = os.path.join(TOP, "crates", "px_program", "out", "px_program")
 # The same for processors of x86-64-v3, and what these have beyond x86-64-v2.
-NEWER = DEFAULT + "-x86-64-v3"
+NEWER_END = "-x86-64-v3"
+NEWER = DEFAULT + NEWER_END
 NEWER_FLAGS = {"avx", "avx2", "bmi1", "bmi2", "f16c", "fma", "abm", "movbe", "xsave"}
 SLOW = 2 * 10 ** 7
 
@@ -27,23 +28,23 @@ def is_newer():
     return NEWER_FLAGS <= set(flags.split())
 
 
-def is_current():
-    """Whether the program for newer processors is there, and no older than the other."""
-    return os.access(NEWER, os.X_OK) and (not os.path.isfile(DEFAULT) or os.path.getmtime(DEFAULT) <= os.path.getmtime(NEWER))
+def newer_of(path):
+    """The build for newer processors beside a program; None where there is none, or an older one."""
+    newer = path + NEWER_END
+    return newer if os.access(newer, os.X_OK) and os.path.getmtime(path) <= os.path.getmtime(newer) else None
 
 
 def built():
     """The program that was built for this processor."""
-    return NEWER if is_current() and is_newer() else DEFAULT
+    return os.path.isfile(DEFAULT) and is_newer() and newer_of(DEFAULT) or DEFAULT
 
 
 def builds(path):
-    """The places that a program is installed at, the one that was built or another, each with the file that comes there: for newer
-    processors too, where it is the one that was built."""
-    is_own = os.path.realpath(path) in (DEFAULT, NEWER)
-    yield DEFAULT, DEFAULT if is_own else path
-    if is_own and is_current():
-        yield NEWER, NEWER
+    """The places that a program is installed at, each with the file that comes there: for newer processors too, where it is built."""
+    first = path.removesuffix(NEWER_END)
+    yield DEFAULT, first
+    if newer_of(first):
+        yield NEWER, newer_of(first)
 
 
 def place_of(path):

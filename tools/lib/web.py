@@ -8,8 +8,8 @@ import re
 import tempfile
 
 import building
-import debian
 import ends
+import gate
 from building import done, in_kit
 from netpbm import Bad
 
@@ -71,7 +71,7 @@ def compiled(module, out, place):
 
 def make(out):
     """Makes the module of WebAssembly of crates that the gate has passed."""
-    debian.need_passed()
+    gate.need_passed()
     with tempfile.TemporaryDirectory(prefix="px-web-") as place:
         if not building.is_kept():
             building.Proved(ends.TOP, 2).make_library(building.FIRST)

@@ -1,0 +1,156 @@
+"""The library without proofs, as `rt try` compiles its crates, with checks at run time. It is no tool itself.
+
+`rt try` makes programs alone. So the library's crate is laid out once more as a program, whose `main` makes each call once, beside copies
+of the crates below it. The module that `rt try` hands to clang has these calls then, with the parameters of C, under names of the
+crate: they get those of the header, and the module is compiled again, to an archive as `rt lib` makes it. Nothing of it is proved, and
+what it says of its version tells so."""
+import os
+import re
+import shutil
+import signal
+import subprocess
+import tempfile
+import time
+
+import building
+import ends
+import installing
+import program
+from netpbm import Bad
+
+CRATE = "px_c"
+LINE = re.compile(r"(?m)^(\w+)(?: staticlib)?:(.*)$")
+PARTS = ("src", "specs", "proofs")
+# The module with checks is the one that is compiled so.
+CHECKED = b"-fsanitize=address"
+FLAGS = ("--target=x86_64-unknown-linux-gnu", "-fPIC", "-O1", "-ffunction-sections", "-fdata-sections")
+NAMES, SAID = os.path.join("src", "names.rt"), 'b"%s"'
+SECONDS = 600
+MAIN = """
+fn main(rt: HostRuntime) {
+    let alloc = rt.alloc();
+    let text = b"".as_slice();
+    let mut found = found::nothing();
+    let mut depths = [0u32; 1];
+    let mut faces = [0u32; 1];
+    let mut rgb = [0u8; 3];
+    let mut literals = [0i32; 1];
+    let mut words = [0u64; 1];
+    let mut micros = [0u64; 1];
+    let mut state = State {
+        grid_width: 0,
+        grid_height: 0,
+        words_per_row: 0,
+        bits: 0,
+        levels: 0,
+        clock: 0,
+        clocks: 0,
+        operation: 0,
+        operation_clock: 0,
+        next_micro: 0,
+    };
+    let _ = pxplanes_check(alloc, text, &mut found);
+    let _ = pxplanes_render(alloc, text, &mut depths, &mut faces, &mut found);
+    let _ = pxplanes_colour(alloc, text, &mut rgb, &mut found);
+    let _ = pxplanes_products(alloc, text, &mut literals, &mut found);
+    let _ = pxplanes_state(alloc, text, 0, &mut words, &mut state, &mut found);
+    let _ = pxplanes_micros(alloc, text, 0, &mut micros, &mut found);
+    let _ = pxplanes_clocks(&mut words, 2, 2, &[], &mut found);
+    let _ = pxplanes_cause_name(1, &mut rgb);
+    let _ = pxplanes_kind_name(1, &mut rgb);
+    let _ = pxplanes_version(&mut rgb);
+}
+"""
+
+
+def version():
+    return installing.version() + "-unproved"
+
+
+def below():
+    """The crates of the library, its own among them, each with those that it names: by crates.txt."""
+    lines = {name: rest.split() for name, rest in LINE.findall(ends.content(os.path.join(ends.TOP, "crates.txt")).decode("utf-8"))}
+    found, due = {}, [CRATE]
+    while due:
+        name = due.pop()
+        if name in lines and name not in found:
+            found[name] = lines[name]
+            due += lines[name]
+    return found
+
+
+def lay_out(place):
+    """Lays the crates out as a repository of a program, and answers where that crate is."""
+    crates = below()
+    for name in crates:
+        for part in PARTS:
+            whole = os.path.join(ends.TOP, "crates", name, part)
+            if os.path.isdir(whole):
+                shutil.copytree(whole, os.path.join(place, "crates", name, part))
+    with open(os.path.join(place, "crates.txt"), "w", encoding="utf-8") as file:
+        file.writelines("%s: %s\n" % (name, " ".join(named)) for name, named in crates.items())
+    shutil.copyfile(os.path.join(ends.TOP, "HANDLES"), os.path.join(place, "HANDLES"))
+    # It is the top of a repository.
+    os.mkdir(os.path.join(place, ".git"))
+    own = os.path.join(place, "crates", CRATE)
+    become_program(own)
+    return own
+
+
+def become_program(own):
+    """Makes a program of the crate, with a version that tells what it is."""
+    library, names = (os.path.join(own, leaf) for leaf in (os.path.join("src", "lib.rt"), NAMES))
+    text = ends.content(names).decode("utf-8")
+    said = SAID % installing.version()
+    if text.count(said) != 1:
+        raise Bad("crates/%s/%s does not say the version %s" % (CRATE, NAMES, installing.version()))
+    with open(names, "w", encoding="utf-8") as file:
+        file.write(text.replace(said, SAID % version()))
+    with open(os.path.join(own, "src", "main.rt"), "w", encoding="utf-8") as file:
+        file.write(ends.content(library).decode("utf-8") + MAIN)
+    os.remove(library)
+
+
+def tried(own, copy):
+    """Has `rt try` compile the program, and copies its module."""
+    words = ["rt", "try", "--steps", "1000", "--seconds", "60"]
+    with tempfile.TemporaryFile() as notes:
+        running = subprocess.Popen(words, cwd=own, stdin=subprocess.DEVNULL, stdout=notes, stderr=notes, start_new_session=True)
+        try:
+            limit = time.monotonic() + SECONDS
+            while running.poll() is None and time.monotonic() < limit:
+                if building.copied(building.handed(running.pid, CHECKED), copy):
+                    return
+                time.sleep(building.LOOKED_AFTER)
+        finally:
+            if running.poll() is None:
+                os.killpg(running.pid, signal.SIGTERM)
+                running.wait()
+        notes.seek(0)
+        raise Bad("rt try: %s" % notes.read().decode("utf-8", "replace").strip().split("\n")[0][:200])
+
+
+def named(text):
+    """The text of the module with the calls under the header's names, and nothing else seen from outside."""
+    text = re.sub(r'(?m)^define (?!internal )', "define internal ", text)
+    calls = sorted(set(re.findall(r'@"%s::\w+::(pxplanes_\w+)"' % CRATE, text)))
+    if not calls:
+        raise Bad("rt try handed clang no call of the library; this is another kit than tools/lib/unproved.py tells of")
+    for call in calls:
+        text = re.sub(r'define internal ([^@\n]*)@"%s::\w+::%s"' % (CRATE, call), r"define \1@%s" % call, text)
+        text = re.sub(r'@"%s::\w+::%s"' % (CRATE, call), "@" + call, text)
+    return text
+
+
+def archive(place):
+    """Makes the archive of the library in a folder, and answers where it is."""
+    clang = building.in_kit("toolchain", "bin", "clang")
+    path = lambda leaf: os.path.join(place, leaf)
+    tried(lay_out(os.path.join(place, "tree")), path("module.bc"))
+    building.done([clang, FLAGS[0], "-S", "-emit-llvm", "-O0", "-Xclang", "-disable-llvm-passes", "-x", "ir", path("module.bc"), "-o",
+              path("tried.ll")], "clang")
+    with open(path("named.ll"), "w", encoding="utf-8") as file:
+        file.write(named(ends.content(path("tried.ll")).decode("utf-8")))
+    building.done([clang, *FLAGS, "-c", "-x", "ir", path("named.ll"), "-o", path("library.o")], "clang")
+    building.done(["ar", "rcsD", path("library.a"), path("library.o")], "ar")
+    return path("library.a")
