@@ -366,13 +366,20 @@ def wrong_lists():
 
 def wrong_times():
     """The time of the first proof stands in README.md alone, and as the wrapper says it."""
-    told = re.search(r"\| (\d+ to \d+ minutes on 4 processors); by", content(README))
+    told = re.search(r"\| (\d+ to \d+ minutes on 4 processors)\b", content(README))
     said = re.search(r'(?m)^time_to_prove="about (.*)"$', content(WRAPPER)).group(1)
     if told is None or told.group(1) != said:
         yield "%s says %s, and %s %s" % (README, told and told.group(1), WRAPPER, said)
     for leaf in names() + [MAN]:
         if leaf not in (README, "CHANGES.md") and re.search(r"\d+ to \d+ minutes", content(leaf)):
             yield "%s tells minutes, which %s does" % (leaf, README)
+
+
+def wrong_rooms():
+    """A crate that no room of the map has, or one that it has and crates.txt has not."""
+    leaf = "docs/dev/ARCHITECTURE.md"
+    part = re.split(r"(?m)^## ", content(leaf))[1]
+    yield from difference(leaf, re.findall(r"\bpx_\w+", part), re.findall(r"(?m)^(px_\w+)", content("crates.txt")))
 
 
 def wrong_size():
@@ -390,5 +397,5 @@ def forget():
 CHECKS = {"links of documents": wrong_links, "headings that are named": wrong_headings, "places in documents": wrong_places,
           "options in documents": wrong_options, "blocks of documents": wrong_blocks, "commands in documents": wrong_commands,
           "statuses in documents": wrong_statuses, "causes in documents": wrong_causes, "limits in documents": wrong_limits,
-          "clocks of operations": wrong_clocks, "forms of lines": wrong_operations, "tools in their list": wrong_lists, "times in documents": wrong_times,
+          "clocks of operations": wrong_clocks, "forms of lines": wrong_operations, "tools in their list": wrong_lists, "times in documents": wrong_times, "rooms of crates": wrong_rooms,
           "words of README": wrong_size}
