@@ -83,11 +83,21 @@ def packages():
 def tree(place, names):
     """Lays out files of the checkout in a folder, as the source package has them, and answers where."""
     top = os.path.join(place, "pxplanes-" + installing.version())
+    os.umask(0o022)
     for name in names:
         installing.put(os.path.join(ends.TOP, name), os.path.join(top, name))
     with open(installing.made(os.path.join(top, FOLDER, "changelog")), "w", encoding="utf-8") as file:
         file.write(changelog())
+    settle(top)
     return top
+
+
+def settle(top):
+    """Gives all files and folders the modes and the time that a source package tells of them: the same bytes each time."""
+    for place, _, leaves in os.walk(top):
+        for path in (place, *(os.path.join(place, leaf) for leaf in leaves)):
+            os.chmod(path, 0o755 if os.stat(path).st_mode & 0o100 else 0o644)
+            os.utime(path, (when(), when()))
 
 
 def add_built(top, built):

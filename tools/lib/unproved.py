@@ -20,6 +20,8 @@ from netpbm import Bad
 
 CRATE = "px_c"
 LINE = re.compile(r"(?m)^(\w+)(?: staticlib)?:(.*)$")
+# The module is compiled for some seconds; a look at all processes costs more than it seems.
+LOOKED_AFTER = 0.1
 PARTS = ("src", "specs", "proofs")
 # The module with checks is the one that is compiled so.
 CHECKED = b"-fsanitize=address"
@@ -121,7 +123,7 @@ def tried(own, copy):
             while running.poll() is None and time.monotonic() < limit:
                 if building.copied(building.handed(running.pid, CHECKED), copy):
                     return
-                time.sleep(building.LOOKED_AFTER)
+                time.sleep(LOOKED_AFTER)
         finally:
             if running.poll() is None:
                 os.killpg(running.pid, signal.SIGTERM)
