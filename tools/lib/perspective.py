@@ -59,9 +59,8 @@ class Perspective:
 
     def cornered(self, solid, normal, far):
         """The corners of a solid that are on one of its planes, in order, as the eye sees them."""
-        size, _ = facets.extent(solid.points)
-        corners = [point for point in solid.points
-                   if abs(facets.dot(normal, point) - far) <= facets.NEAR * facets.SIX_DIGITS * size]
+        near = facets.NEAR * facets.SIX_DIGITS * max(map(abs, solid.cloud.low + solid.cloud.high))
+        corners = [point for point in solid.cloud.beyond(normal, far - near) if facets.dot(normal, point) - far <= near]
         return [turns.turned(self.rows, [part - own for part, own in zip(corner, self.eye)])
                 for corner in facets.in_order(corners, normal)]
 

@@ -1,5 +1,6 @@
 """Convex solids as `model` places them, and the trees that they are joined to. A tree is None for
 nothing, a solid, or (sign, trees)."""
+import functools
 import itertools
 
 import ends
@@ -17,18 +18,22 @@ class Solid:
         self.kind, self.line, self.colour, self.is_part = kind, line, colour, is_part
         self.points, self.planes = points, planes
 
+    @functools.cached_property
+    def cloud(self):
+        return facets.Cloud(self.points)
+
     def moved(self, matrix, colour):
         """The solid under a matrix, in this colour; `Bad` where the matrix makes it flat."""
         if matrix == AS_IS:
             return Solid(self.kind, self.line, self.points, self.planes, colour, self.is_part)
         turned, sign = cofactors(matrix)
         points = placed(matrix, self.points)
-        planes = []
+        cloud, planes = facets.Cloud(points), []
         for normal, _ in self.planes:
             way = [sign * facets.dot(row, normal) for row in turned]
             long = facets.lengthwise(way)
             way = [part / long for part in way]
-            planes.append((way, max(facets.dot(way, point) for point in points)))
+            planes.append((way, cloud.farthest(way)))
         return Solid(self.kind, self.line, points, planes, colour, self.is_part)
 
 
