@@ -72,6 +72,10 @@ def extent(points):
     return size, max(max(p[i] for p in points) - min(p[i] for p in points) for i in range(3)) or 1
 
 
+def middle_of(points):
+    return [sum(point[i] for point in points) / len(points) for i in range(3)]
+
+
 class Cloud:
     """Points in boxes within boxes, so that the farthest ones along a way are found without asking each."""
 
@@ -85,7 +89,9 @@ class Cloud:
 
     def room(self, way):
         """No point is farther along a way than this."""
-        return dot(way, [self.high[i] if way[i] > 0 else self.low[i] for i in range(3)])
+        x, y, z = way
+        low, high = self.low, self.high
+        return x * (high[0] if x > 0 else low[0]) + y * (high[1] if y > 0 else low[1]) + z * (high[2] if z > 0 else low[2])
 
     def beyond(self, way, far):
         """The points that are as far along a way, or farther."""
@@ -129,8 +135,7 @@ class Found:
 
 def measured(points, facets, numbers):
     """Height, normal, distance, corners and number of each facet with area, the highest first."""
-    middle = [sum(point[i] for point in points) / len(points) for i in range(3)]
-    out = []
+    middle, out = middle_of(points), []
     for facet, number in zip(facets, numbers):
         corners = [points[at] for at in facet]
         plane = plane_of(corners)
@@ -162,16 +167,17 @@ def planes(points, facets, numbers=None, is_exact=False):
     size, wide = extent(points)
     digit = (EXACT if is_exact else digit_of(points)) * size
     closed(facets)
-    found, slim, cloud = Found(), [], Cloud(points)
+    found, slim, cloud, middle = Found(), [], Cloud(points), middle_of(points)
     for high, normal, far, corners, number in measured(points, facets, numbers or range(1, len(facets) + 1)):
         if found.has(normal, corners, NEAR * digit):
             continue
         if digit > SLIM * high:
             slim.append((corners, normal, number))
             continue
-        deepest = far + cloud.farthest([-part for part in normal])
-        if deepest <= 2 * digit:
-            raise Bad("is flat: no point is more than %.2g behind its facet %s" % (max(deepest, 0), number))
+        if far - dot(normal, middle) <= 2 * digit:
+            deepest = far + cloud.farthest([-part for part in normal])
+            if deepest <= 2 * digit:
+                raise Bad("is flat: no point is more than %.2g behind its facet %s" % (max(deepest, 0), number))
         for point in cloud.beyond(normal, far + digit):
             before = dot(normal, point) - far
             if before > 2 * digit and before > 2 * digit * (1 + beside(point, corners, normal) / high):

@@ -200,7 +200,14 @@ def as_one(tree, view, said, is_seen=False):
                      "the picture is the same, and finer or wider ones are not" % (
                          count_of(laid), count_of(met), what, sum(own.parts for own in met.values())))
             return fewer, met
-    return tree, laid
+    raise netpbm.Bad("the model makes no scene: %s; fewer facets or a smaller picture take less, and --out makes several scenes of it" %
+                     too_much(met if fewer else laid, said))
+
+
+def too_much(laid, said):
+    return "at the pixels of the picture it has %d solids of %d faces, and a scene has at most %d of %d" % (
+        sum(own.parts for own in laid.values()), sum(own.faces for own in laid.values()),
+        said.get("--solids", limits.MAX_SOLIDS), most_faces(said))
 
 
 def count_of(laid):
@@ -220,10 +227,8 @@ def several(tree, laid, view, said, columns=None):
     if part is None or is_within(part, own, said):
         return [(part, own)] if part else []
     if high - low < LEAST_COLUMNS:
-        raise netpbm.Bad("in columns %d to %d of the picture alone are %d solids of %d faces, and a scene has at most %d of %d; "
-                         "fewer facets, or a smaller picture, take less" % (
-                             low, high, sum(each.parts for each in own.values()), sum(each.faces for each in own.values()),
-                             said.get("--solids", limits.MAX_SOLIDS), most_faces(said)))
+        raise netpbm.Bad("the model makes no scenes: in columns %d to %d alone, %s; fewer facets or a smaller picture take less" % (
+            low, high, too_much(own, said)))
     middle = (low + high) // 2
     return [each for half in ((low, middle), (middle + 1, high)) for each in several(tree, laid, view, said, half)]
 
@@ -416,13 +421,8 @@ def seen(words):
 def made(words):
     """The text of the scene that the words of tools/model ask for, and what `tell` is handed to say what there is to say of it."""
     said, tree, view, wanted = seen(words)
-    own = as_one(tree, view, said, True)
-    text, worst = text_of(*own, view, said, {})
-    try:
-        scene = checked(text)
-    except netpbm.Bad as bad:
-        raise bad if is_within(*own, said) else netpbm.Bad("%s; --out makes several scenes of it" % bad)
-    return text, ([scene], view, worst, said, wanted)
+    text, worst = text_of(*as_one(tree, view, said, True), view, said, {})
+    return text, ([checked(text)], view, worst, said, wanted)
 
 
 def made_several(words):

@@ -19,8 +19,12 @@ class Solid:
         self.points, self.planes = points, planes
 
     @functools.cached_property
-    def cloud(self):
-        return facets.Cloud(self.points)
+    def corners(self):
+        """Of each of its planes the corners on it, in order round it."""
+        cloud = facets.Cloud(self.points)
+        near = facets.NEAR * facets.SIX_DIGITS * max(map(abs, cloud.low + cloud.high))
+        return [facets.in_order([point for point in cloud.beyond(normal, far - near) if facets.dot(normal, point) - far <= near], normal)
+                for normal, far in self.planes]
 
     def moved(self, matrix, colour):
         """The solid under a matrix, in this colour; `Bad` where the matrix makes it flat."""
