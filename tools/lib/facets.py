@@ -17,6 +17,7 @@ JUDGES = 60
 MOST_EFFORT = 1000000
 MOST_CUTS = 400
 GRID = 40
+FEW = 64
 RAY = (0.5377, 0.2963, 0.7893)
 REACH = 1e8
 
@@ -71,6 +72,46 @@ def extent(points):
     return size, max(max(p[i] for p in points) - min(p[i] for p in points) for i in range(3)) or 1
 
 
+def middle_of(points):
+    return [sum(point[i] for point in points) / len(points) for i in range(3)]
+
+
+class Cloud:
+    """Points in boxes within boxes, so that the farthest ones along a way are found without asking each."""
+
+    def __init__(self, points):
+        self.points, self.halves = points, ()
+        self.low, self.high = box_of(points)
+        if len(points) > FEW:
+            axis = max(range(3), key=lambda i: self.high[i] - self.low[i])
+            own = sorted(points, key=lambda point: point[axis])
+            self.halves = Cloud(own[:len(own) // 2]), Cloud(own[len(own) // 2:])
+
+    def room(self, way):
+        """No point is farther along a way than this."""
+        x, y, z = way
+        low, high = self.low, self.high
+        return x * (high[0] if x > 0 else low[0]) + y * (high[1] if y > 0 else low[1]) + z * (high[2] if z > 0 else low[2])
+
+    def beyond(self, way, far):
+        """The points that are as far along a way, or farther."""
+        if self.room(way) < far:
+            return []
+        if not self.halves:
+            return [point for point in self.points if dot(way, point) >= far]
+        return [point for half in self.halves for point in half.beyond(way, far)]
+
+    def farthest(self, way, known=-math.inf):
+        """How far along a way the farthest point is, or what is known, where that is farther."""
+        if self.room(way) <= known:
+            return known
+        if not self.halves:
+            return max(known, max(dot(way, point) for point in self.points))
+        for half in sorted(self.halves, key=lambda half: -half.room(way)):
+            known = half.farthest(way, known)
+        return known
+
+
 class Found:
     """The planes that are found, each once, with those of like direction close at hand."""
 
@@ -94,8 +135,7 @@ class Found:
 
 def measured(points, facets, numbers):
     """Height, normal, distance, corners and number of each facet with area, the highest first."""
-    middle = [sum(point[i] for point in points) / len(points) for i in range(3)]
-    out = []
+    middle, out = middle_of(points), []
     for facet, number in zip(facets, numbers):
         corners = [points[at] for at in facet]
         plane = plane_of(corners)
@@ -127,22 +167,22 @@ def planes(points, facets, numbers=None, is_exact=False):
     size, wide = extent(points)
     digit = (EXACT if is_exact else digit_of(points)) * size
     closed(facets)
-    found, slim = Found(), []
+    found, slim, cloud, middle = Found(), [], Cloud(points), middle_of(points)
     for high, normal, far, corners, number in measured(points, facets, numbers or range(1, len(facets) + 1)):
         if found.has(normal, corners, NEAR * digit):
             continue
         if digit > SLIM * high:
             slim.append((corners, normal, number))
             continue
-        rooms = [far - dot(normal, point) for point in points]
-        if max(rooms) <= 2 * digit:
-            raise Bad("is flat: no point is more than %.2g behind its facet %s" % (max(max(rooms), 0), number))
-        if any(room < -2 * digit * (1 + beside(point, corners, normal) / high)
-               for room, point in zip(rooms, points) if room < -2 * digit):
-            raise Bad("is not convex: a point is %.2g before its facet %s" % (-min(rooms), number))
+        if far - dot(normal, middle) <= 2 * digit:
+            deepest = far + cloud.farthest([-part for part in normal])
+            if deepest <= 2 * digit:
+                raise Bad("is flat: no point is more than %.2g behind its facet %s" % (max(deepest, 0), number))
+        for point in cloud.beyond(normal, far + digit):
+            before = dot(normal, point) - far
+            if before > 2 * digit and before > 2 * digit * (1 + beside(point, corners, normal) / high):
+                raise Bad("is not convex: a point is %.2g before its facet %s" % (cloud.farthest(normal) - far, number))
         found.add(number, (normal, far))
-        if len(found.planes) > limits.MAX_FACES:
-            raise Bad("has more than %d planes" % limits.MAX_FACES)
     if len(found.planes) < 4 and slim:
         raise Bad("is too thin for the digits of its points, which are off by up to %.2g where it is: facet %s; "
                   "write it nearer to the origin, or with more digits" % (

@@ -22,8 +22,8 @@ class Perspective:
         self.size, self.tree, self.eye = size, tree, eye
         self.rows = turns.rows_of(turn)
         self.has_common = views.shown(self.rows, tree) is not None
-        polygons = [(solid, added, plane, self.cornered(solid, *plane))
-                    for solid, added in solids.leaves(tree) for plane in solid.planes]
+        polygons = [(solid, added, plane, self.seen(corners))
+                    for solid, added in solids.leaves(tree) for plane, corners in zip(solid.planes, solid.corners)]
         most = max((seen[1] for *_, polygon in polygons for seen in polygon), default=0)
         if most <= 0:
             raise Bad("the model is behind the eye")
@@ -57,13 +57,9 @@ class Perspective:
     def notes(self):
         return [self.camera.line()]
 
-    def cornered(self, solid, normal, far):
-        """The corners of a solid that are on one of its planes, in order, as the eye sees them."""
-        size, _ = facets.extent(solid.points)
-        corners = [point for point in solid.points
-                   if abs(facets.dot(normal, point) - far) <= facets.NEAR * facets.SIX_DIGITS * size]
-        return [turns.turned(self.rows, [part - own for part, own in zip(corner, self.eye)])
-                for corner in facets.in_order(corners, normal)]
+    def seen(self, corners):
+        """Corners as the eye sees them."""
+        return [turns.turned(self.rows, [part - own for part, own in zip(corner, self.eye)]) for corner in corners]
 
     def reach(self, tree, reached):
         """The distances at which a tree has corners in the picture, of what is taken away those within

@@ -132,23 +132,82 @@ def read_npy(data):
     return Raster(width, height, channels, 256 ** int(kind[2:]) - 1 if whole else None, samples)
 
 
+TIFF_FORMS = {(8, 1): "B", (16, 1): "H", (32, 1): "I", (8, 2): "b", (16, 2): "h", (32, 2): "i",
+              (16, 3): "e", (32, 3): "f", (64, 3): "d"}
+
+
 def read_tiff(data):
-    """The first picture of a TIFF file, of strips that are not packed, or packed by deflate or PackBits."""
+    """The first picture of a TIFF file, of strips or tiles, not packed, or by deflate, LZW or PackBits, with a predictor or without."""
     order = "<" if data[:1] == b"I" else ">"
     try:
         tags = tiff_tags(data, order)
         width, height = tags[256][0], tags[257][0]
         bits, channels = tags.get(258, [1])[0], tags.get(277, [1])[0]
-        form = {(8, 1): "B", (16, 1): "H", (32, 1): "I", (8, 2): "b", (16, 2): "h", (32, 2): "i",
-                (16, 3): "e", (32, 3): "f", (64, 3): "d"}[bits, tags.get(339, [1])[0]]
-        packing = TIFF_PACKED[tags.get(259, [1])[0]]
-        if tags.get(262, [1])[0] == 3 or tags.get(317, [1])[0] != 1 or tags.get(284, [1])[0] != 1 and channels > 1:
+        form = TIFF_FORMS[bits, tags.get(339, [1])[0]]
+        if tags.get(262, [1])[0] == 3 or tags.get(284, [1])[0] != 1 and channels > 1 or not 0 < width * height <= LARGEST_PIXELS:
             raise KeyError
-        body = b"".join(packing(data[at:at + size]) for at, size in zip(tags[273], tags[279]))
-        samples = unpacked_numbers(body, order + form, width * height * channels)
+        samples = placed(list(tiff_pieces(data, tags, order, form)), tags, width, height, channels)
     except (IndexError, KeyError, ValueError, TypeError, struct.error, zlib.error):
-        raise Bad("the TIFF file is damaged, or of a form that is not read: read are strips without a palette, not packed, or by deflate or PackBits")
+        raise Bad("the TIFF file is damaged, or of a form that is not read: read are strips and tiles without a palette, not packed, or by deflate, LZW or PackBits")
     return Raster(width, height, channels, 2 ** bits - 1 if form in "BH" else None, samples)
+
+
+def tiff_pieces(data, tags, order, form):
+    """The numbers of each strip or tile, as they come."""
+    packing, predictor, channels = TIFF_PACKED[tags.get(259, [1])[0]], tags.get(317, [1])[0], tags.get(277, [1])[0]
+    wide, size = tags.get(322, tags[256])[0] * channels, struct.calcsize(form)
+    for at, length in zip(tags.get(324, tags.get(273)), tags.get(325, tags.get(279))):
+        body = packing(data[at:at + length])
+        count = len(body) // size // wide * wide
+        yield unpacked_numbers(TIFF_PREDICTED[predictor, order](body[:count * size], wide, channels, size), order + form, count)
+
+
+def summed(samples, wide, channels, most):
+    """Numbers of which each row has the differences to the pixel before."""
+    for start in range(0, len(samples), wide):
+        for i in range(start + channels, start + wide):
+            samples[i] = samples[i] + samples[i - channels] & most
+    return samples
+
+
+def by_words(order):
+    """What undoes differences of numbers, taken for whole ones of their size."""
+    def undone(body, wide, channels, size):
+        form = "%s%d%s" % (order, len(body) // size, {1: "B", 2: "H", 4: "I", 8: "Q"}[size])
+        return struct.pack(form, *summed(list(struct.unpack(form, body)), wide, channels, 256 ** size - 1))
+
+    return undone
+
+
+def by_bytes(body, wide, channels, size):
+    """Floats whose rows have first the highest bytes of all, then the next ones, as differences to the pixel before."""
+    out = bytearray()
+    for start in range(0, len(body), wide * size):
+        row = bytes(summed(list(body[start:start + wide * size]), wide * size, channels, 255))
+        out += bytes(byte for together in zip(*(row[k * wide:(k + 1) * wide] for k in reversed(range(size)))) for byte in together)
+    return bytes(out)
+
+
+# (which byte comes first in floats of the other order is not the same wherever they are written)
+TIFF_PREDICTED = {(1, "<"): lambda body, *_: body, (1, ">"): lambda body, *_: body,
+                  (2, "<"): by_words("<"), (2, ">"): by_words(">"), (3, "<"): by_bytes}
+
+
+def placed(pieces, tags, width, height, channels):
+    """The numbers of a picture of its strips, which are as wide as it is, or of its tiles, row by row of these."""
+    if 322 not in tags:
+        samples = [sample for piece in pieces for sample in piece]
+    else:
+        wide, high = tags[322][0], tags[323][0]
+        across, row = -(-width // wide), wide * channels
+        samples = []
+        for y in range(height):
+            for piece in pieces[y // high * across:][:across]:
+                samples += piece[y % high * row:][:row]
+            del samples[(y + 1) * width * channels:]
+    if len(samples) < width * height * channels:
+        raise ValueError
+    return samples[:width * height * channels]
 
 
 def tiff_tags(data, order):
@@ -179,7 +238,30 @@ def unpacked_bits(body):
     return bytes(out)
 
 
-TIFF_PACKED = {1: bytes, 8: zlib.decompress, 32946: zlib.decompress, 32773: unpacked_bits}
+def unpacked_words(body):
+    """What LZW packs: words of 9 to 12 bits, the highest bit first, of which 256 clears the table and 257 ends."""
+    out, table, before, wide, held, bits = bytearray(), {}, b"", 9, 0, 0
+    for byte in body:
+        held, bits = (held << 8 | byte) & 0xFFFFF, bits + 8
+        if bits < wide:
+            continue
+        bits -= wide
+        word = held >> bits & (1 << wide) - 1
+        if word == 257:
+            break
+        if word == 256:
+            table, before, wide = {at: bytes([at]) for at in range(256)}, b"", 9
+            continue
+        own = table[word] if word in table else before + before[:1]
+        out += own
+        if before:
+            table[len(table) + 2] = before + own[:1]
+        before = own
+        wide = min(12, max(9, (len(table) + 3).bit_length()))
+    return bytes(out)
+
+
+TIFF_PACKED = {1: bytes, 5: unpacked_words, 8: zlib.decompress, 32946: zlib.decompress, 32773: unpacked_bits}
 
 
 def read_png(data):

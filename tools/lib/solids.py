@@ -1,5 +1,6 @@
 """Convex solids as `model` places them, and the trees that they are joined to. A tree is None for
 nothing, a solid, or (sign, trees)."""
+import functools
 import itertools
 
 import ends
@@ -17,18 +18,26 @@ class Solid:
         self.kind, self.line, self.colour, self.is_part = kind, line, colour, is_part
         self.points, self.planes = points, planes
 
+    @functools.cached_property
+    def corners(self):
+        """Of each of its planes the corners on it, in order round it."""
+        cloud = facets.Cloud(self.points)
+        near = facets.NEAR * facets.SIX_DIGITS * max(map(abs, cloud.low + cloud.high))
+        return [facets.in_order([point for point in cloud.beyond(normal, far - near) if facets.dot(normal, point) - far <= near], normal)
+                for normal, far in self.planes]
+
     def moved(self, matrix, colour):
         """The solid under a matrix, in this colour; `Bad` where the matrix makes it flat."""
         if matrix == AS_IS:
             return Solid(self.kind, self.line, self.points, self.planes, colour, self.is_part)
         turned, sign = cofactors(matrix)
         points = placed(matrix, self.points)
-        planes = []
+        cloud, planes = facets.Cloud(points), []
         for normal, _ in self.planes:
             way = [sign * facets.dot(row, normal) for row in turned]
             long = facets.lengthwise(way)
             way = [part / long for part in way]
-            planes.append((way, max(facets.dot(way, point) for point in points)))
+            planes.append((way, cloud.farthest(way)))
         return Solid(self.kind, self.line, points, planes, colour, self.is_part)
 
 

@@ -1,5 +1,8 @@
 """Holds what tools/model makes of models as people have them beside rays through the mesh that OpenSCAD makes of each:
-`right`, `refused` with the reason, or `WRONG`. Each model is a .scad text, here; its meshes are OpenSCAD's."""
+`right`, `refused` with the reason, or `WRONG`. Each model is a .scad text, here; its meshes are OpenSCAD's.
+
+Use: models.py PART OF [times]    every OFth model from the PARTth on; `times` prints a line for each, with the seconds
+of processor that its scene took, as times.txt has them."""
 import concurrent.futures
 import contextlib
 import io
@@ -8,6 +11,7 @@ import os
 import random
 import subprocess
 import sys
+import time
 
 sys.dont_write_bytecode = True
 sys.path.insert(0, os.path.realpath(os.path.join("tools", "lib")))
@@ -123,19 +127,20 @@ class Rays:
 
 
 def judged(model, path, kind, mesh):
-    """`right`, or what is refused or wrong, of a file."""
-    notes = io.StringIO()
+    """`right`, or what is refused or wrong, of a file; and the seconds that its scene took."""
+    notes, start = io.StringIO(), time.process_time()
     try:
         with contextlib.redirect_stderr(notes):
             tree = model.tree_of(path, kind)
             if tree is None:
-                return "refused: the model has no solid"
+                return "refused: the model has no solid", time.process_time() - start
             view = views.fitted(TURN, SIZE, None, CELLS, tree)
             said = {"--size": list(SIZE), "--depth": [12, 6]}
             text, (off, _) = model.scene_of(tree, view, said)
             scene = model.checked(text)
     except netpbm.Bad as bad:
-        return "refused: %s" % bad
+        return "refused: %s" % bad, time.process_time() - start
+    taken = time.process_time() - start
     traced, wrong, draw = Rays(mesh, view), [], random.Random(1)
     for _ in range(SAMPLES):
         x, y = draw.randrange(SIZE[0]), draw.randrange(SIZE[1])
@@ -143,18 +148,18 @@ def judged(model, path, kind, mesh):
         about = [traced.depth(x + i * BESIDE, y + j * BESIDE) for i, j in ((0, 0), (1, 1), (1, -1), (-1, 1), (-1, -1))]
         if not any(depth is None and shown == CELLS or depth is not None and abs(shown - depth) <= 4 + off + traced.off for depth in about):
             wrong.append((x, y, shown, about[0]))
-    return "right" if not wrong else "WRONG at %d of %d: %s" % (len(wrong), SAMPLES, wrong[0])
+    return "right" if not wrong else "WRONG at %d of %d: %s" % (len(wrong), SAMPLES, wrong[0]), taken
 
 
 def of_model(model, name, text):
-    """A line for a model, and for its meshes."""
+    """A line and the seconds of a model, and of its meshes."""
     base = name.replace(" ", "_")
     with open(base + ".scad", "w") as file:
         file.write(text + "\n")
     for kind in ("csg", "off", "stl"):
         openscad(base + ".scad", base + "." + kind)
     mesh = mesh_files.read_off(ends.content(base + ".off"))
-    out = ["%s: %s" % (name, judged(model, base + ".csg", "csg", mesh))]
+    out = [line_of(name, *judged(model, base + ".csg", "csg", mesh))]
     if name in AS_MESHES:
         points, own = mesh
         with open(base + ".obj", "w") as file:
@@ -172,15 +177,21 @@ def of_model(model, name, text):
                        + "".join("%d %s 255 0 0\n" % (len(facet), " ".join(map(str, facet))) for facet in turned))
         for leaf, kind in ((base + ".off", "off"), (base + ".stl", "stl"), (base + ".obj", "obj"), (base + ".ply", "ply"),
                            (base + ".3mf", "3mf"), (base + "_inwards.off", "off")):
-            out.append("%s as %s%s: %s" % (name, kind, ", inwards" * ("inwards" in leaf), judged(model, leaf, kind, mesh)))
+            out.append(line_of("%s as %s%s" % (name, kind, ", inwards" * ("inwards" in leaf)), *judged(model, leaf, kind, mesh)))
     return out
 
 
-def main():
-    model = modelling
-    rows = [line.split(": ", 1) for line in MODELS.strip().split("\n")]
+def line_of(name, word, seconds):
+    return "%s: %s" % (name, word), seconds
+
+
+def main(part, count, is_timed=False):
+    rows = [line.split(": ", 1) for line in MODELS.strip().split("\n")][int(part) - 1::int(count)]
     with concurrent.futures.ProcessPoolExecutor(3) as pool:
-        lines = [line for found in pool.map(of_model_alone, rows) for line in found]
+        found = [pair for own in pool.map(of_model_alone, rows) for pair in own]
+    if is_timed:
+        print("\n".join("%6.2f  %s" % (seconds, line) for line, seconds in found))
+    lines = [line for line, _ in found]
     for line in lines:
         if not line.endswith(": right"):
             print(line[:240])
@@ -192,4 +203,4 @@ def of_model_alone(row):
     return of_model(modelling, *row)
 
 
-main()
+main(*sys.argv[1:])
