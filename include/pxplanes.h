@@ -4,8 +4,9 @@
  * A scene is a text (docs/SCENES.md). Its picture has, for each pixel, the depth of the first cell that
  * belongs to the shown expression, and the number of the face that shows there (docs/PICTURE.md). These calls
  * read a scene and give its size, its cost, its picture, its colours, or the products that are drawn; and, of a
- * scene or of a listing of operations (docs/LISTINGS.md), the machine after any number of clocks, and what is
- * broadcast to it; and they make clocks of a state (docs/MACHINE.md). What each answers is proved (docs/PROMISES.md).
+ * scene or of a listing of operations (docs/LISTINGS.md), the machine after any number of clocks, what is
+ * broadcast to it, and what each operation is for; and they make clocks of a state (docs/MACHINE.md). What each
+ * answers is proved (docs/PROMISES.md).
  *
  * A whole program:
  *
@@ -82,6 +83,7 @@ extern "C" {
 #define PXPLANES_NO_CLOCK 9  /* what is asked lies past the last clock: found.clocks is how many there are */
 #define PXPLANES_NO_GRID 10  /* a grid has not so many columns or rows */
 #define PXPLANES_NO_MICRO 11 /* a word packs no microinstruction: found.number is its index */
+#define PXPLANES_NO_OPERATION 12 /* what is asked lies past the last operation: found.operations is how many there are */
 
 /* The version of this header; pxplanes_version gives that of the library. */
 #define PXPLANES_VERSION_MAJOR 1
@@ -101,11 +103,12 @@ extern "C" {
  *   MEMORY     (none)
  *   NO_ROOM    as OK, and room
  *
- * Of pxplanes_state and pxplanes_micros, which look at no picture:
+ * Of pxplanes_state, pxplanes_micros and pxplanes_course, which look at no picture:
  *
- *   OK         operations, clocks
- *   NO_ROOM    room
- *   NO_CLOCK   clocks
+ *   OK            operations, clocks
+ *   NO_ROOM       room
+ *   NO_CLOCK      clocks
+ *   NO_OPERATION  operations
  *
  * Of pxplanes_clocks, which reads no text:
  *
@@ -235,6 +238,48 @@ uint32_t pxplanes_state(const uint8_t *text, size_t text_len, uint64_t clock, ui
  */
 uint32_t pxplanes_micros(const uint8_t *text, size_t text_len, uint64_t first, uint64_t *micros, size_t micros_len,
                          struct pxplanes_found *found);
+
+/* An operation of a scene's passes, or of a listing, and what it is for. Numbers that do not apply are 0. */
+struct pxplanes_operation {
+    int64_t numbers[5];     /* those of its line, in their order (docs/LISTINGS.md, "Operations") */
+    uint64_t clock;         /* the clock at which it begins, from 0 */
+    uint64_t pass;          /* its step among all steps of a scene, from 0; each begins with "all" */
+    uint64_t literal;       /* the literal that the step is of, from 1: its place among all numbers but 0 that
+                               pxplanes_products writes; 0 for the start */
+    uint32_t kind;          /* which operation it is, from 1 */
+    uint32_t numbers_count; /* how many of the numbers its line has */
+    uint32_t role;          /* which step it is of, from 1; 0 in a listing */
+    uint32_t solid;         /* the solid of the face that the step is of, from 1; 0 where the step is of no face */
+    uint32_t face;          /* that face's number, as pxplanes_render writes it; 0 for the far limit, which has none */
+    uint32_t other;         /* which other literal the step asks, from 1, among the literals of the product that are
+                               of other solids, in their order; 0 where it asks none */
+};
+
+/*
+ * Writes course_len operations of a scene or of a listing, from operation `first` on, counted from 0, and of a
+ * scene what each is for (docs/PASSES.md, "Steps"). With course_len 0 nothing but found is written, and
+ * found.operations is how many there are.
+ *
+ *   kind   1 all, 2 keep-sign, 3 keep-bit, 4 load-linear, 5 keep-at-most, 6 add-linear, 7 load-const, 8 set-bit,
+ *          9 toggle, 10 copy, 11 keep-less (docs/MACHINE.md, "Broadcast operations")
+ *   role   1 start: the background becomes the best
+ *          2 open: no candidate is alive
+ *          3 candidate: a face of the literal's solid becomes the candidate
+ *          4 drop: a back of a plain solid drops the candidate that is not before it
+ *          5 clear: the fronts of a barred solid are to be counted
+ *          6 front: one of them is counted
+ *          7 confirm: the candidate stays alive where a front was
+ *          8 begin: another literal begins to judge
+ *          9 turn: a face of its solid is counted
+ *          10 close: the other literal judges
+ *          11 merge: a live candidate takes the place of the best where it is nearer
+ *
+ * A face stands with the roles 3, 4, 6 and 9, and another literal with 8, 9 and 10. Texts are read as by
+ * pxplanes_state. NO_OPERATION is answered where first + course_len is past the last operation; then no element is
+ * written. NO_ROOM is not answered.
+ */
+uint32_t pxplanes_course(const uint8_t *text, size_t text_len, uint64_t first, struct pxplanes_operation *course,
+                         size_t course_len, struct pxplanes_found *found);
 
 /*
  * The machine itself: makes a clock for each of micros_len microinstructions, in their order, on the state that the

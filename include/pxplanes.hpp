@@ -72,6 +72,8 @@ inline std::string note_of(std::uint32_t status, const pxplanes_found &found)
         return "a buffer is too small: it needs " + std::to_string(found.room) + " elements";
     case PXPLANES_NO_CLOCK:
         return "there are " + std::to_string(found.clocks) + " clocks";
+    case PXPLANES_NO_OPERATION:
+        return "there are " + std::to_string(found.operations) + " operations";
     case PXPLANES_NO_GRID:
         return "a grid has not so many columns or rows";
     case PXPLANES_NO_MICRO:
@@ -303,6 +305,35 @@ inline std::vector<std::uint64_t> micros(std::string_view text, std::uint64_t fi
     return packed;
 }
 
+/* How many operations a scene or a listing has. */
+inline std::uint64_t count_operations(std::string_view text)
+{
+    pxplanes_found found{};
+    detail::need(pxplanes_course(detail::bytes_of(text), text.size(), 0, nullptr, 0, &found), found);
+    return found.operations;
+}
+
+/* Writes operations, each with what it is for, to a buffer of the caller's: pxplanes_course. */
+inline void course(std::string_view text, std::uint64_t first, pxplanes_operation *operations, std::size_t operations_size)
+{
+    pxplanes_found found{};
+    detail::need(pxplanes_course(detail::bytes_of(text), text.size(), first, operations, operations_size, &found), found);
+}
+
+/* `count` operations from operation `first` on. No memory is taken for operations that are not there. */
+inline std::vector<pxplanes_operation> course(std::string_view text, std::uint64_t first, std::uint64_t count)
+{
+    pxplanes_found found{};
+    found.operations = count_operations(text);
+    if (first > found.operations || count > found.operations - first)
+        throw refused(PXPLANES_NO_OPERATION, found);
+    std::vector<pxplanes_operation> operations(detail::size_of(count));
+    course(text, first, operations.data(), operations.size());
+    return operations;
+}
+
+inline std::vector<pxplanes_operation> course(std::string_view text) { return course(text, 0, count_operations(text)); }
+
 /* How many words the state of a grid has. */
 inline std::size_t count_words(std::uint32_t grid_width, std::uint32_t grid_height)
 {
@@ -420,6 +451,11 @@ inline pxplanes_moment read_state(std::string_view text, std::uint64_t clock, st
 inline void micros(std::string_view text, std::uint64_t first, std::span<std::uint64_t> packed)
 {
     micros(text, first, packed.data(), packed.size());
+}
+
+inline void course(std::string_view text, std::uint64_t first, std::span<pxplanes_operation> operations)
+{
+    course(text, first, operations.data(), operations.size());
 }
 
 inline void clocks(std::span<std::uint64_t> words, std::uint32_t grid_width, std::uint32_t grid_height,

@@ -3,7 +3,7 @@ export type Text = string | Uint8Array;
 
 /** Why a text is refused, or a call not answered; the message is the program's note. */
 export class Refused extends Error {
-  /** As the program ends: 3 no scene or listing, 4 past a limit, 7 no memory; 9 a clock past the last, 10 no such grid, 11 no microinstruction. */
+  /** As the program ends: 3 no scene or listing, 4 past a limit, 7 no memory; 9 a clock past the last, 10 no such grid, 11 no microinstruction, 12 an operation past the last. */
   readonly status: number;
   /** The first bad line, counted from 1; 0 where the refusal is of no line. */
   readonly line: number;
@@ -15,6 +15,8 @@ export class Refused extends Error {
   readonly number: number;
   /** With status 9 how many clocks there are. */
   readonly clocks: number;
+  /** With status 12 how many operations there are. */
+  readonly operations: number;
 }
 
 export interface Cost {
@@ -51,6 +53,27 @@ export class Micro {
   readonly value: number;
   readonly tree: "hold" | "clear" | "feed";
   readonly lines: [number, number, number];
+}
+
+export type Role = "start" | "open" | "candidate" | "drop" | "clear" | "front" | "confirm" | "begin" | "turn" | "close" | "merge";
+
+/** An operation, and what it is for (docs/PASSES.md, "Steps"); `String` of it is its line in a listing. */
+export class Operation {
+  /** The word of its line, and the numbers behind it (docs/LISTINGS.md, "Operations"). */
+  readonly kind: string;
+  readonly numbers: number[];
+  /** The clock at which it begins. */
+  readonly clock: number;
+  /** Its step among all steps of a scene, from 0 on, and the step's kind; null in a listing. */
+  readonly pass: number;
+  readonly role: Role | null;
+  /** The literal that the step is of, from 1 on, among those of all products; 0 for the start. */
+  readonly literal: number;
+  /** The solid of the face that the step is of, from 1 on, and the face's number, 0 for the far limit; both 0 where it is of none. */
+  readonly solid: number;
+  readonly face: number;
+  /** Which of the product's literals of other solids the step asks, from 1 on; 0 where it asks none. */
+  readonly other: number;
 }
 
 export type Register = "enable" | "carry" | "latch" | "leaf";
@@ -100,7 +123,9 @@ export class Library {
   render(text: Text): Picture;
   colour(text: Text): Colours;
   products(text: Text): number[][];
-  course(text: Text): { operations: number; clocks: number };
+  counts(text: Text): { operations: number; clocks: number };
+  /** The operations, so many from `first` on, or all from there. */
+  course(text: Text, first?: number, count?: number | null): Operation[];
   state(text: Text, clock: number): State;
   micros(text: Text, first: number, count: number): Micro[];
   packed(text: Text, first: number, count: number): BigUint64Array;

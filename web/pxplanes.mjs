@@ -6,22 +6,25 @@
 //
 // A text is a string or bytes. What is not accepted is thrown as `Refused`. docs/LIBRARY.md has each call.
 
-const STATUS = {ok: 0, malformed: 3, limit: 4, memory: 7, room: 8, clock: 9, grid: 10, micro: 11};
-const FOUND = 56, STATE = 64, WORD = 16, MICRO = 8;
+const STATUS = {ok: 0, malformed: 3, limit: 4, memory: 7, room: 8, clock: 9, grid: 10, micro: 11, operation: 12};
+const FOUND = 56, STATE = 64, WORD = 16, MICRO = 8, OPERATION = 88;
 // A module with a memory of 64-bit places, and nothing else.
 const WIDE = Uint8Array.of(0, 97, 115, 109, 1, 0, 0, 0, 5, 3, 1, 4, 1);
 const ACTS = ["", "nop", "enable-all", "enable-carry", "enable-tree", "enable-bit", "set-carry", "fetch", "store-tree", "store-latch",
   "store-const", "toggle", "carry-tree", "carry-latch", "add-tree"];
 const HAVE_A_PLACE = new Set([5, 7, 8, 9, 10, 11, 12, 13, 14]), HAVE_A_VALUE = new Set([3, 4, 5, 6, 10]), TREES = ["hold", "clear", "feed"];
+const KINDS = ["all", "keep-sign", "keep-bit", "load-linear", "keep-at-most", "add-linear", "load-const", "set-bit", "toggle", "copy",
+  "keep-less"];
+const ROLES = [null, "start", "open", "candidate", "drop", "clear", "front", "confirm", "begin", "turn", "close", "merge"];
 // A machine keeps so many states, and goes on from one that is so many clocks before at most; farther, a state of the text is faster.
 const LATEST = 1000, KEPT_BYTES = 1 << 27, NEAR = 24, STRETCH = 4096;
 
 // Why a text is refused, or a call not answered: `status` is the program's, `line` the first bad line, `cause` or `kind` the word of
-// why, `number` what was found there, and `clocks` how many there are, where a clock past the last was asked.
+// why, `number` what was found there, and `clocks` or `operations` how many there are, where one past the last was asked.
 export class Refused extends Error {
-  constructor(message, status, {line = 0, cause = "", kind = "", number = 0, clocks = 0} = {}) {
+  constructor(message, status, {line = 0, cause = "", kind = "", number = 0, clocks = 0, operations = 0} = {}) {
     super(message);
-    Object.assign(this, {name: "Refused", status, line, cause, kind, number, clocks});
+    Object.assign(this, {name: "Refused", status, line, cause, kind, number, clocks, operations});
   }
 }
 
@@ -110,7 +113,16 @@ export class Library {
   micros(text, first, count) { return Array.from(this.packed(text, first, count), word => new Micro(word)); }
 
   // How many clocks a scene or a listing has, and how many operations.
-  course(text) { return this.#ask("micros", text, [[0, MICRO]], ({operations, clocks}) => ({operations, clocks}), [0]); }
+  counts(text) { return this.#ask("micros", text, [[0, MICRO]], ({operations, clocks}) => ({operations, clocks}), [0]); }
+
+  // The operations of a scene or of a listing, so many from `first` on, or all from there; each with what it is for.
+  course(text, first = 0, count = null) {
+    const due = count ?? Math.max(0, this.counts(text).operations - first), size = OPERATION * due;
+    return this.#ask("course", text, [[size, OPERATION]], (found, [room]) => {
+      const view = new DataView(this.#calls.memory.buffer, room, size);
+      return Array.from({length: due}, (_, at) => new Operation(view, OPERATION * at));
+    }, [first]);
+  }
 
   // The words of the state behind some packed microinstructions, of a state or of what has its words, width and height.
   clocks({words, width, height}, packed) {
@@ -191,7 +203,7 @@ export class Library {
   }
 
   #refusal(status, found) {
-    const {line, number, clocks, room} = found;
+    const {line, number, operations, clocks, room} = found;
     const word = (call, at) => this.#with([WORD], ([place]) => this.#letters(place, Number(call(at, BigInt(place), BigInt(WORD)))));
     if (status === STATUS.malformed) {
       const cause = word(this.#calls.pxplanes_cause_name, found.cause);
@@ -202,6 +214,7 @@ export class Library {
       return new Refused(`limit line ${line}: ${kind} ${number}`, status, {line, kind, number});
     }
     if (status === STATUS.clock) return new Refused(`there are ${clocks} clocks`, status, {clocks});
+    if (status === STATUS.operation) return new Refused(`there are ${operations} operations`, status, {operations});
     if (status === STATUS.grid) return new Refused("a grid has not so many columns or rows", status);
     if (status === STATUS.micro) return new Refused(`element ${number} is no microinstruction`, status, {number});
     if (status === STATUS.room) return new Refused(`${room} elements are due`, status, {number: room});
@@ -222,6 +235,18 @@ export class Micro {
     const {act, place, value, tree, lines, hasPlace, hasValue} = this;
     return [tree, ...tree === "feed" ? [lines.join("")] : [], act, ...hasPlace ? [place] : [], ...hasValue ? [value] : []].join(" ");
   }
+}
+
+// An operation and what it is for, as include/pxplanes.h has it, with the words of its kind and of its role, which is null in a listing.
+// `String` of it is its line in a listing.
+export class Operation {
+  constructor(view, at) {
+    const long = place => Number(view.getBigInt64(at + place, true)), word = place => view.getUint32(at + place, true);
+    Object.assign(this, {kind: KINDS[word(64) - 1], numbers: Array.from({length: word(68)}, (_, which) => long(8 * which)),
+      clock: long(40), pass: long(48), literal: long(56), role: ROLES[word(72)], solid: word(76), face: word(80), other: word(84)});
+  }
+
+  toString() { return [this.kind, ...this.numbers].join(" "); }
 }
 
 export const REGISTERS = ["enable", "carry", "latch", "leaf"];

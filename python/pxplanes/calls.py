@@ -8,10 +8,10 @@ from ctypes import POINTER, c_char_p, c_int64, c_size_t, c_uint32, c_uint64, c_v
 from typing import Any, Union
 
 from .arrays import Buffer
-from .errors import Limit, Malformed, NoClock, NoLibrary, NoMicro
+from .errors import Limit, Malformed, NoClock, NoLibrary, NoMicro, NoOperation
 from .finding import loaded
 
-OK, MALFORMED, LIMIT, MEMORY, NO_ROOM, NO_CLOCK, NO_GRID, NO_MICRO = 0, 3, 4, 7, 8, 9, 10, 11
+OK, MALFORMED, LIMIT, MEMORY, NO_ROOM, NO_CLOCK, NO_GRID, NO_MICRO, NO_OPERATION = 0, 3, 4, 7, 8, 9, 10, 11, 12
 LONGEST_NAME = 64
 
 Text = Union[str, bytes, bytearray, memoryview]
@@ -31,12 +31,20 @@ class FoundState(ctypes.Structure):
         (name, c_uint64) for name in ("clock", "clocks", "operation", "operation_clock", "next_micro")]
 
 
+class FoundOperation(ctypes.Structure):
+    """`struct pxplanes_operation`: an operation, and what it is for."""
+
+    _fields_ = [("numbers", c_int64 * 5)] + [(name, c_uint64) for name in ("clock", "pass", "literal")] + [
+        (name, c_uint32) for name in ("kind", "numbers_count", "role", "solid", "face", "other")]
+
+
 LIST: list[Any] = [c_void_p, c_size_t]
 TEXT: list[Any] = [c_char_p, c_size_t]
 FOUND: list[Any] = [POINTER(Found)]
 CALLS: dict[str, list[Any]] = {"check": TEXT + FOUND, "render": TEXT + LIST + LIST + FOUND, "colour": TEXT + LIST + FOUND,
          "products": TEXT + LIST + FOUND, "state": TEXT + [c_uint64] + LIST + [POINTER(FoundState)] + FOUND,
-         "micros": TEXT + [c_uint64] + LIST + FOUND, "clocks": LIST + [c_uint32] * 2 + LIST + FOUND}
+         "micros": TEXT + [c_uint64] + LIST + FOUND, "course": TEXT + [c_uint64] + LIST + FOUND,
+         "clocks": LIST + [c_uint32] * 2 + LIST + FOUND}
 NAMES: dict[str, list[Any]] = {"cause_name": [c_uint32] + LIST, "kind_name": [c_uint32] + LIST, "version": LIST}
 
 library = functools.lru_cache(maxsize=None)(loaded)
@@ -110,6 +118,8 @@ def refusal(status: int, found: Found) -> Exception:
         return MemoryError("pxplanes had no memory")
     if status == NO_CLOCK:
         return NoClock(found.clocks)
+    if status == NO_OPERATION:
+        return NoOperation(found.operations)
     if status == NO_MICRO:
         return NoMicro(found.number)
     return NoLibrary("the library answers the unknown status %d" % status)

@@ -51,6 +51,17 @@ class NoClock(IndexError):
         return NoClock, (self.clocks,)
 
 
+class NoOperation(IndexError):
+    """An operation lies past the last. `operations` is how many there are."""
+
+    def __init__(self, operations: int):
+        super().__init__("there are %d operations" % operations)
+        self.operations = operations
+
+    def __reduce__(self) -> tuple[type, tuple[int]]:
+        return NoOperation, (self.operations,)
+
+
 class OverBudget(RuntimeError):
     """A picture takes more clocks than it may. `clocks` is how many it takes, and `budget` how many it may."""
 

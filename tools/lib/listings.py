@@ -3,13 +3,11 @@
 `pxplanes debug` holds sessions over scenes. Over a listing `held` answers the same lines in the same words, by the states
 and the microinstructions that the library gives (python/pxplanes); but for `field`, as a listing has no keys."""
 import bisect
-import itertools
 import os
 import re
 import sys
 
 import ends
-import micros
 import netpbm
 import program
 import sessions
@@ -46,14 +44,15 @@ class Listing:
     def __init__(self, text):
         self.text, self.library = text, library()
         try:
-            self.library.state(text, 0)
+            first = self.library.state(text, 0)
         except (self.library.Refused, self.library.NoLibrary) as error:
             raise netpbm.Bad(error)
-        self.nx, self.ny, self.operations = micros.read_listing(text)
+        self.nx, self.ny = (side.bit_length() - 1 for side in (first.grid_width, first.grid_height))
+        course = self.library.course(text)
+        self.operations = [(each.kind, list(each.numbers)) for each in course]
         lines = [number for number, line in enumerate(text.split(b"\n"), 1) if sessions.words_of(line.split(b"#")[0])]
         self.lines = lines[2:2 + len(self.operations)]
-        counts = [micros.clocks_of(name, numbers, self.nx + self.ny) for name, numbers in self.operations]
-        self.ends = list(itertools.accumulate(counts))
+        self.ends = [each.clock for each in course[1:]] + [first.clocks] * bool(course)
 
     @property
     def clocks(self):

@@ -1,5 +1,6 @@
 """The broadcast operations of a scene with what each is for: docs/PASSES.md, step by step. It is no tool itself, and no
-part of the program; `tools/cases/passes_as_listed` holds it beside what `list` writes."""
+part of the program; it is written by itself, to hold others beside: `tools/cases/passes_as_listed` holds it beside what `list` writes,
+`course_as_listed` beside the library's course, and `page_beside_tools` beside the page, which has its passes from that course."""
 import itertools
 
 import micros
@@ -57,20 +58,25 @@ def edges(scene, face):
 
 
 class Passes:
-    """The passes of a scene: each a line on what it is for, and its operations with their words."""
+    """The passes of a scene: of each the step, a line on what it is for, and its operations with their words. A step is its role, the
+    place of its literal among all, the solid and the number of its face, and which other literal it asks; 0 where it has none."""
 
     def __init__(self, scene, products):
         self.scene, self.products = scene, products
         self.bits, self.length = scene.number_bits(), scene.depth_bits + scene.fraction_bits + scene.number_bits()
         self.deep = (self.length + self.bits, scene.depth_bits + scene.fraction_bits)
         self.alive, self.par = 2 * self.length, 2 * self.length + 1
+        self.literal, self.numbers = 0, {id(solid): at for at, solid in enumerate(scene.solids, 1)}
+
+    def step(self, role, face=None, other=0):
+        return role, self.literal, self.numbers[id(face.solid)] if face else 0, face.number if face else 0, other
 
     def bit(self, name, place, value, says):
         return name, (place, value), says
 
     def __iter__(self):
-        background = self.scene.far() << self.scene.fraction_bits + self.bits
-        yield "start: every pixel has the background", [
+        background, self.literal = self.scene.far() << self.scene.fraction_bits + self.bits, 0
+        yield self.step("start"), "start: every pixel has the background", [
             ("load-const", (0, self.length, background), "put the background into key B")]
         for number, product in enumerate(self.products, 1):
             whole = self.spelled(product)
@@ -84,16 +90,17 @@ class Passes:
 
     def of_literal(self, product, at, where, literal):
         solid = self.scene.solids[abs(literal) - 1]
-        yield "%s: faces of `%s`" % (where, solid.name), [
+        self.literal += 1
+        yield self.step("open"), "%s: faces of `%s`" % (where, solid.name), [
             self.bit("set-bit", self.alive, 0, "forget the candidate: alive is 0")]
         fronts, backs = faces_of(self.scene, solid)
         for face in fronts if literal > 0 else backs[:-1]:
-            yield "candidate: face %d, %s" % (face.number, face.of_solid()), list(self.candidate(face))
+            yield self.step("candidate", face), "candidate: face %d, %s" % (face.number, face.of_solid()), list(self.candidate(face))
         if self.scene.fraction_bits:
             yield from self.confirmed(literal > 0, solid, fronts, backs)
-        for other in product[:at] + product[at + 1:]:
-            yield from self.classified(other)
-        yield "merge: the nearer of candidate and best stays", list(self.merged())
+        for which, other in enumerate(product[:at] + product[at + 1:], 1):
+            yield from self.classified(which, other)
+        yield self.step("merge"), "merge: the nearer of candidate and best stays", list(self.merged())
 
     def kept(self, face):
         for form, says in edges(self.scene, face):
@@ -120,10 +127,10 @@ class Passes:
     def dies(self):
         return self.bit("set-bit", self.alive, 0, "there the candidate dies: alive is 0")
 
-    def counted(self, faces, more=0):
+    def counted(self, faces, more=0, other=0):
         """The passes that count in par which of these faces stand before the candidate."""
         for face in faces:
-            yield "against `%s`: count %s" % (face.solid.name, face.said), [
+            yield self.step("turn" if other else "front", face, other), "against `%s`: count %s" % (face.solid.name, face.said), [
                 self.alive_ones(), *self.kept(face), self.passed(face, more), ("toggle", (self.par,), "count it: turn par")]
 
     def par_cleared(self):
@@ -133,20 +140,20 @@ class Passes:
         """With fraction bits: whether the solid has a cell of its own at the candidate."""
         if is_plain:
             for face in backs:
-                yield "is there a cell before %s" % face.of_solid(), [
+                yield self.step("drop", face), "is there a cell before %s" % face.of_solid(), [
                     self.alive_ones(), *self.kept(face), self.passed(face), self.dies()]
             return
-        yield "is there a cell of `%s` before the candidate" % solid.name, [self.par_cleared()]
+        yield self.step("clear"), "is there a cell of `%s` before the candidate" % solid.name, [self.par_cleared()]
         yield from self.counted(fronts, 1 << self.scene.fraction_bits)
-        yield "is there a cell of `%s` before the candidate" % solid.name, [
+        yield self.step("confirm"), "is there a cell of `%s` before the candidate" % solid.name, [
             self.bit("keep-bit", self.par, 0, "keep the pixels where no front was counted"), self.dies()]
 
-    def classified(self, literal):
+    def classified(self, which, literal):
         solid, is_plain = self.scene.solids[abs(literal) - 1], literal > 0
         fronts, backs = faces_of(self.scene, solid)
-        yield "against `%s`: nothing is counted yet" % solid.name, [self.par_cleared()]
-        yield from self.counted(fronts + backs)
-        yield "against `%s`: the verdict" % solid.name, [
+        yield self.step("begin", other=which), "against `%s`: nothing is counted yet" % solid.name, [self.par_cleared()]
+        yield from self.counted(fronts + backs, other=which)
+        yield self.step("close", other=which), "against `%s`: the verdict" % solid.name, [
             self.bit("keep-bit", self.par, int(not is_plain),
                      "keep the pixels whose candidate is %s `%s`" % ("outside" if is_plain else "inside", solid.name)), self.dies()]
 
@@ -177,11 +184,16 @@ def starts(scene, products, levels):
 def operations(scene, products):
     """Of each operation in order: the number of its pass, its name, its numbers, and what it is for; and the passes' words."""
     found, said = [], []
-    for says, each in Passes(scene, products):
+    for _, says, each in Passes(scene, products):
         found.append((len(said), "all", (), "enable every pixel"))
         found += [(len(said), name, numbers, words) for name, numbers, words in each]
         said.append(says)
     return found, said
+
+
+def steps(scene, products):
+    """The step of each pass (`Passes`)."""
+    return [step for step, _, _ in Passes(scene, products)]
 
 
 class Keys:

@@ -5,7 +5,7 @@ import {compared, fill, mapsOf, marksOf, pictureOf, wordsOf} from "./differences
 import {hintsOf, rayOf} from "./looks.js";
 import {Bad, rastersOf} from "./maps.js";
 import {coloursOf, packed} from "./palette.js";
-import {clocksOf, operationsOf, operationsOfListing, readListing} from "./passes.js";
+import {operationsOf, operationsOfListing} from "./passes.js";
 import {Life} from "./replay.js";
 import {OF_PRODUCTS, Refusal, bytesOf, cutLines, lettersOf, needMemory, readScene} from "./scene.js";
 
@@ -65,20 +65,10 @@ function ray(text, words) {
 
 // The operations of a scene or a listing: of each its pass, its line, its words and its first clock; and the passes.
 function courseOf(text) {
-  const {clocks} = px.course(text), scene = isListing(text) ? null : sceneIn(text), listing = scene ? null : readListing(lettersIn(text));
-  const levels = scene ? levelsOf(scene.width) + levelsOf(scene.height) : listing.levels;
-  const [found, passes] = scene ? operationsOf(scene, px.products(text)) : operationsOfListing(listing.operations);
-  let clock = 0;
-  const operations = found.map(([pass, name, numbers, words]) => {
-    const row = [pass, [name, ...numbers.map(number => number + 0)].join(" "), words, clock];
-    clock += clocksOf(name, numbers, levels);
-    return row;
-  });
-  if (clock !== clocks) throw new Bad(`the library counts ${clocks} clocks, and the passes have ${clock}`);
+  const {clocks} = px.counts(text), course = px.course(text);
+  const [operations, passes] = isListing(text) ? operationsOfListing(course) : operationsOf(sceneIn(text), px.products(text), course);
   return {operations, passes, clocks};
 }
-
-const levelsOf = side => Math.max(1, Math.ceil(Math.log2(side)));
 
 // The state after a clock: its words, and what comes next.
 function state(text, words) {

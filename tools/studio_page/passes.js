@@ -1,64 +1,35 @@
-// The broadcast operations of a scene with what each is for: docs/PASSES.md, step by step. It says the same as tools/lib/passes.py,
-// and of a listing what tools/lib/micros.py says.
+// What the operations of a scene are for, in words: docs/PASSES.md, step by step. Which they are the library says, with the step, the
+// literal and the face of each. tools/lib/passes.py says the same by itself, and of a listing what tools/lib/micros.py says.
 
 const SIGN_BIT = 40, FORMS = new Set(["keep-sign", "keep-at-most", "load-linear", "add-linear"]);
+const ALL = "enable every pixel", WITH_CANDIDATE = "keep the pixels with a candidate", UNCOUNTED = "nothing is counted yet: par is 0";
+const DIES = "there the candidate dies: alive is 0";
 
 // The faces of a solid in the order of their index: the near face and the fronts; the backs and the far limit.
-function facesOf(scene, solid) {
-  const named = (kind, faces, isFront) => faces.map(({number, plane}, at) =>
-    face(solid, number, plane, faces.length === 1 ? `the ${kind}` : `${kind} ${at + 1}`, isFront));
-  return [[face(solid, solid.near, [0, 0, 0], "the near face", true), ...named("front", solid.fronts, true)],
-    [...named("back", solid.backs, false), face(solid, 0, [0, 0, scene.far() * 2 ** scene.fractionBits], "the far limit", false)]];
+function facesOf(solid) {
+  const named = (kind, faces, isFront) => faces.map(({number}, at) =>
+    face(solid, number, faces.length === 1 ? `the ${kind}` : `${kind} ${at + 1}`, isFront));
+  return [[face(solid, solid.near, "the near face", true), ...named("front", solid.fronts, true)],
+    [...named("back", solid.backs, false), face(solid, 0, "the far limit", false)]];
 }
 
-const face = (solid, number, plane, said, isFront) => ({solid, number, plane, said, isFront, ofSolid: `${said} of \`${solid.name}\``});
+const face = (solid, number, said, isFront) => ({solid, number, said, isFront, ofSolid: `${said} of \`${solid.name}\``});
 
-// The form of one plane less another, less so much more; and one that is so much more.
-const less = (left, right, more = 0) => [left[0] - right[0], left[1] - right[1], left[2] - right[2] - more];
-const plus = ([a, b, c], more) => [a, b, c + more];
-
-// The edges of a face with what each keeps.
-function edges(scene, own) {
-  const [fronts, backs] = facesOf(scene, own.solid), [same, other] = own.isFront ? [fronts, backs] : [backs, fronts], out = [];
-  const index = same.findIndex(each => each.said === own.said);
-  own.solid.sides.forEach((side, at) =>
-    out.push([side.plane, `keep the pixels on the inner side of side ${at + 1} of \`${own.solid.name}\``]));
-  same.forEach((each, at) => {
-    if (at === index) return;
-    const [first, second] = own.isFront ? [own, each] : [each, own], where = own.isFront ? "behind" : "before";
-    out.push([less(first.plane, second.plane, at < index ? 1 : 0),
-      `keep the pixels where ${own.ofSolid} stands ${at < index ? where : `at or ${where}`} ${each.said}`]);
-  });
-  for (const each of other) {
-    const [front, back] = own.isFront ? [own, each] : [each, own];
-    out.push([less(back.plane, front.plane, 1),
-      `keep the pixels where ${own.ofSolid} stands ${own.isFront ? "before" : "behind"} ${each.said}`]);
-  }
-  return out;
+// What each edge of a face keeps: first those of the sides, then of the other faces of its kind, and of the faces of the other one.
+function kept(own) {
+  const [fronts, backs] = facesOf(own.solid), [same, other] = own.isFront ? [fronts, backs] : [backs, fronts];
+  const index = same.findIndex(each => each.said === own.said), where = own.isFront ? "behind" : "before";
+  const stands = (how, each) => `keep the pixels where ${own.ofSolid} stands ${how} ${each.said}`;
+  return [...own.solid.sides.map((_, at) => `keep the pixels on the inner side of side ${at + 1} of \`${own.solid.name}\``),
+    ...same.flatMap((each, at) => at === index ? [] : [stands(at < index ? where : `at or ${where}`, each)]),
+    ...other.map(each => stands(own.isFront ? "before" : "behind", each))];
 }
 
-// The passes of a scene: each a line on what it is for, and its operations: name, numbers, words.
+// The words of a scene's passes: of each what it is for, and what each of its operations does.
 class Passes {
   constructor(scene, products) {
-    Object.assign(this, {scene, products, said: [], rows: []});
-    this.bits = scene.numberBits();
-    this.length = scene.depthBits + scene.fractionBits + this.bits;
-    this.deep = [this.length + this.bits, scene.depthBits + scene.fractionBits];
-    [this.alive, this.par] = [2 * this.length, 2 * this.length + 1];
-  }
-
-  pass(says, operations) {
-    const number = this.said.length;
-    this.rows.push([number, "all", [], "enable every pixel"], ...operations.map(operation => [number, ...operation]));
-    this.said.push(says);
-  }
-
-  all() {
-    const background = this.scene.far() * 2 ** (this.scene.fractionBits + this.bits);
-    this.pass("start: every pixel has the background", [["load-const", [0, this.length, background], "put the background into key B"]]);
-    this.products.forEach((product, at) => product.forEach((literal, which) => this.literal(product, which,
-      `product ${at + 1} of ${this.products.length}, ${this.spelled(product)}`, literal)));
-    return [this.rows, this.said];
+    Object.assign(this, {scene, products});
+    this.literals = products.flatMap((product, at) => product.map(literal => ({product, at, literal})));
   }
 
   solidOf(literal) { return this.scene.solids[Math.abs(literal) - 1]; }
@@ -67,95 +38,59 @@ class Passes {
     return product.map((literal, at) => (literal < 0 ? "- " : at ? "* " : "") + this.solidOf(literal).name).join(" ");
   }
 
-  literal(product, which, where, literal) {
-    const solid = this.solidOf(literal), [fronts, backs] = facesOf(this.scene, solid);
-    this.pass(`${where}: faces of \`${solid.name}\``, [["set-bit", [this.alive, 0], "forget the candidate: alive is 0"]]);
-    for (const each of literal > 0 ? fronts : backs.slice(0, -1))
-      this.pass(`candidate: face ${each.number}, ${each.ofSolid}`, this.candidate(each));
-    if (this.scene.fractionBits) this.confirmed(literal > 0, solid, fronts, backs);
-    product.forEach((other, at) => { if (at !== which) this.classified(other); });
-    this.pass("merge: the nearer of candidate and best stays", [this.aliveOnes(),
-      ["keep-less", [this.length, this.length, 0], "keep the pixels where key T is less than key B"],
-      ["copy", [this.length, this.length, 0], "copy key T into key B"]]);
+  // What a pass is for, and its operations behind the first, which enables every pixel; `operation` is any of them.
+  of(operation) {
+    const {role, solid, face: number, other} = operation, own = solid ? facesOf(this.scene.solids[solid - 1]).flat().find(each => each.number === number) : null;
+    const {product, at, literal} = this.literals[operation.literal - 1] ?? {}, name = literal && this.solidOf(literal).name;
+    const asked = other ? product.filter(each => Math.abs(each) !== Math.abs(literal))[other - 1] : null;
+    const against = asked && `against \`${this.solidOf(asked).name}\``;
+    return {
+      start: () => ["start: every pixel has the background", ["put the background into key B"]],
+      open: () => [`product ${at + 1} of ${this.products.length}, ${this.spelled(product)}: faces of \`${name}\``,
+        ["forget the candidate: alive is 0"]],
+      candidate: () => [`candidate: face ${number}, ${own.ofSolid}`, [...kept(own), `put the depth of ${own.ofSolid} into key T`,
+        ...this.scene.fractionBits ? ["the cell at it or behind it: no fraction in key T"] : [],
+        `put face ${number} into key T`, "here a candidate stands: alive is 1"]],
+      drop: () => [`is there a cell before ${own.ofSolid}`, [...this.passed(own, "at or behind"), DIES]],
+      clear: () => [`is there a cell of \`${name}\` before the candidate`, [UNCOUNTED]],
+      front: () => this.counted(own, "a whole cell behind"),
+      confirm: () => [`is there a cell of \`${name}\` before the candidate`, ["keep the pixels where no front was counted", DIES]],
+      begin: () => [`${against}: nothing is counted yet`, [UNCOUNTED]],
+      turn: () => this.counted(own, "at or behind"),
+      close: () => [`${against}: the verdict`,
+        [`keep the pixels whose candidate is ${asked > 0 ? "outside" : "inside"} \`${this.solidOf(asked).name}\``, DIES]],
+      merge: () => ["merge: the nearer of candidate and best stays",
+        [WITH_CANDIDATE, "keep the pixels where key T is less than key B", "copy key T into key B"]]}[role]();
   }
 
-  kept(own) { return edges(this.scene, own).map(([form, says]) => ["keep-sign", form, says]); }
+  passed(own, where) { return [WITH_CANDIDATE, ...kept(own), `keep the pixels whose candidate is ${where} ${own.ofSolid}`]; }
 
-  candidate(own) {
-    const fraction = this.scene.fractionBits;
-    return [...this.kept(own),
-      ["load-linear", [...plus(own.plane, 2 ** fraction - 1), ...this.deep], `put the depth of ${own.ofSolid} into key T`],
-      ...fraction ? [["load-const", [this.deep[0], fraction, 0], "the cell at it or behind it: no fraction in key T"]] : [],
-      ["load-const", [this.length, this.bits, own.number], `put face ${own.number} into key T`],
-      ["set-bit", [this.alive, 1], "here a candidate stands: alive is 1"]];
-  }
-
-  aliveOnes() { return ["keep-bit", [this.alive, 1], "keep the pixels with a candidate"]; }
-
-  passed(own, more = 0) {
-    return ["keep-at-most", [...plus(own.plane, more), ...this.deep],
-      `keep the pixels whose candidate is ${more ? "a whole cell behind" : "at or behind"} ${own.ofSolid}`];
-  }
-
-  dies() { return ["set-bit", [this.alive, 0], "there the candidate dies: alive is 0"]; }
-
-  // The passes that count in par which of these faces stand before the candidate.
-  counted(faces, more = 0) {
-    for (const each of faces)
-      this.pass(`against \`${each.solid.name}\`: count ${each.said}`,
-        [this.aliveOnes(), ...this.kept(each), this.passed(each, more), ["toggle", [this.par], "count it: turn par"]]);
-  }
-
-  parCleared() { return ["set-bit", [this.par, 0], "nothing is counted yet: par is 0"]; }
-
-  // With fraction bits: whether the solid has a cell of its own at the candidate.
-  confirmed(isPlain, solid, fronts, backs) {
-    if (isPlain) {
-      for (const each of backs)
-        this.pass(`is there a cell before ${each.ofSolid}`, [this.aliveOnes(), ...this.kept(each), this.passed(each), this.dies()]);
-      return;
-    }
-    const says = `is there a cell of \`${solid.name}\` before the candidate`;
-    this.pass(says, [this.parCleared()]);
-    this.counted(fronts, 2 ** this.scene.fractionBits);
-    this.pass(says, [["keep-bit", [this.par, 0], "keep the pixels where no front was counted"], this.dies()]);
-  }
-
-  classified(literal) {
-    const solid = this.solidOf(literal), isPlain = literal > 0;
-    this.pass(`against \`${solid.name}\`: nothing is counted yet`, [this.parCleared()]);
-    this.counted(facesOf(this.scene, solid).flat());
-    this.pass(`against \`${solid.name}\`: the verdict`, [["keep-bit", [this.par, isPlain ? 0 : 1],
-      `keep the pixels whose candidate is ${isPlain ? "outside" : "inside"} \`${solid.name}\``], this.dies()]);
-  }
+  counted(own, where) { return [`against \`${own.solid.name}\`: count ${own.said}`, [...this.passed(own, where), "count it: turn par"]]; }
 }
 
-// Of each operation in order: the number of its pass, its name, its numbers, and what it is for; and the passes' words.
-export const operationsOf = (scene, products) => new Passes(scene, products).all();
-
-// The grid of a listing that the library accepts, and its operations.
-export function readListing(text) {
-  const lines = text.split("\n").map(line => line.split("#")[0].split(/[ \t\r]+/).filter(Boolean)).filter(words => words.length);
-  const [nx, ny] = lines[1].slice(1).map(Number);
-  return {levels: nx + ny, operations: lines.slice(2, -1).map(([name, ...numbers]) => [name, numbers.map(Number)])};
+// Of each operation of a scene's course its pass, its line, its words and its first clock; and the passes' words.
+export function operationsOf(scene, products, course) {
+  const passes = new Passes(scene, products), said = [];
+  let words = [], first = 0;
+  const rows = course.map((operation, at) => {
+    if (operation.pass === said.length) {
+      const [says, does] = passes.of(operation);
+      said.push(says);
+      [words, first] = [[ALL, ...does], at];
+    }
+    return [operation.pass, String(operation), words[at - first], operation.clock];
+  });
+  return [rows, said];
 }
 
 // The same of a listing: a pass is what follows an `all`.
-export function operationsOfListing(operations) {
+export function operationsOfListing(course) {
   let pass = 0;
-  const rows = operations.map(([name, numbers], at) => {
-    if (name === "all" && at) pass += 1;
-    return [pass, name, numbers, spoken(name, numbers)];
+  const rows = course.map((operation, at) => {
+    if (operation.kind === "all" && at) pass += 1;
+    return [pass, String(operation), spoken(operation.kind, operation.numbers), operation.clock];
   });
   return [rows, rows.length ? Array.from({length: pass + 1}, (_, at) => `pass ${at + 1} of the listing`) : []];
-}
-
-// How many microinstructions an operation has on a tree of so many levels.
-export function clocksOf(name, numbers, levels) {
-  const one = {"all": 1, "keep-bit": 1, "set-bit": 1, "toggle": 1, "keep-sign": 1 + levels + SIGN_BIT}[name];
-  if (one !== undefined) return one;
-  const length = numbers[["load-const", "copy", "keep-less"].includes(name) ? 1 : 4];
-  return ({"load-const": 0, "copy": length, "keep-less": 2 + length, "keep-at-most": 2 + levels}[name] ?? 1 + levels) + length;
 }
 
 // A linear form as one writes it.

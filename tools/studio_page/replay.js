@@ -2,9 +2,9 @@
 // sees nothing of the others, and of the tree only the bits of A*x + B*y + C; so a listing of the same operations, each form with that sum
 // for its C and no slope, makes of the first pixel what the scene makes of the one at x, y (docs/MACHINE.md). Its tree has two levels, and
 // the acts of an operation stand as far before its end as in any array.
-import {clocksOf, formOf} from "./passes.js";
+import {formOf} from "./passes.js";
 
-const LEVELS = 2, WORDS = 3, MANY = 1 << 16, HEAD = "pxlist 1\ngrid 1 1\n";
+const WORDS = 3, MANY = 1 << 16, HEAD = "pxlist 1\ngrid 1 1\n";
 
 export class Life {
   // `operations` are rows of a course.
@@ -12,8 +12,9 @@ export class Life {
     const lines = operations.map(([, line]) => moved(line, x, y)), text = HEAD + lines.join("\n") + "\nend\n";
     this.px = px;
     this.first = px.state(text, 0);
-    this.counts = lines.map(line => clocksOf(line.split(" ")[0], line.split(" ").slice(1).map(Number), LEVELS));
-    this.packed = px.packed(text, 0, this.counts.reduce((sum, count) => sum + count, 0));
+    const course = px.course(text), endOf = at => course[at + 1]?.clock ?? this.first.clocks;
+    this.counts = course.map(({clock}, at) => endOf(at) - clock);
+    this.packed = px.packed(text, 0, this.first.clocks);
     this.replayed();
   }
 

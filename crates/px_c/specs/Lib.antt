@@ -6,6 +6,7 @@ pub use Rattle.px_prune.specs.Kept
 pub use Rattle.px_scene.specs.Reading
 pub use Rattle.px_state.specs.Clocking
 pub use Rattle.px_state.specs.Courses
+pub use Rattle.px_state.specs.Operations
 pub use Rattle.px_state.specs.Packed
 pub use Rattle.px_state.specs.Packing
 pub use Rattle.px_state.specs.Refusals as StateRefusals

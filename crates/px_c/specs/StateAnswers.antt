@@ -1,4 +1,4 @@
--- What a call answers that finds the machine, or its micros, of a scene or of a listing. Clauses of public calls stand on it.
+-- What a call answers that finds the machine, its micros or its operations, of a scene or of a listing. Clauses of public calls stand on it.
 use Rattle.std.specs.Prelude.{◌≡◌, ℕ, ◌+◌, ◌^◌, ◌<◌, ◌≤◌, List, length, Option, Some, None}
 use Rattle.px_array.specs.declared.micro.Micro.{Micro}
 use Rattle.px_listing.specs.Listings.{ListingView}
@@ -6,7 +6,7 @@ use Rattle.px_listing.specs.Reading.{ListFault}
 use Rattle.px_show.specs.declared.fault.TextFault.TheVariants as text_fault
 use Rattle.px_state.specs.Courses.{IsNext, total}
 use Rattle.px_state.specs.Packing.{packed}
-use Rattle.px_state.specs.Refusals.{course_of, micros_refusal, state_refusal}
+use Rattle.px_state.specs.Refusals.{course_of, micros_refusal, operations_refusal, state_refusal}
 use Rattle.px_state.specs.Words.{row_words}
 use Rattle.px_state.specs.declared.fault.StateFault.{StateFault}
 use Rattle.px_state.specs.declared.fault.StateFault.TheVariants as f
@@ -14,7 +14,7 @@ use Rattle.px_c.specs.Answers.{nothing, refused, scene_fault}
 use Rattle.px_c.specs.Numbers.{cause_number, list_number}
 use Rattle.px_c.specs.declared.answer.Answer.{Answer}
 use Rattle.px_c.specs.declared.state.State.{State}
-use Rattle.px_c.specs.declared.status.TheConstants.{BITS, LIMIT, MALFORMED, NO_CLOCK, NO_ROOM, OK}
+use Rattle.px_c.specs.declared.status.TheConstants.{BITS, LIMIT, MALFORMED, NO_CLOCK, NO_OPERATION, NO_ROOM, OK}
 
 -- the refusal of a listing: its first bad line, and why, or what it found past a limit
 abbrev pub list_refused : ListFault → Answer
@@ -22,12 +22,13 @@ list_refused (text_fault.Malformed line cause) = record { status = MALFORMED; fo
 list_refused (text_fault.Limit line limit found) = record { status = LIMIT; found = record nothing { line = line; kind = list_number limit; number = found } }
 list_refused (text_fault.Memory m) = refused (text_fault.Memory m)
 
--- why there is no state, or there are no micros: the text, its clocks, or too little room
+-- why there is no state, or there are no micros or operations: the text, its clocks, its operations, or too little room
 abbrev pub state_refused : StateFault → Answer
 state_refused (f.Scene fault) = refused fault
 state_refused (f.Job fault) = refused (scene_fault fault)
 state_refused (f.Listing fault) = list_refused fault
 state_refused (f.NoClock clocks) = record { status = NO_CLOCK; found = record nothing { clocks = clocks } }
+state_refused (f.NoOperation operations) = record { status = NO_OPERATION; found = record nothing { operations = operations } }
 state_refused (f.NoRoom room) = record { status = NO_ROOM; found = record nothing { room = room } }
 state_refused (f.Memory m) = refused (text_fault.Memory m)
 
@@ -43,6 +44,10 @@ state_answer text clock room = unless_faulty (state_refusal BITS text clock room
 -- `pxplanes_micros`: so many from a clock on
 abbrev pub micros_answer : List ℕ → (first count : ℕ) → Answer
 micros_answer text first count = unless_faulty (micros_refusal BITS text first count) (course_of text)
+
+-- `pxplanes_course`: so many from an operation on
+abbrev pub course_answer : List ℕ → (first count : ℕ) → Answer
+course_answer text first count = unless_faulty (operations_refusal BITS text first count) (course_of text)
 
 -- a broadcast comes next: that cycle of that operation, and its packed micro
 pub record IsComing (l : ListingView) (clock operation cycle word : ℕ) : Type 0 where

@@ -7,7 +7,7 @@ ghost use Rattle.px_c.specs.StateAnswers.{list_refused, state_refused};
 ghost use Rattle.px_c.specs.declared.status.TheConstants.{OK};
 
 use crate::found::{Found, cause_number, kind_number, list_number, nothing};
-use crate::status::{LIMIT, MALFORMED, MEMORY, NO_CLOCK, NO_ROOM};
+use crate::status::{LIMIT, MALFORMED, MEMORY, NO_CLOCK, NO_OPERATION, NO_ROOM};
 use px_control::JobFault;
 use px_listing::ListFault;
 use px_scene::{LimitKind, SceneFault};
@@ -106,7 +106,7 @@ pub(crate) fn list_refused(fault: ListFault) -> Answer
     }
 }
 
-/// The answer where there is no state, or there are no micros.
+/// The answer where there is no state, or there are no micros or operations.
 pub(crate) fn state_refused(fault: StateFault) -> Answer
     requires { HasSmallCount fault }
     ensures answer { result ≡ state_refused fault }
@@ -120,6 +120,13 @@ pub(crate) fn state_refused(fault: StateFault) -> Answer
             status: NO_CLOCK,
             found: Found {
                 clocks,
+                ..nothing()
+            },
+        },
+        StateFault::NoOperation { operations } => Answer {
+            status: NO_OPERATION,
+            found: Found {
+                operations,
                 ..nothing()
             },
         },

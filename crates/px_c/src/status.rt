@@ -24,5 +24,8 @@ pub const NO_GRID: u32 = 10;
 /// A word packs no microinstruction.
 pub const NO_MICRO: u32 = 11;
 
+/// The operations that are asked for lie past the last.
+pub const NO_OPERATION: u32 = 12;
+
 /// The memory bits of a pixel of the array that draws, as of the program's own but for `shadow`.
 pub const BITS: usize = 72;

@@ -8,9 +8,10 @@ ghost use Rattle.px_listing.specs.Kinds.{shape_of, word_of};
 ghost use Rattle.px_listing.specs.Limits.{shape_past};
 
 use crate::numbers::{
-    Numbers, behind_field, bit_number, bit_of, constant_of, field_of, gathered, place_of, plane_of,
+    behind_field, bit_number, bit_of, constant_of, field_of, gathered, place_of, plane_of,
     with_field,
 };
+use arrayvec::ArrayVec;
 use px_macro::Macro;
 
 /// An operation, whatever its numbers are.
@@ -162,7 +163,7 @@ impl Shape {
 }
 
 /// The numbers of an operation, in the order of its line (docs/LISTINGS.md, "Operations").
-pub(crate) fn operands_of(m: &Macro) -> Numbers
+pub fn operands_of(m: &Macro) -> ArrayVec<i64, 5>
     requires lawful { IsLawful m.now 256 }
     ensures { result.items ≡ operands_of m.now }
 {

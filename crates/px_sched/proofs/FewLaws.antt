@@ -76,7 +76,7 @@ few_literals p =
       few_solids p.barred 256 refl,
     )
 
-few_others : (q : Literal) (p : Product) → length (others q p) ≤ MAX_LITERALS
+pub few_others : (q : Literal) (p : Product) → length (others q p) ≤ MAX_LITERALS
 few_others q p =
     let other : Literal → Bool = λ r. not (r.solid == q.solid) in
     omega (arith, length-filter other (literals p), count_by-le-length other (literals p), few_literals p)

@@ -11,10 +11,10 @@ use Rattle.px_sched.specs.declared.literal.Literal.{Literal}
 use Rattle.px_sched.specs.declared.step.Step.{Step}
 use Rattle.px_sched.specs.declared.group.Stage.TheVariants.{At}
 use Rattle.px_sched.specs.declared.step.Step.TheVariants.{Open}
-use Rattle.px_sched.specs.Groups.{IsGroup, literal_of, literals_from, no_product, others_of, product_at, products_from}
+use Rattle.px_sched.specs.Groups.{IsGroup, from_stage, literal_of, literals_from, no_product, others_of, product_at, products_from}
 use Rattle.px_sched.specs.Passes.{literal_at, literal_steps, literals, no_literal, others, product_steps}
 use Rattle.px_sched.specs.Steps.{IsStep, IsStepOf, behind_step}
-use Rattle.px_sched.specs.Onward.{AreKnown, from_stage, from_step, from_step_if_any, HasKnownLiterals}
+use Rattle.px_sched.specs.Onward.{AreKnown, from_step, from_step_if_any, HasKnownLiterals}
 use Rattle.px_sched.proofs.StepLemmas.{elements_more, opens}
 
 -- the literal of a group and the others, as they were found

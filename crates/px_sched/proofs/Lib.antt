@@ -19,5 +19,6 @@ pub mod RoomLemmas
 pub mod RunLemmas
 pub mod SightLemmas
 pub mod StandingLemmas
+pub mod StepCursorLemmas
 pub mod StepLemmas
 pub mod WorthLaws

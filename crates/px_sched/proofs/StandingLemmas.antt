@@ -18,8 +18,7 @@ use Rattle.px_sched.specs.declared.step.Step.TheVariants.{Begin, Candidate, Clea
 use Rattle.px_sched.specs.declared.step.Step.TheVariants.{Open, Turn}
 use Rattle.px_sched.specs.declared.step.Step.TheVariants as step
 use Rattle.px_sched.specs.Cursors.{IsWithinStage, Stands, StandsIn}
-use Rattle.px_sched.specs.Groups.{IsStage, behind_stage, stage_operations}
-use Rattle.px_sched.specs.Onward.{from_stage}
+use Rattle.px_sched.specs.Groups.{IsStage, behind_stage, from_stage, stage_operations}
 use Rattle.px_prune.specs.Kept.{plan_of}
 use Rattle.px_sched.specs.Layouts.{LayoutView, layout_of}
 use Rattle.px_sched.specs.Passes.{operations, passes}
@@ -140,21 +139,22 @@ module _ (scene : SceneView) (l : LayoutView) (products : List Product) where
   place_more (At g) i low = low
   place_more End i low = tt
 
+  pub step_some : (step : Step) → 0 < length (operations scene l step)
+  step_some step.Start = omega arith
+  step_some Open = omega arith
+  step_some (Candidate solid face) = omega arith
+  step_some (Drop solid face) = omega arith
+  step_some Clear = omega arith
+  step_some (Front solid face) = omega arith
+  step_some Confirm = omega arith
+  step_some (Begin other) = omega arith
+  step_some (Turn other solid face) = omega arith
+  step_some (Close other plain) = omega arith
+  step_some Merge = omega arith
+
   place_zero : (st : Stage) → IsWithinStage scene l st 0
   place_zero Start = omega arith
-  place_zero (At g) = step_some g.step where
-    step_some : (step : Step) → 0 < length (operations scene l step)
-    step_some step.Start = omega arith
-    step_some Open = omega arith
-    step_some (Candidate solid face) = omega arith
-    step_some (Drop solid face) = omega arith
-    step_some Clear = omega arith
-    step_some (Front solid face) = omega arith
-    step_some Confirm = omega arith
-    step_some (Begin other) = omega arith
-    step_some (Turn other solid face) = omega arith
-    step_some (Close other plain) = omega arith
-    step_some Merge = omega arith
+  place_zero (At g) = step_some g.step
   place_zero End = tt
 
   pub stands_along : (c d : Cursor) (n : ℕ) → ((l : LayoutView) → length (stage_operations scene l c.stage) ≡ n)

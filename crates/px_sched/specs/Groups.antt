@@ -1,6 +1,6 @@
 -- The steps of a scene as a start and groups, a group for each step of each literal of each product.
 -- Clauses of public calls stand on it.
-use Rattle.std.specs.Prelude.{ℕ, ◌+◌, ◌<◌, ⊤, List, [], ◌++◌, drop, length, get_or}
+use Rattle.std.specs.Prelude.{ℕ, ◌+◌, ◌<◌, ⊤, List, [], ◌∷◌, ◌++◌, drop, length, get_or, Option, Some, None}
 use Rattle.std.specs.List.{flat_map}
 use Rattle.px_macro.specs.declared.operation.Macro.{Macro}
 use Rattle.px_normal.specs.declared.product.Product.{Product}
@@ -49,6 +49,17 @@ behind_stage scene products (At g) =
     behind_step scene (literal_of products g) (others_of products g) g.step
     ++ literals_from scene products g.product (g.literal + 1)
 behind_stage scene products End = []
+
+-- the steps from a stage on: its own, if it has one, and those behind it
+abbrev pub step_of : Stage → Option Step
+step_of Start = Some step.Start
+step_of (At g) = Some g.step
+step_of End = None
+
+abbrev pub from_stage : SceneView → List Product → Stage → List Step
+from_stage scene products Start = step.Start ∷ behind_stage scene products Start
+from_stage scene products (At g) = g.step ∷ behind_stage scene products (At g)
+from_stage scene products End = []
 
 -- a group of the passes
 pub record IsGroup (scene : SceneView) (products : List Product) (g : Group) : Type 0 where

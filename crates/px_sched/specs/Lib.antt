@@ -11,5 +11,6 @@ pub mod Onward
 pub mod Passes
 pub mod PassesFacts
 pub mod PassesLaw
+pub mod StepCursors
 pub mod Steps
 pub mod Worths

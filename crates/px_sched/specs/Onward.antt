@@ -1,14 +1,10 @@
--- What is left of the steps from one of them, or from a stage, on; products whose passes can be made.
+-- What is left of the steps from one of them on; products whose passes can be made.
 -- Only proofs and private functions stand on it.
 use Rattle.std.specs.Prelude.{◌<◌, All, List, [], ◌∷◌, length, Option, Some, None}
 use Rattle.px_model.specs.Scenes.{SceneView}
 use Rattle.px_normal.specs.declared.product.Product.{Product}
-use Rattle.px_sched.specs.declared.group.Stage.{Stage}
-use Rattle.px_sched.specs.declared.group.Stage.TheVariants.{At, End, Start}
 use Rattle.px_sched.specs.declared.literal.Literal.{Literal}
 use Rattle.px_sched.specs.declared.step.Step.{Step}
-use Rattle.px_sched.specs.declared.step.Step.TheVariants as step
-use Rattle.px_sched.specs.Groups.{behind_stage}
 use Rattle.px_sched.specs.Passes.{literals}
 use Rattle.px_sched.specs.Steps.{behind_step}
 
@@ -18,11 +14,6 @@ from_step scene q rs step = step ∷ behind_step scene q rs step
 abbrev pub from_step_if_any : SceneView → (q : Literal) → (rs : List Literal) → Option Step → List Step
 from_step_if_any scene q rs None = []
 from_step_if_any scene q rs (Some step) = from_step scene q rs step
-
-abbrev pub from_stage : SceneView → List Product → Stage → List Step
-from_stage scene products Start = step.Start ∷ behind_stage scene products Start
-from_stage scene products (At g) = g.step ∷ behind_stage scene products (At g)
-from_stage scene products End = []
 
 -- each of these literals is of a solid of the scene
 abbrev pub AreKnown : SceneView → List Literal → Type 0

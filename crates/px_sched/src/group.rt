@@ -6,14 +6,16 @@ ghost use Rattle.px_sched.specs.Groups.{
   IsGroup,
   IsStage,
   behind_stage,
+  from_stage,
   literal_of,
   literals_from,
   others_of,
   product_at,
   products_from,
   stage_operations,
+  step_of,
 };
-ghost use Rattle.px_sched.specs.Onward.{HasKnownLiterals, from_stage, from_step_if_any};
+ghost use Rattle.px_sched.specs.Onward.{HasKnownLiterals, from_step_if_any};
 ghost use Rattle.px_sched.specs.Layouts.{LayoutView};
 ghost use Rattle.px_sched.specs.Passes.{literals};
 ghost use Rattle.px_sched.specs.Steps.{behind_step};
@@ -52,6 +54,17 @@ impl Stage {
         ensures more { OnFalse result (self ≢ s.End) }
     {
         matches!(self, Stage::End)
+    }
+
+    /// The step here, if one is left.
+    pub(crate) fn step(self) -> Option<Step>
+        ensures { result ≡ step_of self }
+    {
+        match self {
+            Stage::Start => Some(Step::Start),
+            Stage::At(group) => Some(group.step),
+            Stage::End => None,
+        }
     }
 
     /// How many operations there are here.

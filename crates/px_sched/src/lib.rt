@@ -8,9 +8,11 @@ mod literal;
 mod numbers;
 mod passes;
 mod step;
+mod step_cursor;
 
 pub use cursor::Cursor;
 pub use layout::{Layout, NeedBits};
 pub use literal::{Literal, literals};
 pub use passes::laws_of_passes;
 pub use step::Step;
+pub use step_cursor::StepCursor;

@@ -9,6 +9,7 @@ ghost use Rattle.px_num.specs.Forms.{IsInHalfRange, plus};
 ghost use Rattle.px_sched.specs.declared.literal.Literal.{Literal};
 ghost use Rattle.px_sched.specs.Layouts.{LayoutView};
 ghost use Rattle.px_sched.specs.Passes.{candidate, keep_covered, operations, solid_of, where_passed};
+ghost use Rattle.px_sched.specs.StepCursors.{opens_literal};
 ghost use Rattle.px_sched.specs.Steps.{IsStep, IsStepOf, behind_step, candidates_end, candidates_from, confirmed_from, drops_from, fronts_from, first_candidate, judged_from, turns_from};
 ghost use Rattle.px_sched.specs.Onward.{AreKnown, from_step, from_step_if_any};
 
@@ -65,6 +66,13 @@ impl Step {
             Step::Confirm | Step::Close(_, _) => 3,
             Step::Merge => 4,
         }
+    }
+
+    /// Whether it is the first of a literal.
+    pub(crate) fn opens_literal(self) -> bool
+        ensures { result ≡ opens_literal self }
+    {
+        matches!(self, Step::Open)
     }
 
     /// One of the operations.

@@ -4,6 +4,7 @@ pub mod ColumnLemmas
 pub mod FeedingLemmas
 pub mod ActingLemmas
 pub mod CourseLemmas
+pub mod OperationLemmas
 pub mod PackingLemmas
 pub mod PlaceLemmas
 pub mod PutLemmas

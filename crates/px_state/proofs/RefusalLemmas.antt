@@ -1,5 +1,5 @@
 -- What is refused, and by which fault.
-use Rattle.std.proofs.Common.{◌≡◌, ℕ, ◌<◌, ◌≤◌, ◌^◌, nat_lt, Option, Some, None, inl, inr, refl, ap, sym, ◌∙◌}
+use Rattle.std.proofs.Common.{◌≡◌, ℕ, ◌<◌, ◌≤◌, ◌^◌, length, nat_lt, Option, Some, None, inl, inr, refl, ap, sym, ◌∙◌}
 use Rattle.std.specs.Option.{option_or}
 use Rattle.std.proofs.lemmas.Bool.{lt-ltb}
 use Rattle.px_num.proofs.TruthLaws.{lt_false}
@@ -11,7 +11,7 @@ use Rattle.px_control.specs.Standing.{LeavesOnRefusal}
 use Rattle.px_control.specs.declared.fault.JobFault.{JobFault}
 use Rattle.px_control.specs.declared.fault.JobFault.TheVariants as job
 use Rattle.px_listing.specs.Listings.{ListingView}
-use Rattle.px_state.specs.Refusals.{HasSmallCount, IsRefusedBy, clock_refusal, course_refusal, job_fault, job_refusal, refused_by, refused_where}
+use Rattle.px_state.specs.Refusals.{HasSmallCount, IsRefusedBy, clock_refusal, course_refusal, job_fault, job_refusal, operation_refusal, refused_by, refused_where}
 use Rattle.px_state.specs.Courses.{total}
 use Rattle.px_state.specs.Words.{room_of}
 use Rattle.px_state.specs.States.{LeavesArray}
@@ -74,6 +74,10 @@ both_none a b none is = rw none is
 pub clock_same : (l : ListingView) (clocks clock : ℕ) → clocks ≡ total l
     → clock_refusal l clock ≡ refused_where (nat_lt clocks clock) (f.NoClock clocks)
 clock_same l clocks clock is = ap (λ n. refused_where (nat_lt n clock) (f.NoClock n)) (sym is)
+
+pub operation_same : (l : ListingView) (operations operation : ℕ) → operations ≡ length l.macros
+    → operation_refusal l operation ≡ refused_where (nat_lt operations operation) (f.NoOperation operations)
+operation_same l operations operation is = ap (λ n. refused_where (nat_lt n operation) (f.NoOperation n)) (sym is)
 
 pub course_same : (bits : ℕ) (l : ListingView) (clock clocks words due : ℕ) → clocks ≡ total l → due ≡ room_of bits l.nx l.ny
     → course_refusal bits l clock words ≡ refused_by clock clocks words due

@@ -1,4 +1,4 @@
--- Why a text has no state and no micros, where it has none. Clauses of public calls stand on it.
+-- Why a text has no state, and no micros or operations, where it has none. Clauses of public calls stand on it.
 use Rattle.std.specs.Prelude.{◌≡◌, ℕ, ◌+◌, ◌≤◌, ◌^◌, ◌⊎◌, ⊤, Bool, true, false, pos, List, [], ◌∷◌, length, nat_lt, if◌then◌else◌, Option, Some, None, codes, unwrap_or, ◌==◌}
 use Rattle.std.specs.List.{filter_map, slice_get, slice_split}
 use Rattle.std.specs.Option.{option_map, option_or}
@@ -98,6 +98,14 @@ state_refusal bits text clock room = option_or (text_refusal bits text) (course_
 abbrev pub micros_refusal : (bits : ℕ) → List ℕ → (first count : ℕ) → Option StateFault
 micros_refusal bits text first count = option_or (text_refusal bits text) (clock_refusal (course_of text) (first + count))
 
+-- why a text has not so many operations from one on
+abbrev pub operation_refusal : ListingView → (operation : ℕ) → Option StateFault
+operation_refusal l operation = refused_where (nat_lt (length l.macros) operation) (f.NoOperation (length l.macros))
+
+abbrev pub operations_refusal : (bits : ℕ) → List ℕ → (first count : ℕ) → Option StateFault
+operations_refusal bits text first count =
+    option_or (text_refusal bits text) (operation_refusal (course_of text) (first + count))
+
 -- a list of products that is past the limit has at most so many
 abbrev pub HasFewProducts : JobFault → Type 0
 HasFewProducts (job.PixelMemory need) = ⊤
@@ -110,6 +118,7 @@ HasSmallCount (f.Scene fault) = ⊤
 HasSmallCount (f.Job fault) = HasFewProducts fault
 HasSmallCount (f.Listing fault) = ⊤
 HasSmallCount (f.NoClock clocks) = ⊤
+HasSmallCount (f.NoOperation operations) = ⊤
 HasSmallCount (f.NoRoom room) = ⊤
 HasSmallCount (f.Memory _) = ⊤
 

@@ -30,11 +30,12 @@ pub record IsDrawn (bits : ℕ) (l : ListingView) (clock : ℕ) (now : ArrayView
   pub once : IsRunOnce now
 
 -- what an error leaves of the array, of its slots and its work too: a refusal of the text as it was; want of memory as it was,
--- or none open; and where only clock or room are refused, it was opened
+-- or none open; and where only clock or room are refused, it was opened. No operations are asked for.
 abbrev pub LeavesArray : StateFault → (bits : ℕ) → ListingView → (before now : ArrayView) → Type 0
 LeavesArray (f.Scene fault) bits l before now = now ≡ before
 LeavesArray (f.Job fault) bits l before now = now ≡ before
 LeavesArray (f.Listing fault) bits l before now = now ≡ before
 LeavesArray (f.NoClock clocks) bits l before now = IsDrawn bits l 0 now
+LeavesArray (f.NoOperation operations) bits l before now = ⊥
 LeavesArray (f.NoRoom room) bits l before now = IsDrawn bits l 0 now
 LeavesArray (f.Memory _) bits l before now = (now ≡ before) ⊎ (now ≡ none_open)

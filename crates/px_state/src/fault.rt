@@ -1,4 +1,4 @@
-//! Why there is no state, or no micros.
+//! Why there is no state, or there are no micros or operations.
 ghost use Rattle.std.specs.Prelude.{◌≡◌};
 
 use px_control::JobFault;
@@ -7,7 +7,7 @@ use px_num::Memory;
 use px_scene::SceneFault;
 use thiserror::Error;
 
-/// Why there is no state, or no micros.
+/// Why there is no state, or there are no micros or operations.
 #[derive(Debug, Drop, PartialEq, Eq, Error)]
 pub enum StateFault {
     /// The text is no scene, and no listing (docs/SCENES.md, "Refusals"), or it is too long.
@@ -24,6 +24,12 @@ pub enum StateFault {
     NoClock {
         /// How many clocks there are.
         clocks: u64,
+    },
+    /// The operations that are asked for lie past the last.
+    #[error("past operation {operations}, the last")]
+    NoOperation {
+        /// How many operations there are.
+        operations: u64,
     },
     /// The list of words is too short.
     #[error("{room} words are due")]

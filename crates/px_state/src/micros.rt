@@ -97,7 +97,11 @@ pub(crate) fn micros_of_scene(
 }
 
 /// Where the passes of a scene keep their numbers, and the products that they draw.
-fn drawing_of(alloc: Global, scene: &Scene, bits: u32) -> Result<(Layout, Plan), StateFault>
+pub(crate) fn drawing_of(
+    alloc: Global,
+    scene: &Scene,
+    bits: u32,
+) -> Result<(Layout, Plan), StateFault>
     ensures layout { IfOk result (λ found. found.0 ≡ layout_of scene.now) }
     ensures kept { IfOk result (λ found. found.1.products.items ≡ plan_of scene.now) }
     ensures few { OnOk result (length (plan_of scene.now) ≤ MAX_PRODUCTS) }

@@ -1,4 +1,4 @@
-//! What a state and micros are refused for, once the text is read.
+//! What a state, micros and operations are refused for, once the text is read.
 ghost use Rattle.std.specs.Prelude.{◌≡◌, ◌+◌, ◌<◌, ◌≤◌, ℕ, IfErr, None, OnOk, Some, nat_lt};
 ghost use Rattle.px_array.specs.Slots.{ArrayView};
 ghost use Rattle.px_listing.specs.Listings.{ListingView};
@@ -38,6 +38,22 @@ pub(crate) fn judge_stretch(first: u64, count: usize, clocks: u64) -> Result<(),
 {
     if clocks < first || clocks - first < count as u64 {
         Err(StateFault::NoClock { clocks })
+    } else {
+        Ok(())
+    }
+}
+
+/// Whether there are so many operations from one on.
+pub(crate) fn judge_operations(first: u64, count: usize, operations: u64) -> Result<(), StateFault>
+    ensures ok { OnOk result (refused_where (nat_lt operations (first + count)) (StateFault.NoOperation operations)
+        ≡ None) }
+    ensures within { OnOk result (first + count ≤ operations) }
+    ensures err { IfErr result (λ fault.
+        refused_where (nat_lt operations (first + count)) (StateFault.NoOperation operations) ≡ Some fault) }
+    ensures small { IfErr result HasSmallCount }
+{
+    if operations < first || operations - first < count as u64 {
+        Err(StateFault::NoOperation { operations })
     } else {
         Ok(())
     }

@@ -1,11 +1,14 @@
-//! The state and the micros of a text.
+//! The state, the micros and the operations of a text.
 ghost use Rattle.std.specs.Prelude.{◌≡◌, ◌≤◌, ℕ, All, true, false, IfErr, IfOk, None, OnErr, OnOk, length};
 ghost use Rattle.px_state.specs.Courses.{device_after};
 ghost use Rattle.px_playing.specs.PassesText.{passes_listing};
 ghost use Rattle.px_macro.specs.Macros.{IsLawful};
 ghost use Rattle.px_text.specs.declared.text.TheConstants.{MAX_TEXT_BYTES};
+ghost use Rattle.px_text.specs.Text.{worded};
+ghost use Rattle.px_scene.specs.Reading.{scene_of};
+ghost use Rattle.px_state.specs.Operations.{HasOperations, IsOperationOf};
 ghost use Rattle.px_state.specs.Packed.{HasMicros};
-ghost use Rattle.px_state.specs.Refusals.{HasSmallCount, IsRefusedBy, course_of, is_listing, job_refusal, micros_refusal, state_refusal, text_refusal, too_long};
+ghost use Rattle.px_state.specs.Refusals.{HasSmallCount, IsRefusedBy, course_of, is_listing, job_refusal, micros_refusal, operations_refusal, state_refusal, text_refusal, too_long};
 ghost use Rattle.px_array.specs.Slots.{array_view};
 ghost use Rattle.px_state.specs.Keeping.{KeepsArray};
 ghost use Rattle.px_state.specs.States.{IsCourse, IsDrawn, IsState, LeavesArray};
@@ -14,6 +17,8 @@ ghost use Rattle.px_state.specs.Words.{HasWords};
 use crate::fault::StateFault;
 use crate::listing::state_of_listing;
 use crate::micros::{micros_of_listing, micros_of_scene};
+use crate::operation::Operation;
+use crate::operations::{operations_of_listing, operations_of_scene};
 use crate::scene::state_of_scene;
 use crate::state::{Course, State};
 use crate::text::is_listing;
@@ -112,6 +117,89 @@ pub fn write_micros(
     }
 }
 
+/// Writes the operations of a scene or of a listing from one on, each with what it is for, as many as
+/// the list has.
+///
+/// The text is read as by `write_state`, for pixels of so many memory bits, 1 to 256. `NoOperation`
+/// comes where there are not so many. After an error the list is as it was.
+pub fn write_operations(
+    alloc: Global,
+    text: &[u8],
+    bits: u32,
+    first: u64,
+    list: &mut [Operation],
+) -> Result<Course, StateFault>
+    requires bits { bits ≤ 256 }
+    ensures ok { OnOk result (operations_refusal bits text.now first (length list.old) ≡ None) }
+    ensures course { IfOk result (λ c. IsCourse (course_of text.now) c) }
+    ensures operations { OnOk result (HasOperations (IsOperationOf text.now) first list.new) }
+    ensures err { IfErr result (λ fault.
+        IsRefusedBy fault (operations_refusal bits text.now first (length list.old))) }
+    ensures small { IfErr result HasSmallCount }
+    ensures kept { OnErr result (list.new ≡ list.old) }
+    ensures length { length list.new ≡ length list.old }
+{
+    if text.len() > MAX_TEXT_BYTES {
+        return Err(too_long());
+    }
+    if is_listing(text) {
+        listed_operations(alloc, text, bits, first, list)
+    } else {
+        drawn_operations(alloc, text, bits, first, list)
+    }
+}
+
+/// The same of a text whose first word says that it is a listing.
+fn listed_operations(
+    alloc: Global,
+    text: &[u8],
+    bits: u32,
+    first: u64,
+    list: &mut [Operation],
+) -> Result<Course, StateFault>
+    requires bits { bits ≤ 256 }
+    requires short { length text.now ≤ MAX_TEXT_BYTES }
+    requires flagged { is_listing text.now ≡ true }
+    ensures ok { OnOk result (operations_refusal bits text.now first (length list.old) ≡ None) }
+    ensures course { IfOk result (λ c. IsCourse (course_of text.now) c) }
+    ensures operations { OnOk result (HasOperations (IsOperationOf text.now) first list.new) }
+    ensures err { IfErr result (λ fault.
+        IsRefusedBy fault (operations_refusal bits text.now first (length list.old))) }
+    ensures small { IfErr result HasSmallCount }
+    ensures kept { OnErr result (list.new ≡ list.old) }
+    ensures length { length list.new ≡ length list.old }
+{
+    match read_course(alloc, text, bits) {
+        Ok(listing) => operations_of_listing(&listing, first, list),
+        Err(fault) => Err(fault),
+    }
+}
+
+/// The same of any other text.
+fn drawn_operations(
+    alloc: Global,
+    text: &[u8],
+    bits: u32,
+    first: u64,
+    list: &mut [Operation],
+) -> Result<Course, StateFault>
+    requires short { length text.now ≤ MAX_TEXT_BYTES }
+    requires flagged { is_listing text.now ≡ false }
+    ensures ok { OnOk result (operations_refusal bits text.now first (length list.old) ≡ None) }
+    ensures course { IfOk result (λ c. IsCourse (course_of text.now) c) }
+    ensures operations { OnOk result (HasOperations (IsOperationOf text.now) first list.new) }
+    ensures err { IfErr result (λ fault.
+        IsRefusedBy fault (operations_refusal bits text.now first (length list.old))) }
+    ensures small { IfErr result HasSmallCount }
+    ensures kept { OnErr result (list.new ≡ list.old) }
+    ensures length { length list.new ≡ length list.old }
+{
+    match read_drawing(alloc, text) {
+        Ok(scene) => operations_of_scene(alloc, &scene, bits, first, list),
+        Err(fault) => Err(fault),
+    }
+}
+
 /// The listing that a text writes, whose first word says so.
 fn read_course(alloc: Global, text: &[u8], bits: u32) -> Result<Listing, StateFault>
     requires bits { bits ≤ 256 }
@@ -135,6 +223,7 @@ fn read_drawing(alloc: Global, text: &[u8]) -> Result<Scene, StateFault>
     requires short { length text.now ≤ MAX_TEXT_BYTES }
     requires flagged { is_listing text.now ≡ false }
     ensures ok { IfOk result (λ scene. (bits : ℕ) → text_refusal bits text.now ≡ job_refusal bits scene) }
+    ensures scene { IfOk result (λ scene. scene ≡ scene_of (worded text.now)) }
     ensures course { IfOk result (λ scene. course_of text.now ≡ passes_listing scene) }
     ensures err { IfErr result (λ fault. (bits : ℕ) → IsRefusedBy fault (text_refusal bits text.now)) }
     ensures small { IfErr result HasSmallCount }

@@ -9,6 +9,7 @@ pub const NO_ROOM: u32 = 8;
 pub const NO_CLOCK: u32 = 9;
 pub const NO_GRID: u32 = 10;
 pub const NO_MICRO: u32 = 11;
+pub const NO_OPERATION: u32 = 12;
 
 /// Memory bits of a pixel.
 pub const BITS: u32 = 72;
@@ -45,6 +46,22 @@ pub struct Moment {
     pub next_micro: u64,
 }
 
+/// `struct pxplanes_operation`.
+#[repr(C)]
+#[derive(Clone, Copy, Debug, Default, PartialEq, Eq)]
+pub struct Operation {
+    pub numbers: [i64; 5],
+    pub clock: u64,
+    pub pass: u64,
+    pub literal: u64,
+    pub kind: u32,
+    pub numbers_count: u32,
+    pub role: u32,
+    pub solid: u32,
+    pub face: u32,
+    pub other: u32,
+}
+
 extern "C" {
     pub fn pxplanes_check(text: *const u8, text_len: usize, found: *mut Found) -> u32;
     pub fn pxplanes_render(
@@ -79,6 +96,14 @@ extern "C" {
         first: u64,
         micros: *mut u64,
         micros_len: usize,
+        found: *mut Found,
+    ) -> u32;
+    pub fn pxplanes_course(
+        text: *const u8,
+        text_len: usize,
+        first: u64,
+        course: *mut Operation,
+        course_len: usize,
         found: *mut Found,
     ) -> u32;
     pub fn pxplanes_clocks(

@@ -27,6 +27,11 @@ pub enum Error {
         /// How many clocks there are.
         clocks: u64,
     },
+    /// The operation lies past the last, which is told.
+    NoOperation {
+        /// How many operations there are.
+        operations: u64,
+    },
     /// No microinstruction, or one with a place past the memory, by its index.
     NoMicro {
         /// Which of those given it is, from 0.
@@ -44,6 +49,7 @@ impl fmt::Display for Error {
             Error::Limit { line, kind, number } => write!(to, "limit line {line}: {kind} {number}"),
             Error::Memory => write!(to, "no memory"),
             Error::NoClock { clocks } => write!(to, "there are {clocks} clocks"),
+            Error::NoOperation { operations } => write!(to, "there are {operations} operations"),
             Error::NoMicro { index } => write!(to, "microinstruction {index} is none"),
         }
     }
@@ -75,6 +81,7 @@ pub(crate) fn refusal(status: u32, found: &sys::Found) -> Error {
         },
         sys::MEMORY => Error::Memory,
         sys::NO_CLOCK => Error::NoClock { clocks: found.clocks },
+        sys::NO_OPERATION => Error::NoOperation { operations: found.operations },
         sys::NO_MICRO => Error::NoMicro { index: found.number as u64 },
         other => unreachable!("the library answered {other}"),
     }

@@ -1,5 +1,5 @@
 //! Pictures of Pixel-Planes 4, and its machine clock by clock, by the proved library (docs/LIBRARY.md). Texts are those of
-//! docs/SCENES.md, and for [`State`] and [`micros`] those of docs/LISTINGS.md too.
+//! docs/SCENES.md, and for [`State`], [`micros`] and [`course`] those of docs/LISTINGS.md too.
 //!
 //! Proved is the library; this crate hands it buffers of the size that it asks for.
 #![warn(missing_docs)]
@@ -9,9 +9,9 @@ mod machine;
 mod pictures;
 
 pub use error::{Error, Result};
-pub use machine::{micros, State};
+pub use machine::{course, micros, State};
 pub use pictures::{check, colour, products, render, Colours, Cost, Picture};
-pub use pxplanes_sys::{Moment, BITS};
+pub use pxplanes_sys::{Moment, Operation, BITS};
 
 /// The version of the library.
 pub fn version() -> String {

@@ -77,3 +77,24 @@ pub fn micros(text: impl AsRef<[u8]>, first: u64, count: usize) -> Result<Vec<u6
         _ => Err(refusal(status, &found)),
     }
 }
+
+/// `count` operations from operation `first` on, each with what it is for: its step, literal, face and other literal.
+pub fn course(text: impl AsRef<[u8]>, first: u64, count: usize) -> Result<Vec<sys::Operation>> {
+    let text = text.as_ref();
+    let mut found = sys::Found::default();
+    // Asked without a buffer first, so that a count past the end takes no memory.
+    let status = unsafe { sys::pxplanes_course(text.as_ptr(), text.len(), 0, std::ptr::null_mut(), 0, &mut found) };
+    if status != sys::OK {
+        return Err(refusal(status, &found));
+    }
+    if first.checked_add(count as u64).map_or(true, |end| end > found.operations) {
+        return Err(crate::Error::NoOperation { operations: found.operations });
+    }
+    let mut course = vec![sys::Operation::default(); count];
+    let status =
+        unsafe { sys::pxplanes_course(text.as_ptr(), text.len(), first, course.as_mut_ptr(), course.len(), &mut found) };
+    match status {
+        sys::OK => Ok(course),
+        _ => Err(refusal(status, &found)),
+    }
+}

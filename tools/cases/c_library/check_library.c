@@ -7,8 +7,8 @@
  * NAME.COMMAND, NAME.COMMAND.note and NAME.COMMAND.status, where COMMAND is render, colour, plan, cost and play.
  *
  * Each buffer ends where a page begins that nobody may touch, and is filled before a call. For each text: check,
- * render, colour and products with buffers of no element, one too few, as many as are due, and one more; state and
- * micros so too, at the first, a middle and the last clock, and past it; each with each allocation refused in turn
+ * render, colour and products with buffers of no element, one too few, as many as are due, and one more; state,
+ * micros and course so too, at the first, a middle and the last clock or operation, and past it; each with each allocation refused in turn
  * (some of the later ones); and all of it in four threads at once. No call may want more bytes at once than its text
  * and, where it draws or clocks, its array explain. Linked with --wrap for malloc, realloc and free. Prints a line for each difference, and last how much was compared.
  */
@@ -192,15 +192,15 @@ static void note_of(uint32_t status, const struct pxplanes_found *found, char *n
 
 /* The calls, in one form: two buffers where there are two, else one. */
 
-enum call { CHECK, DRAW, PAINT, LIST, CALLS, STATE = CALLS, MICROS, ALL };
+enum call { CHECK, DRAW, PAINT, LIST, CALLS, STATE = CALLS, MICROS, COURSE, ALL };
 static const struct {
     const char *name;
     int command, buffers;
     size_t each;
 } kinds[ALL] = {{"check", RENDER, 0, 0}, {"render", RENDER, 2, 4}, {"colour", COLOUR, 1, 1}, {"products", PLAN, 1, 4},
-                {"state", COST, 1, 8}, {"micros", COST, 1, 8}};
+                {"state", COST, 1, 8}, {"micros", COST, 1, 8}, {"course", COST, 1, sizeof(struct pxplanes_operation)}};
 
-/* What the calls of the machine take beside: a clock, and where the state is told. */
+/* What the calls of the machine take beside: a clock, or an operation, and where the state is told. */
 struct moment {
     uint64_t clock;
     struct pxplanes_moment state;
@@ -241,6 +241,10 @@ static uint32_t called(enum call call, const struct text *text, struct buffer *b
         break;
     case MICROS:
         status = pxplanes_micros(text->bytes.at, text->bytes.len, moment->clock, (uint64_t *) b[0].at, b[0].len, found);
+        break;
+    case COURSE:
+        status = pxplanes_course(text->bytes.at, text->bytes.len, moment->clock, (struct pxplanes_operation *) b[0].at, b[0].len,
+                                 found);
         break;
     default:
         status = pxplanes_products(text->bytes.at, text->bytes.len, (int32_t *) b[0].at, b[0].len, found);
@@ -450,13 +454,13 @@ static struct buffer told(enum call call, const struct text *text, struct moment
                           struct pxplanes_found *found, long refuse)
 {
     const struct answer *answer = &text->answer[is_listing(text) ? PLAY : COST];
-    struct buffer buffer = made(len, 8);
+    struct buffer buffer = made(len, kinds[call].each);
     memset(&moment->state, FILL, sizeof moment->state);
     uint32_t status = called(call, text, &buffer, moment, found, refuse);
     if (status != wanted)
-        differs(text->name, "%s at clock %llu with %zu elements gives status %u in place of %u", kinds[call].name,
+        differs(text->name, "%s from %llu on with %zu elements gives status %u in place of %u", kinds[call].name,
                 (unsigned long long) moment->clock, len, (unsigned) status, (unsigned) wanted);
-    if (!is_untouched(&buffer, status == PXPLANES_OK ? due * 8 : 0))
+    if (!is_untouched(&buffer, status == PXPLANES_OK ? due * kinds[call].each : 0))
         differs(text->name, "%s touches what it is to leave (status %u)", kinds[call].name, (unsigned) status);
     if (call == STATE && status != PXPLANES_OK && !is_no_state(&moment->state))
         differs(text->name, "a state is told with status %u", (unsigned) status);
@@ -605,6 +609,58 @@ static void compare_states(const struct text *text, const struct pxplanes_found 
     }
 }
 
+/* An operation by itself, behind the one before it: in a scene a step begins with each "all", a literal with each step "open", and
+   what stands of faces and other literals is of the steps that have them. */
+static int is_operation(const struct pxplanes_operation *o, const struct pxplanes_operation *before, int is_listed, uint64_t clocks)
+{
+    static const uint32_t counts[] = {0, 0, 3, 2, 5, 5, 5, 3, 2, 1, 3, 3};
+    if (o->kind < 1 || o->kind > 11 || o->numbers_count != counts[o->kind] || o->clock >= clocks)
+        return 0;
+    for (uint32_t at = o->numbers_count; at < 5; at++)
+        if (o->numbers[at] != 0)
+            return 0;
+    if (before == NULL ? o->clock != 0 : o->clock <= before->clock)
+        return 0;
+    if (is_listed)
+        return (o->pass | o->literal) == 0 && (o->role | o->solid | o->face | o->other) == 0;
+    int begins = o->kind == 1;
+    if (before == NULL)
+        return begins && o->pass == 0 && o->role == 1 && o->literal == 0;
+    int has_face = o->role == 3 || o->role == 4 || o->role == 6 || o->role == 9, has_other = o->role >= 8 && o->role <= 10;
+    return o->pass == before->pass + (uint64_t) begins && (begins || o->role == before->role) && o->role > 1 - !begins && o->role <= 11 &&
+           o->literal == before->literal + (uint64_t) (begins && o->role == 2) && (o->solid != 0) == has_face &&
+           (has_face || o->face == 0) && (o->other != 0) == has_other;
+}
+
+/* The operations of a text that is good: from the first, from a middle one, and past the last. */
+static void compare_courses(const struct text *text, const struct pxplanes_found *found)
+{
+    size_t all = (size_t) found->operations, half = all / 2;
+    struct pxplanes_found wants = *found, past = {.operations = all};
+    struct moment start = {.clock = 0}, middle = {.clock = half};
+    tried_at(COURSE, text, 0, 0, 0, PXPLANES_OK, wants, 0);
+    tried_at(COURSE, text, all, 0, 0, PXPLANES_OK, wants, 0);
+    tried_at(COURSE, text, all, 1, 0, PXPLANES_NO_OPERATION, past, 0);
+    tried_at(COURSE, text, all + 1, 0, 0, PXPLANES_NO_OPERATION, past, 0);
+    tried_at(COURSE, text, UINT64_MAX, 1, 0, PXPLANES_NO_OPERATION, past, 0);
+    tried_at(COURSE, text, 0, all + 1, 0, PXPLANES_NO_OPERATION, past, 0);
+    struct buffer whole = told(COURSE, text, &start, all, all, PXPLANES_OK, &wants, 0);
+    long asks = asked;
+    struct buffer rest = told(COURSE, text, &middle, all - half, all - half, PXPLANES_OK, &wants, 0);
+    const struct pxplanes_operation *course = (const struct pxplanes_operation *) whole.at;
+    for (size_t at = 0; at < all; at++)
+        if (!is_operation(&course[at], at ? &course[at - 1] : NULL, is_listing(text), found->clocks)) {
+            differs(text->name, "operation %zu is another one", at);
+            break;
+        }
+    if (memcmp(rest.at, whole.at + half * sizeof *course, (all - half) * sizeof *course))
+        differs(text->name, "the operations from %zu on are others", half);
+    let_go(&whole);
+    let_go(&rest);
+    for (long at = 1; at <= asks; at += 1 + at / 4)
+        tried_at(COURSE, text, 0, all, 0, PXPLANES_MEMORY, (struct pxplanes_found){0}, at);
+}
+
 static void compare_machine(const struct text *text)
 {
     const struct answer *answer = &text->answer[is_listing(text) ? PLAY : COST];
@@ -616,6 +672,7 @@ static void compare_machine(const struct text *text)
     if (wanted != PXPLANES_OK) {
         tried_at(STATE, text, UINT64_MAX, 0, 0, wanted, none, 0);
         tried_at(MICROS, text, UINT64_MAX, 1, 0, wanted, none, 0);
+        tried_at(COURSE, text, UINT64_MAX, 1, 0, wanted, none, 0);
         return;
     }
     if (!is_listing(text))
@@ -634,6 +691,7 @@ static void compare_machine(const struct text *text)
         tried_at(MICROS, text, 0, clocks, 0, PXPLANES_MEMORY, none, at);
     compare_states(text, &wants, (const uint64_t *) buffer.at);
     let_go(&buffer);
+    compare_courses(text, &wants);
 }
 
 static struct text *texts;
@@ -720,6 +778,13 @@ static void compare_one_pixel(void)
                 differs("one pixel", "row %zu of plane %zu is %llx", y, plane, (unsigned long long) words[2 * plane + y]);
     if (pxplanes_micros(text, sizeof scene - 1, 0, micros, 317, &found) != PXPLANES_OK || micros[0] != 2ull << 32)
         differs("one pixel", "other micros");
+    /* Start, open, the near face and the front as candidates, and merge (docs/PASSES.md, "Steps"): the front's own pass is the fourth, from
+       operation 11 on, and puts face 2 into key T. */
+    struct pxplanes_operation course[22];
+    if (pxplanes_course(text, sizeof scene - 1, 0, course, 22, &found) != PXPLANES_OK || course[1].kind != 7 || course[1].numbers[2] != 15 * 4 ||
+        course[3].role != 2 || course[4].role != 3 || course[4].face != 1 || course[11].pass != 3 || course[11].role != 3 ||
+        course[11].solid != 1 || course[11].face != 2 || course[11].literal != 1 || course[21].role != 11 || course[21].kind != 10)
+        differs("one pixel", "another course");
 }
 
 /* A number that is loaded, and a form that is added to it, on four columns and two rows, by the tables of docs/MACHINE.md: 19
@@ -737,6 +802,10 @@ static void compare_small_listing(void)
     if (pxplanes_micros(text, sizeof listing - 1, 0, micros, 19, &found) != PXPLANES_OK || micros[0] != 2ull << 32 ||
         micros[1] != (1ull << 48) + (1ull << 32))
         differs("a small listing", "other micros");
+    struct pxplanes_operation course[3];
+    static const struct pxplanes_operation added = {.numbers = {1, 1, 0, 3, 5}, .clock = 10, .kind = 6, .numbers_count = 5};
+    if (pxplanes_course(text, sizeof listing - 1, 0, course, 3, &found) != PXPLANES_OK || memcmp(&course[2], &added, sizeof added))
+        differs("a small listing", "another course");
 }
 
 static void compare_names(void)

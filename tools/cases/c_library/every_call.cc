@@ -35,6 +35,8 @@ int main()
     std::vector<std::uint64_t> words(static_cast<std::size_t>(c.found.room)), micros(2);
     c.note(pxplanes_state(c.text, c.text_len, 0, words.data(), words.size(), &moment, &c.found));
     c.note(pxplanes_micros(c.text, c.text_len, 0, micros.data(), micros.size(), &c.found));
+    std::vector<pxplanes_operation> course(2);
+    c.note(pxplanes_course(c.text, c.text_len, 0, course.data(), course.size(), &c.found));
     c.note(pxplanes_clocks(words.data(), words.size(), moment.grid_width, moment.grid_height, micros.data(), micros.size(), &c.found));
     for (std::uint32_t status : c.statuses)
         std::printf("%u ", static_cast<unsigned>(status));

@@ -188,6 +188,25 @@ void step()
     std::cout << "past the last clock: " << past << " refused\n";
 }
 
+// What the passes of the cut are for, step by step: the role, the face and its solid, and which other literal is asked (docs/PASSES.md).
+void course()
+{
+    const std::vector<pxplanes_operation> all = pxplanes::course(cut);
+    std::cout << "the cut:";
+    for (const pxplanes_operation &each : all)
+        if (each.kind == 1) {
+            std::cout << ' ' << each.role;
+            if (each.solid != 0)
+                std::cout << ':' << each.face << " of " << each.solid;
+            if (each.other != 0)
+                std::cout << '/' << each.other;
+        }
+    const std::vector<pxplanes_operation> last = pxplanes::course(cut, all.size() - 1, 1);
+    std::cout << "\nthe last of " << (pxplanes::count_operations(cut) == all.size()) << ": kind " << last[0].kind << " literal "
+              << last[0].literal << " pass " << last[0].pass << '\n';
+    refusal("no operation", [&] { pxplanes::course(cut, all.size(), 1); });
+}
+
 // The same by spans, where they are there; and by pointers else.
 void by_buffers()
 {
@@ -229,5 +248,6 @@ int main()
     draw();
     refuse();
     step();
+    course();
     by_buffers();
 }

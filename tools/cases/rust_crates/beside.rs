@@ -1,6 +1,6 @@
 //! Answers texts by the crates as the program does: of each FILE the maps, the colours and the products, or the note.
 use pxplanes::{Error, State};
-use pxplanes_sys::{Found, Moment};
+use pxplanes_sys::{Found, Moment, Operation};
 use std::fs;
 use std::io::{stdin, BufRead};
 use std::mem::{offset_of, size_of};
@@ -16,6 +16,7 @@ macro_rules! layout {
 fn print_layouts() {
     layout!("pxplanes_found", Found, width height faces line cause kind number operations clocks room);
     layout!("pxplanes_moment", Moment, grid_width grid_height words_per_row bits levels clock clocks operation operation_clock next_micro);
+    layout!("pxplanes_operation", Operation, clock pass literal kind numbers_count role solid face other);
 }
 
 fn map(width: u32, height: u32, values: &[u32]) -> Vec<u8> {
@@ -74,6 +75,17 @@ fn clocks_agree(text: &[u8]) -> pxplanes::Result<bool> {
     Ok(state.words() == due.words() && next == micros[0] && bad && past)
 }
 
+/// As many operations as the scene has, which take its clocks, the later half by itself as in all; and none behind the last.
+fn courses_agree(text: &[u8]) -> pxplanes::Result<bool> {
+    let cost = pxplanes::check(text)?;
+    let (all, half) = (cost.operations as usize, cost.operations / 2);
+    let course = pxplanes::course(text, 0, all)?;
+    let last = State::after(text, course[all - 1].clock)?.moment;
+    let past = pxplanes::course(text, half, all) == Err(Error::NoOperation { operations: cost.operations });
+    Ok(course[half as usize..] == pxplanes::course(text, half, all - half as usize)? && past
+        && (last.operation, last.operation_clock) == (cost.operations - 1, 0) && course[0].role == 1 && course[all - 1].role == 11)
+}
+
 /// The key of the picture stands in the memory of the last state: its depth is that of `render`, pixel by pixel.
 fn key_agrees(text: &[u8], depth_from: u32, depth_bits: u32) -> pxplanes::Result<bool> {
     let picture = pxplanes::render(text)?;
@@ -94,12 +106,12 @@ fn main() {
         for (word, answer) in [("render", maps(&text)), ("colour", colours(&text)), ("cost", cost(&text)), ("plan", count(&text))] {
             fs::write(format!("{path}.{word}.rust"), answer.unwrap_or_else(|error| note(&error))).unwrap();
         }
-        if let Ok(same) = clocks_agree(&text) {
+        if let Ok(same) = clocks_agree(&text).and_then(|same| Ok(same && courses_agree(&text)?)) {
             compared += 1;
             agree += u32::from(same);
         }
     }
-    println!("clocks: {}", if compared < 50 { "too few" } else if agree == compared { "all as by state" } else { "they differ" });
+    println!("clocks: {}", if compared < 50 { "too few" } else if agree == compared { "all as by state, and the operations" } else { "they differ" });
     let text = fs::read("docs/scenes/first.scene").unwrap();
     println!("keys: {:?}, {:?}", key_agrees(&text, 4, 9), pxplanes::render(&text).map(|picture| picture.at(24, 16)));
     println!("outside: {:?}", pxplanes::render(&text).map(|picture| (picture.at(48, 0), picture.at(0, 32))));

@@ -26,3 +26,6 @@ returns-in-Err-clause-keeps c = rw c.from.ensures (scene_keeps c.in-Err.fault)
 
 pub returns-in-Err-clause-small : goal.returns-in-Err-clause-small
 returns-in-Err-clause-small c = rw c.from.ensures (scene_small c.in-Err.fault)
+
+pub returns-in-Ok-clause-scene : goal.returns-in-Ok-clause-scene
+returns-in-Ok-clause-scene c = c.in-Ok.ensures.ok.1

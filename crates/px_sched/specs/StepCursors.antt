@@ -1,0 +1,53 @@
+-- Where a cursor stands in the steps of a scene. Clauses of public calls stand on it.
+use Rattle.std.specs.Prelude.{◌≡◌, ℕ, ◌^◌, ◌<◌, ⊤, Bool, true, false, List, drop, filter, length, take}
+use Rattle.px_model.specs.Scenes.{SceneView}
+use Rattle.px_normal.specs.declared.product.Product.{Product}
+use Rattle.px_prune.specs.Kept.{plan_of}
+use Rattle.px_sched.specs.declared.step.Step.{Step}
+use Rattle.px_sched.specs.declared.step.Step.TheVariants.{Start, Open, Candidate, Drop, Clear, Front, Confirm, Begin, Turn, Close, Merge}
+use Rattle.px_sched.specs.declared.step_cursor.StepCursor.{StepCursor}
+use Rattle.px_sched.specs.Groups.{IsStage, from_stage}
+use Rattle.px_sched.specs.Passes.{steps_with}
+
+-- the step is the first of a literal
+abbrev pub opens_literal : Step → Bool
+opens_literal Start = false
+opens_literal Open = true
+opens_literal (Candidate solid face) = false
+opens_literal (Drop solid face) = false
+opens_literal Clear = false
+opens_literal (Front solid face) = false
+opens_literal Confirm = false
+opens_literal (Begin other) = false
+opens_literal (Turn other solid face) = false
+opens_literal (Close other plain) = false
+opens_literal Merge = false
+
+-- how many literals have their first step among these
+abbrev pub literals_in : List Step → ℕ
+literals_in steps = length (filter opens_literal steps)
+
+-- where a step asks another literal, there are at most so many
+abbrev pub HasFewOthers : Step → Type 0
+HasFewOthers Start = ⊤
+HasFewOthers Open = ⊤
+HasFewOthers (Candidate solid face) = ⊤
+HasFewOthers (Drop solid face) = ⊤
+HasFewOthers Clear = ⊤
+HasFewOthers (Front solid face) = ⊤
+HasFewOthers Confirm = ⊤
+HasFewOthers (Begin other) = other < 512
+HasFewOthers (Turn other solid face) = other < 512
+HasFewOthers (Close other plain) = other < 512
+HasFewOthers Merge = ⊤
+
+-- the steps that were not given are those from the cursor's stage on
+pub record StandsAmong (scene : SceneView) (products : List Product) (cursor : StepCursor) : Type 0 where
+  pub stage : IsStage scene products cursor.stage
+  pub left : drop cursor.given (steps_with scene products) ≡ from_stage scene products cursor.stage
+  pub literals : cursor.literals ≡ literals_in (take cursor.given (steps_with scene products))
+  pub few : length (steps_with scene products) < 2 ^ 64
+
+-- a cursor stands in the steps of a scene where it has given as many of them as it counts
+abbrev pub StandsAtStep : SceneView → StepCursor → Type 0
+StandsAtStep scene cursor = StandsAmong scene (plan_of scene) cursor

@@ -1,0 +1,159 @@
+-- The operations of a text, one after another.
+use Rattle.std.proofs.Common.{◌≡◌, ℕ, ◌+◌, ◌<◌, ◌≤◌, true, false, List, [], ◌∷◌, ◌++◌, length, take, drop, get_or, Some, None, Result, Ok, Err, OnOk, inl, inr, sym, subst, ap, ◌∙◌, arith}
+use Rattle.std.proofs.Common.{length-append}
+use Rattle.std.specs.List.{flat_map, slice_get}
+use Rattle.std.proofs.lemmas.Bool.{cases_lt}
+use Rattle.std.proofs.lemmas.List.{take-append-drop, take_all, take_more}
+use Rattle.std.proofs.lemmas.List.Concat.{flat_map-append, flat_map-cons, get_or-flat_map}
+use Rattle.std.proofs.lemmas.List.Folds.{length-flat_map-take}
+use Rattle.std.proofs.lemmas.Option.{get_or_from_slice_get, slice_get-get_or, slice_get_within}
+use Rattle.px_control.specs.ProgramLaws.{IsGoodProgram}
+use Rattle.px_control.proofs.StepLemmas.{lawful_here}
+use Rattle.px_macro.specs.Macros.{IsLawful, IsLawfulInMore}
+use Rattle.px_macro.specs.declared.operation.Macro.{Macro}
+use Rattle.px_macro.specs.declared.operation.Macro.TheVariants as m
+use Rattle.px_model.specs.Scenes.{SceneView}
+use Rattle.px_text.specs.Text.{worded}
+use Rattle.px_scene.specs.Reading.{scene_of}
+use Rattle.px_sched.specs.declared.step.Step.{Step}
+use Rattle.px_sched.specs.Layouts.{LayoutView, layout_of, need_of}
+use Rattle.px_sched.specs.Passes.{operations, passes, steps}
+use Rattle.px_sched.specs.StepCursors.{literals_in}
+use Rattle.px_listing.specs.Listings.{ListingView}
+use Rattle.px_playing.specs.PassesText.{passes_listing}
+use Rattle.px_state.specs.Courses.{start_of}
+use Rattle.px_state.specs.Operations.{HasOperations, IsListed, IsOperationBy, IsOperationOf, IsPassed, no_operation}
+use Rattle.px_state.specs.Operations.{operations_before, purpose_of, told}
+use Rattle.px_state.specs.Putting.{IsPutTo}
+use Rattle.px_state.specs.Refusals.{course_of, is_listing}
+use Rattle.px_state.specs.declared.fault.StateFault.{StateFault}
+use Rattle.px_state.specs.declared.operation.Operation.{Operation}
+use Rattle.px_state.specs.declared.state.Course.{Course}
+use Rattle.px_state.proofs.TextLemmas.{list_course}
+
+-- those before one, and that one
+pub put_next : (Is : ℕ → Operation → Type 0) (first k : ℕ) (operation : Operation) (old new : List Operation)
+    → length new ≡ length old
+    → ((j : ℕ) → j < length old → first + j ≡ k → get_or new j no_operation ≡ operation)
+    → ((j : ℕ) → (first + j ≡ k → ⊥) → get_or new j no_operation ≡ get_or old j no_operation)
+    → IsPutTo Is first k old → Is k operation → IsPutTo Is first (k + 1) new
+put_next Is first k operation old new same put kept before is j within low = elim (cases_lt (first + j) k) [
+  | inl early ↦
+      let other : first + j ≡ k → ⊥ = λ here. absurd (omega (arith, here, early)) in
+      subst (Is (first + j)) (sym (kept j other)) (before j (omega (arith, within, same)) early)
+  | inr late ↦
+      let here : first + j ≡ k = omega (arith, late, low) in
+      subst (λ n. Is n (get_or new j no_operation)) (sym here)
+      (subst (Is k) (sym (put j (omega (arith, within, same)) here)) is)
+]
+
+-- and behind the last one due all are there
+pub all_put : (Is : ℕ → Operation → Type 0) (first end : ℕ) (list : List Operation) → first + length list ≤ end
+    → IsPutTo Is first end list → HasOperations Is first list
+all_put Is first end list enough put j within = put j within (omega (arith, enough, within))
+
+-- where no element stands, the list has ended
+pub no_more : {X : Type 0} (xs : List X) (k : ℕ) (d : X) → None ≡ slice_get xs k → length xs ≤ k
+no_more xs k d none = elim (cases_lt k (length xs)) [
+  | inl below ↦ absurd (let some : None ≡ Some (get_or xs k d) = none ∙ slice_get-get_or xs k d below in cc)
+  | inr past ↦ past
+]
+
+-- a step of a scene, and its operations among all
+module _ (scene : SceneView) (pass : ℕ) (step : Step) (here : slice_get (steps scene) pass ≡ Some step) where
+  abbrev own : List Macro
+  own = operations scene (layout_of scene) step
+
+  abbrev each : Step → List Macro
+  each = operations scene (layout_of scene)
+
+  inside : pass < length (steps scene)
+  inside = slice_get_within (steps scene) pass step here
+
+  step_is : get_or (steps scene) pass step ≡ step
+  step_is = get_or_from_slice_get (steps scene) pass step step here
+
+  pub operation_here : (i : ℕ) → i < length own
+      → slice_get (passes scene) (operations_before scene pass + i) ≡ Some (get_or own i m.All)
+  unfolding passes
+  operation_here i within =
+      let there : i < length (each (get_or (steps scene) pass step)) = rw step_is within in
+      let below = length-flat_map-take each (steps scene) pass step inside in
+      slice_get-get_or (flat_map each (steps scene)) (operations_before scene pass + i) m.All (omega (arith, below, there))
+      ∙ ap (λ x. Some x) (get_or-flat_map each (steps scene) pass i step m.All inside there
+      ∙ ap (λ s. get_or (each s) i m.All) step_is)
+
+  -- what a layout of the scene gives for a place of the step is the operation there, which pixels of 256 bits can carry out
+  module _ (l : LayoutView) (i : ℕ) (op : Macro) (layout : l ≡ layout_of scene) (within : i < length own)
+      (is : op ≡ get_or (operations scene l step) i m.All) where
+    pub op_is : op ≡ get_or own i m.All
+    op_is = is ∙ ap (λ l. get_or (operations scene l step) i m.All) layout
+
+    pub found_here : (k : ℕ) → k ≡ operations_before scene pass + i → slice_get (passes scene) k ≡ Some op
+    found_here k at = ap (slice_get (passes scene)) at ∙ (operation_here i within ∙ ap (λ x. Some x) (sym op_is))
+
+    pub lawful_op : IsLawfulInMore → IsGoodProgram scene → IsLawful op 256
+    lawful_op more good =
+        let need = need_of (layout_of scene) in
+        let k = operations_before scene pass + i in
+        more op need 256 (omega (arith, good.bits)) (lawful_here need (passes scene) k op (found_here k (omega arith)) good.lawful)
+
+  pub before_more : operations_before scene (pass + 1) ≡ operations_before scene pass + length own
+  before_more =
+      let front = take pass (steps scene) in
+      let single : length (flat_map each (step ∷ [])) ≡ length own = simp (flat_map-cons, length-append) (omega arith) in
+      ap (λ ss. length (flat_map each ss)) (take_more (steps scene) pass step inside ∙ ap (λ s. front ++ s ∷ []) step_is)
+      ∙ (ap length (flat_map-append each front (step ∷ []))
+      ∙ (length-append (flat_map each front) (flat_map each (step ∷ []))
+      ∙ ap (λ n. length (flat_map each front) + n) single))
+
+  -- an operation of the step is told as one of it
+  pub is_passed : (i k clock : ℕ) (op : Macro) (purpose : Operation) → i < length own → k ≡ operations_before scene pass + i
+      → op ≡ get_or own i m.All → clock ≡ start_of (passes_listing scene) k → purpose.pass ≡ pass
+      → purpose ≡ purpose_of scene step purpose.pass (literals_in (take (purpose.pass + 1) (steps scene)))
+      → IsPassed scene k (told op clock purpose)
+  is_passed i k clock op purpose within at is begins pass_is for = record {
+    step = step;
+    is = rw pass_is here;
+    from = rw pass_is (omega (arith, at));
+    to = rw pass_is (omega (arith, at, within, before_more));
+    operation_is = record {
+      m = op;
+      is = ap (slice_get (passes scene)) at ∙ (operation_here i within ∙ ap (λ x. Some x) (sym is));
+      told_is = ap (λ n. told op n purpose) begins ∙ ap (told op (start_of (passes_listing scene) k)) for;
+    };
+  }
+
+-- behind the last step all operations are there
+pub before_all : (scene : SceneView) (pass : ℕ) → length (steps scene) ≤ pass → operations_before scene pass ≡ length (passes scene)
+unfolding passes
+before_all scene pass past =
+    ap (λ ss. length (flat_map (operations scene (layout_of scene)) ss)) (take_all pass (steps scene) past)
+
+pub before_within : (scene : SceneView) (pass : ℕ) → operations_before scene pass ≤ length (passes scene)
+unfolding passes
+before_within scene pass =
+    let each = operations scene (layout_of scene) in
+    let front = take pass (steps scene) in
+    let rest = drop pass (steps scene) in
+    let parts = sym (ap (flat_map each) (take-append-drop pass (steps scene))) ∙ flat_map-append each front rest in
+    omega (arith, ap length parts ∙ length-append (flat_map each front) (flat_map each rest))
+
+-- the operations of a text are those of the listing or of the scene that it writes
+pub of_listing : (text : List ℕ) (l : ListingView) (first : ℕ) (list : List Operation) (result : Result Course StateFault)
+    → is_listing text ≡ true → course_of text ≡ l → OnOk result (HasOperations (IsListed l) first list)
+    → OnOk result (HasOperations (IsOperationOf text) first list)
+of_listing text l first list (Err fault) flagged is listed = tt
+of_listing text l first list (Ok counts) flagged is listed = λ j within.
+    let operation = get_or list j no_operation in
+    subst (λ b. IsOperationBy b text (first + j) operation) (sym flagged)
+    (subst (λ l. IsListed l (first + j) operation) (sym is ∙ list_course text flagged) (listed j within))
+
+pub of_scene : (text : List ℕ) (scene : SceneView) (first : ℕ) (list : List Operation) (result : Result Course StateFault)
+    → is_listing text ≡ false → scene ≡ scene_of (worded text) → OnOk result (HasOperations (IsPassed scene) first list)
+    → OnOk result (HasOperations (IsOperationOf text) first list)
+of_scene text scene first list (Err fault) flagged is passed = tt
+of_scene text scene first list (Ok counts) flagged is passed = λ j within.
+    let operation = get_or list j no_operation in
+    subst (λ b. IsOperationBy b text (first + j) operation) (sym flagged)
+    (subst (λ s. IsPassed s (first + j) operation) is (passed j within))

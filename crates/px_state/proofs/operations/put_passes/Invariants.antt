@@ -1,0 +1,20 @@
+use Rattle.std.proofs.Common.{◌≡◌, ◌-◌, length}
+use Rattle.px_playing.specs.PassesText.{passes_listing}
+use Rattle.px_sched.specs.Passes.{steps}
+use Rattle.px_sched.specs.StepCursors.{StandsAtStep}
+use Rattle.px_state.specs.Courses.{start_of}
+use Rattle.px_state.specs.Operations.{IsPassed, operations_before}
+use Rattle.px_state.specs.Putting.{IsPutTo}
+use Rattle.px_state.proofs.operations.put_passes.Given as goal
+
+abbrev pub decreases-loop-step : goal.decreases-loop-step
+decreases-loop-step l = length (steps l.scene) - l.cursor.given
+
+abbrev pub invariant-loop-step : goal.invariant-loop-step
+invariant-loop-step l = record {
+  stands : StandsAtStep l.scene l.cursor;
+  operation : l.begin.0 ≡ operations_before l.scene l.cursor.given;
+  clock : l.begin.1 ≡ start_of (passes_listing l.scene) l.begin.0;
+  put : IsPutTo (IsPassed l.scene) l.first l.begin.0 l.list;
+  same : length l.list ≡ length l.fn.list;
+}

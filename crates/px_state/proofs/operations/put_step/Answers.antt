@@ -1,0 +1,107 @@
+use Rattle.std.proofs.Common.{◌≡◌, ◌+◌, ◌<◌, length, refl, sym, subst, ap, ◌∙◌, arith}
+use Rattle.px_asm.specs.Micros.{cycles}
+use Rattle.px_playing.specs.PassesText.{passes_listing}
+use Rattle.px_sched.specs.Layouts.{layout_of}
+use Rattle.px_sched.specs.Passes.{operations}
+use Rattle.px_state.specs.Courses.{start_of}
+use Rattle.px_state.specs.Operations.{IsPassed, operations_before}
+use Rattle.px_state.specs.Putting.{IsPutTo}
+use Rattle.px_state.proofs.CourseLemmas.{begins, start_within}
+use Rattle.px_state.proofs.OperationLemmas.{before_more, before_within, found_here, is_passed, lawful_op, op_is, put_next}
+use Rattle.px_state.proofs.SceneLemmas.{same_total}
+use Rattle.px_state.proofs.operations.put_step.Goals as goal
+
+pub told-requires : goal.told-requires
+told-requires c =
+    lawful_op c.args.scene.now c.args.purpose.now.pass c.args.step c.requires.here c.args.layout.now c.loop-at.at
+    c.operation-m.result c.requires.layout
+    (omega (arith, c.loop-at-test.true, c.count-count.ensures.count (layout_of c.args.scene.now)))
+    c.operation-m.ensures c.laws_of_operations.ensures.more c.requires.good
+
+pub cycles-requires-clause-lawful : goal.cycles-requires-clause-lawful
+cycles-requires-clause-lawful c =
+    lawful_op c.args.scene.now c.args.purpose.now.pass c.args.step c.requires.here c.args.layout.now c.loop-at.at
+    c.operation-m.result c.requires.layout
+    (omega (arith, c.loop-at-test.true, c.count-count.ensures.count (layout_of c.args.scene.now)))
+    c.operation-m.ensures c.laws_of_operations.ensures.more c.requires.good
+
+pub overflow_add-operation : goal.overflow_add-operation
+overflow_add-operation c =
+    let scene = c.args.scene.now in
+    let pass = c.args.purpose.now.pass in
+    let size = c.count-count.ensures.count (layout_of scene) in
+    omega (
+      arith,
+      c.loop-at-test.true,
+      size,
+      c.requires.operation,
+      before_more scene pass c.args.step c.requires.here,
+      before_within scene (pass + 1),
+      c.requires.good.operations,
+      c.requires.good.clocks,
+    )
+
+pub overflow_add-clock : goal.overflow_add-clock
+overflow_add-clock c =
+    let scene = c.args.scene.now in
+    omega (
+      arith,
+      c.loop-at.invariant.clock,
+      start_within (passes_listing scene) (c.args.begin.0 + c.loop-at.at),
+      same_total scene,
+      c.requires.good.clocks,
+      c.from-clock.ensures,
+      c.cycles.ensures.few,
+    )
+
+pub loop-at-preserved : goal.loop-at-preserved
+loop-at-preserved c =
+    let scene = c.args.scene.now in
+    let l = passes_listing scene in
+    let pass = c.args.purpose.now.pass in
+    let at = c.loop-at.at in
+    let k = c.args.begin.0 + at in
+    let op = c.operation-m.result in
+    let before = c.loop-at.invariant in
+    let low : at < length (operations scene (layout_of scene) c.args.step) =
+    omega (arith, c.loop-at-test.true, c.count-count.ensures.count (layout_of scene)) in
+    let place : k ≡ operations_before scene pass + at = omega (arith, c.requires.operation) in
+    let is = op_is scene pass c.args.step c.requires.here c.args.layout.now at op c.requires.layout low c.operation-m.ensures in
+    let here =
+    found_here scene pass c.args.step c.requires.here c.args.layout.now at op c.requires.layout low c.operation-m.ensures k place in
+    let count : c.from-clock.result ≡ cycles op l.nx l.ny =
+    c.from-clock.ensures ∙ (rw (c.grid-nx.ensures.columns, c.grid-nx.ensures.rows) at c.cycles.ensures.value) in
+    let next : k + 1 ≡ c.args.begin.0 + (at + 1) = omega arith in
+    let passed = is_passed scene pass c.args.step c.requires.here at k c.loop-at.clock op c.args.purpose.now low place is
+    before.clock refl c.requires.purpose in
+    let made = c.put.ensures in
+    record {
+      clock = omega (arith, before.clock, count, begins l k op here, ap (start_of l) next);
+      put = subst (λ n. IsPutTo (IsPassed scene) c.args.first n c.put.new.list) next
+          (put_next (IsPassed scene) c.args.first k c.told.result c.loop-at.list c.put.new.list made.length made.put made.kept
+          before.put (subst (IsPassed scene k) (sym c.told.ensures) passed));
+      same = made.length ∙ before.same;
+    }
+
+pub overflow_add-result : goal.overflow_add-result
+overflow_add-result c =
+    let scene = c.args.scene.now in
+    let pass = c.args.purpose.now.pass in
+    omega (
+      arith,
+      c.count-count.ensures.count (layout_of scene),
+      c.requires.operation,
+      before_more scene pass c.args.step c.requires.here,
+      before_within scene (pass + 1),
+      c.requires.good.operations,
+      c.requires.good.clocks,
+    )
+
+pub returns-clause-operation : goal.returns-clause-operation
+returns-clause-operation c =
+    omega (
+      arith,
+      c.count-count.ensures.count (layout_of c.args.scene.now),
+      c.requires.operation,
+      before_more c.args.scene.now c.args.purpose.now.pass c.args.step c.requires.here,
+    )
