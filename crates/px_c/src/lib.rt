@@ -9,8 +9,10 @@ mod found;
 mod keys;
 mod micros;
 mod names;
+mod output;
 mod products;
 mod render;
+mod run;
 mod state;
 mod status;
 
@@ -22,4 +24,5 @@ pub use micros::pxplanes_micros;
 pub use names::{pxplanes_cause_name, pxplanes_kind_name, pxplanes_version};
 pub use products::pxplanes_products;
 pub use render::pxplanes_render;
+pub use run::pxplanes_run;
 pub use state::{State, pxplanes_state};

@@ -1,0 +1,18 @@
+-- The answer to a command that does not do its work. Only private functions stand on it.
+use Rattle.px_num.specs.Want.{want}
+use Rattle.px_show.specs.declared.fault.TextFault.TheVariants as f
+use Rattle.px_outcome.specs.declared.stop.Stop.{Stop}
+use Rattle.px_outcome.specs.declared.stop.Stop.TheVariants as s
+use Rattle.px_c.specs.declared.answer.Answer.{Answer}
+use Rattle.px_c.specs.declared.status.TheConstants.{USAGE}
+use Rattle.px_c.specs.Answers as text
+use Rattle.px_c.specs.Answers.{nothing}
+use Rattle.px_c.specs.RunAnswers.{refusal_answer}
+
+-- a fault of an output in memory is a want of memory
+abbrev pub stop_answer : Stop → Answer
+stop_answer s.Usage = record { status = USAGE; found = nothing }
+stop_answer (s.Refused reason) = refusal_answer reason
+stop_answer s.ReadFault = text.refused (f.Memory want)
+stop_answer s.WriteFault = text.refused (f.Memory want)
+stop_answer (s.Memory _) = text.refused (f.Memory want)
