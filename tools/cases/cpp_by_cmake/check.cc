@@ -135,6 +135,9 @@ void refuse()
     refusal("a side", [] { pxplanes::check(with(ramp, "12 2", "513 2")); });
     refusal("no end", [] { pxplanes::colour(with(ramp, "end\n", "")); });
     refusal("empty", [] { pxplanes::products({}); });
+    refusal("no command", [] { pxplanes::run(ramp, "tidy up"); });
+    refusal("a side of a run", [] { pxplanes::run(with(ramp, "12 2", "513 2"), "tidy"); });
+    refusal("a small output", [] { pxplanes::run(ramp, "tidy", nullptr, 0); });
     refusal("a small buffer", [&] { pxplanes::render(ramp, depths.data(), 24, faces.data(), 23); });
     refusal("a grid", [&] { pxplanes::clocks(words.data(), 3, 3, 2, nullptr, 0); });
     std::cout << "as they were: " << (depths == std::vector<std::uint32_t>(24, 77)) << (faces == std::vector<std::uint32_t>(23, 77))
@@ -196,6 +199,8 @@ void by_buffers()
     std::vector<std::int32_t> literals(3);
     const std::size_t size = pxplanes::count_words(16, 2);
     std::vector<std::uint64_t> words(size), later(size), micros(10);
+    const std::string tidied = pxplanes::run(ramp, "tidy");
+    std::vector<std::uint8_t> out(tidied.size() + 1, 77);
 #ifdef __cpp_lib_span
     pxplanes::render(ramp, std::span(depths), std::span(faces));
     pxplanes::colour(ramp, std::span(rgb));
@@ -204,6 +209,7 @@ void by_buffers()
     pxplanes::read_state(ramp, 60, std::span(later));
     pxplanes::micros(ramp, 50, std::span(micros));
     pxplanes::clocks(words, 16, 2, micros);
+    const std::size_t written = pxplanes::run(ramp, "tidy", std::span(out));
 #else
     pxplanes::render(ramp, depths.data(), 24, faces.data(), 24);
     pxplanes::colour(ramp, rgb.data(), 72);
@@ -212,11 +218,14 @@ void by_buffers()
     pxplanes::read_state(ramp, 60, later.data(), size);
     pxplanes::micros(ramp, 50, micros.data(), 10);
     pxplanes::clocks(words.data(), size, 16, 2, micros.data(), 10);
+    const std::size_t written = pxplanes::run(ramp, "tidy", out.data(), out.size());
 #endif
     const pxplanes::picture drawn = pxplanes::render(ramp);
     std::cout << "by buffers: " << (depths == drawn.depths) << (faces == drawn.faces) << (rgb == pxplanes::colour(ramp).rgb)
               << (literals == std::vector<std::int32_t>{1, -2, 0}) << (words == later)
-              << (later == pxplanes::state(ramp, 60).words()) << '\n';
+              << (later == pxplanes::state(ramp, 60).words()) << (written == tidied.size() && out.back() == 77)
+              << std::equal(tidied.begin(), tidied.end(), out.begin()) << (pxplanes::run(tidied, " tidy ") == tidied) << '\n'
+              << pxplanes::run(ramp, "cost") << "wide " << pxplanes::run(ramp, "tile 2000 700").size() << '\n';
 }
 
 }  // namespace
