@@ -1,4 +1,4 @@
--- The answer to a command that does not do its work. Only private functions stand on it.
+-- The answer to a command that does not do its work. Only proofs and private functions stand on it.
 use Rattle.px_num.specs.Want.{want}
 use Rattle.px_show.specs.declared.fault.TextFault.TheVariants as f
 use Rattle.px_outcome.specs.declared.stop.Stop.{Stop}
