@@ -1,4 +1,5 @@
 -- The answer to a command that does not do its work. Only proofs and private functions stand on it.
+use Rattle.std.specs.Prelude.{⊤}
 use Rattle.px_num.specs.Want.{want}
 use Rattle.px_show.specs.declared.fault.TextFault.TheVariants as f
 use Rattle.px_outcome.specs.declared.stop.Stop.{Stop}
@@ -9,10 +10,13 @@ use Rattle.px_c.specs.Answers as text
 use Rattle.px_c.specs.Answers.{nothing}
 use Rattle.px_c.specs.RunAnswers.{refusal_answer}
 
--- a fault of an output in memory is a want of memory
+-- no read and no write failed
+abbrev pub IsCalm : Stop → Type 0
+IsCalm s.ReadFault = ⊥
+IsCalm s.WriteFault = ⊥
+IsCalm stop = ⊤
+
 abbrev pub stop_answer : Stop → Answer
 stop_answer s.Usage = record { status = USAGE; found = nothing }
 stop_answer (s.Refused reason) = refusal_answer reason
-stop_answer s.ReadFault = text.refused (f.Memory want)
-stop_answer s.WriteFault = text.refused (f.Memory want)
-stop_answer (s.Memory _) = text.refused (f.Memory want)
+stop_answer stop = text.refused (f.Memory want)

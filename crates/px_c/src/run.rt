@@ -8,19 +8,18 @@ ghost use Rattle.px_draw.specs.Runs.{commanded};
 ghost use Rattle.px_c.specs.Answers.{Answers, Tells};
 ghost use Rattle.px_c.specs.Buffers.{HoldsBytes};
 ghost use Rattle.px_c.specs.RunAnswers.{bytes_answer, outcome_answer, outcome_of, refusal_answer, run_answer, run_outcome};
-ghost use Rattle.px_c.specs.RunStops.{stop_answer};
+ghost use Rattle.px_c.specs.RunStops.{IsCalm, stop_answer};
 ghost use Rattle.px_c.specs.declared.status.TheConstants.{OK};
 
-use crate::answer::Answer;
+use crate::answer::{Answer, refused};
+use crate::ends::{Lent, Output};
 use crate::found::{Found, cause_number, limit_number, nothing};
-use crate::output::Output;
-use crate::status::{BITS, LIMIT, MALFORMED, MEMORY, NO_ROOM, OK, USAGE, WIDE_BITS};
-use px_asm::Operating;
+use crate::status::{BITS, LIMIT, MALFORMED, NO_ROOM, OK, USAGE, WIDE_BITS};
 use px_command::{Command, command_in};
 use px_draw::perform;
-use px_io::StdSource;
 use px_outcome::{Refusal, Stop};
 use px_planes::PlaneArray;
+use px_scene::SceneFault;
 use std::alloc::Global;
 
 /// Does what a command's words ask with a text, as the program does with its standard input, and writes to the
@@ -61,6 +60,7 @@ fn output_of(alloc: Global, text: &[u8], command: Option<Command>) -> Result<Vec
     requires lawful { IfSome command HasLawfulNumbers }
     ensures ok { IfOk result (λ bytes. outcome_of command text.now ≡ done bytes.items) }
     ensures err { IfErr result (λ stop. Meets (Err stop) (outcome_of command text.now)) }
+    ensures calm { IfErr result IsCalm }
 {
     match command {
         Some(Command::Shadow) => output_on::<WIDE_BITS>(alloc, text, command),
@@ -80,12 +80,13 @@ fn output_on<const N: usize>(
     requires lawful { IfSome command HasLawfulNumbers }
     ensures ok { IfOk result (λ bytes. commanded command text.now N ≡ done bytes.items) }
     ensures err { IfErr result (λ stop. Meets (Err stop) (commanded command text.now N)) }
+    ensures calm { IfErr result IsCalm }
 {
     let mut array = PlaneArray::<N>::new(alloc);
     let mut out = Output::new(alloc);
-    match perform(alloc, command, &mut StdSource::new(text), &mut out, &mut array) {
+    match perform(alloc, command, &mut Lent::new(text), &mut out, &mut array) {
         Ok(()) => Ok(out.into_bytes()),
-        Err(stop) => Err(stop),
+        Err(stop) => Err(out.stop_of(stop)),
     }
 }
 
@@ -110,9 +111,9 @@ fn handed_over(bytes: &[u8], out: &mut [u8]) -> Answer
     Answer { status: OK, found }
 }
 
-/// The answer where a command does not do its work. An output in memory has a fault only where memory is wanted, and
-/// an input in memory has none.
+/// The answer where a command does not do its work.
 fn stopped(stop: Stop) -> Answer
+    requires { IsCalm stop }
     ensures answer { result ≡ stop_answer stop }
     ensures refused { result.status ≡ OK → ⊥ }
 {
@@ -122,10 +123,8 @@ fn stopped(stop: Stop) -> Answer
             found: nothing(),
         },
         Stop::Refused(reason) => refused_by(reason),
-        Stop::ReadFault | Stop::WriteFault | Stop::Memory(_) => Answer {
-            status: MEMORY,
-            found: nothing(),
-        },
+        Stop::ReadFault | Stop::WriteFault => unreachable!(),
+        Stop::Memory(lack) => refused(SceneFault::Memory(lack)),
     }
 }
 
