@@ -1,33 +1,31 @@
 -- What a command comes to, as an answer.
 use Rattle.std.proofs.Common.{ℕ, ◌≡◌, ◌∙◌, inl, inr, List, [], length, Bool, true, false, Option, Some, None, Ok, Err, refl, ap, sym, subst}
-use Rattle.std.proofs.Common.{if◌then◌else◌}
+use Rattle.std.proofs.Common.{if◌then◌else◌, ◌&&◌, not, nat_lt}
 use Rattle.std.specs.Io.KnownBytes.{Appends}
 use Rattle.px_command.specs.declared.command.Command.{Command}
 use Rattle.px_command.specs.declared.command.Command.TheVariants as c
-use Rattle.px_session.specs.Sessions.{answers, until_quit}
-use Rattle.px_debug_run.specs.Debugs.{admitted, all_commands, answered, debugged, session_of}
+use Rattle.px_prune.specs.Kept.{crowd_of}
+use Rattle.px_sched.specs.Layouts.{layout_of, need_of}
+use Rattle.px_session.specs.Sessions.{answers, has_quit, until_quit}
+use Rattle.px_debug_run.specs.Debugs.{admitted, all_commands, answered, debugged, has_part, scene_part_of, scene_written, session_of, whole_commands}
 use Rattle.px_outcome.specs.declared.refusal.Refusal.{Refusal}
 use Rattle.px_outcome.specs.declared.stop.Stop.{Stop}
 use Rattle.px_outcome.specs.declared.stop.Stop.TheVariants as s
 use Rattle.px_outcome.specs.Ends.{Ends, Input}
 use Rattle.px_outcome.specs.Outcomes.{Outcome, cut, done, output, refused, refused_past, unless_refused, usage}
-use Rattle.px_outcome.specs.Refusals.{short_of_bits, too_long}
+use Rattle.px_outcome.specs.Refusals.{is_long, short_of_bits, text_refusal, too_long}
 use Rattle.px_outcome.specs.Results.{Meets}
 use Rattle.px_draw.specs.Runs.{Leaves, Performs, commanded}
 use Rattle.px_c.specs.declared.answer.Answer.{Answer}
 use Rattle.px_c.specs.Answers.{Answers}
-use Rattle.px_c.specs.RunAnswers.{bytes_answer, outcome_answer}
+use Rattle.px_c.specs.RunAnswers.{bytes_answer, outcome_answer, refusal_answer}
 use Rattle.px_c.specs.RunStops.{stop_answer}
 
 -- what a session answers where nothing is refused
-sitting : (early late short : Bool) → (why : Option Refusal) → (need : ℕ) → (crowd : Option ℕ) → (front whole : List ℕ) → Outcome
-sitting early late short why need crowd front whole =
-    if early then refused too_long
-    else unless_refused why (if short then refused (short_of_bits need)
-        else refused_past crowd (if late then cut front too_long else done whole))
-
 sitting_whole : (early late short : Bool) (why : Option Refusal) (need : ℕ) (crowd : Option ℕ) (front whole bytes : List ℕ)
-    → sitting early late short why need crowd front whole ≡ done bytes → whole ≡ bytes
+    → (if early then refused too_long
+    else unless_refused why (if short then refused (short_of_bits need)
+    else refused_past crowd (if late then cut front too_long else done whole))) ≡ done bytes → whole ≡ bytes
 sitting_whole true late short why need crowd front whole bytes is = absurd cc
 sitting_whole false late short (Some reason) need crowd front whole bytes is = absurd cc
 sitting_whole false late true None need crowd front whole bytes is = absurd cc
@@ -38,7 +36,12 @@ sitting_whole false false false None need None front whole bytes is = cc
 debugged_whole : (bits : ℕ) (text bytes : List ℕ) → debugged text bits ≡ done bytes
     → answers bits (session_of text) (until_quit (all_commands text)) ≡ bytes
 unfolding debugged admitted answered
-debugged_whole bits text bytes is = sitting_whole _ _ _ _ _ _ _ _ bytes is
+debugged_whole bits text bytes is =
+    let scene = scene_written (scene_part_of text) in
+    let need = need_of (layout_of scene) in
+    sitting_whole (is_long text && not (has_part text)) (is_long text && not (has_quit (whole_commands text))) (nat_lt bits need)
+    (text_refusal (scene_part_of text)) need (crowd_of scene) (answers bits (session_of text) (whole_commands text))
+    (answers bits (session_of text) (until_quit (all_commands text))) bytes is
 
 -- with Ok the output gained what the command answers
 gains : (command : Option Command) (bits : ℕ) (u : Unit {0}) (input : Input) (before after : Ends)
@@ -77,8 +80,10 @@ answers_done room o bytes answer is same = rw is (inl same)
 pub answers_stop : (room : ℕ) (o : Outcome) (stop : Stop) → Meets (Err stop) o → Answers (outcome_answer room o) (stop_answer stop)
 answers_stop room o s.Usage meets = rw meets (inl refl)
 answers_stop room usage (s.Refused reason) meets = absurd cc
-answers_stop room (refused why) (s.Refused reason) meets = cc
-answers_stop room (cut bytes why) (s.Refused reason) meets = cc
+answers_stop room (refused why) (s.Refused reason) meets =
+    let is : reason ≡ why = cc in inl (ap refusal_answer is)
+answers_stop room (cut bytes why) (s.Refused reason) meets =
+    let is : reason ≡ why = cc in inl (ap refusal_answer is)
 answers_stop room (done bytes) (s.Refused reason) meets = absurd cc
 answers_stop room o s.ReadFault meets = inr refl
 answers_stop room o s.WriteFault meets = inr refl

@@ -1,4 +1,5 @@
-use Rattle.std.proofs.Common.{refl}
+use Rattle.std.proofs.Common.{◌≡◌, Some, refl}
+use Rattle.px_command.specs.declared.command.Command.TheVariants as command
 use Rattle.px_draw.proofs.RunLemmas.{performs_usage, performs_sample}
 use Rattle.px_draw.proofs.running.perform.Goals as goal
 
@@ -7,4 +8,5 @@ returns-in-None-clause-performs g c = performs_usage _ _ _ c.in-None.is
 
 pub returns-in-Some-Sample-clause-performs : goal.returns-in-Some-Sample-clause-performs
 returns-in-Some-Sample-clause-performs g c =
-    performs_sample _ _ c.in-Some-Sample.n _ _ _ cc refl c.draw_sample.ensures.serves c.draw_sample.ensures.array
+    let is : c.args.command ≡ Some (command.Sample c.in-Some-Sample.n) = cc in
+    performs_sample _ _ c.in-Some-Sample.n _ _ _ is refl c.draw_sample.ensures.serves c.draw_sample.ensures.array
