@@ -10,8 +10,8 @@
  * one byte less, one more and none, and with each allocation refused in turn (some of the later ones). A run may want no more
  * bytes at once than its text, its output and its array explain. Prints a line for each difference, and last how much was compared.
  */
-#include <time.h>
 #include "watched.h"
+#include <time.h>
 
 #define SHORT 0.1
 
