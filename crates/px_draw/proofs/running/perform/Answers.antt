@@ -1,5 +1,4 @@
-use Rattle.std.proofs.Common.{◌≡◌, Some, refl}
-use Rattle.px_command.specs.declared.command.Command.TheVariants as command
+use Rattle.std.proofs.Common.{refl}
 use Rattle.px_draw.proofs.RunLemmas.{performs_usage, performs_sample}
 use Rattle.px_draw.proofs.running.perform.Goals as goal
 
@@ -8,5 +7,5 @@ returns-in-None-clause-performs g c = performs_usage _ _ _ c.in-None.is
 
 pub returns-in-Some-Sample-clause-performs : goal.returns-in-Some-Sample-clause-performs
 returns-in-Some-Sample-clause-performs g c =
-    let is : c.args.command ≡ Some (command.Sample c.in-Some-Sample.n) = cc in
-    performs_sample _ _ c.in-Some-Sample.n _ _ _ is refl c.draw_sample.ensures.serves c.draw_sample.ensures.array
+    let is = rw c.in-Some-Sample.field-0-is at c.in-Some-Sample.is in
+    performs_sample _ _ _ _ _ _ is refl c.draw_sample.ensures.serves c.draw_sample.ensures.array
