@@ -137,7 +137,6 @@ void refuse()
     refusal("empty", [] { pxplanes::products({}); });
     refusal("no command", [] { pxplanes::run(ramp, "tidy up"); });
     refusal("a side of a run", [] { pxplanes::run(with(ramp, "12 2", "513 2"), "tidy"); });
-    refusal("a small output", [] { pxplanes::run(ramp, "tidy", nullptr, 0); });
     refusal("a small buffer", [&] { pxplanes::render(ramp, depths.data(), 24, faces.data(), 23); });
     refusal("a grid", [&] { pxplanes::clocks(words.data(), 3, 3, 2, nullptr, 0); });
     std::cout << "as they were: " << (depths == std::vector<std::uint32_t>(24, 77)) << (faces == std::vector<std::uint32_t>(23, 77))
@@ -191,6 +190,25 @@ void step()
     std::cout << "past the last clock: " << past << " refused\n";
 }
 
+// What `cost` writes.
+std::string cost_text(const pxplanes::cost &cost)
+{
+    return "macros " + std::to_string(cost.operations) + "\nclocks " + std::to_string(cost.clocks) + "\n";
+}
+
+// Whether a buffer with a byte too few is refused, with how many are due, and left as it was.
+bool is_short(const std::string &tidied)
+{
+    std::vector<std::uint8_t> out(tidied.size() - 1, 77);
+    try {
+        pxplanes::run(ramp, "tidy", out.data(), out.size());
+    } catch (const pxplanes::refused &why) {
+        return why.status() == PXPLANES_NO_ROOM && why.found().room == tidied.size()
+            && out == std::vector<std::uint8_t>(out.size(), 77);
+    }
+    return false;
+}
+
 // The same by spans, where they are there; and by pointers else.
 void by_buffers()
 {
@@ -225,7 +243,8 @@ void by_buffers()
               << (literals == std::vector<std::int32_t>{1, -2, 0}) << (words == later)
               << (later == pxplanes::state(ramp, 60).words()) << (written == tidied.size() && out.back() == 77)
               << std::equal(tidied.begin(), tidied.end(), out.begin()) << (pxplanes::run(tidied, " tidy ") == tidied) << '\n'
-              << pxplanes::run(ramp, "cost") << "wide " << pxplanes::run(ramp, "tile 2000 700").size() << '\n';
+              << "as check says " << (pxplanes::run(ramp, "cost") == cost_text(pxplanes::check(ramp))) << ", short of room "
+              << is_short(tidied) << ", wide " << pxplanes::run(with(ramp, "12 2", "512 512"), "tile 600 600").size() << '\n';
 }
 
 }  // namespace
