@@ -108,7 +108,7 @@ impl Output {
 }
 
 impl Sink for Output {
-    ghost state = { λ o. o };
+    ghost state = { λ o. record { written = o.written; finished = None; faults = o.faults } };
 
     fn write(&mut self, buf: &[u8]) -> Result<usize, Failed> {
         match self.bytes.extend_from_slice(buf) {

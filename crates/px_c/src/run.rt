@@ -69,7 +69,7 @@ fn output_of(alloc: Global, text: &[u8], command: Option<Command>) -> Result<Vec
 }
 
 /// The same on a new array with N bits a pixel.
-#[tactic(auto, using(crate::proofs::RunLemmas::comes_whole, crate::proofs::RunLemmas::comes_not))]
+#[tactic(auto, using(crate::proofs::RunLemmas::comes_not))]
 fn output_on<const N: usize>(
     alloc: Global,
     text: &[u8],
