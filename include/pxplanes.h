@@ -5,8 +5,8 @@
  * belongs to the shown expression, and the number of the face that shows there (docs/PICTURE.md). These calls
  * read a scene and give its size, its cost, its picture, its colours, or the products that are drawn; and, of a
  * scene or of a listing of operations (docs/LISTINGS.md), the machine after any number of clocks, what is
- * broadcast to it, and what each operation is for; and they make clocks of a state (docs/MACHINE.md). What each
- * answers is proved (docs/PROMISES.md).
+ * broadcast to it, and what each operation is for; they make clocks of a state (docs/MACHINE.md); and one does what any
+ * command of the program does. What each answers is proved (docs/PROMISES.md).
  *
  * A whole program:
  *
@@ -76,10 +76,11 @@ extern "C" {
 
 /* How a call ends; the numbers are the program's own, where it has them. */
 #define PXPLANES_OK 0        /* what was asked is in the buffers */
+#define PXPLANES_USAGE 2     /* the words name no command */
 #define PXPLANES_MALFORMED 3 /* no scene, or no listing: found.line is the first bad line, found.cause says why */
 #define PXPLANES_LIMIT 4     /* a limit is passed: found.kind, found.number and found.line say which, how many, where */
 #define PXPLANES_MEMORY 7    /* malloc or realloc gave no memory */
-#define PXPLANES_NO_ROOM 8   /* a buffer is too small: found.room is how many elements it needs. Nothing was drawn */
+#define PXPLANES_NO_ROOM 8   /* a buffer is too small: found.room is how many elements it needs. Nothing is written */
 #define PXPLANES_NO_CLOCK 9  /* what is asked lies past the last clock: found.clocks is how many there are */
 #define PXPLANES_NO_GRID 10  /* a grid has not so many columns or rows */
 #define PXPLANES_NO_MICRO 11 /* a word packs no microinstruction: found.number is its index */
@@ -116,6 +117,12 @@ extern "C" {
  *   NO_GRID    (none)
  *   NO_ROOM    room
  *   NO_MICRO   number
+ *
+ * Of pxplanes_run:
+ *
+ *   OK         room, the bytes that were written
+ *   NO_ROOM    room
+ *   USAGE      (none)
  */
 struct pxplanes_found {
     uint32_t width;      /* columns of the picture, 1 to 512 */
@@ -298,6 +305,28 @@ uint32_t pxplanes_course(const uint8_t *text, size_t text_len, uint64_t first, s
  */
 uint32_t pxplanes_clocks(uint64_t *words, size_t words_len, uint32_t grid_width, uint32_t grid_height,
                          const uint64_t *micros, size_t micros_len, struct pxplanes_found *found);
+
+/*
+ * Runs the program: does what its words ask (docs/SCENES.md, "Commands") with a text in place of its standard input, and
+ * writes what it writes to its standard output, byte for byte.
+ *
+ * words: those of a command with spaces between them, as "tidy", "tile 1024 768", "refine 2", "shadow", "list", "play",
+ *        "sample 20", or "debug" with its lines behind the scene (docs/DEBUGGER.md). No words are those of "render".
+ * out:   the bytes of the output, found.room of them, from the front on.
+ *
+ * The text is refused as by the program: with MALFORMED and LIMIT found is what its note tells, and with USAGE the
+ * words name no command. `debug` is past a LIMIT where its lines are, though the program answers those before: then
+ * nothing is written. NO_ROOM is answered behind the work, which is then done for nothing: so give room enough where it is
+ * known, as for an image of P6, 3 bytes a pixel and 20. `render` and `tile` write two of them, `colour`, `refine` and `shadow` one.
+ *
+ *     struct pxplanes_found found;
+ *     size_t room = 1 << 20;
+ *     uint8_t *tidied = malloc(room);
+ *     if (tidied != NULL && pxplanes_run(text, text_len, (const uint8_t *) "tidy", 4, tidied, room, &found) == PXPLANES_OK)
+ *         fwrite(tidied, 1, (size_t) found.room, stdout);
+ */
+uint32_t pxplanes_run(const uint8_t *text, size_t text_len, const uint8_t *words, size_t words_len, uint8_t *out,
+                      size_t out_len, struct pxplanes_found *found);
 
 /*
  * The word of found.cause, as "unexpected"; of found.kind, as "solids"; and the version of the library, as

@@ -68,6 +68,8 @@ inline std::string note_of(std::uint32_t status, const pxplanes_found &found)
         return "malformed line " + std::to_string(found.line) + ": " + cause_name(found.cause);
     case PXPLANES_LIMIT:
         return "limit line " + std::to_string(found.line) + ": " + kind_name(found.kind) + " " + std::to_string(found.number);
+    case PXPLANES_USAGE:
+        return "the words name no command";
     case PXPLANES_NO_ROOM:
         return "a buffer is too small: it needs " + std::to_string(found.room) + " elements";
     case PXPLANES_NO_CLOCK:
@@ -269,6 +271,30 @@ inline std::vector<std::vector<std::int32_t>> products(std::string_view text)
     return rows;
 }
 
+/* Writes what the program writes for a command's words, as "tidy", to a buffer of the caller's, and gives how many bytes: pxplanes_run. */
+inline std::size_t run(std::string_view text, std::string_view words, std::uint8_t *out, std::size_t out_size)
+{
+    pxplanes_found found{};
+    detail::need(pxplanes_run(detail::bytes_of(text), text.size(), detail::bytes_of(words), words.size(), out, out_size, &found), found);
+    return detail::size_of(found.room);
+}
+
+/* The same as a value; a longer output than two MiB is made twice. */
+inline std::string run(std::string_view text, std::string_view words)
+{
+    std::string out(std::size_t{1} << 21, '\0');
+    std::uint32_t status = PXPLANES_NO_ROOM;
+    pxplanes_found found{};
+    while (status == PXPLANES_NO_ROOM) {
+        status = pxplanes_run(detail::bytes_of(text), text.size(), detail::bytes_of(words), words.size(),
+                              reinterpret_cast<std::uint8_t *>(&out[0]), out.size(), &found);
+        if (status == PXPLANES_OK || status == PXPLANES_NO_ROOM)
+            out.resize(detail::size_of(found.room));
+    }
+    detail::need(status, found);
+    return out;
+}
+
 /* Writes a state of the machine to words of the caller's: pxplanes_state. */
 inline pxplanes_moment read_state(std::string_view text, std::uint64_t clock, std::uint64_t *words, std::size_t words_size)
 {
@@ -441,6 +467,11 @@ inline cost colour(std::string_view text, std::span<std::uint8_t> rgb)
 inline void products(std::string_view text, std::span<std::int32_t> literals)
 {
     products(text, literals.data(), literals.size());
+}
+
+inline std::size_t run(std::string_view text, std::string_view words, std::span<std::uint8_t> out)
+{
+    return run(text, words, out.data(), out.size());
 }
 
 inline pxplanes_moment read_state(std::string_view text, std::uint64_t clock, std::span<std::uint64_t> words)

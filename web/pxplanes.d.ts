@@ -3,7 +3,7 @@ export type Text = string | Uint8Array;
 
 /** Why a text is refused, or a call not answered; the message is the program's note. */
 export class Refused extends Error {
-  /** As the program ends: 3 no scene or listing, 4 past a limit, 7 no memory; 9 a clock past the last, 10 no such grid, 11 no microinstruction, 12 an operation past the last. */
+  /** As the program ends: 2 words that name no command, 3 no scene or listing, 4 past a limit, 7 no memory; 9 a clock past the last, 10 no such grid, 11 no microinstruction, 12 an operation past the last. */
   readonly status: number;
   /** The first bad line, counted from 1; 0 where the refusal is of no line. */
   readonly line: number;
@@ -129,6 +129,8 @@ export class Library {
   state(text: Text, clock: number): State;
   micros(text: Text, first: number, count: number): Micro[];
   packed(text: Text, first: number, count: number): BigUint64Array;
+  /** What the program writes for a command's words, as "tidy" or "tile 600 400", with the text as its standard input. */
+  run(text: Text, words?: string): Uint8Array;
   /** The words of the state behind some microinstructions, as `packed` gives them or of one's own. */
   clocks(state: Pick<State, "words" | "width" | "height">, packed: BigUint64Array): Uint32Array;
   machine(text: Text, starts?: readonly number[] | null): Machine;

@@ -6,8 +6,8 @@
 //
 // A text is a string or bytes. What is not accepted is thrown as `Refused`. docs/LIBRARY.md has each call.
 
-const STATUS = {ok: 0, malformed: 3, limit: 4, memory: 7, room: 8, clock: 9, grid: 10, micro: 11, operation: 12};
-const FOUND = 56, STATE = 64, WORD = 16, MICRO = 8, OPERATION = 88;
+const STATUS = {ok: 0, usage: 2, malformed: 3, limit: 4, memory: 7, room: 8, clock: 9, grid: 10, micro: 11, operation: 12};
+const FOUND = 56, STATE = 64, WORD = 16, MICRO = 8, OPERATION = 88, ROOM = 1 << 21;
 // A module with a memory of 64-bit places, and nothing else.
 const WIDE = Uint8Array.of(0, 97, 115, 109, 1, 0, 0, 0, 5, 3, 1, 4, 1);
 const ACTS = ["", "nop", "enable-all", "enable-carry", "enable-tree", "enable-bit", "set-carry", "fetch", "store-tree", "store-latch",
@@ -124,6 +124,22 @@ export class Library {
     }, [first]);
   }
 
+  // The bytes that the program writes for a command's words, as "tile 600 400", with the text as its standard input.
+  run(text, words = "render") {
+    const bytes = bytesOf(text), asked = bytesOf(words);
+    for (let room = ROOM; ;) {
+      const {status, told, output} = this.#with([bytes.length, asked.length, room, FOUND], ([text, words, out, found]) => {
+        this.#put(text, bytes);
+        this.#put(words, asked);
+        const status = this.#calls.pxplanes_run(...[text, bytes.length, words, asked.length, out, room, found].map(BigInt)), told = this.#found(found);
+        return {status, told, output: status === STATUS.ok ? this.#copy(Uint8Array, out, told.room) : null};
+      });
+      if (output) return output;
+      if (status !== STATUS.room) throw this.#refusal(status, told);
+      room = told.room;
+    }
+  }
+
   // The words of the state behind some packed microinstructions, of a state or of what has its words, width and height.
   clocks({words, width, height}, packed) {
     const {pxplanes_clocks: call} = this.#calls, half = words.byteLength / 8;
@@ -213,6 +229,7 @@ export class Library {
       const kind = word(this.#calls.pxplanes_kind_name, found.kind);
       return new Refused(`limit line ${line}: ${kind} ${number}`, status, {line, kind, number});
     }
+    if (status === STATUS.usage) return new Refused("the words name no command", status);
     if (status === STATUS.clock) return new Refused(`there are ${clocks} clocks`, status, {clocks});
     if (status === STATUS.operation) return new Refused(`there are ${operations} operations`, status, {operations});
     if (status === STATUS.grid) return new Refused("a grid has not so many columns or rows", status);

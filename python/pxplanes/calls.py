@@ -8,10 +8,10 @@ from ctypes import POINTER, c_char_p, c_int64, c_size_t, c_uint32, c_uint64, c_v
 from typing import Any, Union
 
 from .arrays import Buffer
-from .errors import Limit, Malformed, NoClock, NoLibrary, NoMicro, NoOperation
+from .errors import Limit, Malformed, NoClock, NoCommand, NoLibrary, NoMicro, NoOperation
 from .finding import loaded
 
-OK, MALFORMED, LIMIT, MEMORY, NO_ROOM, NO_CLOCK, NO_GRID, NO_MICRO, NO_OPERATION = 0, 3, 4, 7, 8, 9, 10, 11, 12
+OK, USAGE, MALFORMED, LIMIT, MEMORY, NO_ROOM, NO_CLOCK, NO_GRID, NO_MICRO, NO_OPERATION = 0, 2, 3, 4, 7, 8, 9, 10, 11, 12
 LONGEST_NAME = 64
 
 Text = Union[str, bytes, bytearray, memoryview]
@@ -44,7 +44,7 @@ FOUND: list[Any] = [POINTER(Found)]
 CALLS: dict[str, list[Any]] = {"check": TEXT + FOUND, "render": TEXT + LIST + LIST + FOUND, "colour": TEXT + LIST + FOUND,
          "products": TEXT + LIST + FOUND, "state": TEXT + [c_uint64] + LIST + [POINTER(FoundState)] + FOUND,
          "micros": TEXT + [c_uint64] + LIST + FOUND, "course": TEXT + [c_uint64] + LIST + FOUND,
-         "clocks": LIST + [c_uint32] * 2 + LIST + FOUND}
+         "clocks": LIST + [c_uint32] * 2 + LIST + FOUND, "run": TEXT + TEXT + LIST + FOUND}
 NAMES: dict[str, list[Any]] = {"cause_name": [c_uint32] + LIST, "kind_name": [c_uint32] + LIST, "version": LIST}
 
 library = functools.lru_cache(maxsize=None)(loaded)
@@ -110,6 +110,8 @@ def judged(status: int, found: Found) -> tuple[int, Found]:
 
 def refusal(status: int, found: Found) -> Exception:
     """The error of a status."""
+    if status == USAGE:
+        return NoCommand()
     if status == MALFORMED:
         return Malformed(found.line, word_of("cause_name", found.cause))
     if status == LIMIT:

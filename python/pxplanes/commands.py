@@ -1,11 +1,13 @@
-"""What the commands tidy, tile, refine, shadow, list and play of the program answer, made of the library's calls.
+"""What the commands tidy, tile, refine, shadow, list and play of the program answer.
 
-The library judges each text, and draws; what is done here in Python is to write texts, to lay tiles together, to take means, and
-to ask whether a cell is inside a solid. Refusals are those of the commands."""
+They are what the library's `run` writes. Where a budget of clocks is asked, or progress, tile, refine and shadow are made of single
+pictures: the library judges each text, and draws; what is done here in Python is to write texts, to lay tiles together, to take means,
+and to ask whether a cell is inside a solid. Refusals are those of the commands."""
 from __future__ import annotations
 
 import array
 import operator
+import re
 from typing import Any, Iterator, NamedTuple, Optional
 
 from .apart import Progress
@@ -14,10 +16,12 @@ from .calls import Text, asked, content
 from .errors import Limit, Malformed, OverBudget
 from .machine import State, clocks_of, state
 from .pictures import Picture, check, colour, products, render
+from .running import colours, maps_of, numbers, ran, run, work_of
 from .shared import module
 
 MOST_LIGHTS, BITS_OF_SHADOWS = 8, 80
-FACTORS = (2, 4)
+FACTORS, WIDEST = (2, 4), 4096
+END = re.compile(rb"^[ \t\r]*end[ \t\r]*(#.*)?(\n|\Z)", re.MULTILINE)
 
 
 def scene_of(text: Text) -> Any:
@@ -34,7 +38,7 @@ def tidy(text: Text) -> str:
     """The canonical text of a scene (docs/SCENES.md, "Canonical text").
 
     Raises `Malformed` and `Limit` by a bad line alone: not where the whole needs too much memory, or has too many products."""
-    return str(module("texts").text_of(scene_of(text)))
+    return run(text, "tidy").decode("ascii")
 
 
 def tile(text: Text, width: int, height: int, clocks: Optional[int] = None, progress: Optional[Progress] = None) -> Picture:
@@ -44,9 +48,10 @@ def tile(text: Text, width: int, height: int, clocks: Optional[int] = None, prog
     Raises, before anything is drawn, as `check` does of any tile, `Limit` of `tiles`, and `OverBudget` where all tiles together
     take more than so many clocks. `progress` is as in `render`, with the seconds of the tile that is drawn."""
     width, height = operator.index(width), operator.index(height)
-    most = module("limits").MAX_WIDE_PICTURE_SIZE
-    if not (1 <= width <= most and 1 <= height <= most):
-        raise ValueError("a wide picture has 1 to %d columns and rows, and not %d by %d" % (most, width, height))
+    if not (1 <= width <= WIDEST and 1 <= height <= WIDEST):
+        raise ValueError("a wide picture has 1 to %d columns and rows, and not %d by %d" % (WIDEST, width, height))
+    if clocks is None and progress is None:
+        return tiled(text, width, height)
     scene = scene_of(text)
     count = -(-width // scene.width) * -(-height // scene.height)
     if count > module("limits").MAX_TILES:
@@ -57,6 +62,15 @@ def tile(text: Text, width: int, height: int, clocks: Optional[int] = None, prog
     for each in tiles:
         put(each, render(each.text, progress=progress), width, depths, faces)
     return Picture(depths.shaped(height, width), faces.shaped(height, width), width, height)
+
+
+def tiled(text: Text, width: int, height: int) -> Picture:
+    """The same by the command."""
+    clocks, pixels = work_of(text)
+    tiles = -(-width * height // pixels) if pixels else 0
+    maps = maps_of(ran(text, "tile %d %d" % (width, height), 2 * (3 * width * height + 20), (tiles * clocks, pixels)))
+    depths, faces = (numbers(*each) for each in maps)
+    return Picture(depths, faces, width, height)
 
 
 class Tile(NamedTuple):
@@ -107,6 +121,8 @@ def refine(text: Text, factor: int, clocks: Optional[int] = None, progress: Opti
     Raises `Limit` where there is no finer scene, and as `colour` does of that."""
     if operator.index(factor) not in FACTORS:
         raise ValueError("a picture is refined by 2 or 4, and not by %d" % factor)
+    if clocks is None and progress is None:
+        return colours(*maps_of(ran(text, "refine %d" % factor, work=work_of(text, 2, factor ** 2)))[0])
     scene = scene_of(text)
     finer = module("texts").finer(scene, operator.index(factor))
     need_finer(finer)
@@ -145,6 +161,8 @@ def shadow(text: Text, clocks: Optional[int] = None, progress: Optional[Progress
     Raises as the command refuses; `clocks` and `progress` are as in `render`, and count the scene's own passes. A scene that needs more
     than 72 bits is not drawn but met by rays, which takes some seconds and has neither."""
     data = content(text)
+    if clocks is None and progress is None:
+        return numbers(*maps_of(ran(text, "shadow", work=work_of(scene_part(data), 2)))[0])
     if len(data) > module("limits").MAX_TEXT_BYTES:
         asked("check", data)
     front, behind = module("sessions").parted(data)
@@ -156,6 +174,12 @@ def shadow(text: Text, clocks: Optional[int] = None, progress: Optional[Progress
     lit = Buffer("I", scene.width * scene.height)
     memoryview(lit.room or b"").cast("B").cast("I")[:] = lit_of(scene, lights, depths_of(scene, front, clocks, progress))
     return lit.shaped(scene.height, scene.width)
+
+
+def scene_part(text: bytes) -> bytes:
+    """The lines up to the first whose one word is `end`."""
+    end = END.search(text)
+    return text[:end.end()] if end else text
 
 
 def lights_of(scene: Any, lines: list[bytes], first: int) -> list[list[Any]]:
@@ -211,12 +235,7 @@ def is_inside(solid: Any, value: int, x: int, y: int) -> bool:
 
 def listing(text: Text) -> str:
     """The listing of a scene's passes (docs/LISTINGS.md). Raises as `check` does."""
-    cost = check(text)
-    passes = module("passes")
-    lines = ["pxlist 1", "grid %d %d" % tuple(max(1, (side - 1).bit_length()) for side in (cost.width, cost.height))]
-    for _, name, numbers, _ in passes.operations(scene_of(text), products(text))[0]:
-        lines.append(passes.line(name, numbers))
-    return "\n".join(lines + ["end", ""])
+    return run(text, "list").decode("ascii")
 
 
 def play(text: Text) -> State:

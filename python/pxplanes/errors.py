@@ -8,9 +8,27 @@ class NoLibrary(OSError):
 
 class Refused(ValueError):
     """A text is not accepted. `line` is the first bad line, counted from 1, and 0 where it has none; `str` of it is the
-    program's own note, as `malformed line 7: unknown-name`."""
+    program's own note, as `malformed line 7: unknown-name`. The program ends with `status` for it, and writes `said` to its standard
+    error."""
 
-    line: int
+    line = 0
+    status: int
+
+    @property
+    def said(self) -> str:
+        return "%s\n" % self
+
+
+class NoCommand(Refused):
+    """Words that name no command of the program."""
+
+    status = 2
+
+    def __init__(self) -> None:
+        super().__init__("usage: pxplanes [render|colour|tidy|plan|cost|debug|sample N|shadow|tile W H|refine K|list|play]")
+
+    def __reduce__(self) -> tuple[type, tuple[()]]:
+        return NoCommand, ()
 
 
 class Malformed(Refused):
@@ -18,6 +36,7 @@ class Malformed(Refused):
     of it has a `hint`, where the text seems to be the name of a file."""
 
     hint = ""
+    status = 3
 
     def __init__(self, line: int, cause: str, hint: str = ""):
         super().__init__("malformed line %d: %s" % (line, cause) + (hint and "; " + hint))
@@ -25,12 +44,18 @@ class Malformed(Refused):
         if hint:
             self.hint = hint
 
+    @property
+    def said(self) -> str:
+        return "malformed line %d: %s\n" % (self.line, self.cause)
+
     def __reduce__(self) -> tuple[type, tuple[int, str, str]]:
         return Malformed, (self.line, self.cause, self.hint)
 
 
 class Limit(Refused):
     """More than there may be. `kind` is the word of docs/SCENES.md, "Limits", as `pixel-memory`; `found` how many."""
+
+    status = 4
 
     def __init__(self, line: int, kind: str, found: int):
         super().__init__("limit line %d: %s %d" % (line, kind, found))

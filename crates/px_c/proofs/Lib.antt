@@ -1,3 +1,4 @@
 pub mod AnswerLemmas
 pub mod BufferLemmas
+pub mod RunLemmas
 pub mod StateLemmas

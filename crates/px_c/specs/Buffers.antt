@@ -21,3 +21,7 @@ pub record HoldsColours (width height : ℕ) (colour : (x y : ℕ) → Colour) (
 -- numbers at the front; what lies behind them is as before
 abbrev pub HoldsFront : (numbers before now : List ℤ) → Type 0
 HoldsFront numbers before now = now ≡ numbers ++ drop (length numbers) before
+
+-- bytes at the front; what lies behind them is as before
+abbrev pub HoldsBytes : (bytes before now : List ℕ) → Type 0
+HoldsBytes bytes before now = now ≡ bytes ++ drop (length bytes) before

@@ -1,7 +1,11 @@
+pub use Rattle.px_command.specs.Commands
 pub use Rattle.px_control.specs.Program
 pub use Rattle.px_deliver.specs.Refusals
+pub use Rattle.px_draw.specs.Runs
 pub use Rattle.px_frame.specs.Picture
 pub use Rattle.px_listing.specs.Listings
+pub use Rattle.px_outcome.specs.Notes
+pub use Rattle.px_outcome.specs.Outcomes
 pub use Rattle.px_prune.specs.Kept
 pub use Rattle.px_scene.specs.Reading
 pub use Rattle.px_state.specs.Clocking
@@ -18,4 +22,6 @@ pub mod ClocksAnswer
 pub mod Literals
 pub mod Names
 pub mod Numbers
+pub mod RunAnswers
+pub mod RunStops
 pub mod StateAnswers

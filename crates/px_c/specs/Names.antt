@@ -3,6 +3,8 @@ use Rattle.std.specs.Prelude.{◌≡◌, ℕ, ◌<◌, ◌≤◌, List, [], ◌�
 use Rattle.px_show.specs.declared.fault.Cause.TheVariants as c
 use Rattle.px_show.specs.declared.fault.LimitKind.TheVariants as k
 use Rattle.px_listing.specs.declared.limit.ListKind.TheVariants as l
+use Rattle.px_outcome.specs.declared.refusal.Kind.TheVariants as any
+use Rattle.px_outcome.specs.Notes.{kind_word}
 use Rattle.px_words.specs.Words.{cause_word, list_word, scene_word}
 
 -- the words of causes by their numbers, and no word at 0
@@ -12,14 +14,14 @@ cause_names =
     ∷ cause_word c.BadName ∷ cause_word c.SecondName ∷ cause_word c.BadExpression ∷ cause_word c.UnknownName
     ∷ cause_word c.AfterEnd ∷ cause_word c.MissingEnd ∷ []
 
--- the words of limits by their numbers, those of scenes and then those of listings, and no word at 0
+-- the words of limits by their numbers, those of scenes, of listings, of lights and of tiles, and no word at 0
 abbrev pub kind_names : List (List ℕ)
 kind_names =
     [] ∷ scene_word k.Text ∷ scene_word k.Picture ∷ scene_word k.Depth ∷ scene_word k.Colour ∷ scene_word k.Coefficient
     ∷ scene_word k.Solids ∷ scene_word k.Fronts ∷ scene_word k.Backs ∷ scene_word k.Sides ∷ scene_word k.Faces
     ∷ scene_word k.Leaves ∷ scene_word k.Nesting ∷ scene_word k.Fraction ∷ scene_word k.PixelMemory ∷ scene_word k.Products
     ∷ list_word l.Grid ∷ list_word l.Coefficient ∷ list_word l.Length ∷ list_word l.Place ∷ list_word l.Value
-    ∷ list_word l.Overlap ∷ []
+    ∷ list_word l.Overlap ∷ kind_word any.Lights ∷ kind_word any.Tiles ∷ []
 
 -- the word of a number; a number that names nothing has none
 abbrev pub name_in : List (List ℕ) → (number : ℕ) → List ℕ

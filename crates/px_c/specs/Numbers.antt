@@ -6,6 +6,8 @@ use Rattle.px_show.specs.declared.fault.LimitKind.{LimitKind}
 use Rattle.px_show.specs.declared.fault.LimitKind.TheVariants as k
 use Rattle.px_listing.specs.declared.limit.ListKind.{ListKind}
 use Rattle.px_listing.specs.declared.limit.ListKind.TheVariants as l
+use Rattle.px_outcome.specs.declared.refusal.Kind.{Kind}
+use Rattle.px_outcome.specs.declared.refusal.Kind.TheVariants as any
 
 abbrev pub cause_number : Cause → ℕ
 cause_number c.NotHeader = 1
@@ -45,3 +47,10 @@ list_number l.Length = 18
 list_number l.Place = 19
 list_number l.Value = 20
 list_number l.Overlap = 21
+
+-- of all, with those of lights and of tiles
+abbrev pub limit_number : Kind → ℕ
+limit_number (any.Scene kind) = kind_number kind
+limit_number (any.List kind) = list_number kind
+limit_number any.Lights = 22
+limit_number any.Tiles = 23

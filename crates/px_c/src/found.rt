@@ -3,9 +3,10 @@ ghost use Rattle.std.specs.Prelude.{◌≡◌, length};
 ghost use Rattle.px_sched.specs.Passes.{passes};
 ghost use Rattle.px_control.specs.Program.{total};
 ghost use Rattle.px_c.specs.Answers.{cost_found, nothing, scene_found};
-ghost use Rattle.px_c.specs.Numbers.{cause_number, kind_number, list_number};
+ghost use Rattle.px_c.specs.Numbers.{cause_number, kind_number, limit_number, list_number};
 
 use px_listing::ListKind;
+use px_outcome::Kind;
 use px_scene::{Cause, LimitKind, Scene};
 
 /// What a call found (include/pxplanes.h, `struct pxplanes_found`). What does not apply is 0.
@@ -140,5 +141,17 @@ pub(crate) fn list_number(kind: ListKind) -> u32
         ListKind::Place => 19,
         ListKind::Value => 20,
         ListKind::Overlap => 21,
+    }
+}
+
+/// The number of what has a limit in what a command reads.
+pub(crate) fn limit_number(kind: Kind) -> u32
+    ensures { result ≡ limit_number kind }
+{
+    match kind {
+        Kind::Scene(kind) => kind_number(kind),
+        Kind::List(kind) => list_number(kind),
+        Kind::Lights => 22,
+        Kind::Tiles => 23,
     }
 }

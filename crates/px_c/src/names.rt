@@ -3,9 +3,11 @@ ghost use Rattle.std.specs.Prelude.{◌≡◌, codes};
 ghost use Rattle.px_show.specs.declared.fault.Cause.{Cause};
 ghost use Rattle.px_show.specs.declared.fault.LimitKind.{LimitKind};
 ghost use Rattle.px_listing.specs.declared.limit.ListKind.{ListKind};
+ghost use Rattle.px_outcome.specs.declared.refusal.Kind.{Kind};
+ghost use Rattle.px_outcome.specs.Notes.{kind_word};
 ghost use Rattle.px_words.specs.Words.{cause_word, list_word, scene_word};
 ghost use Rattle.px_c.specs.Names.{IsWritten, cause_names, kind_names, name_in};
-ghost use Rattle.px_c.specs.Numbers.{cause_number, kind_number, list_number};
+ghost use Rattle.px_c.specs.Numbers.{cause_number, kind_number, limit_number, list_number};
 
 use px_listing::ListKind;
 use px_scene::{Cause, LimitKind};
@@ -31,6 +33,8 @@ pub extern "C" fn pxplanes_kind_name(kind: u32, name: &mut [u8]) -> usize
         → IsWritten (scene_word found) result name.old name.new }
     ensures of_listings { (found : ListKind) → kind ≡ list_number found
         → IsWritten (list_word found) result name.old name.new }
+    ensures known { (found : Kind) → kind ≡ limit_number found
+        → IsWritten (kind_word found) result name.old name.new }
 {
     write_word(kind_name(kind).as_bytes(), name)
 }
@@ -97,6 +101,8 @@ fn kind_name(kind: u32) -> &'static str
         19 => list_word(ListKind::Place),
         20 => list_word(ListKind::Value),
         21 => list_word(ListKind::Overlap),
+        22 => "lights",
+        23 => "tiles",
         _ => "",
     }
 }

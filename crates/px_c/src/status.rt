@@ -3,6 +3,9 @@
 /// What was asked is in the buffers.
 pub const OK: u32 = 0;
 
+/// The words name no command.
+pub const USAGE: u32 = 2;
+
 /// The words of a line are bad, or the text has no `end`.
 pub const MALFORMED: u32 = 3;
 
@@ -29,3 +32,6 @@ pub const NO_OPERATION: u32 = 12;
 
 /// The memory bits of a pixel of the array that draws, as of the program's own but for `shadow`.
 pub const BITS: usize = 72;
+
+/// Those of the array that finds shadows.
+pub const WIDE_BITS: usize = 80;

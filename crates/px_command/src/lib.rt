@@ -5,4 +5,4 @@ mod command;
 mod words;
 
 pub use command::{Command, Fineness, Size, Work};
-pub use words::{command_of, needs_wide_pixels};
+pub use words::{command_in, command_of, needs_wide_pixels};

@@ -1,6 +1,7 @@
 //! The words of the command line.
 ghost use Rattle.std.specs.Prelude.{◌≡◌, ◌≤◌, IfSome, map, string_bytes};
 ghost use Rattle.px_model.specs.declared.limits.TheConstants.{MAX_BLOCKS};
+ghost use Rattle.px_text.specs.Text.{words_in};
 ghost use Rattle.px_command.specs.Commands.{
   HasLawfulNumbers,
   IsSide,
@@ -20,7 +21,7 @@ ghost use Rattle.px_command.specs.Commands.{
 
 use crate::command::{Command, Fineness, Size, Work};
 use px_model::{MAX_BLOCKS, MAX_WIDE_PICTURE_SIZE};
-use px_text::number_of;
+use px_text::{few_words, number_of};
 
 /// Whether what the words ask wants pixels of 80 bits; else 72 are wanted (docs/SCENES.md,
 /// "Memory").
@@ -45,6 +46,33 @@ pub fn command_of(words: &[String]) -> Option<Command>
         [word] => of_one(word.as_bytes()),
         [word, argument] => of_two(word.as_bytes(), argument.as_bytes()),
         [word, first, second] => of_three(word.as_bytes(), first.as_bytes(), second.as_bytes()),
+        [_, _, _, _, ..] => None,
+    }
+}
+
+/// The command of the words in some bytes, with spaces, tabs and carriage returns between them.
+///
+/// Its numbers are within their limits, and it takes no memory.
+#[tactic(auto, using(crate::proofs::CommandLemmas::none_of_many))]
+pub fn command_in(bytes: &[u8]) -> Option<Command>
+    ensures command { result ≡ command_of (words_in bytes.now) }
+    ensures blocks { IfSome result HasLawfulNumbers }
+{
+    match few_words(bytes) {
+        Some(words) => of_few(words.as_slice()),
+        None => None,
+    }
+}
+
+fn of_few(words: &[&[u8]]) -> Option<Command>
+    ensures command { result ≡ command_of (map (λ w. w.now) words.now) }
+    ensures blocks { IfSome result HasLawfulNumbers }
+{
+    match words {
+        [] => Some(Command::Make(Work::Render)),
+        [word] => of_one(*word),
+        [word, argument] => of_two(*word, *argument),
+        [word, first, second] => of_three(*word, *first, *second),
         [_, _, _, _, ..] => None,
     }
 }

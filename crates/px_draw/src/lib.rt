@@ -9,5 +9,5 @@ pub use law::laws_of_listed_scenes;
 pub use px_command::needs_wide_pixels;
 pub use px_deliver::deliver;
 pub use px_outcome::Status;
-pub use running::run;
+pub use running::{perform, run};
 pub use theorem::law_of_render;

@@ -1,8 +1,8 @@
 //! The program as a function of its words, its input and its outputs.
-ghost use Rattle.std.specs.Prelude.{◌≡◌, ◌↔◌, ◌≤◌, Err, map, string_bytes, None, Some};
+ghost use Rattle.std.specs.Prelude.{◌≡◌, ◌↔◌, ◌≤◌, Err, IfSome, map, string_bytes, None, Some};
 ghost use Rattle.px_outcome.specs.declared.stop.Stop.{Stop};
 ghost use Rattle.px_outcome.specs.declared.status.Status.{Status};
-ghost use Rattle.px_command.specs.Commands.{command_of};
+ghost use Rattle.px_command.specs.Commands.{HasLawfulNumbers, command_of};
 ghost use Rattle.px_command.specs.declared.command.Command.{Command};
 ghost use Rattle.px_debug_run.specs.Askings.{AnswersInTime};
 ghost use Rattle.px_outcome.specs.Ends.{ends, with_notes};
@@ -57,7 +57,7 @@ pub fn run<S: Asks<O>, O: Sink, E: Sink, A: Operating>(
         AnswersInTime A.BITS (S.asks input.old) (S.asks input.new)
         (S.rest input.old) (S.rest input.new) (O.state out.old).written }
 {
-    match perform(alloc, words, input, out, array) {
+    match perform(alloc, command_of(words), input, out, array) {
         Ok(()) => Status::Done,
         Err(stop) => {
             tell(line_of(&stop).as_bytes(), notes);
@@ -66,30 +66,30 @@ pub fn run<S: Asks<O>, O: Sink, E: Sink, A: Operating>(
     }
 }
 
-/// Finds the command, and does it.
-fn perform<S: Asks<O>, O: Sink, A: Operating>(
+/// Does a command, as `run` does, and tells its end. Where there is none, that is `Usage`.
+pub fn perform<S: Asks<O>, O: Sink, A: Operating>(
     alloc: Global,
-    words: &[String],
+    command: Option<Command>,
     input: &mut S,
     out: &mut O,
     array: &mut A,
 ) -> Result<(), Stop>
     requires bits { A.BITS ≤ 256 }
-    ensures performs { Performs result (command_of (map string_bytes words.now)) A.BITS
+    requires lawful { IfSome command HasLawfulNumbers }
+    ensures performs { Performs result command A.BITS
         (ends (S.rest input.old) (S.faults input.old) (O.state out.old)
         (A.device array.old) (A.slots array.old) (A.work array.old))
         (ends (S.rest input.new) (S.faults input.new) (O.state out.new)
         (A.device array.new) (A.slots array.new) (A.work array.new)) }
     ensures causes { HasCauses result (S.faults input.old) (S.faults input.new) (O.state out.old).faults
         (O.state out.new).faults }
-    ensures took { Took (command_of (map string_bytes words.now)) (status_in result)
-        (S.rest input.old) (S.rest input.new) }
-    ensures usage { (result ≡ Err Stop.Usage) ↔ (command_of (map string_bytes words.now) ≡ None) }
-    ensures in_time { command_of (map string_bytes words.now) ≡ Some Command.Debug →
+    ensures took { Took command (status_in result) (S.rest input.old) (S.rest input.new) }
+    ensures usage { (result ≡ Err Stop.Usage) ↔ (command ≡ None) }
+    ensures in_time { command ≡ Some Command.Debug →
         AnswersInTime A.BITS (S.asks input.old) (S.asks input.new)
         (S.rest input.old) (S.rest input.new) (O.state out.old).written }
 {
-    match command_of(words) {
+    match command {
         Some(Command::Make(work)) => make_of_input(work, alloc, input, out, array),
         Some(Command::Shadow) => shadow_input(alloc, input, out, array),
         Some(Command::Debug) => debug_input(alloc, input, out, array),

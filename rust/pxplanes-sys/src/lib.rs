@@ -2,6 +2,7 @@
 #![no_std]
 
 pub const OK: u32 = 0;
+pub const USAGE: u32 = 2;
 pub const MALFORMED: u32 = 3;
 pub const LIMIT: u32 = 4;
 pub const MEMORY: u32 = 7;
@@ -113,6 +114,15 @@ extern "C" {
         grid_height: u32,
         micros: *const u64,
         micros_len: usize,
+        found: *mut Found,
+    ) -> u32;
+    pub fn pxplanes_run(
+        text: *const u8,
+        text_len: usize,
+        words: *const u8,
+        words_len: usize,
+        out: *mut u8,
+        out_len: usize,
         found: *mut Found,
     ) -> u32;
     pub fn pxplanes_cause_name(cause: u32, name: *mut u8, name_len: usize) -> usize;

@@ -20,6 +20,8 @@ pub enum Error {
         /// What was found there.
         number: i64,
     },
+    /// The words name no command of the program.
+    NoCommand,
     /// There was no memory for the call.
     Memory,
     /// The clock lies past the last, which is told.
@@ -47,6 +49,7 @@ impl fmt::Display for Error {
         match self {
             Error::Malformed { line, cause } => write!(to, "malformed line {line}: {cause}"),
             Error::Limit { line, kind, number } => write!(to, "limit line {line}: {kind} {number}"),
+            Error::NoCommand => write!(to, "the words name no command"),
             Error::Memory => write!(to, "no memory"),
             Error::NoClock { clocks } => write!(to, "there are {clocks} clocks"),
             Error::NoOperation { operations } => write!(to, "there are {operations} operations"),
@@ -79,6 +82,7 @@ pub(crate) fn refusal(status: u32, found: &sys::Found) -> Error {
             kind: name(|word, len| unsafe { sys::pxplanes_kind_name(found.kind, word, len) }),
             number: found.number,
         },
+        sys::USAGE => Error::NoCommand,
         sys::MEMORY => Error::Memory,
         sys::NO_CLOCK => Error::NoClock { clocks: found.clocks },
         sys::NO_OPERATION => Error::NoOperation { operations: found.operations },

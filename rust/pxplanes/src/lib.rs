@@ -7,11 +7,13 @@
 mod error;
 mod machine;
 mod pictures;
+mod running;
 
 pub use error::{Error, Result};
 pub use machine::{course, micros, State};
 pub use pictures::{check, colour, products, render, Colours, Cost, Picture};
 pub use pxplanes_sys::{Moment, Operation, BITS};
+pub use running::run;
 
 /// The version of the library.
 pub fn version() -> String {

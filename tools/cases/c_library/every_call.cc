@@ -38,9 +38,12 @@ int main()
     std::vector<pxplanes_operation> course(2);
     c.note(pxplanes_course(c.text, c.text_len, 0, course.data(), course.size(), &c.found));
     c.note(pxplanes_clocks(words.data(), words.size(), moment.grid_width, moment.grid_height, micros.data(), micros.size(), &c.found));
+    const unsigned made = static_cast<unsigned>(c.found.clocks);
+    std::uint8_t cost[64];
+    c.note(pxplanes_run(c.text, c.text_len, reinterpret_cast<const std::uint8_t *>("cost"), 4, cost, sizeof cost, &c.found));
     for (std::uint32_t status : c.statuses)
         std::printf("%u ", static_cast<unsigned>(status));
     std::printf("depth %u face %u rgb %u %u %u product %d clocks %u names %zu %zu %zu\n", static_cast<unsigned>(depth),
-                static_cast<unsigned>(face), rgb[0], rgb[1], rgb[2], static_cast<int>(literals[0]), static_cast<unsigned>(c.found.clocks),
+                static_cast<unsigned>(face), rgb[0], rgb[1], rgb[2], static_cast<int>(literals[0]), made,
                 pxplanes_cause_name(1, name, sizeof name), pxplanes_kind_name(1, name, sizeof name), pxplanes_version(name, sizeof name));
 }

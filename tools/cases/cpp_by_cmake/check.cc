@@ -135,6 +135,8 @@ void refuse()
     refusal("a side", [] { pxplanes::check(with(ramp, "12 2", "513 2")); });
     refusal("no end", [] { pxplanes::colour(with(ramp, "end\n", "")); });
     refusal("empty", [] { pxplanes::products({}); });
+    refusal("no command", [] { pxplanes::run(ramp, "tidy up"); });
+    refusal("a side of a run", [] { pxplanes::run(with(ramp, "12 2", "513 2"), "tidy"); });
     refusal("a small buffer", [&] { pxplanes::render(ramp, depths.data(), 24, faces.data(), 23); });
     refusal("a grid", [&] { pxplanes::clocks(words.data(), 3, 3, 2, nullptr, 0); });
     std::cout << "as they were: " << (depths == std::vector<std::uint32_t>(24, 77)) << (faces == std::vector<std::uint32_t>(23, 77))
@@ -207,6 +209,25 @@ void course()
     refusal("no operation", [&] { pxplanes::course(cut, all.size(), 1); });
 }
 
+// What `cost` writes.
+std::string cost_text(const pxplanes::cost &cost)
+{
+    return "macros " + std::to_string(cost.operations) + "\nclocks " + std::to_string(cost.clocks) + "\n";
+}
+
+// Whether a buffer with a byte too few is refused, with how many are due, and left as it was.
+bool is_short(const std::string &tidied)
+{
+    std::vector<std::uint8_t> out(tidied.size() - 1, 77);
+    try {
+        pxplanes::run(ramp, "tidy", out.data(), out.size());
+    } catch (const pxplanes::refused &why) {
+        return why.status() == PXPLANES_NO_ROOM && why.found().room == tidied.size()
+            && out == std::vector<std::uint8_t>(out.size(), 77);
+    }
+    return false;
+}
+
 // The same by spans, where they are there; and by pointers else.
 void by_buffers()
 {
@@ -215,6 +236,8 @@ void by_buffers()
     std::vector<std::int32_t> literals(3);
     const std::size_t size = pxplanes::count_words(16, 2);
     std::vector<std::uint64_t> words(size), later(size), micros(10);
+    const std::string tidied = pxplanes::run(ramp, "tidy");
+    std::vector<std::uint8_t> out(tidied.size() + 1, 77);
 #ifdef __cpp_lib_span
     pxplanes::render(ramp, std::span(depths), std::span(faces));
     pxplanes::colour(ramp, std::span(rgb));
@@ -223,6 +246,7 @@ void by_buffers()
     pxplanes::read_state(ramp, 60, std::span(later));
     pxplanes::micros(ramp, 50, std::span(micros));
     pxplanes::clocks(words, 16, 2, micros);
+    const std::size_t written = pxplanes::run(ramp, "tidy", std::span(out));
 #else
     pxplanes::render(ramp, depths.data(), 24, faces.data(), 24);
     pxplanes::colour(ramp, rgb.data(), 72);
@@ -231,11 +255,15 @@ void by_buffers()
     pxplanes::read_state(ramp, 60, later.data(), size);
     pxplanes::micros(ramp, 50, micros.data(), 10);
     pxplanes::clocks(words.data(), size, 16, 2, micros.data(), 10);
+    const std::size_t written = pxplanes::run(ramp, "tidy", out.data(), out.size());
 #endif
     const pxplanes::picture drawn = pxplanes::render(ramp);
     std::cout << "by buffers: " << (depths == drawn.depths) << (faces == drawn.faces) << (rgb == pxplanes::colour(ramp).rgb)
               << (literals == std::vector<std::int32_t>{1, -2, 0}) << (words == later)
-              << (later == pxplanes::state(ramp, 60).words()) << '\n';
+              << (later == pxplanes::state(ramp, 60).words()) << (written == tidied.size() && out.back() == 77)
+              << std::equal(tidied.begin(), tidied.end(), out.begin()) << (pxplanes::run(tidied, " tidy ") == tidied) << '\n'
+              << "as check says " << (pxplanes::run(ramp, "cost") == cost_text(pxplanes::check(ramp))) << ", short of room "
+              << is_short(tidied) << ", wide " << pxplanes::run(with(ramp, "12 2", "512 512"), "tile 600 600").size() << '\n';
 }
 
 }  // namespace

@@ -64,14 +64,38 @@ def wrong_answer(word, others, text, wanted):
     return None if (status, output, note) == (status_wanted, output_wanted, note_wanted) else "status %d, note %r" % (status, note)
 
 
-counts = dict.fromkeys(ASKED, 0)
+def ran(text, words):
+    """What a command writes, and the program's status and note for it."""
+    try:
+        return 0, pxplanes.run(text, words), b""
+    except pxplanes.Refused as refusal:
+        return refusal.status, b"", refusal.said.encode()
+
+
+def is_plain(word):
+    return bool(word) and not set(word) & set(b" \t\r")
+
+
+def wrong_run(words, text, wanted):
+    """Of words that can be written with spaces between them; what is answered before the limit of a text is not handed over."""
+    status, output, note = wanted
+    got = ran(text, b" ".join(words).decode("latin-1"))
+    return None if got == (status, b"" if status else output, note) else "a run with status %d, note %r" % (got[0], got[2])
+
+
+counts, runs = dict.fromkeys(ASKED, 0), 0
 for name in cases.names():
     words, text, wanted = cases.read_case(os.path.join(cases.CASES, name))
-    word, *others = [word.decode("latin-1") for word in words] or ["render"]
+    word, *others = [each.decode("latin-1") for each in words] or ["render"]
     if word in ASKED and wanted[0] in (0, 3, 4):
         wrong = wrong_answer(word, others, text, wanted)
         counts[word] += 1
         if wrong:
             print("%s: %s" % (name, wrong))
+    if all(map(is_plain, words)):
+        wrong, runs = wrong_run(words, text, wanted), runs + 1
+        if wrong:
+            print("%s: %s" % (name, wrong))
 for word, count in counts.items():
     print("%s: %s" % (word, "some" if count > 3 else count))
+print("runs: %s" % ("some" if runs > 400 else runs))

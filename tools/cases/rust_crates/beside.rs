@@ -53,6 +53,7 @@ fn note(error: &Error) -> Vec<u8> {
     match error {
         Error::Malformed { .. } => format!("3 {error}\n"),
         Error::Limit { .. } => format!("4 {error}\n"),
+        Error::NoCommand => "2 usage\n".to_string(),
         other => format!("{other}\n"),
     }
     .into_bytes()
@@ -95,6 +96,9 @@ fn key_agrees(text: &[u8], depth_from: u32, depth_bits: u32) -> pxplanes::Result
     Ok(pixels.into_iter().all(|(x, y)| picture.at(x, y).map(|(found, _)| found) == Some(depth(x, y))))
 }
 
+/// The words of commands, of which the last name none.
+const RUN: [&str; 6] = ["tidy", "list", "refine 2", "tile 70 50", "play", "tidy up"];
+
 fn main() {
     let words: Vec<String> = std::env::args().skip(1).collect();
     if words.first().is_some_and(|word| word == "layouts") {
@@ -105,6 +109,10 @@ fn main() {
         let text = fs::read(&path).unwrap();
         for (word, answer) in [("render", maps(&text)), ("colour", colours(&text)), ("cost", cost(&text)), ("plan", count(&text))] {
             fs::write(format!("{path}.{word}.rust"), answer.unwrap_or_else(|error| note(&error))).unwrap();
+        }
+        for words in RUN {
+            let name = words.replace(' ', "_");
+            fs::write(format!("{path}.{name}.run"), pxplanes::run(&text, words).unwrap_or_else(|error| note(&error))).unwrap();
         }
         if let Ok(same) = clocks_agree(&text).and_then(|same| Ok(same && courses_agree(&text)?)) {
             compared += 1;

@@ -1,13 +1,11 @@
-use Rattle.std.proofs.Common.{◌≡◌, Some, sym, ◌∙◌, refl}
-use Rattle.px_command.specs.declared.command.Command.TheVariants as command
+use Rattle.std.proofs.Common.{◌∙◌, Some, ap, refl}
 use Rattle.px_draw.proofs.RunLemmas.{performs_usage, performs_sample}
 use Rattle.px_draw.proofs.running.perform.Goals as goal
 
 pub returns-in-None-clause-performs : goal.returns-in-None-clause-performs
-returns-in-None-clause-performs g c = performs_usage _ _ _ (sym c.command_of.ensures.command ∙ c.in-None.is)
+returns-in-None-clause-performs g c = performs_usage _ _ _ c.in-None.is
 
 pub returns-in-Some-Sample-clause-performs : goal.returns-in-Some-Sample-clause-performs
 returns-in-Some-Sample-clause-performs g c =
-    let is : c.command_of.result ≡ Some (command.Sample c.in-Some-Sample.n) = cc in
-    performs_sample _ _ c.in-Some-Sample.n _ _ _ (sym c.command_of.ensures.command
-    ∙ is) refl c.draw_sample.ensures.serves c.draw_sample.ensures.array
+    let is = c.in-Some-Sample.is ∙ ap Some (rw c.in-Some-Sample.is at c.in-Some-Sample.field-0-is) in
+    performs_sample _ _ _ _ _ _ is refl c.draw_sample.ensures.serves c.draw_sample.ensures.array
