@@ -57,7 +57,9 @@ fn main(rt: HostRuntime) {
     let _ = pxplanes_products(alloc, text, &mut literals, &mut found);
     let _ = pxplanes_state(alloc, text, 0, &mut words, &mut state, &mut found);
     let _ = pxplanes_micros(alloc, text, 0, &mut micros, &mut found);
+    let _ = pxplanes_course(alloc, text, 0, &mut [], &mut found);
     let _ = pxplanes_clocks(&mut words, 2, 2, &[], &mut found);
+    let _ = pxplanes_run(alloc, text, text, &mut rgb, &mut found);
     let _ = pxplanes_cause_name(1, &mut rgb);
     let _ = pxplanes_kind_name(1, &mut rgb);
     let _ = pxplanes_version(&mut rgb);
