@@ -184,6 +184,10 @@ static void try_clocks(uint64_t clocks, uint64_t clock)
     same("the state's clocks", moment.clocks, clocks);
     same("micros", pxplanes_micros(text, text_len, clock, micros, count, &found), PXPLANES_OK);
     same("the next micro", moment.next_micro, count > 0 ? micros[0] : 0);
+    struct pxplanes_operation operation = {.clock = clock};
+    if (count > 0)
+        same("course", pxplanes_course(text, text_len, moment.operation, &operation, 1, &found), PXPLANES_OK);
+    same("the clock of its operation", operation.clock, clock - moment.operation_clock);
     same("clocks", pxplanes_clocks(words, room, moment.grid_width, moment.grid_height, micros, count, &found), PXPLANES_OK);
     same("clocks made", found.clocks, count);
     same("state", pxplanes_state(text, text_len, clock + count, due, room, &moment, &found), PXPLANES_OK);
@@ -210,6 +214,8 @@ static void try_machine(void)
     uint32_t other = pxplanes_state(text, text_len, UINT64_MAX, NULL, 0, &moment, &again);
     if (status != PXPLANES_OK) {
         same("state refuses as micros", other, status);
+        same_found(&found, &again);
+        same("course refuses as micros", pxplanes_course(text, text_len, UINT64_MAX, NULL, 0, &again), status);
         same_found(&found, &again);
         return;
     }
