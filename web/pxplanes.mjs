@@ -131,7 +131,8 @@ export class Library {
       const {status, told, output} = this.#with([bytes.length, asked.length, room, FOUND], ([text, words, out, found]) => {
         this.#put(text, bytes);
         this.#put(words, asked);
-        const status = this.#calls.pxplanes_run(...[text, bytes.length, words, asked.length, out, room, found].map(BigInt)), told = this.#found(found);
+        const status = this.#calls.pxplanes_run(...[text, bytes.length, words, asked.length, out, room, found].map(BigInt));
+        const told = this.#found(found);
         return {status, told, output: status === STATUS.ok ? this.#copy(Uint8Array, out, told.room) : null};
       });
       if (output) return output;
