@@ -91,7 +91,7 @@ def first_of_ball(eye, way):
 def first_of_bowl(eye, way):
     """The same of the cube without the ball."""
     ball, cube = in_ball(eye, way), in_cube(eye, way)
-    if cube and ball and ball[0] <= cube[0]:
+    if cube and ball and ball[0] <= cube[0] < ball[1]:
         return ball[1] if ball[1] < cube[1] else None
     return cube and cube[0]
 
