@@ -27,7 +27,7 @@ SYSTEM_PARTS = ("libos_c.a", "liblibc_c.a")
 KEPT, KEPT_OF = (os.path.join(ends.TOP, "crates", LIBRARY, "out", leaf) for leaf in ("module.bc", "module.of"))
 MODULE = "module.bc"
 # The module is compiled for some seconds.
-LOOKED_AFTER = 0.02
+LOOKED_AFTER = 0.2
 
 
 def done(words, name, **more):
@@ -104,8 +104,8 @@ def run(words, folder, copy):
         running = subprocess.Popen(words, cwd=folder, stdin=subprocess.DEVNULL, stdout=notes, stderr=notes, start_new_session=True)
         try:
             while not kept and running.poll() is None:
-                kept = copied(handed(running.pid), copy)
                 time.sleep(LOOKED_AFTER)
+                kept = copied(handed(running.pid), copy)
             status = running.wait()
         finally:
             if running.poll() is None:
@@ -133,10 +133,11 @@ def calls_of(path):
 
 
 class Proved:
-    """A folder of crates in which `rt ci` has proved all that crates.txt names."""
+    """A folder of crates in which `rt ci` has proved all that crates.txt names. What was proved for one processor is kept, where a
+    folder is given for it, and is not proved again for another."""
 
-    def __init__(self, top, jobs):
-        self.top, self.jobs = os.path.abspath(top), str(jobs)
+    def __init__(self, top, jobs, kept=None):
+        self.top, self.jobs, self.kept = os.path.abspath(top), str(jobs), kept
         text = ends.content(os.path.join(self.top, "crates.txt")).decode("utf-8")
         self.lines = {name: rest.split() for name, _, rest in LINE.findall(text)}
 
@@ -171,6 +172,7 @@ class Proved:
         yield from ("--antt-project", in_kit("rattle", "logic", "antt-project.json"), "--logic-built", in_kit("logic_built"))
         yield from ("--links", crate + "=", "--empty-contracts", "--cpu", cpu, "--jobs", self.jobs, "--backend", "llvm")
         yield from ("--toolchain", in_kit("toolchain"))
+        yield from ("--incremental", os.path.join(self.kept, crate)) if self.kept else ()
         yield from () if crate == PROGRAM else ("--crate-type", "staticlib")
 
     def compile(self, crate, cpu, to, copy=None):
