@@ -2,7 +2,7 @@
 
 tools/dev/build keeps that module, module.bc, which is handed to the kit's clang. Its text gets the layout and the
 features of wasm64, and the one instruction of x86 that it names becomes the same one of WebAssembly; then the kit's clang and lld
-compile and link it with web/heap.c. web/README.md tells what that rests on."""
+compile and link it with web/heap.c and web/wide.c. web/README.md tells what that rests on."""
 import os
 import re
 import tempfile
@@ -20,6 +20,7 @@ FEATURES = '"target-features"="+simd128,+bulk-memory,+sign-ext,+nontrapping-fpto
 # An index of pshufb with its highest bit clear and below 16, as all of the tree's are, is one of swizzle.
 SAME = {"@llvm.x86.ssse3.pshuf.b.128": "@llvm.wasm.swizzle"}
 FOREIGN = {"rattle_alloc", "rattle_realloc", "rattle_dealloc"}
+PARTS = ("heap", "wide")
 HEAP_CALLS = ("px_malloc", "px_free")
 STACK, LARGEST = 1 << 20, 1 << 30
 
@@ -59,14 +60,15 @@ def compiled(module, out, place):
     with open(path("wasm.ll"), "w") as file:
         file.write(text)
     done([clang, *FLAGS, "-c", "-x", "ir", path("wasm.ll"), "-o", path("library.o")], "clang")
-    done([clang, *FLAGS, "-c", os.path.join(WEB, "heap.c"), "-o", path("heap.o")], "clang")
+    for part in PARTS:
+        done([clang, *FLAGS, "-c", os.path.join(WEB, part + ".c"), "-o", path(part + ".o")], "clang")
     os.symlink(os.path.join(tools, "ld.lld"), path("wasm-ld"))
     calls = sorted(set(re.findall(r"(?m)^define [^@]*@(pxplanes_\w+)\(", text)))
     if not calls:
         raise Bad("the module has no call of the library")
     exported = ["--export=" + name for name in (*calls, *HEAP_CALLS)]
     done([path("wasm-ld"), "-mwasm64", "--no-entry", "--strip-all", "--fatal-warnings", "--stack-first", "-z", "stack-size=%d" % STACK,
-          "--max-memory=%d" % LARGEST, *exported, path("library.o"), path("heap.o"), "-o", out], "wasm-ld")
+          "--max-memory=%d" % LARGEST, *exported, path("library.o"), *(path(part + ".o") for part in PARTS), "-o", out], "wasm-ld")
 
 
 def make(out):
