@@ -493,7 +493,7 @@ static void compare_courses(const struct text *text, const struct pxplanes_found
             differs(text->name, "operation %zu is another one", at);
             break;
         }
-    if (memcmp(rest.at, whole.at + half * sizeof *course, (all - half) * sizeof *course))
+    if (all > half && memcmp(rest.at, whole.at + half * sizeof *course, (all - half) * sizeof *course))
         differs(text->name, "the operations from %zu on are others", half);
     let_go(&whole);
     let_go(&rest);
