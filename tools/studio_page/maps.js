@@ -108,21 +108,70 @@ function readNpy(bytes, head) {
   return new Raster(width, height, channels, isWhole ? 256 ** bits - 1 : null, samples);
 }
 
-// The first picture of a TIFF file, of strips that are not packed, or packed by deflate or PackBits.
+// The first picture of a TIFF file, of strips or tiles, not packed, or by deflate, LZW or PackBits, with a predictor or without.
 async function readTiff(bytes) {
   try {
     const isLittle = bytes[0] === 73, tags = tagsOf(bytes, isLittle), one = (tag, usual) => tags[tag]?.[0] ?? usual;
-    const [width, height] = [tags[256][0], tags[257][0]], bits = one(258, 1), channels = one(277, 1);
-    const form = ["", "u", "i", "f"][one(339, 1)] + bits / 8, packing = {1: part => part, 8: inflated, 32946: inflated, 32773: unpackedBits}[one(259, 1)];
-    const isRead = ["u1", "u2", "u4", "i1", "i2", "i4", "f2", "f4", "f8"].includes(form) && packing;
-    if (!isRead || one(262, 1) === 3 || one(317, 1) !== 1 || one(284, 1) !== 1 && channels > 1) throw new RangeError(form);
-    const parts = await Promise.all(tags[273].slice(0, tags[279].length).map((at, which) => packing(bytes.subarray(at, at + tags[279][which]))));
-    const body = new Uint8Array(await new Blob(parts).arrayBuffer());
-    return new Raster(width, height, channels, ["u1", "u2"].includes(form) ? 2 ** bits - 1 : null, numbersOf(body, form, isLittle, width * height * channels));
+    const [width, height] = [tags[256][0], tags[257][0]], bits = one(258, 1), channels = one(277, 1), size = bits / 8;
+    const form = ["", "u", "i", "f"][one(339, 1)] + size, undone = {1: body => body, 2: byNumbers, 3: isLittle ? byBytes : null}[one(317, 1)];
+    const packing = {1: part => part, 5: unpackedWords, 8: inflated, 32946: inflated, 32773: unpackedBits}[one(259, 1)];
+    const isRead = ["u1", "u2", "u4", "i1", "i2", "i4", "f2", "f4", "f8"].includes(form) && packing && undone;
+    if (!isRead || one(262, 1) === 3 || one(284, 1) !== 1 && channels > 1) throw new RangeError(form);
+    const wide = one(322, width) * channels, lengths = tags[325] ?? tags[279];
+    const pieces = await Promise.all((tags[324] ?? tags[273]).slice(0, lengths.length).map(async (at, which) => {
+      const body = await packing(bytes.subarray(at, at + lengths[which])), count = Math.floor(body.length / size / wide) * wide;
+      return numbersOf(undone(Uint8Array.from(body.subarray(0, count * size)), wide, channels, size, isLittle), form, isLittle, count);
+    }));
+    return new Raster(width, height, channels, ["u1", "u2"].includes(form) ? 2 ** bits - 1 : null, placed(pieces, tags, width, height, channels));
   } catch (error) {
     if (error instanceof Bad) throw error;
-    throw new Bad("the TIFF file is damaged, or of a form that is not read: read are strips without a palette, not packed, or by deflate or PackBits");
+    throw new Bad("the TIFF file is damaged, or of a form that is not read: read are strips and tiles without a palette, not packed, or by deflate, LZW or PackBits");
   }
+}
+
+// The numbers of a picture of its strips, which are as wide as it is, or of its tiles, row by row of these.
+function placed(pieces, tags, width, height, channels) {
+  const samples = new Float64Array(width * height * channels), line = width * channels;
+  if (!tags[322]) {
+    let at = 0;
+    for (const piece of pieces) {
+      samples.set(piece.subarray(0, samples.length - at), at);
+      at += Math.min(piece.length, samples.length - at);
+    }
+    if (at < samples.length) throw new RangeError("strips");
+    return samples;
+  }
+  const row = tags[322][0] * channels, high = tags[323][0], across = Math.ceil(line / row);
+  for (let y = 0; y < height; y++)
+    for (let which = 0; which < across; which++) {
+      const part = pieces[Math.floor(y / high) * across + which].subarray(y % high * row, (y % high + 1) * row);
+      if (part.length < row) throw new RangeError("tiles");
+      samples.set(part.subarray(0, line - which * row), y * line + which * row);
+    }
+  return samples;
+}
+
+// Numbers, taken for whole ones of their size, of which each row has the differences to the pixel before.
+function byNumbers(body, wide, channels, size, isLittle) {
+  for (let at = 0; at < body.length; at += size) {
+    if (at / size % wide < channels) continue;
+    for (let place = 0, carry = 0; place < size; place++) {
+      const own = at + (isLittle ? place : size - 1 - place), sum = body[own] + body[own - channels * size] + carry;
+      body[own] = sum;
+      carry = sum >> 8;
+    }
+  }
+  return body;
+}
+
+// Floats whose rows have first the highest bytes of all, then the next ones, as differences to the pixel before.
+function byBytes(body, wide, channels, size) {
+  const out = new Uint8Array(body.length), row = wide * size;
+  for (let start = 0; start < body.length; start += row) {
+    for (let at = start + channels; at < start + row; at++) body[at] += body[at - channels];
+    for (let which = 0; which < row; which++) out[start + which % wide * size + size - 1 - Math.floor(which / wide)] = body[start + which];
+  }
+  return out;
 }
 
 // The numbers of each tag of the first picture.
@@ -145,6 +194,32 @@ function unpackedBits(body) {
     if (count < 128) out.push(...body.subarray(at + 1, at + 2 + count));
     else if (count > 128) for (let more = 257 - count; more > 0; more--) out.push(...body.subarray(at + 1, at + 2));
     at += count < 128 ? 2 + count : count > 128 ? 2 : 1;
+  }
+  return Uint8Array.from(out);
+}
+
+// What LZW packs: words of 9 to 12 bits, the highest bit first, of which 256 clears the table and 257 ends.
+function unpackedWords(body) {
+  const out = [];
+  let table = [], before = [], wide = 9, held = 0, bits = 0;
+  for (const byte of body) {
+    held = (held << 8 | byte) & 0xFFFFF;
+    bits += 8;
+    if (bits < wide) continue;
+    bits -= wide;
+    const word = held >> bits & (1 << wide) - 1;
+    if (word === 257) break;
+    if (word === 256) {
+      table = Array.from({length: 258}, (_, at) => at < 256 ? [at] : null);
+      before = [];
+      wide = 9;
+      continue;
+    }
+    const own = table[word] ?? [...before, ...before.slice(0, 1)];
+    out.push(...own);
+    if (before.length) table.push([...before, ...own.slice(0, 1)]);
+    before = own;
+    wide = Math.min(12, Math.max(9, 32 - Math.clz32(table.length + 1)));
   }
   return Uint8Array.from(out);
 }
