@@ -1,6 +1,7 @@
 pub mod AcceptedLemmas
 pub mod DraftLaws
 pub mod DraftLemmas
+pub mod FormLemmas
 pub mod LawfulLemmas
 pub mod LineLemmas
 pub mod NameLaws

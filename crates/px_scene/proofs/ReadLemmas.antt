@@ -8,21 +8,24 @@ use Rattle.px_scene.proofs.DraftLaws.{says_more}
 
 pub lawful_blank : IsLawfulDraft blank
 lawful_blank = record {
-  some_width = omega arith;
-  width_limit = omega arith;
-  some_height = omega arith;
-  height_limit = omega arith;
-  some_depth = omega arith;
-  depth_limit = omega arith;
-  fraction_limit = omega arith;
-  few = omega arith;
-  names = λ k e lt. absurd (omega arith);
-  different = λ i j e lt below. absurd (omega arith);
-  numbers = tt;
-  count = refl;
-  faces = omega arith;
-  shown = λ e. cc;
-  begun = λ e. cc;
+  sizes = record {
+    some_width = omega arith;
+    width_limit = omega arith;
+    some_height = omega arith;
+    height_limit = omega arith;
+    some_depth = omega arith;
+    depth_limit = omega arith;
+    fraction_limit = omega arith;
+  };
+  solids = record {
+    few = omega arith;
+    names = λ k e lt. absurd (omega arith);
+    different = λ i j e lt below. absurd (omega arith);
+    numbers = tt;
+    count = refl;
+    faces = omega arith;
+  };
+  timely = record { begun = λ e. cc; shown = λ e. cc };
 }
 
 pub read_start : (draft : DraftView) → draft ≡ blank → IsDraftOf draft []

@@ -14,41 +14,44 @@ use Rattle.px_model.specs.Scenes.{AreFaces, IsColour, IsLawfulSolid, IsPlane, So
 use Rattle.px_model.proofs.SolidLemmas.{All-push, faces_pushed}
 use Rattle.px_show.specs.Judged.{past, size_past}
 use Rattle.px_show.specs.declared.fault.LimitKind.TheVariants as kind
-use Rattle.px_scene.specs.Drafts.{fresh_solid, with_back, with_front, with_last, with_side}
+use Rattle.px_scene.specs.Drafts.{colour_of, fresh_solid, with_back, with_front, with_last, with_side}
+use Rattle.px_scene.specs.declared.parse.Paint.{Paint}
+use Rattle.px_scene.specs.declared.parse.Plane.{Plane}
 use Rattle.px_scene.specs.LawfulDrafts.{CanTakeFace}
-use Rattle.px_scene.specs.Lines.{colour_of, colour_past, face_past, plane_of, plane_past, size_of, three_past}
-use Rattle.px_scene.proofs.TakenLemmas.{head_colour, past_none}
+use Rattle.px_scene.specs.Lines.{colour_past, face_past, plane_past, size_of}
+use Rattle.px_scene.proofs.TakenLemmas.{past_none}
 
 part_within : (z : ℤ) → past kind.Colour (pos 0) (pos 255) z ≡ None → size_of z < 256
 part_within (pos n) e =
     let is = past_none kind.Colour (pos 0) (pos 255) (pos n) e in let below = is.below in omega (arith, ints)
 part_within (negsuc n) e = omega arith
 
-colour_within : (red green blue : ℤ) → colour_past red green blue ≡ None → IsColour (colour_of red green blue)
-colour_within red green blue e =
-    let first = none_first (option_or (past kind.Colour (pos 0) (pos 255) red) (past kind.Colour (pos 0) (pos 255) green))
-    (past kind.Colour (pos 0) (pos 255) blue) e in
+colour_within : (p : Paint) → colour_past p ≡ None → IsColour (colour_of p)
+colour_within p e =
+    let first = none_first
+    (option_or (past kind.Colour (pos 0) (pos 255) p.red) (past kind.Colour (pos 0) (pos 255) p.green))
+    (past kind.Colour (pos 0) (pos 255) p.blue) e in
     record {
-      red = part_within red (none_first _ (past kind.Colour (pos 0) (pos 255) green) first);
-      green = part_within green (none_second (past kind.Colour (pos 0) (pos 255) red) _ first);
-      blue = part_within blue (none_second (option_or (past kind.Colour (pos 0) (pos 255) red)
-          (past kind.Colour (pos 0) (pos 255) green)) _ e);
+      red = part_within p.red (none_first _ (past kind.Colour (pos 0) (pos 255) p.green) first);
+      green = part_within p.green (none_second (past kind.Colour (pos 0) (pos 255) p.red) _ first);
+      blue = part_within p.blue (none_second (option_or (past kind.Colour (pos 0) (pos 255) p.red)
+          (past kind.Colour (pos 0) (pos 255) p.green)) _ e);
     }
 
-plane_within : (a b c : ℤ) → plane_past a b c ≡ None → IsPlane (plane_of a b c)
-plane_within a b c e =
-    let first = none_first (option_or (size_past kind.Coefficient (2 ^ 23) a) (size_past kind.Coefficient (2 ^ 23) b)) (size_past kind.Coefficient (2 ^ 33) c) e in
-    let in_a = past_none kind.Coefficient _ _ a (none_first _ (size_past kind.Coefficient (2 ^ 23) b) first) in
-    let in_b = past_none kind.Coefficient _ _ b (none_second (size_past kind.Coefficient (2 ^ 23) a) _ first) in
-    let in_c = past_none kind.Coefficient _ _ c (none_second (option_or (size_past kind.Coefficient (2 ^ 23) a) (size_past kind.Coefficient (2 ^ 23) b)) _ e) in
+plane_within : (p : Linear) → plane_past p ≡ None → IsPlane p
+plane_within p e =
+    let slopes = option_or (size_past kind.Coefficient (2 ^ 23) p.a) (size_past kind.Coefficient (2 ^ 23) p.b) in
+    let first = none_first slopes (size_past kind.Coefficient (2 ^ 33) p.c) e in
+    let in_a = past_none kind.Coefficient _ _ p.a (none_first _ (size_past kind.Coefficient (2 ^ 23) p.b) first) in
+    let in_b = past_none kind.Coefficient _ _ p.b (none_second (size_past kind.Coefficient (2 ^ 23) p.a) _ first) in
+    let in_c = past_none kind.Coefficient _ _ p.c (none_second slopes _ e) in
     record { a = (in_a.above, in_a.below); b = (in_b.above, in_b.below); c = (in_c.above, in_c.below) }
 
-head_within : (zs : List ℤ) → three_past zs ≡ None → IsColour (head_colour zs)
-head_within [] e = record { red = omega arith; green = omega arith; blue = omega arith }
-head_within (a ∷ []) e = record { red = omega arith; green = omega arith; blue = omega arith }
-head_within (a ∷ b ∷ []) e = record { red = omega arith; green = omega arith; blue = omega arith }
-head_within (a ∷ b ∷ c ∷ []) e = colour_within a b c e
-head_within (a ∷ b ∷ c ∷ d ∷ zs) e = record { red = omega arith; green = omega arith; blue = omega arith }
+-- the colour of a line that has one, or else its solid's
+face_colour : (colour : Colour) (paint : Option Paint) → IsColour colour → option_map_or colour_past paint None ≡ None
+    → IsColour (option_map_or colour_of paint colour)
+face_colour colour None is e = is
+face_colour colour (Some paint) is e = colour_within paint e
 
 -- a solid without planes
 pub fresh_lawful : (name : List ℕ) (number : ℕ) (colour : Colour) → IsColour colour
@@ -100,60 +103,40 @@ side_added s p is room plane = record {
   sides = All-push IsPlane s.sides p is.sides plane;
 }
 
-front_lawful : (s : SolidView) (number : ℕ) (zs : List ℤ) → face_past zs ≡ None → length s.fronts < 32
-    → CanTakeFace number s → IsLawfulSolid s → IsLawfulSolid (with_front number zs s)
-front_lawful s number [] e room can is = is
-front_lawful s number (a ∷ []) e room can is = is
-front_lawful s number (a ∷ b ∷ []) e room can is = is
-front_lawful s number (a ∷ b ∷ c ∷ []) e room can is =
-    front_added s _ is room can (plane_within a b c e) is.colour
-front_lawful s number (a ∷ b ∷ c ∷ d ∷ []) e room can is = is
-front_lawful s number (a ∷ b ∷ c ∷ d ∷ f ∷ []) e room can is = is
-front_lawful s number (a ∷ b ∷ c ∷ d ∷ f ∷ g ∷ []) e room can is =
-    front_added s _ is room can (plane_within a b c (none_first _ (colour_past d f g) e))
-    (colour_within d f g (none_second (plane_past a b c) _ e))
-front_lawful s number (a ∷ b ∷ c ∷ d ∷ f ∷ g ∷ h ∷ zs) e room can is = is
+front_lawful : (s : SolidView) (number : ℕ) (p : Plane) → face_past p ≡ None → length s.fronts < 32
+    → CanTakeFace number s → IsLawfulSolid s → IsLawfulSolid (with_front number p s)
+front_lawful s number p e room can is =
+    front_added s _ is room can (plane_within p.form (none_first _ (option_map_or colour_past p.paint None) e))
+    (face_colour s.colour p.paint is.colour (none_second (plane_past p.form) _ e))
 
-back_lawful : (s : SolidView) (number : ℕ) (zs : List ℤ) → face_past zs ≡ None → length s.backs < 32
-    → CanTakeFace number s → IsLawfulSolid s → IsLawfulSolid (with_back number zs s)
-back_lawful s number [] e room can is = is
-back_lawful s number (a ∷ []) e room can is = is
-back_lawful s number (a ∷ b ∷ []) e room can is = is
-back_lawful s number (a ∷ b ∷ c ∷ []) e room can is =
-    back_added s _ is room can (plane_within a b c e) is.colour
-back_lawful s number (a ∷ b ∷ c ∷ d ∷ []) e room can is = is
-back_lawful s number (a ∷ b ∷ c ∷ d ∷ f ∷ []) e room can is = is
-back_lawful s number (a ∷ b ∷ c ∷ d ∷ f ∷ g ∷ []) e room can is =
-    back_added s _ is room can (plane_within a b c (none_first _ (colour_past d f g) e))
-    (colour_within d f g (none_second (plane_past a b c) _ e))
-back_lawful s number (a ∷ b ∷ c ∷ d ∷ f ∷ g ∷ h ∷ zs) e room can is = is
+back_lawful : (s : SolidView) (number : ℕ) (p : Plane) → face_past p ≡ None → length s.backs < 32
+    → CanTakeFace number s → IsLawfulSolid s → IsLawfulSolid (with_back number p s)
+back_lawful s number p e room can is =
+    back_added s _ is room can (plane_within p.form (none_first _ (option_map_or colour_past p.paint None) e))
+    (face_colour s.colour p.paint is.colour (none_second (plane_past p.form) _ e))
 
-side_lawful : (s : SolidView) (zs : List ℤ) → face_past zs ≡ None → length s.sides < 32 → IsLawfulSolid s
-    → IsLawfulSolid (with_side zs s)
-side_lawful s [] e room is = is
-side_lawful s (a ∷ []) e room is = is
-side_lawful s (a ∷ b ∷ []) e room is = is
-side_lawful s (a ∷ b ∷ c ∷ []) e room is = side_added s _ is room (plane_within a b c e)
-side_lawful s (a ∷ b ∷ c ∷ d ∷ zs) e room is = is
+side_lawful : (s : SolidView) (form : Linear) → plane_past form ≡ None → length s.sides < 32 → IsLawfulSolid s
+    → IsLawfulSolid (with_side form s)
+side_lawful s form e room is = side_added s form is room (plane_within form e)
 
 -- the same of the last solid of some, where there is one
-pub last_front : (o : Option SolidView) (number : ℕ) (zs : List ℤ) → face_past zs ≡ None
+pub last_front : (o : Option SolidView) (number : ℕ) (p : Plane) → face_past p ≡ None
     → option_map_or (λ (s : SolidView). length s.fronts) o 0 < 32 → IfSome o (CanTakeFace number)
-    → IfSome o (λ s. IsLawfulSolid s → IsLawfulSolid (with_front number zs s))
-last_front None number zs e room can = tt
-last_front (Some s) number zs e room can = λ is. front_lawful s number zs e room can is
+    → IfSome o (λ s. IsLawfulSolid s → IsLawfulSolid (with_front number p s))
+last_front None number p e room can = tt
+last_front (Some s) number p e room can = λ is. front_lawful s number p e room can is
 
-pub last_back : (o : Option SolidView) (number : ℕ) (zs : List ℤ) → face_past zs ≡ None
+pub last_back : (o : Option SolidView) (number : ℕ) (p : Plane) → face_past p ≡ None
     → option_map_or (λ (s : SolidView). length s.backs) o 0 < 32 → IfSome o (CanTakeFace number)
-    → IfSome o (λ s. IsLawfulSolid s → IsLawfulSolid (with_back number zs s))
-last_back None number zs e room can = tt
-last_back (Some s) number zs e room can = λ is. back_lawful s number zs e room can is
+    → IfSome o (λ s. IsLawfulSolid s → IsLawfulSolid (with_back number p s))
+last_back None number p e room can = tt
+last_back (Some s) number p e room can = λ is. back_lawful s number p e room can is
 
-pub last_side : (o : Option SolidView) (zs : List ℤ) → face_past zs ≡ None
+pub last_side : (o : Option SolidView) (p : Linear) → plane_past p ≡ None
     → option_map_or (λ (s : SolidView). length s.sides) o 0 < 32
-    → IfSome o (λ s. IsLawfulSolid s → IsLawfulSolid (with_side zs s))
-last_side None zs e room = tt
-last_side (Some s) zs e room = λ is. side_lawful s zs e room is
+    → IfSome o (λ s. IsLawfulSolid s → IsLawfulSolid (with_side p s))
+last_side None p e room = tt
+last_side (Some s) p e room = λ is. side_lawful s p e room is
 
 -- a change of the last solid keeps all lawful, where it keeps that one
 pub lawful_last : (change : SolidView → SolidView) (ss : List SolidView)
@@ -167,6 +150,6 @@ lawful_last change (s ∷ t ∷ ss) keeps all =
     All-cons IsLawfulSolid s (with_last change (t ∷ ss)) (All-head IsLawfulSolid s (t ∷ ss) all)
     (lawful_last change (t ∷ ss) (rw place at keeps) (All-tail IsLawfulSolid s (t ∷ ss) all))
 
-pub head_lawful : (name : List ℕ) (number : ℕ) (colour : Colour) (zs : List ℤ) → head_colour zs ≡ colour
-    → three_past zs ≡ None → IsLawfulSolid (fresh_solid name number colour)
-head_lawful name number colour zs is e = fresh_lawful name number colour (rw is at (head_within zs e))
+pub head_lawful : (name : List ℕ) (number : ℕ) (paint : Paint) → colour_past paint ≡ None
+    → IsLawfulSolid (fresh_solid name number (colour_of paint))
+head_lawful name number paint e = fresh_lawful name number (colour_of paint) (colour_within paint e)

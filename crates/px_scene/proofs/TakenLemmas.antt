@@ -1,51 +1,44 @@
--- A draft stays lawful over a good line.
+-- What a draft keeps over a good line.
 use Prim.Native.Nat.{suc}
-use Rattle.std.proofs.Common.{◌≡◌, ℕ, ℤ, pos, ◌≤ℤ◌, ◌+◌, ◌-◌, min, ◌<◌, ◌≤◌, List, [], ◌∷◌, length, Bool}
-use Rattle.std.proofs.Common.{true, false, not, codes, refl, ap, arith, slice_get, IfSome, Option}
-use Rattle.std.proofs.Common.{Some, None, unwrap_or, add-zero, if◌then◌else◌}
+use Rattle.std.proofs.Common.{◌≡◌, ℕ, ℤ, pos, ◌≤ℤ◌, ◌+◌, ◌-◌, min, ◌<◌, ◌≤◌, List, [], ◌∷◌, length, true}
+use Rattle.std.proofs.Common.{refl, ap, arith, slice_get}
+use Rattle.std.proofs.Common.{IfSome, Option, None, add-zero}
 use Rattle.std.proofs.lemmas.Int.{ints}
 use Rattle.std.specs.Option.{option_or}
 use Rattle.px_show.specs.Judged.{past}
 use Rattle.px_show.specs.declared.fault.LimitKind.{LimitKind}
 use Rattle.px_show.specs.declared.fault.LimitKind.TheVariants as kind
+use Rattle.px_show.specs.declared.fault.LineFault.{LineFault}
 use Rattle.px_scene.specs.declared.line.Due.{Due}
 use Rattle.px_scene.specs.declared.line.Due.TheVariants as d
-use Rattle.px_scene.specs.declared.line.Keyword.{Keyword}
 use Rattle.px_scene.specs.declared.line.Keyword.TheVariants as k
-use Rattle.px_show.specs.declared.scene_version.Version.{Version}
-use Rattle.px_show.specs.declared.fault.Cause.{Cause}
-use Rattle.px_show.specs.declared.fault.Cause.TheVariants as cause
-use Rattle.px_text.specs.Text.{Words, is_name, number_of}
-use Rattle.px_show.specs.declared.fault.LineFault.{LineFault}
-use Rattle.px_scene.specs.Lines.{most, fraction_past, face_past, face_limit, is_due, form_of, is_header, keyword_of}
-use Rattle.px_scene.specs.Lines.{cause_of, solid_form, are_numbers, numbers_of, figures, colour_of, size_of}
-use Rattle.px_show.specs.Expressions.{is_among}
-use Rattle.px_scene.specs.Drafts.{first_word, new_solid, fresh_solid, with_last}
+use Rattle.px_scene.specs.declared.parse.Plane.{Plane}
+use Rattle.px_scene.specs.Lines.{most, fraction_past, face_past, face_limit, is_due, size_of}
+use Rattle.px_scene.specs.Drafts.{fresh_solid, with_last}
 use lib.IntN.{negsuc}
 use Rattle.px_model.specs.declared.solid.Colour.{Colour}
-use Rattle.std.specs.Str.{bytes_eq}
-use Rattle.px_model.specs.Scenes.{SolidView, black, faces_in, names_of, IsNumberedFrom, AreNumberedFrom, faces_of}
-use Rattle.px_scene.specs.LawfulDrafts.{CanTakeFace, is_begun, is_ended, IsGoodForm}
-use Rattle.px_num.proofs.TruthLaws.{and_left, none_first, none_second}
+use Rattle.px_model.specs.Scenes.{SolidView, faces_in, names_of, IsNumberedFrom, AreNumberedFrom, faces_of}
+use Rattle.px_scene.specs.LawfulDrafts.{CanTakeFace, is_begun, is_ended}
+use Rattle.px_num.proofs.TruthLaws.{none_first, none_second}
 use Rattle.px_model.proofs.FaceLaws.{faces_of-cons}
 
 pub at_most : (limit : LimitKind) (high found : ℕ) → most limit high found ≡ None → found ≤ high
 at_most limit high found e = grind (arith, ints)
 
 -- what no limit on a line of a face says
-pub record FaceRoom (zs : List ℤ) (faces numbered : ℕ) : Type 0 where
-  pub within : face_past zs ≡ None
+pub record FaceRoom (p : Plane) (faces numbered : ℕ) : Type 0 where
+  pub within : face_past p ≡ None
   pub room : faces < 32
   pub next : numbered < 4095
 
-pub face_room : (limit : LimitKind) (faces numbered : ℕ) (zs : List ℤ) → face_limit limit faces numbered zs ≡ None
-    → FaceRoom zs faces numbered
-face_room limit faces numbered zs e =
+pub face_room : (limit : LimitKind) (faces numbered : ℕ) (p : Plane) → face_limit limit faces numbered p ≡ None
+    → FaceRoom p faces numbered
+face_room limit faces numbered p e =
     let planes =
-    none_first (option_or (face_past zs) (most limit 32 (faces + 1))) (most kind.Faces 4095 (numbered + 1)) e
-    in let few : faces + 1 ≤ 32 = at_most limit 32 (faces + 1) (none_second (face_past zs) _ planes)
+    none_first (option_or (face_past p) (most limit 32 (faces + 1))) (most kind.Faces 4095 (numbered + 1)) e
+    in let few : faces + 1 ≤ 32 = at_most limit 32 (faces + 1) (none_second (face_past p) _ planes)
     in let numbers : numbered + 1 ≤ 4095 =
-    at_most kind.Faces 4095 (numbered + 1) (none_second (option_or (face_past zs) (most limit 32 (faces + 1))) _ e)
+    at_most kind.Faces 4095 (numbered + 1) (none_second (option_or (face_past p) (most limit 32 (faces + 1))) _ e)
     in record { within = none_first _ _ planes; room = omega arith; next = omega arith }
 
 -- what no limit on the line of a solid says
@@ -80,32 +73,6 @@ last_can_take first (s ∷ t ∷ ss) are some =
     omega (arith, faces_of-cons s (t ∷ ss))
     in rw (place, counted) (last_can_take (first + faces_in s) (t ∷ ss) are.1 (omega arith))
 
-abbrev no_cause : Option Cause
-no_cause = None
-
-header_form : (version : Version) (names : Words) (w : List ℕ) (ws : Words) (b : Bool) → is_header w ws ≡ b
-    → (if b then no_cause else Some cause.NotHeader) ≡ None → IsGoodForm version d.Header names (keyword_of w) ws
-header_form version names w ws false e none = cc
-header_form version names w ws true e none =
-    let word : bytes_eq w (codes "pxscene") ≡ true = and_left _ _ e
-    in let begins : keyword_of w ≡ k.Pxscene = rw word refl
-    in rw begins (record { comes = refl; formed = refl })
-
-due_form_none : (version : Version) (due : Due) (names ws : Words) (k : Keyword) (b : Bool) → is_due due k ≡ b
-    → (if b then form_of version k names ws else Some cause.Unexpected) ≡ None → IsGoodForm version due names k ws
-due_form_none version due names ws k true e none = record { comes = e; formed = none }
-due_form_none version due names ws k false e none = cc
-
-pub line_form_good : (version : Version) (due : Due) (names : Words) (w : List ℕ) (ws : Words)
-    → cause_of version due names w ws ≡ None → IsGoodForm version due names (keyword_of w) ws
-line_form_good version d.Header names w ws none = header_form version names w ws _ refl none
-line_form_good version d.Picture names w ws none = due_form_none version _ names ws (keyword_of w) _ refl none
-line_form_good version d.Depth names w ws none = due_form_none version _ names ws (keyword_of w) _ refl none
-line_form_good version d.Solid names w ws none = due_form_none version _ names ws (keyword_of w) _ refl none
-line_form_good version d.Plane names w ws none = due_form_none version _ names ws (keyword_of w) _ refl none
-line_form_good version d.End names w ws none = due_form_none version _ names ws (keyword_of w) _ refl none
-line_form_good version d.Nothing names w ws none = cc
-
 -- lines that come only after a solid's
 pub begun_front : (due : Due) → is_due due k.Front ≡ true → is_begun due ≡ true
 begun_front d.Plane e = refl
@@ -127,20 +94,6 @@ pub begun_end : (due : Due) → is_due due k.End ≡ true → is_begun due ≡ t
 begun_end d.End e = refl
 begun_end due e = cc
 
--- the colour of a solid's line
-abbrev pub head_colour : List ℤ → Colour
-head_colour (red ∷ green ∷ blue ∷ []) = colour_of red green blue
-head_colour zs = black
-
--- what a good line of a solid says
-pub record IsNewName (names : Words) (ws : Words) : Type 0 where
-  pub lawful : is_name (first_word ws) ≡ true
-  pub fresh : is_among names (first_word ws) ≡ false
-  pub colour : Colour
-  pub written : head_colour (numbers_of (figures k.Solid ws)) ≡ colour
-  pub solid : (number : ℕ) → new_solid (first_word ws) number (numbers_of (figures k.Solid ws))
-      ≡ fresh_solid (first_word ws) number colour ∷ []
-
 pub numbered_fresh : (name : List ℕ) (number : ℕ) (colour : Colour)
     → IsNumberedFrom number (fresh_solid name number colour)
 numbered_fresh name number colour = record {
@@ -149,33 +102,6 @@ numbered_fresh name number colour = record {
   backs = λ k d lt. absurd (omega arith);
   once = λ n above below. absurd (omega arith);
 }
-
-pub new_name : (names : Words) (ws : Words) → solid_form names ws ≡ None → IsNewName names ws
-new_name names [] e = cc
-new_name names (name ∷ []) e = cc
-new_name names (name ∷ a ∷ []) e = cc
-new_name names (name ∷ a ∷ b ∷ []) e = cc
-new_name names (name ∷ a ∷ b ∷ c ∷ []) e =
-    new_by (is_name name) (are_numbers (a ∷ b ∷ c ∷ [])) (is_among names name) refl refl e
-  where
-    number : List ℕ → ℤ
-    number w = unwrap_or (number_of w) (pos 0)
-
-    new_by : (lawful numeric among : Bool) → is_name name ≡ lawful → is_among names name ≡ among
-        → (if not lawful then Some cause.BadName else if not numeric then Some cause.NotNumber else if among then Some
-        cause.SecondName else None) ≡ None → IsNewName names (name ∷ a ∷ b ∷ c ∷ [])
-    new_by false numeric among l m e = cc
-    new_by true false among l m e = cc
-    new_by true true true l m e = cc
-    new_by true true false l m e =
-        record {
-          lawful = l;
-          fresh = m;
-          colour = colour_of (number a) (number b) (number c);
-          written = refl;
-          solid = λ n. refl;
-        }
-new_name names (name ∷ a ∷ b ∷ c ∷ d ∷ ws) e = cc
 
 pub names_with_last : (change : SolidView → SolidView) → ((s : SolidView) → (change s).name ≡ s.name)
     → (ss : List SolidView) → names_of (with_last change ss) ≡ names_of ss

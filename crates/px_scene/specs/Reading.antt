@@ -30,4 +30,5 @@ is_nothing due = false
 abbrev pub refusal_of : List ℕ → Option SceneFault
 refusal_of text =
     if nat_lt MAX_TEXT_BYTES (length text) then Some (fault.Limit 0 kind.Text (pos (MAX_TEXT_BYTES + 1)))
-    else refused (first_bad fault_behind [] (worded text)) (is_nothing (draft_of (worded text)).due) (length (lines_of text))
+    else refused (first_bad fault_behind [] (worded text)) (is_nothing (draft_of (worded text)).due)
+    (length (lines_of text))

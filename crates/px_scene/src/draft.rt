@@ -5,12 +5,12 @@ ghost use Rattle.std.specs.List.{list_any};
 ghost use Rattle.px_text.specs.LentWords.{now_of};
 ghost use Rattle.px_scene.specs.Reading.{is_nothing};
 ghost use Rattle.px_show.specs.Expressions.{is_among, show_fault, show_tree};
-ghost use Rattle.px_scene.specs.Lines.{colour_of, size_of};
+ghost use Rattle.px_scene.specs.Lines.{depth, picture, size_of};
 ghost use Rattle.px_scene.specs.Lines.{is_due, limit_of, face_past, plane_past, colour_past, picture_past, depth_past};
-ghost use Rattle.px_scene.specs.Parsed.{keyword_in, name_in, kept_words, numbers_in, face_numbers, depth_numbers, second_name, fault_left, fault_shown};
+ghost use Rattle.px_scene.specs.Parsed.{keyword_in, name_in, stated, second_name, fault_left, fault_shown};
 ghost use Rattle.px_model.specs.declared.limits.TheConstants.{MAX_FACES, MAX_PLANES_OF_A_KIND};
 ghost use Rattle.px_model.specs.Scenes.{names_of};
-ghost use Rattle.px_scene.specs.Drafts.{fresh_solid, with_line, with_depth, taken, with_last, in_last, with_front, with_back, with_side, tally_of, fault_in, drawn};
+ghost use Rattle.px_scene.specs.Drafts.{colour_of, fresh_solid, with_form, taken, with_last, in_last, with_front, with_back, with_side, tally_of, fault_in, drawn};
 ghost use Rattle.px_scene.specs.LawfulDrafts.{CanTakeFace, CanBeTaken, IsLawfulDraft};
 ghost use Rattle.px_scene.specs.declared.line.Due.TheVariants as Due;
 ghost use Rattle.px_show.specs.declared.scene_version.Version.TheVariants as Version;
@@ -170,7 +170,7 @@ impl Draft {
     /// Why the line of a statement is bad, but for its expression.
     fn fault(&self, statement: Statement) -> Option<LineFault<LimitKind>>
         requires { IsLawfulDraft (view_of self.now) }
-        ensures { result ≡ fault_left (view_of self.now) statement.entry }
+        ensures { result ≡ fault_left (view_of self.now) (stated statement.entry) }
     {
         match second_name(self.solids.as_slice(), statement) {
             Some(cause) => Some(LineFault::Malformed(cause)),
@@ -183,13 +183,12 @@ impl Draft {
         requires lawful { IsLawfulDraft (view_of self.old) }
         requires due { is_due self.old.due (keyword_in statement) ≡ true }
         requires name { length (name_in statement) ≤ 32 }
-        requires limit { limit_of (keyword_in statement) (tally_of (view_of self.old))
-            (numbers_in statement) ≡ None }
+        requires limit { limit_of (tally_of (view_of self.old)) (stated statement) ≡ None }
         ensures bad { (f : LineFault LimitKind) → IsErrOf result (LineError.Bad f) →
-            fault_shown (view_of self.old) statement.entry ≡ Some f }
-        ensures good { OnOk result (fault_shown (view_of self.old) statement.entry ≡ None) }
-        ensures taken { OnOk result (view_of self.new ≡ with_line (keyword_in statement.entry)
-            (view_of self.old) (kept_words statement.entry) (numbers_in statement.entry)) }
+            fault_shown (view_of self.old) (stated statement.entry) ≡ Some f }
+        ensures good { OnOk result (fault_shown (view_of self.old) (stated statement.entry) ≡ None) }
+        ensures taken { OnOk result (view_of self.new ≡ with_form (view_of self.old)
+            (stated statement.entry)) }
     {
         match statement {
             Statement::Header(version) => self.version = version,
@@ -207,18 +206,15 @@ impl Draft {
 
     fn take_picture(&mut self, width: i64, height: i64)
         requires { picture_past width height ≡ None }
-        ensures { view_of self.new ≡ record (view_of self.old) {
-          width = size_of width;
-          height = size_of height;
-        } }
+        ensures { view_of self.new ≡ with_form (view_of self.old) (picture width height) }
     {
         self.width = width as u32;
         self.height = height as u32;
     }
 
     fn take_depth(&mut self, bits: i64, fraction: Option<i64>)
-        requires { depth_past (depth_numbers bits fraction) ≡ None }
-        ensures { view_of self.new ≡ with_depth (view_of self.old) (depth_numbers bits fraction) }
+        requires { depth_past bits fraction ≡ None }
+        ensures { view_of self.new ≡ with_form (view_of self.old) (depth bits fraction) }
     {
         self.depth_bits = bits as u32;
         self.fraction_bits = match fraction {
@@ -245,12 +241,12 @@ impl Draft {
 
     fn take_solid(&mut self, alloc: Global, name: &[u8], paint: Paint) -> Result<(), Memory>
         requires name { length name.now ≤ 32 }
-        requires limit { colour_past paint.red paint.green paint.blue ≡ None }
+        requires limit { colour_past paint ≡ None }
         requires faces { self.old.numbered < MAX_FACES }
         ensures ok { OnOk result (view_of self.new ≡ record (view_of self.old) {
           numbered = self.old.numbered + 1;
           solids = self.old.solids.items ++ fresh_solid name.now (self.old.numbered + 1)
-              (colour_of paint.red paint.green paint.blue) ∷ [];
+              (colour_of paint) ∷ [];
         }) }
     {
         let number = self.numbered + 1;
@@ -263,7 +259,7 @@ impl Draft {
     #[tactic(auto, using(crate::proofs::DraftLemmas::last_set))]
     fn take_front(&mut self, face: Plane) -> Result<(), Memory>
         requires begun { 0 < vec_len self.old.solids }
-        requires limit { face_past (face_numbers face) ≡ None }
+        requires limit { face_past face ≡ None }
         requires faces { self.old.numbered < MAX_FACES }
         requires room { in_last (λ s. length s.fronts) self.old.solids.items < MAX_PLANES_OF_A_KIND }
         requires next { CanBeTaken self.old.numbered self.old.solids.items }
@@ -271,7 +267,7 @@ impl Draft {
           numbered =
               self.old.numbered + 1;
           solids = with_last (with_front (self.old.numbered + 1)
-              (face_numbers face)) self.old.solids.items;
+              face) self.old.solids.items;
         }) }
     {
         let number = self.numbered + 1;
@@ -285,7 +281,7 @@ impl Draft {
     #[tactic(auto, using(crate::proofs::DraftLemmas::last_set))]
     fn take_back(&mut self, face: Plane) -> Result<(), Memory>
         requires begun { 0 < vec_len self.old.solids }
-        requires limit { face_past (face_numbers face) ≡ None }
+        requires limit { face_past face ≡ None }
         requires faces { self.old.numbered < MAX_FACES }
         requires room { in_last (λ s. length s.backs) self.old.solids.items < MAX_PLANES_OF_A_KIND }
         requires next { CanBeTaken self.old.numbered self.old.solids.items }
@@ -293,7 +289,7 @@ impl Draft {
           numbered =
               self.old.numbered + 1;
           solids = with_last (with_back (self.old.numbered + 1)
-              (face_numbers face)) self.old.solids.items;
+              face) self.old.solids.items;
         }) }
     {
         let number = self.numbered + 1;
@@ -307,11 +303,11 @@ impl Draft {
     #[tactic(auto, using(crate::proofs::DraftLemmas::last_set))]
     fn take_side(&mut self, form: Linear) -> Result<(), Memory>
         requires begun { 0 < vec_len self.old.solids }
-        requires limit { plane_past form.a form.b form.c ≡ None }
+        requires limit { plane_past form ≡ None }
         requires room { in_last (λ s. length s.sides) self.old.solids.items < MAX_PLANES_OF_A_KIND }
         ensures ok { OnOk result (view_of self.new ≡ record (view_of self.old) {
           solids = with_last
-              (with_side (form.a ∷ form.b ∷ form.c ∷ [])) self.old.solids.items;
+              (with_side form) self.old.solids.items;
         }) }
     {
         let last = self.solids.len() - 1;
@@ -322,7 +318,7 @@ impl Draft {
 
 /// A solid of the same name that stands already.
 fn second_name(solids: &[Solid], statement: Statement) -> Option<Cause>
-    ensures { result ≡ second_name (names_of solids.now) statement.entry }
+    ensures { result ≡ second_name (names_of solids.now) (stated statement.entry) }
 {
     match statement {
         Statement::Solid { name, paint: _ } => {
@@ -369,10 +365,10 @@ fn name_of(word: &[u8]) -> ArrayVec<u8, 32>
 
 /// Adds the front of a line to its solid.
 fn push_front(solid: &mut Solid, number: u32, face: Plane) -> Result<(), Memory>
-    requires limit { face_past (face_numbers face) ≡ None }
+    requires limit { face_past face ≡ None }
     requires room { length solid.old.fronts < MAX_PLANES_OF_A_KIND }
     requires next { CanTakeFace number solid.old }
-    ensures ok { OnOk result (solid.new ≡ with_front number (face_numbers face) solid.old) }
+    ensures ok { OnOk result (solid.new ≡ with_front number face solid.old) }
     ensures err { OnErr result (solid.new ≡ solid.old) }
 {
     solid.push_front(face_of(solid.colour(), number, face))
@@ -380,10 +376,10 @@ fn push_front(solid: &mut Solid, number: u32, face: Plane) -> Result<(), Memory>
 
 /// Adds the back of a line to its solid.
 fn push_back(solid: &mut Solid, number: u32, face: Plane) -> Result<(), Memory>
-    requires limit { face_past (face_numbers face) ≡ None }
+    requires limit { face_past face ≡ None }
     requires room { length solid.old.backs < MAX_PLANES_OF_A_KIND }
     requires next { CanTakeFace number solid.old }
-    ensures ok { OnOk result (solid.new ≡ with_back number (face_numbers face) solid.old) }
+    ensures ok { OnOk result (solid.new ≡ with_back number face solid.old) }
     ensures err { OnErr result (solid.new ≡ solid.old) }
 {
     solid.push_back(face_of(solid.colour(), number, face))

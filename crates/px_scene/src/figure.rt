@@ -1,16 +1,16 @@
 //! What the numbers of a line write, once they are within their limits: a face and a colour.
-ghost use Rattle.std.specs.Prelude.{◌≡◌, ◌≤ℤ◌, pos, None, Some};
-ghost use Rattle.px_scene.specs.Lines.{face_past, colour_past, size_of, colour_of, face_of};
+ghost use Rattle.std.specs.Prelude.{◌≡◌, ◌≤ℤ◌, pos, None};
+ghost use Rattle.px_scene.specs.Drafts.{colour_of, face_of};
+ghost use Rattle.px_scene.specs.Lines.{face_past, colour_past, size_of};
 ghost use Rattle.px_model.specs.Scenes.{IsPlane};
-ghost use Rattle.px_scene.specs.Parsed.{face_numbers};
 
 use crate::parse::{Paint, Plane};
 use px_model::{Colour, Face};
 
 /// A face of this number, with the solid's colour where it has none of its own.
 pub(crate) fn face_of(colour: Colour, number: u32, face: Plane) -> Face
-    requires { face_past (face_numbers face) ≡ None }
-    ensures value { face_of colour number (face_numbers face) ≡ Some result }
+    requires { face_past face ≡ None }
+    ensures value { result ≡ face_of colour number face }
     ensures plane { IsPlane result.plane }
 {
     match face.paint {
@@ -28,8 +28,8 @@ pub(crate) fn face_of(colour: Colour, number: u32, face: Plane) -> Face
 }
 
 pub(crate) fn colour_of(paint: Paint) -> Colour
-    requires { colour_past paint.red paint.green paint.blue ≡ None }
-    ensures { result ≡ colour_of paint.red paint.green paint.blue }
+    requires { colour_past paint ≡ None }
+    ensures { result ≡ colour_of paint }
 {
     Colour {
         red: part_of(paint.red),

@@ -9,7 +9,7 @@ ghost use Rattle.px_model.specs.declared.limits.TheConstants.{
 ghost use Rattle.px_show.specs.Judged.{past};
 ghost use Rattle.px_show.specs.declared.fault.LimitKind.TheVariants as Kind;
 ghost use Rattle.px_scene.specs.Lines.{most, picture_past, depth_past, fraction_past, colour_past, plane_past, face_past, limit_of};
-ghost use Rattle.px_scene.specs.Parsed.{keyword_in, numbers_in, depth_numbers, face_numbers};
+ghost use Rattle.px_scene.specs.Parsed.{stated};
 
 use crate::line::Tally;
 use crate::parse::{Paint, Plane, Statement};
@@ -27,7 +27,7 @@ pub(crate) fn limit_of(statement: Statement, tally: Tally) -> Option<LineFault<L
     requires numbered { tally.numbered ≤ MAX_FACES }
     requires faces { (tally.fronts ≤ MAX_PLANES_OF_A_KIND) × (tally.backs ≤ MAX_PLANES_OF_A_KIND)
         × (tally.sides ≤ MAX_PLANES_OF_A_KIND) }
-    ensures { result ≡ limit_of (keyword_in statement.entry) tally (numbers_in statement.entry) }
+    ensures { result ≡ limit_of tally (stated statement.entry) }
 {
     match statement {
         Statement::Picture { width, height } => picture_past(width, height),
@@ -56,7 +56,7 @@ fn picture_past(width: i64, height: i64) -> Option<LineFault<LimitKind>>
 }
 
 fn depth_past(bits: i64, fraction: Option<i64>) -> Option<LineFault<LimitKind>>
-    ensures { result ≡ depth_past (depth_numbers bits fraction) }
+    ensures { result ≡ depth_past bits fraction }
 {
     let depth = past(LimitKind::Depth, 1, i64::from(MAX_DEPTH_BITS), bits);
     match (depth, fraction) {
@@ -75,7 +75,7 @@ fn fraction_past(bits: i64, fraction: i64) -> Option<LineFault<LimitKind>>
 }
 
 fn face_past(face: Plane) -> Option<LineFault<LimitKind>>
-    ensures { result ≡ face_past (face_numbers face) }
+    ensures { result ≡ face_past face }
 {
     match face.paint {
         None => plane_past(face.form),
@@ -84,7 +84,7 @@ fn face_past(face: Plane) -> Option<LineFault<LimitKind>>
 }
 
 fn plane_past(form: Linear) -> Option<LineFault<LimitKind>>
-    ensures { result ≡ plane_past form.a form.b form.c }
+    ensures { result ≡ plane_past form }
 {
     let slope = i64::from(MAX_SLOPE);
     let constant = MAX_CONSTANT as i64;
@@ -94,7 +94,7 @@ fn plane_past(form: Linear) -> Option<LineFault<LimitKind>>
 }
 
 fn colour_past(paint: Paint) -> Option<LineFault<LimitKind>>
-    ensures { result ≡ colour_past paint.red paint.green paint.blue }
+    ensures { result ≡ colour_past paint }
 {
     past(LimitKind::Colour, 0, 255, paint.red)
         .or(past(LimitKind::Colour, 0, 255, paint.green))

@@ -1,10 +1,10 @@
 //! One line of a scene text, parsed: what its words say, where it is due and its form is good
 //! (docs/SCENES.md, "Lines that are due").
-ghost use Rattle.std.specs.Prelude.{◌≡◌, Some, false, ◌∷◌, [], IfSome, IfNone};
+ghost use Rattle.std.specs.Prelude.{◌≡◌, ◌≤◌, IfOk, length, true};
 ghost use Rattle.px_text.specs.LentWords.{now_of};
-ghost use Rattle.px_scene.specs.Lines.{are_numbers, due_after};
-ghost use Rattle.px_scene.specs.Parsed.{keyword_in, WriteThree, ParsesTo, IsParsed, FaceForms, HeaderForms, DepthForms};
-ghost use Rattle.px_show.specs.declared.scene_version.Version.{Version as AnyVersion};
+ghost use Rattle.px_scene.specs.Lines.{depth_form, due_after, end_form, form_of, header_form, is_due, linear_in, paint_in, picture_form, plane_in, plane_form, line_form, side_form, solid_form};
+ghost use Rattle.px_scene.specs.Lines.{back, front, keyword_of};
+ghost use Rattle.px_scene.specs.Parsed.{as_form, keyword_in, name_in, stated};
 ghost use Rattle.px_scene.specs.declared.line.Keyword.TheVariants as Kind;
 
 use crate::line::{Due, Keyword, keyword_of};
@@ -50,7 +50,9 @@ impl<'t> Statement<'t> {
         word: &[u8],
         words: &'t [&'t [u8]],
     ) -> Result<Statement<'t>, Cause>
-        ensures { ParsesTo version due word.now (now_of words.now) result }
+        ensures says { as_form result ≡ line_form version due (keyword_of word.now) (now_of words.now) }
+        ensures comes { IfOk result (λ s. is_due due (keyword_in s) ≡ true) }
+        ensures named { IfOk result (λ s. length (name_in s) ≤ 32) }
     {
         match (due, keyword_of(word)) {
             (Due::Header, Keyword::Pxscene) => header(words),
@@ -72,7 +74,7 @@ impl<'t> Statement<'t> {
 
     /// What is due on the line after its own.
     pub(crate) fn due_after(self) -> Due
-        ensures { result ≡ due_after (keyword_in self.entry) }
+        ensures { result ≡ due_after (stated self.entry) }
     {
         match self {
             Statement::Header(_) => Due::Picture,
@@ -89,7 +91,7 @@ impl<'t> Statement<'t> {
 }
 
 fn header<'t>(words: &'t [&'t [u8]]) -> Result<Statement<'t>, Cause>
-    ensures { HeaderForms (now_of words.now) result }
+    ensures { as_form result ≡ header_form (now_of words.now) }
 {
     match Version::of(words) {
         Some(version) => Ok(Statement::Header(version)),
@@ -98,7 +100,7 @@ fn header<'t>(words: &'t [&'t [u8]]) -> Result<Statement<'t>, Cause>
 }
 
 fn picture<'t>(words: &'t [&'t [u8]]) -> Result<Statement<'t>, Cause>
-    ensures { (version : AnyVersion) → IsParsed version Kind.Picture (now_of words.now) result }
+    ensures { as_form result ≡ picture_form (now_of words.now) }
 {
     match words {
         [width, height] => match (number_of(width), number_of(height)) {
@@ -110,34 +112,17 @@ fn picture<'t>(words: &'t [&'t [u8]]) -> Result<Statement<'t>, Cause>
 }
 
 fn depth<'t>(version: Version, words: &'t [&'t [u8]]) -> Result<Statement<'t>, Cause>
-    ensures { IsParsed version Kind.Depth (now_of words.now) result }
+    ensures { as_form result ≡ depth_form version (now_of words.now) }
 {
-    match version {
-        Version::One | Version::Two => depth_alone(words),
-        Version::Three => depth_and_fraction(words),
-    }
-}
-
-fn depth_alone<'t>(words: &'t [&'t [u8]]) -> Result<Statement<'t>, Cause>
-    ensures { DepthForms 1 (now_of words.now) result }
-{
-    match words {
-        [bits] => match number_of(bits) {
+    match (version, words) {
+        (Version::One | Version::Two, [bits]) => match number_of(bits) {
             Some(bits) => Ok(Statement::Depth {
                 bits,
                 fraction: None,
             }),
             None => Err(Cause::NotNumber),
         },
-        _ => Err(Cause::WordCount),
-    }
-}
-
-fn depth_and_fraction<'t>(words: &'t [&'t [u8]]) -> Result<Statement<'t>, Cause>
-    ensures { DepthForms 2 (now_of words.now) result }
-{
-    match words {
-        [bits, fraction] => match (number_of(bits), number_of(fraction)) {
+        (Version::Three, [bits, fraction]) => match (number_of(bits), number_of(fraction)) {
             (Some(bits), Some(fraction)) => Ok(Statement::Depth {
                 bits,
                 fraction: Some(fraction),
@@ -149,7 +134,8 @@ fn depth_and_fraction<'t>(words: &'t [&'t [u8]]) -> Result<Statement<'t>, Cause>
 }
 
 fn solid<'t>(words: &'t [&'t [u8]]) -> Result<Statement<'t>, Cause>
-    ensures { (version : AnyVersion) → IsParsed version Kind.Solid (now_of words.now) result }
+    ensures says { as_form result ≡ solid_form (now_of words.now) }
+    ensures named { IfOk result (λ s. length (name_in s) ≤ 32) }
 {
     match words {
         [name, red, green, blue] => {
@@ -166,7 +152,9 @@ fn solid<'t>(words: &'t [&'t [u8]]) -> Result<Statement<'t>, Cause>
 }
 
 fn front<'t>(words: &'t [&'t [u8]]) -> Result<Statement<'t>, Cause>
-    ensures { (version : AnyVersion) → IsParsed version Kind.Front (now_of words.now) result }
+    ensures says { as_form result ≡ plane_form front (plane_in (now_of words.now)) }
+    ensures begins { IfOk result (λ s. keyword_in s ≡ Kind.Front) }
+    ensures named { IfOk result (λ s. length (name_in s) ≤ 32) }
 {
     match face(words) {
         Ok(face) => Ok(Statement::Front(face)),
@@ -175,7 +163,9 @@ fn front<'t>(words: &'t [&'t [u8]]) -> Result<Statement<'t>, Cause>
 }
 
 fn back<'t>(words: &'t [&'t [u8]]) -> Result<Statement<'t>, Cause>
-    ensures { (version : AnyVersion) → IsParsed version Kind.Back (now_of words.now) result }
+    ensures says { as_form result ≡ plane_form back (plane_in (now_of words.now)) }
+    ensures begins { IfOk result (λ s. keyword_in s ≡ Kind.Back) }
+    ensures named { IfOk result (λ s. length (name_in s) ≤ 32) }
 {
     match face(words) {
         Ok(face) => Ok(Statement::Back(face)),
@@ -184,7 +174,7 @@ fn back<'t>(words: &'t [&'t [u8]]) -> Result<Statement<'t>, Cause>
 }
 
 fn side<'t>(words: &'t [&'t [u8]]) -> Result<Statement<'t>, Cause>
-    ensures { (version : AnyVersion) → IsParsed version Kind.Side (now_of words.now) result }
+    ensures { as_form result ≡ side_form (now_of words.now) }
 {
     match words {
         [a, b, c] => match linear_of(a, b, c) {
@@ -196,7 +186,7 @@ fn side<'t>(words: &'t [&'t [u8]]) -> Result<Statement<'t>, Cause>
 }
 
 fn end<'t>(words: &'t [&'t [u8]]) -> Result<Statement<'t>, Cause>
-    ensures { (version : AnyVersion) → IsParsed version Kind.End (now_of words.now) result }
+    ensures { as_form result ≡ end_form (now_of words.now) }
 {
     match words {
         [] => Ok(Statement::End),
@@ -206,7 +196,7 @@ fn end<'t>(words: &'t [&'t [u8]]) -> Result<Statement<'t>, Cause>
 
 /// A plane, and a colour where one follows.
 fn face(words: &[&[u8]]) -> Result<Plane, Cause>
-    ensures { FaceForms (now_of words.now) result }
+    ensures { result ≡ plane_in (now_of words.now) }
 {
     match words {
         [a, b, c] => match linear_of(a, b, c) {
@@ -225,8 +215,7 @@ fn face(words: &[&[u8]]) -> Result<Plane, Cause>
 }
 
 fn linear_of(a: &[u8], b: &[u8], c: &[u8]) -> Option<Linear>
-    ensures some { IfSome result (λ f. WriteThree a.now b.now c.now f.a f.b f.c) }
-    ensures none { IfNone result (are_numbers (a.now ∷ b.now ∷ c.now ∷ []) ≡ false) }
+    ensures { result ≡ linear_in a.now b.now c.now }
 {
     match (number_of(a), number_of(b), number_of(c)) {
         (Some(a), Some(b), Some(c)) => Some(Linear { a, b, c }),
@@ -235,9 +224,7 @@ fn linear_of(a: &[u8], b: &[u8], c: &[u8]) -> Option<Linear>
 }
 
 fn paint_of(red: &[u8], green: &[u8], blue: &[u8]) -> Option<Paint>
-    ensures some { IfSome result (λ p. WriteThree red.now green.now blue.now p.red p.green p.blue) }
-    ensures none { IfNone result
-        (are_numbers (red.now ∷ green.now ∷ blue.now ∷ []) ≡ false) }
+    ensures { result ≡ paint_in red.now green.now blue.now }
 {
     match (number_of(red), number_of(green), number_of(blue)) {
         (Some(red), Some(green), Some(blue)) => Some(Paint { red, green, blue }),
