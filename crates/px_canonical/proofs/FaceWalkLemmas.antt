@@ -1,6 +1,6 @@
 -- The lines of a solid's faces, in the order of their numbers.
 use Rattle.std.proofs.Common.{◌≡◌, ℕ, ◌+◌, ◌<◌, ◌≤◌, List, [], ◌∷◌, ◌++◌, length, Bool, true, false, not, codes, map}
-use Rattle.std.proofs.Common.{refl, ap, subst, ◌∙◌, arith, append-nil, length-append}
+use Rattle.std.proofs.Common.{refl, ap, sym, subst, ◌∙◌, arith, append-nil, length-append}
 use Prim.Native.Nat.{zero, suc}
 use Rattle.std.specs.List.{All, flat_map, range_with_len}
 use Rattle.px_model.specs.declared.solid.Face.{Face}
@@ -9,7 +9,7 @@ use Rattle.px_model.specs.Scenes.{SolidView, IsColour, IsLawfulSolid, IsPlane, A
 use Rattle.px_scene.specs.Drafts.{DraftView}
 use Rattle.px_canonical.proofs.CutLemmas.{below, at_number, HasOne, cut, few_below}
 use Rattle.px_canonical.proofs.WalkLaws.{Walk, walk_both}
-use Rattle.px_canonical.proofs.RoundLaws.{open_solid, face_words, IsWritableFace, front_walk, back_walk}
+use Rattle.px_canonical.proofs.RoundLaws.{Writes, back_walk, face_words, face_written, front_walk, open_solid, plane_for}
 
 -- a solid with its faces below a number, and no side
 abbrev pub part : SolidView → ℕ → SolidView
@@ -30,14 +30,12 @@ abbrev pub words_of_number : SolidView → ℕ → List Words
 words_of_number s m = words_at (codes "front") s.fronts m ++ words_at (codes "back") s.backs m
 
 writable : (near m : ℕ) (faces : List Face) → AreFaces near faces → All (λ f. IsColour f.colour) faces
-    → (one : HasOne m faces) → IsWritableFace one.face
+    → (one : HasOne m faces) → Writes (face_words one.face) (plane_for one.face)
 writable near m faces are colours one =
     let plane = are.planes one.place one.face one.within
     in let colour = colours one.place one.face one.within
-    in record {
-      plane = subst (λ (f : Face). IsPlane f.plane) (one.read one.face) plane;
-      colour = subst (λ (f : Face). IsColour f.colour) (one.read one.face) colour;
-    }
+    in face_written one.face (subst (λ (f : Face). IsPlane f.plane) (one.read one.face) plane)
+    (subst (λ (f : Face). IsColour f.colour) (one.read one.face) colour)
 
 -- the words of one number's line
 face_walk : (start : DraftView) (done : List SolidView) (s : SolidView) (n : ℕ) (is : Bool) → IsLawfulSolid s
@@ -45,7 +43,7 @@ face_walk : (start : DraftView) (done : List SolidView) (s : SolidView) (n : ℕ
     → has_number s.fronts (n + 1) ≡ is → has_number s.backs (n + 1) ≡ not is
     → Walk (open_solid start done (part s (n + 1)) n) (words_of_number s (n + 1))
     (open_solid start done (part s (n + 1 + 1)) (n + 1))
-face_walk start done s n true ok more front back =
+face_walk start done s n true ok few front back =
     let fronts = cut (n + 1) s.fronts ok.fronts.order
     in let backs = cut (n + 1) s.backs ok.backs.order
     in let one = fronts.present front
@@ -54,17 +52,22 @@ face_walk start done s n true ok more front back =
     ∙ ap (λ fs. below (n + 1) s.fronts ++ fs) one.only
     in let kept : below (n + 1 + 1) s.backs ≡ below (n + 1) s.backs = backs.grown
     ∙ ap (λ fs. below (n + 1) s.backs ++ fs) none ∙ append-nil (below (n + 1) s.backs)
-    in let room : length (below (n + 1) s.fronts) < 32 = let few = ok.fronts.few
+    in let room : length (below (n + 1) s.fronts) < 32 = let some = ok.fronts.few
     in omega (
       arith,
       ap length grown,
       length-append (below (n + 1) s.fronts) (one.face ∷ []),
       few_below (n + 1 + 1) s.fronts,
     )
+    in let face = writable s.near_number (n + 1) s.fronts ok.fronts ok.fronts.colours one
+    in let more = λ (m : ℕ). record (part s (n + 1)) {
+      fronts = below (n + 1) s.fronts ++ record one.face { number = m } ∷ [];
+    }
     in rw (one.only, none, grown, kept)
-    (front_walk start done (part s (n + 1)) n one.face
-    (writable s.near_number (n + 1) s.fronts ok.fronts ok.fronts.colours one) one.number room more)
-face_walk start done s n false ok more front back =
+    (subst (λ (m : ℕ). Walk (open_solid start done (part s (n + 1)) n) ((codes "front" ∷ face_words one.face) ∷ [])
+    (open_solid start done (more m) (n + 1))) (sym one.number)
+    (front_walk start done (part s (n + 1)) n (face_words one.face) (plane_for one.face) face room few))
+face_walk start done s n false ok few front back =
     let fronts = cut (n + 1) s.fronts ok.fronts.order
     in let backs = cut (n + 1) s.backs ok.backs.order
     in let one = backs.present back
@@ -73,16 +76,21 @@ face_walk start done s n false ok more front back =
     ∙ ap (λ fs. below (n + 1) s.backs ++ fs) one.only
     in let kept : below (n + 1 + 1) s.fronts ≡ below (n + 1) s.fronts = fronts.grown
     ∙ ap (λ fs. below (n + 1) s.fronts ++ fs) none ∙ append-nil (below (n + 1) s.fronts)
-    in let room : length (below (n + 1) s.backs) < 32 = let few = ok.backs.few
+    in let room : length (below (n + 1) s.backs) < 32 = let some = ok.backs.few
     in omega (
       arith,
       ap length grown,
       length-append (below (n + 1) s.backs) (one.face ∷ []),
       few_below (n + 1 + 1) s.backs,
     )
+    in let face = writable s.near_number (n + 1) s.backs ok.backs ok.backs.colours one
+    in let more = λ (m : ℕ). record (part s (n + 1)) {
+      backs = below (n + 1) s.backs ++ record one.face { number = m } ∷ [];
+    }
     in rw (one.only, none, grown, kept)
-    (back_walk start done (part s (n + 1)) n one.face
-    (writable s.near_number (n + 1) s.backs ok.backs ok.backs.colours one) one.number room more)
+    (subst (λ (m : ℕ). Walk (open_solid start done (part s (n + 1)) n) ((codes "back" ∷ face_words one.face) ∷ [])
+    (open_solid start done (more m) (n + 1))) (sym one.number)
+    (back_walk start done (part s (n + 1)) n (face_words one.face) (plane_for one.face) face room few))
 
 -- so many numbers from one on, each of which some face has
 pub faces_walk : (start : DraftView) (done : List SolidView) (s : SolidView) (count n : ℕ) → IsLawfulSolid s

@@ -134,19 +134,19 @@ depth_short v.Three bits fraction b f =
     joined (32 ∷ decimal bits) _ 4 4 (let n = decimal_short bits (omega arith) in omega arith)
     (joined (32 ∷ decimal fraction) [] 4 0 (let n = decimal_short fraction (omega arith) in omega arith) (omega arith))
 
-first_short : (scene : SceneView) → IsLawfulScene scene → length (first_lines scene) ≤ 40
-first_short scene is =
+pub begin_short : (version : Version) (width height bits fraction : ℕ) → width ≤ 512 → height ≤ 512 → bits ≤ 512
+    → fraction ≤ 512
+    → length (written_line (codes "pxscene") (version_word version ∷ [])
+    ++ written_line (codes "picture") (decimal width ∷ decimal height ∷ [])
+    ++ written_line (codes "depth") (depth_words version bits fraction)) ≤ 40
+begin_short version width height bits fraction w h b f =
     joined _ _ 26 14
-    (joined _ _ 10 16 (line_short (codes "pxscene") (version_word (version_for scene) ∷ []) 7 2 (omega arith)
-    (version_short (version_for scene)))
-    (line_short (codes "picture") (decimal scene.width ∷ decimal scene.height ∷ []) 7 8 (omega arith)
-    (joined (32 ∷ decimal scene.width) _ 4 4
-    (let w = decimal_short scene.width (let m = is.width in omega arith) in omega arith)
-    (joined (32 ∷ decimal scene.height) [] 4 0
-    (let h = decimal_short scene.height (let m = is.height in omega arith) in omega arith) (omega arith)))))
-    (line_short (codes "depth") (depth_words (version_for scene) scene.depth_bits scene.fraction_bits) 5 8 (omega arith)
-    (depth_short (version_for scene) scene.depth_bits scene.fraction_bits (let m = is.depth in
-    omega arith) (let m = is.fraction in omega arith)))
+    (joined _ _ 10 16 (line_short (codes "pxscene") (version_word version ∷ []) 7 2 (omega arith) (version_short version))
+    (line_short (codes "picture") (decimal width ∷ decimal height ∷ []) 7 8 (omega arith)
+    (joined (32 ∷ decimal width) _ 4 4 (let n = decimal_short width (omega arith) in omega arith)
+    (joined (32 ∷ decimal height) [] 4 0 (let n = decimal_short height (omega arith) in omega arith) (omega arith)))))
+    (line_short (codes "depth") (depth_words version bits fraction) 5 8 (omega arith)
+    (depth_short version bits fraction b f))
 
 pub canonical_short : (scene : SceneView) → IsWritable scene → length (canonical_text scene) ≤ 2 ^ 20
 canonical_short scene is =
@@ -159,7 +159,9 @@ canonical_short scene is =
     in let leaves = is.show.leaves
     in let few = law.solids
     in let faces = law.faces
-    in let first = first_short scene law
+    in let first = begin_short (version_for scene) scene.width scene.height scene.depth_bits scene.fraction_bits
+    (let m = law.width in omega arith) (let m = law.height in omega arith) (let m = law.depth in omega arith)
+    (let m = law.fraction in omega arith)
     in let solids = solids_short scene.solids 1 is.solids law.numbers law.names
     in let show = line_short (codes "show") (shown ∷ []) 4 (1 + length shown) (omega arith)
     (omega (arith, length-append (32 ∷ shown) []))

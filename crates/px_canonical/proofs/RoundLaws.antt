@@ -1,53 +1,48 @@
 -- Written lines, one after another, are good and give the scene.
-use Rattle.std.proofs.Common.{◌≡◌, ℕ, ℤ, pos, ◌+◌, ◌-◌, min, ◌<◌, ◌≤◌, ◌^◌, ◌==◌, List, [], ◌∷◌, ◌++◌, length, Option}
-use Rattle.std.proofs.Common.{Some, None, Bool, true, false, ◌||◌, codes, decimal, refl, ap, sym, ◌∙◌, arith}
+use Rattle.std.proofs.Common.{◌≡◌, ℕ, ℤ, pos, ◌+◌, ◌-◌, min, ◌<◌, ◌≤◌, ◌^◌, List, [], ◌∷◌, ◌++◌, length, Option}
+use Rattle.std.proofs.Common.{Some, None, Ok, true, false, codes, decimal, refl, ap, sym, subst, ◌∙◌, arith}
 use Rattle.std.proofs.Common.{map, append_assoc, append-nil, length-append}
 use Prim.Native.Nat.{suc}
-use Rattle.std.specs.List.{All}
+use Rattle.std.specs.List.{All, list_all}
+use Rattle.std.specs.Fmt.{signed_decimal}
 use Rattle.std.specs.Option.{option_or}
 use Rattle.std.proofs.lemmas.Int.{ints}
 use Rattle.std.proofs.lemmas.Bool.Decides.{nat_tests}
+use Rattle.std.proofs.lemmas.List.Folds.{list_all-append}
 use Rattle.px_num.specs.declared.linear.Linear.{Linear}
 use Rattle.px_num.specs.Forms.{IsWithin}
 use Rattle.px_model.specs.declared.solid.Colour.{Colour}
 use Rattle.px_model.specs.declared.solid.Face.{Face}
+use Rattle.px_scene.specs.declared.line.Due.{Due}
 use Rattle.px_scene.specs.declared.line.Due.TheVariants as d
+use Rattle.px_scene.specs.declared.line.Paint.{Paint}
+use Rattle.px_scene.specs.declared.line.Plane.{Plane}
 use Rattle.px_show.specs.declared.fault.LimitKind.{LimitKind}
 use Rattle.px_show.specs.declared.fault.LimitKind.TheVariants as kind
-use Rattle.px_text.specs.Text.{Words, words_of, number_of, is_name}
-use Rattle.px_scene.specs.declared.line.Due.{Due}
-use Rattle.px_scene.specs.declared.line.Tally.{Tally}
 use Rattle.px_show.specs.declared.fault.LineFault.{LineFault}
+use Rattle.px_text.specs.Text.{Words, words_of, is_name}
+use Rattle.px_text.specs.Written.{are_plain, is_plain}
 use Rattle.px_expr.specs.Tree.{Tree, HasLeavesBelow, IsLawfulTree}
 use Rattle.px_show.specs.Expressions.{has_signs, is_among}
-use Rattle.px_show.specs.Judged.{judged, past, size_past}
+use Rattle.px_show.specs.Judged.{past, size_past}
 use Rattle.px_show.specs.Versions.{version_word}
 use Rattle.px_show.specs.declared.scene_version.Version.{Version}
 use Rattle.px_show.specs.declared.scene_version.Version.TheVariants as v
 use Rattle.px_show.specs.Printed.{AreDistinctNames, printed, named_by}
-use Rattle.px_show.proofs.PrintedLaws.{printed_tree, printed_good}
-use Rattle.px_scene.specs.Lines.{numeric, solid_form, three_past, fault_of, are_numbers, numbers_of, most, plane_past}
-use Rattle.px_scene.specs.Lines.{colour_past, face_past, face_limit}
+use Rattle.px_show.proofs.PrintedLaws.{names_lawful, printed_tree, printed_good}
+use Rattle.px_scene.specs.Lines.{back, colour_past, depth, end, face_limit, face_past, front, header, is_due}
+use Rattle.px_scene.specs.Lines.{keyword_of, linear_in, most, paint_in, picture, plane_form, plane_in, plane_past}
+use Rattle.px_scene.specs.Lines.{show, side, solid, uncoloured}
 use Rattle.px_model.specs.Scenes.{SolidView, IsColour, IsPlane, names_of}
-use Rattle.px_scene.specs.Drafts.{DraftView, with_front, with_back, with_side, with_last, tally_of, fresh_solid}
-use Rattle.px_scene.specs.Drafts.{new_solid, blank}
-use Rattle.px_canonical.specs.Canonical.{depth_words, plane_words, colour_words}
+use Rattle.px_scene.specs.Drafts.{DraftView, with_front, with_back, with_side, fresh_solid, blank}
+use Rattle.px_canonical.specs.Canonical.{colour_words, depth_words, plane_words, written_line}
 use Rattle.px_text.proofs.DecimalLaws.{number_read, signed_read}
 use Rattle.px_text.proofs.LineLaws.{small_size}
+use Rattle.px_text.proofs.PlainLaws.{decimal_plain, name_is_plain}
 use Rattle.px_canonical.proofs.LastLemmas.{in_last-push, with_last-append}
-use Rattle.px_canonical.proofs.WalkLaws.{Walk, walk_both}
-
--- words that are numbers
-record AreFigures (ws : Words) (zs : List ℤ) : Type 0 where
-  are : are_numbers ws ≡ true
-  is : numbers_of ws ≡ zs
-
-no_figure : AreFigures [] []
-no_figure = record { are = refl; is = refl }
-
-one_figure : (w : List ℕ) (z : ℤ) (ws : Words) (zs : List ℤ) → number_of w ≡ Some z → AreFigures ws zs
-    → AreFigures (w ∷ ws) (z ∷ zs)
-one_figure w z ws zs read are = record { are = rw (read, are.are) refl; is = rw (read, are.is) refl }
+use Rattle.px_canonical.proofs.ShownLaws.{show_fed, show_read}
+use Rattle.px_canonical.proofs.WalkLaws.{Walk, form_walk, line_walk, walk_both}
+use Rattle.px_canonical.proofs.WrittenLaws.{both_texts, colour_plain, one_line, plane_plain, text_of_lines}
 
 -- a number within limits
 past_in : (limit : LimitKind) (low high n : ℕ) → low ≤ n → n ≤ high → past limit (pos low) (pos high) (pos n) ≡ None
@@ -55,6 +50,10 @@ past_in limit low high n above below = grind (arith, ints, nat_tests)
 
 size_in : (n : ℕ) (z : ℤ) → IsWithin n z → size_past kind.Coefficient n z ≡ None
 size_in n z within = let low = within.0 in let high = within.1 in grind (arith, ints, nat_tests)
+
+-- three limits, none of which is passed
+none_of : (a b c : Option (LineFault LimitKind)) → a ≡ None → b ≡ None → c ≡ None → option_or (option_or a b) c ≡ None
+none_of a b c one two three = rw (one, two) three
 
 abbrev pub opened : Version → ℕ → ℕ → ℕ → ℕ → DraftView
 opened version width height bits fraction = record {
@@ -80,47 +79,66 @@ headed version due width height = record blank { version = version; due = due; w
 
 header_walk : (version : Version) → Walk blank ((codes "pxscene" ∷ version_word version ∷ []) ∷ [])
     (headed version d.Picture 1 1)
-header_walk v.One = (refl, refl)
-header_walk v.Two = (refl, refl)
-header_walk v.Three = (refl, refl)
+header_walk v.One = form_walk blank (codes "pxscene") (version_word v.One ∷ []) (header v.One) refl refl refl refl
+header_walk v.Two = form_walk blank (codes "pxscene") (version_word v.Two ∷ []) (header v.Two) refl refl refl refl
+header_walk v.Three =
+    form_walk blank (codes "pxscene") (version_word v.Three ∷ []) (header v.Three) refl refl refl refl
 
 picture_walk : (version : Version) (width height : ℕ) → 1 ≤ width → width ≤ 512 → 1 ≤ height → height ≤ 512
     → Walk (headed version d.Picture 1 1) ((codes "picture" ∷ decimal width ∷ decimal height ∷ []) ∷ [])
     (headed version d.Depth width height)
 picture_walk version width height w1 w2 h1 h2 =
-    let w = number_read width (omega arith)
-    in let h = number_read height (omega arith)
-    in (
-      rw (w, h, past_in kind.Picture 1 512 width w1 w2) (past_in kind.Picture 1 512 height h1 h2),
-      rw (w, h) refl,
-    )
+    form_walk (headed version d.Picture 1 1) (codes "picture") (decimal width ∷ decimal height ∷ [])
+    (picture (pos width) (pos height))
+    (rw (decimal_plain width (omega arith), decimal_plain height (omega arith)) refl) refl
+    (rw (number_read width (omega arith), number_read height (omega arith)) refl)
+    (rw (past_in kind.Picture 1 512 width w1 w2) (past_in kind.Picture 1 512 height h1 h2))
 
 depth_walk : (version : Version) (width height bits fraction : ℕ) → CanWrite version fraction → 1 ≤ bits
     → bits + fraction ≤ 24 → fraction ≤ 8
     → Walk (headed version d.Depth width height) ((codes "depth" ∷ depth_words version bits fraction) ∷ [])
     (opened version width height bits fraction)
 depth_walk v.One width height bits fraction none b1 b2 f =
-    let b = number_read bits (omega arith)
-    in (rw b (past_in kind.Depth 1 24 bits b1 (omega arith)), rw (b, none) refl)
+    rw none (form_walk (headed v.One d.Depth width height) (codes "depth") (decimal bits ∷ []) (depth (pos bits) None)
+    (rw (decimal_plain bits (omega arith)) refl) refl (rw (number_read bits (omega arith)) refl)
+    (rw (past_in kind.Depth 1 24 bits b1 (omega arith)) refl))
 depth_walk v.Two width height bits fraction none b1 b2 f =
-    let b = number_read bits (omega arith)
-    in (rw b (past_in kind.Depth 1 24 bits b1 (omega arith)), rw (b, none) refl)
+    rw none (form_walk (headed v.Two d.Depth width height) (codes "depth") (decimal bits ∷ []) (depth (pos bits) None)
+    (rw (decimal_plain bits (omega arith)) refl) refl (rw (number_read bits (omega arith)) refl)
+    (rw (past_in kind.Depth 1 24 bits b1 (omega arith)) refl))
 depth_walk v.Three width height bits fraction some b1 b2 f =
-    let b = number_read bits (omega arith)
-    in let n = number_read fraction (omega arith)
-    in (
-      rw (b, n, past_in kind.Depth 1 24 bits b1 (omega arith))
-          (past_in kind.Fraction 0 (min 8 (24 - bits)) fraction (omega arith) (omega arith)),
-      rw (b, n) refl,
-    )
+    form_walk (headed v.Three d.Depth width height) (codes "depth") (decimal bits ∷ decimal fraction ∷ [])
+    (depth (pos bits) (Some (pos fraction)))
+    (rw (decimal_plain bits (omega arith), decimal_plain fraction (omega arith)) refl) refl
+    (rw (number_read bits (omega arith), number_read fraction (omega arith)) refl)
+    (rw (past_in kind.Depth 1 24 bits b1 (omega arith))
+    (past_in kind.Fraction 0 (min 8 (24 - bits)) fraction (omega arith) (omega arith)))
 
-pub first_walk : (version : Version) (width height bits fraction : ℕ) → CanWrite version fraction → 1 ≤ width
+-- the first three lines
+abbrev pub begin_words : Version → (width height bits fraction : ℕ) → List Words
+begin_words version width height bits fraction =
+    (codes "pxscene" ∷ version_word version ∷ []) ∷ (codes "picture" ∷ decimal width ∷ decimal height ∷ [])
+    ∷ (codes "depth" ∷ depth_words version bits fraction) ∷ []
+
+pub begin_are : (version : Version) (width height bits fraction : ℕ)
+    → written_line (codes "pxscene") (version_word version ∷ [])
+    ++ written_line (codes "picture") (decimal width ∷ decimal height ∷ [])
+    ++ written_line (codes "depth") (depth_words version bits fraction)
+    ≡ text_of_lines (begin_words version width height bits fraction)
+begin_are version width height bits fraction =
+    let header = version_word version ∷ []
+    in let size = decimal width ∷ decimal height ∷ []
+    in let depth = depth_words version bits fraction
+    in both_texts ((codes "pxscene" ∷ header) ∷ (codes "picture" ∷ size) ∷ []) ((codes "depth" ∷ depth) ∷ []) _ _
+    (both_texts ((codes "pxscene" ∷ header) ∷ []) ((codes "picture" ∷ size) ∷ []) _ _
+    (one_line (codes "pxscene") header) (one_line (codes "picture") size))
+    (one_line (codes "depth") depth)
+
+pub begin_walk : (version : Version) (width height bits fraction : ℕ) → CanWrite version fraction → 1 ≤ width
     → width ≤ 512
     → 1 ≤ height → height ≤ 512 → 1 ≤ bits → bits + fraction ≤ 24 → fraction ≤ 8
-    → Walk blank ((codes "pxscene" ∷ version_word version ∷ [])
-    ∷ (codes "picture" ∷ decimal width ∷ decimal height ∷ []) ∷
-    (codes "depth" ∷ depth_words version bits fraction) ∷ []) (opened version width height bits fraction)
-first_walk version width height bits fraction can w1 w2 h1 h2 b1 b2 f =
+    → Walk blank (begin_words version width height bits fraction) (opened version width height bits fraction)
+begin_walk version width height bits fraction can w1 w2 h1 h2 b1 b2 f =
     let header = codes "pxscene" ∷ version_word version ∷ []
     in let picture = codes "picture" ∷ decimal width ∷ decimal height ∷ []
     in let depth = codes "depth" ∷ depth_words version bits fraction
@@ -130,36 +148,68 @@ first_walk version width height bits fraction can w1 w2 h1 h2 b1 b2 f =
     (picture_walk version width height w1 w2 h1 h2)
     (depth_walk version width height bits fraction can b1 b2 f))
 
-abbrev plane_numbers : Linear → List ℤ → List ℤ
-plane_numbers p zs = p.a ∷ p.b ∷ p.c ∷ zs
+-- the numbers of a colour and of a plane, as they are read
+abbrev paint_for : Colour → Paint
+paint_for c = record { red = pos c.red; green = pos c.green; blue = pos c.blue }
 
-abbrev colour_numbers : Colour → List ℤ
-colour_numbers c = pos c.red ∷ pos c.green ∷ pos c.blue ∷ []
+paint_read : (c : Colour) → IsColour c
+    → paint_in (decimal c.red) (decimal c.green) (decimal c.blue) ≡ Some (paint_for c)
+paint_read c is =
+    rw (
+      number_read c.red (let m = is.red in omega arith),
+      number_read c.green (let m = is.green in omega arith),
+      number_read c.blue (let m = is.blue in omega arith),
+    ) refl
 
-colour_figures : (c : Colour) → IsColour c → AreFigures (colour_words c) (colour_numbers c)
-colour_figures c is =
-    one_figure _ _ _ _ (number_read c.red (let m = is.red in omega arith))
-    (one_figure _ _ _ _ (number_read c.green (let m = is.green in omega arith))
-    (one_figure _ _ _ _ (number_read c.blue (let m = is.blue in omega arith)) no_figure))
+linear_read : (p : Linear) → IsPlane p
+    → linear_in (signed_decimal p.a) (signed_decimal p.b) (signed_decimal p.c) ≡ Some p
+linear_read p is =
+    rw (
+      signed_read p.a (small_size (2 ^ 23) p.a (omega arith) is.a),
+      signed_read p.b (small_size (2 ^ 23) p.b (omega arith) is.b),
+      signed_read p.c (small_size (2 ^ 33) p.c (omega arith) is.c),
+    ) refl
 
-plane_figures : (p : Linear) (ws : Words) (zs : List ℤ) → IsPlane p → AreFigures ws zs
-    → AreFigures (plane_words p ++ ws) (plane_numbers p zs)
-plane_figures p ws zs is are =
-    one_figure _ _ _ _ (signed_read p.a (small_size (2 ^ 23) p.a (omega arith) is.a))
-    (one_figure _ _ _ _ (signed_read p.b (small_size (2 ^ 23) p.b (omega arith) is.b))
-    (one_figure _ _ _ _ (signed_read p.c (small_size (2 ^ 33) p.c (omega arith) is.c)) are))
+linear_in_limits : (p : Linear) → IsPlane p → plane_past p ≡ None
+linear_in_limits p is =
+    none_of (size_past kind.Coefficient (2 ^ 23) p.a) (size_past kind.Coefficient (2 ^ 23) p.b)
+    (size_past kind.Coefficient (2 ^ 33) p.c) (size_in (2 ^ 23) p.a is.a) (size_in (2 ^ 23) p.b is.b)
+    (size_in (2 ^ 33) p.c is.c)
 
-plane_in : (p : Linear) → IsPlane p → plane_past p.a p.b p.c ≡ None
-plane_in p is = rw (size_in (2 ^ 23) p.a is.a, size_in (2 ^ 23) p.b is.b) (size_in (2 ^ 33) p.c is.c)
-
-colour_in : (c : Colour) → IsColour c → colour_past (pos c.red) (pos c.green) (pos c.blue) ≡ None
-colour_in c is =
+paint_in_limits : (c : Colour) → IsColour c → colour_past (paint_for c) ≡ None
+paint_in_limits c is =
     let red = is.red in let green = is.green in let blue = is.blue
-    in rw (
-      past_in kind.Colour 0 255 c.red (omega arith) (omega arith),
-      past_in kind.Colour 0 255 c.green (omega arith) (omega arith),
-    )
+    in none_of (past kind.Colour (pos 0) (pos 255) (pos c.red)) (past kind.Colour (pos 0) (pos 255) (pos c.green))
+    (past kind.Colour (pos 0) (pos 255) (pos c.blue)) (past_in kind.Colour 0 255 c.red (omega arith) (omega arith))
+    (past_in kind.Colour 0 255 c.green (omega arith) (omega arith))
     (past_in kind.Colour 0 255 c.blue (omega arith) (omega arith))
+
+-- the words of a front or a back, and the plane that they write, within its limits
+pub record Writes (ws : Words) (p : Plane) : Type 0 where
+  pub plain : are_plain ws ≡ true
+  pub reads : plane_in ws ≡ Ok p
+  pub within : face_past p ≡ None
+
+pub plane_written : (p : Linear) → IsPlane p → Writes (plane_words p) (uncoloured p)
+plane_written p is = record {
+  plain = plane_plain p is;
+  reads = rw (linear_read p is) refl;
+  within = rw (linear_in_limits p is) refl;
+}
+
+abbrev pub face_words : Face → Words
+face_words f = plane_words f.plane ++ colour_words f.colour
+
+abbrev pub plane_for : Face → Plane
+plane_for f = record { form = f.plane; paint = Some (paint_for f.colour) }
+
+pub face_written : (f : Face) → IsPlane f.plane → IsColour f.colour → Writes (face_words f) (plane_for f)
+face_written f plane colour = record {
+  plain = list_all-append is_plain (plane_words f.plane) (colour_words f.colour)
+      ∙ rw (plane_plain f.plane plane, colour_plain f.colour colour) refl;
+  reads = rw (linear_read f.plane plane, paint_read f.colour colour) refl;
+  within = rw (linear_in_limits f.plane plane) (paint_in_limits f.colour colour);
+}
 
 -- what stands while solids are written, behind the draft of the first lines
 abbrev pub written_so_far : DraftView → List SolidView → ℕ → DraftView
@@ -168,153 +218,48 @@ written_so_far start solids n = record start { due = d.Plane; numbered = n; soli
 abbrev pub open_solid : DraftView → List SolidView → SolidView → ℕ → DraftView
 open_solid start done s n = written_so_far start (done ++ s ∷ []) n
 
--- the numbers of a face's line
-abbrev pub face_words : Face → Words
-face_words f = plane_words f.plane ++ colour_words f.colour
-
-abbrev face_numbers : Face → List ℤ
-face_numbers f = plane_numbers f.plane (colour_numbers f.colour)
-
-pub record IsWritableFace (f : Face) : Type 0 where
-  pub plane : IsPlane f.plane
-  pub colour : IsColour f.colour
-
-face_figures : (f : Face) → IsWritableFace f → AreFigures (face_words f) (face_numbers f)
-face_figures f is = plane_figures f.plane (colour_words f.colour) (colour_numbers f.colour) is.plane
-    (colour_figures f.colour is.colour)
-
-face_in : (f : Face) → IsWritableFace f → face_past (face_numbers f) ≡ None
-face_in f is = rw (plane_in f.plane is.plane) (colour_in f.colour is.colour)
-
-limits_in : (limit : LimitKind) (f : Face) (faces n : ℕ) → IsWritableFace f → faces < 32 → n < 4095
-    → face_limit limit faces n (face_numbers f) ≡ None
-limits_in limit f faces n is few more =
-    rw (face_in f is, past_in limit 0 32 (faces + 1) (omega arith) (omega arith))
+room_in : (limit : LimitKind) (p : Plane) (faces n : ℕ) → face_past p ≡ None → faces < 32 → n < 4095
+    → face_limit limit faces n p ≡ None
+room_in limit p faces n within few more =
+    none_of (face_past p) (most limit 32 (faces + 1)) (most kind.Faces 4095 (n + 1)) within
+    (past_in limit 0 32 (faces + 1) (omega arith) (omega arith))
     (past_in kind.Faces 0 4095 (n + 1) (omega arith) (omega arith))
 
-three_or_six : (ws : Words) (zs : List ℤ) (counted : Bool) → AreFigures ws zs → counted ≡ true
-    → numeric counted ws ≡ None
-three_or_six ws zs counted are e = rw (e, are.are) refl
+pub front_walk : (start : DraftView) (done : List SolidView) (s : SolidView) (n : ℕ) (ws : Words) (p : Plane)
+    → Writes ws p → length s.fronts < 32 → n < 4095
+    → Walk (open_solid start done s n) ((codes "front" ∷ ws) ∷ [])
+    (open_solid start done (with_front (n + 1) p s) (n + 1))
+front_walk start done s n ws p is few more =
+    subst (λ (ss : List SolidView). Walk (open_solid start done s n) ((codes "front" ∷ ws) ∷ [])
+    (written_so_far start ss (n + 1))) (with_last-append (with_front (n + 1) p) done s)
+    (form_walk (open_solid start done s n) (codes "front") ws (front p) (rw is.plain refl) refl
+    (ap (plane_form front) is.reads)
+    (ap (λ m. face_limit kind.Fronts m n p) (in_last-push (λ q. length q.fronts) done s)
+    ∙ room_in kind.Fronts p (length s.fronts) n is.within few more))
 
-front_good : (version : Version) (names ws : Words) (t : Tally) (zs : List ℤ) → AreFigures ws zs
-    → (length ws == 3 || length ws == 6) ≡ true
-    → face_limit kind.Fronts t.fronts t.numbered zs ≡ None
-    → fault_of version d.Plane names t (codes "front" ∷ ws) ≡ None
-front_good version names ws t zs are counted within =
-    ap (λ c. judged c (face_limit kind.Fronts t.fronts t.numbered (numbers_of ws)))
-    (three_or_six ws zs (length ws == 3 || length ws == 6) are counted)
-    ∙ ap (λ ns. face_limit kind.Fronts t.fronts t.numbered ns) are.is ∙ within
+pub back_walk : (start : DraftView) (done : List SolidView) (s : SolidView) (n : ℕ) (ws : Words) (p : Plane)
+    → Writes ws p → length s.backs < 32 → n < 4095
+    → Walk (open_solid start done s n) ((codes "back" ∷ ws) ∷ [])
+    (open_solid start done (with_back (n + 1) p s) (n + 1))
+back_walk start done s n ws p is few more =
+    subst (λ (ss : List SolidView). Walk (open_solid start done s n) ((codes "back" ∷ ws) ∷ [])
+    (written_so_far start ss (n + 1))) (with_last-append (with_back (n + 1) p) done s)
+    (form_walk (open_solid start done s n) (codes "back") ws (back p) (rw is.plain refl) refl
+    (ap (plane_form back) is.reads)
+    (ap (λ m. face_limit kind.Backs m n p) (in_last-push (λ q. length q.backs) done s)
+    ∙ room_in kind.Backs p (length s.backs) n is.within few more))
 
-back_good : (version : Version) (names ws : Words) (t : Tally) (zs : List ℤ) → AreFigures ws zs
-    → (length ws == 3 || length ws == 6) ≡ true
-    → face_limit kind.Backs t.backs t.numbered zs ≡ None
-    → fault_of version d.Plane names t (codes "back" ∷ ws) ≡ None
-back_good version names ws t zs are counted within =
-    ap (λ c. judged c (face_limit kind.Backs t.backs t.numbered (numbers_of ws)))
-    (three_or_six ws zs (length ws == 3 || length ws == 6) are counted)
-    ∙ ap (λ ns. face_limit kind.Backs t.backs t.numbered ns) are.is ∙ within
-
-side_good : (version : Version) (names ws : Words) (t : Tally) (zs : List ℤ) → AreFigures ws zs
-    → (length ws == 3) ≡ true
-    → option_or (face_past zs) (most kind.Sides 32 (t.sides + 1)) ≡ None
-    → fault_of version d.Plane names t (codes "side" ∷ ws) ≡ None
-side_good version names ws t zs are counted within =
-    ap (λ c. judged c (option_or (face_past (numbers_of ws)) (most kind.Sides 32 (t.sides + 1))))
-    (three_or_six ws zs (length ws == 3) are counted)
-    ∙ ap (λ ns. option_or (face_past ns) (most kind.Sides 32 (t.sides + 1))) are.is ∙ within
-
-pub front_walk : (start : DraftView) (done : List SolidView) (s : SolidView) (n : ℕ) (f : Face) → IsWritableFace f
-    → f.number ≡ n + 1 → length s.fronts < 32 → n < 4095
-    → Walk (open_solid start done s n) ((codes "front" ∷ face_words f) ∷ [])
-    (open_solid start done (record s { fronts = s.fronts ++ f ∷ [] }) (n + 1))
-front_walk start done s n f is number few more =
-    let figures = face_figures f is
-    in let after = λ (ss : List SolidView). written_so_far start ss (n + 1)
-    in (
-      front_good start.version (names_of (done ++ s ∷ [])) (face_words f) (tally_of (open_solid start done s n))
-          (face_numbers f) figures refl
-          (ap (λ m. face_limit kind.Fronts m n (face_numbers f)) (in_last-push (λ q. length q.fronts) done s)
-          ∙ limits_in kind.Fronts f (length s.fronts) n is few more),
-      ap (λ zs. after (with_last (with_front (n + 1) zs) (done ++ s ∷ []))) figures.is
-          ∙ ap after (with_last-append (with_front (n + 1) (face_numbers f)) done s)
-          ∙ ap (λ m. after (done ++ record s { fronts = s.fronts ++ record f { number = m } ∷ [] } ∷ [])) (sym number),
-    )
-
-pub back_walk : (start : DraftView) (done : List SolidView) (s : SolidView) (n : ℕ) (f : Face) → IsWritableFace f
-    → f.number ≡ n + 1 → length s.backs < 32 → n < 4095
-    → Walk (open_solid start done s n) ((codes "back" ∷ face_words f) ∷ [])
-    (open_solid start done (record s { backs = s.backs ++ f ∷ [] }) (n + 1))
-back_walk start done s n f is number few more =
-    let figures = face_figures f is
-    in let after = λ (ss : List SolidView). written_so_far start ss (n + 1)
-    in (
-      back_good start.version (names_of (done ++ s ∷ [])) (face_words f) (tally_of (open_solid start done s n))
-          (face_numbers f) figures refl
-          (ap (λ m. face_limit kind.Backs m n (face_numbers f)) (in_last-push (λ q. length q.backs) done s)
-          ∙ limits_in kind.Backs f (length s.backs) n is few more),
-      ap (λ zs. after (with_last (with_back (n + 1) zs) (done ++ s ∷ []))) figures.is
-          ∙ ap after (with_last-append (with_back (n + 1) (face_numbers f)) done s)
-          ∙ ap (λ m. after (done ++ record s { backs = s.backs ++ record f { number = m } ∷ [] } ∷ [])) (sym number),
-    )
-
--- a front or a back in the colour of its solid
-plain_limits : (limit : LimitKind) (p : Linear) (faces n : ℕ) → IsPlane p → faces < 32 → n < 4095
-    → face_limit limit faces n (plane_numbers p []) ≡ None
-plain_limits limit p faces n is few more =
-    rw (plane_in p is, past_in limit 0 32 (faces + 1) (omega arith) (omega arith))
-    (past_in kind.Faces 0 4095 (n + 1) (omega arith) (omega arith))
-
-abbrev pub next_face : ℕ → Linear → SolidView → Face
-next_face n p s = record { number = n + 1; plane = p; colour = s.colour }
-
-pub plain_front_walk : (start : DraftView) (done : List SolidView) (s : SolidView) (n : ℕ) (p : Linear) → IsPlane p
-    → length s.fronts < 32 → n < 4095
-    → Walk (open_solid start done s n) ((codes "front" ∷ plane_words p) ∷ [])
-    (open_solid start done (record s { fronts = s.fronts ++ next_face n p s ∷ [] }) (n + 1))
-plain_front_walk start done s n p is few more =
-    let figures = plane_figures p [] [] is no_figure
-    in let after = λ (ss : List SolidView). written_so_far start ss (n + 1)
-    in (
-      front_good start.version (names_of (done ++ s ∷ [])) (plane_words p) (tally_of (open_solid start done s n))
-          (plane_numbers p []) figures refl
-          (ap (λ m. face_limit kind.Fronts m n (plane_numbers p [])) (in_last-push (λ q. length q.fronts) done s)
-          ∙ plain_limits kind.Fronts p (length s.fronts) n is few more),
-      ap (λ zs. after (with_last (with_front (n + 1) zs) (done ++ s ∷ []))) figures.is
-          ∙ ap after (with_last-append (with_front (n + 1) (plane_numbers p [])) done s),
-    )
-
-pub plain_back_walk : (start : DraftView) (done : List SolidView) (s : SolidView) (n : ℕ) (p : Linear) → IsPlane p
-    → length s.backs < 32 → n < 4095
-    → Walk (open_solid start done s n) ((codes "back" ∷ plane_words p) ∷ [])
-    (open_solid start done (record s { backs = s.backs ++ next_face n p s ∷ [] }) (n + 1))
-plain_back_walk start done s n p is few more =
-    let figures = plane_figures p [] [] is no_figure
-    in let after = λ (ss : List SolidView). written_so_far start ss (n + 1)
-    in (
-      back_good start.version (names_of (done ++ s ∷ [])) (plane_words p) (tally_of (open_solid start done s n))
-          (plane_numbers p []) figures refl
-          (ap (λ m. face_limit kind.Backs m n (plane_numbers p [])) (in_last-push (λ q. length q.backs) done s)
-          ∙ plain_limits kind.Backs p (length s.backs) n is few more),
-      ap (λ zs. after (with_last (with_back (n + 1) zs) (done ++ s ∷ []))) figures.is
-          ∙ ap after (with_last-append (with_back (n + 1) (plane_numbers p [])) done s),
-    )
-
-pub side_walk : (start : DraftView) (done : List SolidView) (s : SolidView) (n : ℕ) (p : Linear) → IsPlane p
+side_walk : (start : DraftView) (done : List SolidView) (s : SolidView) (n : ℕ) (p : Linear) → IsPlane p
     → length s.sides < 32
     → Walk (open_solid start done s n) ((codes "side" ∷ plane_words p) ∷ [])
-    (open_solid start done (record s { sides = s.sides ++ p ∷ [] }) n)
+    (open_solid start done (with_side p s) n)
 side_walk start done s n p is few =
-    let figures = plane_figures p [] [] is no_figure
-    in let after = λ (ss : List SolidView). written_so_far start ss n
-    in (
-      side_good start.version (names_of (done ++ s ∷ [])) (plane_words p) (tally_of (open_solid start done s n))
-          (plane_numbers p []) figures refl
-          (ap (λ m. option_or (face_past (plane_numbers p [])) (most kind.Sides 32 (m + 1)))
-          (in_last-push (λ q. length q.sides) done s)
-          ∙ rw (plane_in p is) (past_in kind.Sides 0 32 (length s.sides + 1) (omega arith) (omega arith))),
-      ap (λ zs. after (with_last (with_side zs) (done ++ s ∷ []))) figures.is
-          ∙ ap after (with_last-append (with_side (plane_numbers p [])) done s),
-    )
+    subst (λ (ss : List SolidView). Walk (open_solid start done s n) ((codes "side" ∷ plane_words p) ∷ [])
+    (written_so_far start ss n)) (with_last-append (with_side p) done s)
+    (form_walk (open_solid start done s n) (codes "side") (plane_words p) (side p) (rw (plane_plain p is) refl) refl
+    (rw (linear_read p is) refl)
+    (ap (λ m. option_or (plane_past p) (most kind.Sides 32 (m + 1))) (in_last-push (λ q. length q.sides) done s)
+    ∙ rw (linear_in_limits p is) (past_in kind.Sides 0 32 (length s.sides + 1) (omega arith) (omega arith))))
 
 -- sides behind others
 pub sides_walk : (start : DraftView) (done : List SolidView) (s : SolidView) (n : ℕ) (ps before : List Linear)
@@ -347,53 +292,43 @@ pub stands : (start : DraftView) (done : List SolidView) (s : SolidView) (n : �
 stands start [] s n = refl
 stands start (q ∷ done) s n = refl
 
-solid_formed : (names : Words) (name : List ℕ) (ws : Words) (c : Colour) → ws ≡ colour_words c → are_numbers ws ≡ true
-    → is_name name ≡ true → is_among names name ≡ false → solid_form names (name ∷ ws) ≡ None
-solid_formed names name ws c e are lawful fresh = rw e (rw (lawful, rw e at are, fresh) refl)
-
-abbrev solid_limit : Tally → List ℤ → Option (LineFault LimitKind)
-solid_limit t zs = option_or (option_or (three_past zs) (most kind.Solids 255 (t.solids + 1)))
-    (most kind.Faces 4095 (t.numbered + 1))
-
-solid_judged : (names : Words) (t : Tally) (name : List ℕ) (c : Colour) → IsColour c → is_name name ≡ true
-    → is_among names name ≡ false → t.solids < 255 → t.numbered < 4095
-    → judged (solid_form names (name ∷ colour_words c)) (solid_limit t (numbers_of (colour_words c))) ≡ None
-solid_judged names t name c is lawful fresh few more =
-    let figures = colour_figures c is
-    in ap (λ cause. judged cause (solid_limit t (numbers_of (colour_words c))))
-    (solid_formed names name (colour_words c) c refl figures.are lawful fresh)
-    ∙ ap (solid_limit t) figures.is
-    ∙ rw (colour_in c is, past_in kind.Solids 0 255 (t.solids + 1) (omega arith) (omega arith))
-    (past_in kind.Faces 0 4095 (t.numbered + 1) (omega arith) (omega arith))
+due_solid : (done : List SolidView) → is_due (due_behind_solids done) (keyword_of (codes "solid")) ≡ true
+due_solid [] = refl
+due_solid (s ∷ ss) = refl
 
 pub solid_walk : (start : DraftView) (done : List SolidView) (n : ℕ) (name : List ℕ) (c : Colour) → IsColour c
     → is_name name ≡ true → is_among (names_of done) name ≡ false → length done < 255 → n < 4095
     → Walk (standing start done n) ((codes "solid" ∷ name ∷ colour_words c) ∷ [])
     (open_solid start done (fresh_solid name (n + 1) c) (n + 1))
-solid_walk start [] n name c is lawful fresh few more = (
-  solid_judged [] (tally_of (standing start [] n)) name c is lawful fresh few more,
-  ap (λ zs. written_so_far start (new_solid name (n + 1) zs) (n + 1)) (colour_figures c is).is,
-)
-solid_walk start (s ∷ ss) n name c is lawful fresh few more = (
-  solid_judged (names_of (s ∷ ss)) (tally_of (standing start (s ∷ ss) n)) name c is lawful fresh few more,
-  ap (λ zs. written_so_far start ((s ∷ ss) ++ new_solid name (n + 1) zs) (n + 1)) (colour_figures c is).is,
-)
+solid_walk start done n name c is lawful fresh few more =
+    form_walk (standing start done n) (codes "solid") (name ∷ colour_words c) (solid name (paint_for c))
+    (rw (name_is_plain name lawful, colour_plain c is) refl) (due_solid done) (rw (lawful, paint_read c is) refl)
+    (rw fresh (none_of (colour_past (paint_for c)) (most kind.Solids 255 (length done + 1))
+    (most kind.Faces 4095 (n + 1)) (paint_in_limits c is) (past_in kind.Solids 0 255 (length done + 1) (omega arith) (omega arith))
+    (past_in kind.Faces 0 4095 (n + 1) (omega arith) (omega arith))))
 
 abbrev pub shown_draft : DraftView → List SolidView → ℕ → Due → Option Tree → DraftView
-shown_draft start done n due show = record start { due = due; numbered = n; solids = done; show = show }
+shown_draft start done n due tree = record start { due = due; numbered = n; solids = done; show = tree }
 
--- the last two lines
-pub last_walk : (start : DraftView) (done : List SolidView) (n : ℕ) (tree : Tree) → AreDistinctNames (names_of done)
+due_show : (done : List SolidView) → is_due (due_behind_solids done) (keyword_of (codes "show")) ≡ true
+due_show [] = refl
+due_show (s ∷ ss) = refl
+
+-- the line of the expression, and the end
+pub show_walk : (start : DraftView) (done : List SolidView) (n : ℕ) (tree : Tree) → AreDistinctNames (names_of done)
     → HasLeavesBelow (length (names_of done)) tree → has_signs start.version (named_by (names_of done) tree) ≡ true
-    → IsLawfulTree tree → 0 < length done
-    → Walk (standing start done n)
-    ((codes "show" ∷ words_of (printed (named_by (names_of done) tree))) ∷ (codes "end" ∷ []) ∷ [])
-    (shown_draft start done n d.Nothing (Some tree))
-last_walk start [] n tree names below signs lawful some = absurd (omega arith)
-last_walk start (s ∷ ss) n tree names below signs lawful some = (
-  printed_good start.version (names_of (s ∷ ss)) tree names below signs lawful,
-  (
-    refl,
-    ap (shown_draft start (s ∷ ss) n d.Nothing) (printed_tree start.version (names_of (s ∷ ss)) tree names below signs),
-  ),
-)
+    → IsLawfulTree tree
+    → Walk (standing start done n) ((codes "show" ∷ printed (named_by (names_of done) tree) ∷ []) ∷ [])
+    (shown_draft start done n d.End (Some tree))
+show_walk start done n tree names below signs lawful =
+    let shown = named_by (names_of done) tree
+    in let named = names_lawful (names_of done) tree names.lawful below
+    in subst (λ (t : Option Tree). Walk (standing start done n) ((codes "show" ∷ printed shown ∷ []) ∷ [])
+    (shown_draft start done n d.End t)) (printed_tree start.version (names_of done) tree names below signs)
+    (line_walk (standing start done n) (codes "show" ∷ printed shown ∷ []) (codes "show") (words_of (printed shown))
+    (show (words_of (printed shown))) (show_fed shown named) (show_read shown named) (due_show done) refl
+    (printed_good start.version (names_of done) tree names below signs lawful))
+
+pub end_walk : (start : DraftView) (done : List SolidView) (n : ℕ) (tree : Option Tree)
+    → Walk (shown_draft start done n d.End tree) ((codes "end" ∷ []) ∷ []) (shown_draft start done n d.Nothing tree)
+end_walk start done n tree = form_walk (shown_draft start done n d.End tree) (codes "end") [] end refl refl refl refl

@@ -10,9 +10,8 @@ use Rattle.std.proofs.lemmas.Bool.Decides.{nat_tests}
 use Rattle.std.proofs.lemmas.List.{length-map}
 use Rattle.std.proofs.lemmas.Slice.Eq.{bytes_eq-Decides}
 use Rattle.px_expr.specs.Tree.{HasLeavesBelow}
-use Rattle.px_expr.proofs.LeafLaws.{some_solid}
 use Rattle.px_scene.specs.declared.line.Due.TheVariants as d
-use Rattle.px_text.specs.Text.{Words, words_of, is_name}
+use Rattle.px_text.specs.Text.{Words, is_name}
 use Rattle.px_show.specs.Expressions.{is_among}
 use Rattle.px_show.specs.Printed.{printed, named_by}
 use Rattle.px_model.specs.Scenes.{SolidView, IsLawfulSolid, faces_in, names_of, SceneView, IsNumberedFrom}
@@ -20,14 +19,14 @@ use Rattle.px_model.specs.Scenes.{AreNumberedFrom, faces_of}
 use Rattle.px_model.proofs.FaceLaws.{faces_of-cons}
 use Rattle.px_canonical.specs.Writable.{IsWritable}
 use Rattle.px_scene.specs.Drafts.{DraftView, fresh_solid, blank}
-use Rattle.px_show.specs.Versions.{has_difference, version_word, has_differ}
+use Rattle.px_show.specs.Versions.{has_difference, has_differ}
 use Rattle.px_show.specs.declared.scene_version.Version.TheVariants as v
-use Rattle.px_canonical.specs.Canonical.{version_for, depth_words, plane_words, colour_words}
+use Rattle.px_canonical.specs.Canonical.{version_for, plane_words, colour_words}
 use Rattle.px_canonical.proofs.CutLemmas.{none_below, all_below}
 use Rattle.px_show.proofs.PrintedLaws.{signs_of}
 use Rattle.px_canonical.proofs.WalkLaws.{Walk, walk_both}
-use Rattle.px_canonical.proofs.RoundLaws.{CanWrite, opened, open_solid, standing, shown_draft, first_walk, solid_walk}
-use Rattle.px_canonical.proofs.RoundLaws.{last_walk, sides_walk, stands}
+use Rattle.px_canonical.proofs.RoundLaws.{CanWrite, begin_walk, begin_words, opened, open_solid, shown_draft, solid_walk}
+use Rattle.px_canonical.proofs.RoundLaws.{end_walk, show_walk, sides_walk, standing, stands}
 use Rattle.px_canonical.proofs.FaceWalkLemmas.{part, words_of_number, faces_walk}
 
 abbrev pub head_words : SolidView → Words
@@ -40,7 +39,7 @@ abbrev pub sides_words : SolidView → List Words
 sides_words s = map (λ p. codes "side" ∷ plane_words p) s.sides
 
 abbrev pub solid_words : SolidView → List Words
-solid_words s = (head_words s ∷ []) ++ (numbers_words s ++ sides_words s)
+solid_words s = ((head_words s ∷ []) ++ numbers_words s) ++ sides_words s
 
 begun : (s : SolidView) (n : ℕ) → IsLawfulSolid s → s.near_number ≡ n + 1
     → fresh_solid s.name (n + 1) s.colour ≡ part s (s.near_number + 1)
@@ -78,15 +77,14 @@ whole_solid start done s n ok is most lawful fresh few =
     in let sum : s.near_number + count ≡ n + faces_in s = omega arith
     in subst (λ (after : DraftView). Walk (standing start done n) (solid_words s) after)
     (ap (draft s) sum ∙ stands start done s (n + faces_in s))
+    (walk_both (standing start done n) (draft (record s { sides = [] }) (s.near_number + count))
+    (draft s (s.near_number + count)) ((head_words s ∷ []) ++ numbers_words s) (sides_words s)
     (walk_both (standing start done n) (draft (part s (s.near_number + 1)) s.near_number)
-    (draft s (s.near_number + count)) (head_words s ∷ []) (numbers_words s ++ sides_words s)
+    (draft (record s { sides = [] }) (s.near_number + count)) (head_words s ∷ []) (numbers_words s)
     (subst (λ (after : DraftView). Walk (standing start done n) (head_words s ∷ []) after) from head)
-    (walk_both (draft (part s (s.near_number + 1)) s.near_number)
-    (draft (record s { sides = [] }) (s.near_number + count)) (draft s (s.near_number + count)) (numbers_words s)
-    (sides_words s)
     (subst (λ (q : SolidView). Walk (draft (part s (s.near_number + 1)) s.near_number) (numbers_words s)
-    (draft q (s.near_number + count))) whole faces)
-    sides))
+    (draft q (s.near_number + count))) whole faces))
+    sides)
 
 fresh_name : (names : Words) (name : List ℕ) (others : Words) → AllPairs (λ m n. m ≢ n) (names ++ name ∷ others)
     → is_among names name ≡ false
@@ -138,11 +136,7 @@ solids_walk start (s ∷ ss) done n ok are most lawful different few =
     (flat_map solid_words ss) first later)
 
 abbrev pub first_words : SceneView → List Words
-first_words scene =
-    (codes "pxscene" ∷ version_word (version_for scene) ∷ [])
-    ∷ (codes "picture" ∷ decimal scene.width ∷ decimal scene.height ∷ [])
-    ∷ (codes "depth" ∷ depth_words (version_for scene) scene.depth_bits scene.fraction_bits)
-    ∷ []
+first_words scene = begin_words (version_for scene) scene.width scene.height scene.depth_bits scene.fraction_bits
 
 -- the draft of the first lines
 abbrev start_of : SceneView → DraftView
@@ -151,12 +145,15 @@ start_of scene = opened (version_for scene) scene.width scene.height scene.depth
 abbrev pub shown_text : SceneView → List ℕ
 shown_text scene = printed (named_by (names_of scene.solids) scene.show)
 
-abbrev pub last_words : SceneView → List Words
-last_words scene = (codes "show" ∷ words_of (shown_text scene)) ∷ (codes "end" ∷ []) ∷ []
+abbrev pub show_words : SceneView → List Words
+show_words scene = (codes "show" ∷ shown_text scene ∷ []) ∷ []
 
--- the words of the lines of a scene's text
+abbrev pub end_words : List Words
+end_words = (codes "end" ∷ []) ∷ []
+
+-- the lines of a scene's text, by what stands between their spaces
 abbrev pub scene_words : SceneView → List Words
-scene_words scene = first_words scene ++ (flat_map solid_words scene.solids ++ last_words scene)
+scene_words scene = ((first_words scene ++ flat_map solid_words scene.solids) ++ show_words scene) ++ end_words
 
 abbrev pub final_draft : SceneView → DraftView
 final_draft scene = shown_draft (start_of scene) scene.solids (faces_of scene.solids) d.Nothing (Some scene.show)
@@ -185,7 +182,7 @@ scene_walk scene is =
     length-map scene.solids (λ (s : SolidView). s.name)
     in let below = subst (λ (n : ℕ). HasLeavesBelow n scene.show) (sym names) law.shown
     in let stand = standing (start_of scene)
-    in let first = first_walk (version_for scene) scene.width scene.height scene.depth_bits scene.fraction_bits
+    in let first = begin_walk (version_for scene) scene.width scene.height scene.depth_bits scene.fraction_bits
     (can_write scene.fraction_bits (has_difference scene.show)) law.some_width law.width law.some_height law.height
     law.some_depth law.depth
     law.fraction
@@ -193,12 +190,13 @@ scene_walk scene is =
     (let faces = law.faces in omega arith) law.names law.different (let few = law.solids in omega arith)
     in let signs = signs_of (version_for scene) (names_of scene.solids) scene.show
     (has_signs_for (scene.fraction_bits == 0) (has_difference scene.show))
-    in let last = last_walk (start_of scene) scene.solids (faces_of scene.solids) scene.show
+    in let show = show_walk (start_of scene) scene.solids (faces_of scene.solids) scene.show
     (record { lawful = law.names; different = law.different }) below signs is.show
-    (some_solid scene.show (length scene.solids) law.shown)
-    in walk_both blank (stand [] 0) (final_draft scene) (first_words scene)
-    (flat_map solid_words scene.solids ++ last_words scene) first
-    (walk_both (stand [] 0) (stand scene.solids (faces_of scene.solids)) (final_draft scene)
-    (flat_map solid_words scene.solids) (last_words scene)
-    (subst (λ (n : ℕ). Walk (stand [] 0) (flat_map solid_words scene.solids) (stand scene.solids n))
-    (zero-add (faces_of scene.solids)) solids) last)
+    in let end = end_walk (start_of scene) scene.solids (faces_of scene.solids) (Some scene.show)
+    in let shown = shown_draft (start_of scene) scene.solids (faces_of scene.solids) d.End (Some scene.show)
+    in let all = flat_map solid_words scene.solids
+    in walk_both blank shown (final_draft scene) ((first_words scene ++ all) ++ show_words scene) end_words
+    (walk_both blank (stand scene.solids (faces_of scene.solids)) shown (first_words scene ++ all) (show_words scene)
+    (walk_both blank (stand [] 0) (stand scene.solids (faces_of scene.solids)) (first_words scene) all first
+    (subst (λ (n : ℕ). Walk (stand [] 0) all (stand scene.solids n)) (zero-add (faces_of scene.solids)) solids))
+    show) end

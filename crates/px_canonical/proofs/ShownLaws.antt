@@ -1,4 +1,4 @@
--- The last two lines of a text, by the expression that they show, and what is read of them.
+-- The line of an expression, and what is read of it.
 use Rattle.std.proofs.Common.{◌≡◌, [], ◌∷◌, ◌++◌, filter, true, map, codes, refl, ap, sym, ◌∙◌, append-nil}
 use Rattle.std.specs.List.{list_all, slice_split}
 use Rattle.std.proofs.lemmas.List.Folds.{list_all-append}
@@ -12,7 +12,7 @@ use Rattle.px_show.proofs.SignLaws.{sign_plain}
 use Rattle.px_text.proofs.PlainLaws.{both, name_bytes, is_no_comment, before_none, names_plain, plain_byte, plain_fed}
 use Rattle.px_canonical.proofs.WrittenLaws.{bare, has_no_feed}
 
-pub printed_fed : (tree : Named) → has_names tree ≡ true → list_all is_no_feed (printed tree) ≡ true
+printed_fed : (tree : Named) → has_names tree ≡ true → list_all is_no_feed (printed tree) ≡ true
 printed_fed (leaf n) names = plain_fed n (names_plain n (name_bytes n names))
 printed_fed (join op left right) names =
     let each = both (has_names left) (has_names right) names
@@ -24,10 +24,10 @@ printed_fed (join op left right) names =
       printed_fed right each.1,
     ) refl
 
--- the words behind `show`
-pub show_words : (tree : Named) → has_names tree ≡ true
+-- the words that are read of it
+pub show_read : (tree : Named) → has_names tree ≡ true
     → words_of (bare (codes "show" ∷ printed tree ∷ [])) ≡ codes "show" ∷ words_of (printed tree)
-show_words tree names =
+show_read tree names =
     let plain = printed_uncommented tree names
     in let same : bare (codes "show" ∷ printed tree ∷ []) ≡ codes "show" ++ 32 ∷ printed tree =
     ap (λ t. codes "show" ++ 32 ∷ t) (append-nil (printed tree))
@@ -36,11 +36,5 @@ show_words tree names =
     ∙ ap (λ bs. filter is_some_byte (slice_split is_blank bs)) (before_none (codes "show" ++ 32 ∷ printed tree) whole)
     ∙ ap (λ ws. codes "show" ∷ filter is_some_byte (slice_split is_blank ws)) (sym (before_none (printed tree) plain))
 
-pub shown_fed : (tree : Named) → has_names tree ≡ true
-    → list_all has_no_feed (map bare ((codes "show" ∷ printed tree ∷ []) ∷ (codes "end" ∷ []) ∷ [])) ≡ true
-shown_fed tree names = rw (append-nil (printed tree), printed_fed tree names) refl
-
-pub shown_read : (tree : Named) → has_names tree ≡ true
-    → map words_of (map bare ((codes "show" ∷ printed tree ∷ []) ∷ (codes "end" ∷ []) ∷ []))
-    ≡ (codes "show" ∷ words_of (printed tree)) ∷ (codes "end" ∷ []) ∷ []
-shown_read tree names = ap (λ ws. ws ∷ (codes "end" ∷ []) ∷ []) (show_words tree names)
+pub show_fed : (tree : Named) → has_names tree ≡ true → has_no_feed (bare (codes "show" ∷ printed tree ∷ [])) ≡ true
+show_fed tree names = rw (append-nil (printed tree), printed_fed tree names) refl

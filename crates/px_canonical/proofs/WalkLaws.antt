@@ -1,51 +1,95 @@
--- Lines none of which is bad, one after another, and what they come to.
-use Rattle.std.proofs.Common.{◌≡◌, ℕ, ◌+◌, ◌≤◌, ◌^◌, List, [], ◌∷◌, ◌++◌, length, None, true, refl, ap}
-use Rattle.std.proofs.Common.{sym, ◌∙◌, append_assoc, append-nil}
+-- Lines none of which is bad, one after another, as they are written, and what they come to.
+use Rattle.std.proofs.Common.{◌≡◌, ℕ, ◌+◌, ◌≤◌, ◌^◌, List, [], ◌∷◌, ◌++◌, length, map, Bool, true, false, if◌then◌else◌}
+use Rattle.std.proofs.Common.{None, Result, Ok, Err, refl, ap, sym, ◌∙◌, append_assoc, append-nil}
+use Rattle.std.specs.List.{list_all}
 use Rattle.px_show.specs.Judged.{at_line, first_bad}
-use Rattle.px_text.specs.Text.{Words, worded}
-use Rattle.px_scene.specs.Drafts.{DraftView, blank, draft_of, drawn, fault_in, taken}
+use Rattle.px_show.specs.declared.fault.Cause.{Cause}
+use Rattle.px_text.specs.Text.{Words, words_of, worded}
+use Rattle.px_text.specs.Written.{are_plain, is_plain}
+use Rattle.px_text.proofs.PlainLaws.{both}
+use Rattle.px_text.proofs.SpacedLaws.{lines_read, words_read}
+use Rattle.px_scene.specs.Drafts.{DraftView, blank, draft_of, drawn, fault_by, fault_in, form_in, taken, taken_by}
+use Rattle.px_scene.specs.Lines.{Form, form_of, is_due, keyword_of, not_due}
 use Rattle.px_scene.specs.Reading.{fault_behind, is_nothing}
-use Rattle.px_canonical.specs.Writable.{IsReadAs}
 use Rattle.px_scene.proofs.DraftLaws.{says_more, short, told}
+use Rattle.px_canonical.specs.Writable.{IsReadAs}
+use Rattle.px_canonical.proofs.WrittenLaws.{bare, bare_fed, has_no_feed, is_written, text_of_lines, words_behind}
 
-abbrev pub IsGood : DraftView → Words → Type 0
-IsGood draft l = fault_in draft l ≡ None
+pub record IsGood (draft : DraftView) (l : Words) : Type 0 where
+  pub fed : has_no_feed (bare l) ≡ true
+  pub good : fault_in draft (words_behind l) ≡ None
 
 -- from one draft to another by good lines
 abbrev pub Walk : DraftView → List Words → DraftView → Type 0
 Walk draft [] last = draft ≡ last
-Walk draft (l ∷ ls) last = IsGood draft l × Walk (taken draft l) ls last
+Walk draft (l ∷ ls) last = IsGood draft l × Walk (taken draft (words_behind l)) ls last
 
 pub walk_both : (first middle last : DraftView) (ls ms : List Words) → Walk first ls middle → Walk middle ms last
     → Walk first (ls ++ ms) last
 walk_both first middle last [] ms one two = rw one two
-walk_both first middle last (l ∷ ls) ms one two = (one.0, walk_both (taken first l) middle last ls ms one.1 two)
+walk_both first middle last (l ∷ ls) ms one two =
+    (one.0, walk_both (taken first (words_behind l)) middle last ls ms one.1 two)
+
+by_due : (due : Bool) (r : Result Form Cause) (cause : Cause) (form : Form) → due ≡ true → r ≡ Ok form
+    → (if due then r else Err cause) ≡ Ok form
+by_due true r cause form due is = is
+by_due false r cause form due is = cc
+
+-- a line that is due, whose words are of a form without a fault
+pub line_walk : (draft : DraftView) (l : Words) (w : List ℕ) (ws : Words) (form : Form) → has_no_feed (bare l) ≡ true
+    → words_behind l ≡ w ∷ ws → is_due draft.due (keyword_of w) ≡ true
+    → form_of draft.version (keyword_of w) ws ≡ Ok form → fault_by draft (Ok form) ≡ None
+    → Walk draft (l ∷ []) (taken_by draft (Ok form))
+line_walk draft l w ws form fed words due reads none =
+    let says : form_in draft w ws ≡ Ok form =
+    by_due (is_due draft.due (keyword_of w)) (form_of draft.version (keyword_of w) ws) (not_due draft.due) form due reads
+    in (
+      record { fed = fed; good = ap (fault_in draft) words ∙ ap (fault_by draft) says ∙ none },
+      ap (taken draft) words ∙ ap (taken_by draft) says,
+    )
+
+-- the same of plain words
+pub form_walk : (draft : DraftView) (w : List ℕ) (ws : Words) (form : Form) → is_written (w ∷ ws) ≡ true
+    → is_due draft.due (keyword_of w) ≡ true → form_of draft.version (keyword_of w) ws ≡ Ok form
+    → fault_by draft (Ok form) ≡ None → Walk draft ((w ∷ ws) ∷ []) (taken_by draft (Ok form))
+form_walk draft w ws form plain due reads none =
+    let each = both (is_plain w) (are_plain ws) plain
+    in line_walk draft (w ∷ ws) w ws form (bare_fed (w ∷ ws) plain) (words_read w ws each.0 each.1) due reads none
 
 record IsWalked (before ls : List Words) (last : DraftView) : Type 0 where
-  good : first_bad fault_behind before ls ≡ None
-  says : last ≡ draft_of (before ++ ls)
+  fed : list_all has_no_feed (map bare ls) ≡ true
+  good : first_bad fault_behind before (map words_of (map bare ls)) ≡ None
+  says : last ≡ draft_of (before ++ map words_of (map bare ls))
 
 walked : (draft last : DraftView) (before ls : List Words) → draft ≡ draft_of before → Walk draft ls last
     → IsWalked before ls last
 walked draft last before [] says walk = record {
+  fed = refl;
   good = refl;
   says = sym walk ∙ says ∙ ap draft_of (sym (append-nil before));
 }
 walked draft last before (l ∷ ls) says walk =
-    let more = walked (taken draft l) last (before ++ l ∷ []) ls (says_more draft before l says) walk.1
+    let words = words_behind l
+    in let later = map words_of (map bare ls)
+    in let more = walked (taken draft words) last (before ++ words ∷ []) ls (says_more draft before words says) walk.1
     in record {
-      good = ap (λ f. at_line (length before + 1) f (first_bad fault_behind (before ++ l ∷ []) ls))
-          (told draft before l says ∙ walk.0) ∙ more.good;
-      says = more.says ∙ ap draft_of (append_assoc before (l ∷ []) ls);
+      fed = rw (walk.0.fed, more.fed) refl;
+      good = ap (λ f. at_line (length before + 1) f (first_bad fault_behind (before ++ words ∷ []) later))
+          (told draft before words says ∙ walk.0.good) ∙ more.good;
+      says = more.says ∙ ap draft_of (append_assoc before (words ∷ []) later);
     }
 
-pub read_by_walk : (text : List ℕ) (last : DraftView) → length text ≤ 2 ^ 20 → Walk blank (worded text) last
-    → is_nothing last.due ≡ true → IsReadAs text (drawn last)
-read_by_walk text last few walk ended =
-    let all = walked blank last [] (worded text) refl walk
+pub read_by_walk : (text : List ℕ) (ls : List Words) (last : DraftView) → text ≡ text_of_lines ls
+    → length text ≤ 2 ^ 20 → Walk blank ls last → is_nothing last.due ≡ true → IsReadAs text (drawn last)
+read_by_walk text ls last is few walk ended =
+    let all = walked blank last [] ls refl walk
+    in let words : worded text ≡ map words_of (map bare ls) =
+    ap worded is ∙ ap (map words_of) (lines_read (map bare ls) all.fed)
+    in let says : last ≡ draft_of (worded text) = all.says ∙ ap draft_of (sym words)
+    in let good : first_bad fault_behind [] (worded text) ≡ None = ap (first_bad fault_behind []) words ∙ all.good
     in let due : is_nothing last.due ≡ is_nothing (draft_of (worded text)).due =
-    ap (λ (d : DraftView). is_nothing d.due) all.says
+    ap (λ (d : DraftView). is_nothing d.due) says
     in record {
-      good = rw (short text few, all.good, ← due, ended) refl;
-      read = ap drawn (sym all.says);
+      good = rw (short text few, good, ← due, ended) refl;
+      read = ap drawn (sym says);
     }

@@ -11,8 +11,8 @@ use Rattle.px_show.specs.declared.scene_version.Version.{Version}
 use Rattle.px_show.specs.declared.scene_version.Version.TheVariants as v
 use Rattle.px_scene.specs.declared.line.Keyword.{Keyword}
 use Rattle.px_scene.specs.declared.line.Keyword.TheVariants as k
-use Rattle.px_scene.specs.declared.parse.Paint.{Paint}
-use Rattle.px_scene.specs.declared.parse.Plane.{Plane}
+use Rattle.px_scene.specs.declared.line.Paint.{Paint}
+use Rattle.px_scene.specs.declared.line.Plane.{Plane}
 use Rattle.px_scene.specs.Lines.{Form, header, picture, depth, solid, front, back, side, show, end}
 use Rattle.px_scene.specs.Lines.{form_of, linear_in, paint_in, plane_in, plane_form, two_of}
 

@@ -11,8 +11,8 @@ use Rattle.px_show.specs.declared.fault.LimitKind.TheVariants as kind
 use Rattle.px_show.specs.declared.fault.LineFault.{LineFault}
 use Rattle.px_scene.specs.declared.line.Due.TheVariants as d
 use Rattle.px_scene.specs.declared.line.Keyword.{Keyword}
-use Rattle.px_scene.specs.declared.parse.Paint.{Paint}
-use Rattle.px_scene.specs.declared.parse.Plane.{Plane}
+use Rattle.px_scene.specs.declared.line.Paint.{Paint}
+use Rattle.px_scene.specs.declared.line.Plane.{Plane}
 use Rattle.px_show.specs.Expressions.{is_among, show_cause, show_tree}
 use Rattle.px_show.specs.Judged.{past}
 use Rattle.px_show.proofs.FaultLaws.{good_form}

@@ -15,8 +15,8 @@ use Rattle.px_model.proofs.SolidLemmas.{All-push, faces_pushed}
 use Rattle.px_show.specs.Judged.{past, size_past}
 use Rattle.px_show.specs.declared.fault.LimitKind.TheVariants as kind
 use Rattle.px_scene.specs.Drafts.{colour_of, fresh_solid, with_back, with_front, with_last, with_side}
-use Rattle.px_scene.specs.declared.parse.Paint.{Paint}
-use Rattle.px_scene.specs.declared.parse.Plane.{Plane}
+use Rattle.px_scene.specs.declared.line.Paint.{Paint}
+use Rattle.px_scene.specs.declared.line.Plane.{Plane}
 use Rattle.px_scene.specs.LawfulDrafts.{CanTakeFace}
 use Rattle.px_scene.specs.Lines.{colour_past, face_past, plane_past, size_of}
 use Rattle.px_scene.proofs.TakenLemmas.{past_none}

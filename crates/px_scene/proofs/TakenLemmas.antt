@@ -12,7 +12,7 @@ use Rattle.px_show.specs.declared.fault.LineFault.{LineFault}
 use Rattle.px_scene.specs.declared.line.Due.{Due}
 use Rattle.px_scene.specs.declared.line.Due.TheVariants as d
 use Rattle.px_scene.specs.declared.line.Keyword.TheVariants as k
-use Rattle.px_scene.specs.declared.parse.Plane.{Plane}
+use Rattle.px_scene.specs.declared.line.Plane.{Plane}
 use Rattle.px_scene.specs.Lines.{most, fraction_past, face_past, face_limit, is_due, size_of}
 use Rattle.px_scene.specs.Drafts.{fresh_solid, with_last}
 use lib.IntN.{negsuc}

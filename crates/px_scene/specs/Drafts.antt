@@ -8,8 +8,8 @@ use Rattle.px_model.specs.declared.solid.Face.{Face}
 use Rattle.px_scene.specs.declared.line.Due.{Due}
 use Rattle.px_scene.specs.declared.line.Due.TheVariants as d
 use Rattle.px_scene.specs.declared.line.Tally.{Tally}
-use Rattle.px_scene.specs.declared.parse.Paint.{Paint}
-use Rattle.px_scene.specs.declared.parse.Plane.{Plane}
+use Rattle.px_scene.specs.declared.line.Paint.{Paint}
+use Rattle.px_scene.specs.declared.line.Plane.{Plane}
 use Rattle.px_show.specs.declared.fault.Cause.{Cause}
 use Rattle.px_show.specs.declared.fault.LimitKind.{LimitKind}
 use Rattle.px_show.specs.declared.fault.LineFault.{LineFault}
@@ -89,23 +89,15 @@ tally_of draft = record {
 
 -- a solid without planes
 abbrev pub fresh_solid : List ℕ → ℕ → Colour → SolidView
-fresh_solid name number colour = record {
-  name = name;
-  colour = colour;
-  near_number = number;
-  fronts = [];
-  backs = [];
-  sides = [];
-}
+fresh_solid name number colour =
+    record { name = name; colour = colour; near_number = number; fronts = []; backs = []; sides = [] }
 
 -- what a good line adds
 abbrev pub with_form : DraftView → Form → DraftView
 with_form draft (header version) = record draft { version = version }
 with_form draft (picture width height) = record draft { width = size_of width; height = size_of height }
-with_form draft (depth bits fraction) = record draft {
-  depth_bits = size_of bits;
-  fraction_bits = option_map_or size_of fraction 0;
-}
+with_form draft (depth bits fraction) =
+    record draft { depth_bits = size_of bits; fraction_bits = option_map_or size_of fraction 0 }
 with_form draft (solid name paint) = record draft {
   numbered = draft.numbered + 1;
   solids = draft.solids ++ fresh_solid name (draft.numbered + 1) (colour_of paint) ∷ [];
@@ -119,9 +111,8 @@ with_form draft (back plane) = record draft {
   solids = with_last (with_back (draft.numbered + 1) plane) draft.solids;
 }
 with_form draft (side form) = record draft { solids = with_last (with_side form) draft.solids }
-with_form draft (show expression) = record draft {
-  show = show_tree draft.version (names_of draft.solids) expression;
-}
+with_form draft (show expression) =
+    record draft { show = show_tree draft.version (names_of draft.solids) expression }
 with_form draft end = draft
 
 -- what the words of a line say, by what is due

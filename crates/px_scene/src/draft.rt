@@ -19,8 +19,8 @@ ghost use Rattle.px_show.specs.declared.fault.LineFault.{LineFault};
 
 use crate::figure::{colour_of, face_of};
 use crate::limit::limit_of;
-use crate::line::{Due, Tally};
-use crate::parse::{Paint, Plane, Statement};
+use crate::line::{Due, Paint, Plane, Tally};
+use crate::parse::Statement;
 use arrayvec::ArrayVec;
 use px_expr::Expr;
 use px_model::{Scene, Solid};

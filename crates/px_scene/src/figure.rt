@@ -4,7 +4,7 @@ ghost use Rattle.px_scene.specs.Drafts.{colour_of, face_of};
 ghost use Rattle.px_scene.specs.Lines.{face_past, colour_past, size_of};
 ghost use Rattle.px_model.specs.Scenes.{IsPlane};
 
-use crate::parse::{Paint, Plane};
+use crate::line::{Paint, Plane};
 use px_model::{Colour, Face};
 
 /// A face of this number, with the solid's colour where it has none of its own.

@@ -8,7 +8,7 @@ mod line;
 mod parse;
 mod read;
 
-pub use line::{Due, Tally};
+pub use line::{Due, Paint, Plane, Tally};
 pub use px_model::{
     Colour, Face, MAX_BLOCKS, MAX_CONSTANT, MAX_DEPTH_BITS, MAX_FACES, MAX_FRACTION_BITS,
     MAX_PICTURE_SIZE, MAX_PLANES_OF_A_KIND, MAX_SLOPE, MAX_SOLIDS, Scene, Solid, laws_of_scenes,

@@ -11,8 +11,8 @@ ghost use Rattle.px_show.specs.declared.fault.LimitKind.TheVariants as Kind;
 ghost use Rattle.px_scene.specs.Lines.{most, picture_past, depth_past, fraction_past, colour_past, plane_past, face_past, limit_of};
 ghost use Rattle.px_scene.specs.Parsed.{stated};
 
-use crate::line::Tally;
-use crate::parse::{Paint, Plane, Statement};
+use crate::line::{Paint, Plane, Tally};
+use crate::parse::Statement;
 use px_model::{
     MAX_CONSTANT, MAX_DEPTH_BITS, MAX_FACES, MAX_FRACTION_BITS, MAX_PICTURE_SIZE,
     MAX_PLANES_OF_A_KIND, MAX_SLOPE, MAX_SOLIDS,

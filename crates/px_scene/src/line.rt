@@ -2,6 +2,8 @@
 ghost use Rattle.std.specs.Prelude.{◌≡◌};
 ghost use Rattle.px_scene.specs.Lines.{keyword_of};
 
+use px_num::Linear;
+
 /// What the first word of a line begins.
 #[derive(Clone, Copy)]
 pub(crate) enum Keyword {
@@ -37,6 +39,21 @@ pub struct Tally {
     pub fronts: u32,
     pub backs: u32,
     pub sides: u32,
+}
+
+/// The numbers of a colour, which no limit holds yet.
+#[derive(Clone, Copy)]
+pub struct Paint {
+    pub red: i64,
+    pub green: i64,
+    pub blue: i64,
+}
+
+/// The numbers of a front or a back, its colour's too where it has its own.
+#[derive(Clone, Copy)]
+pub struct Plane {
+    pub form: Linear,
+    pub paint: Option<Paint>,
 }
 
 pub(crate) fn keyword_of(word: &[u8]) -> Keyword

@@ -7,25 +7,10 @@ ghost use Rattle.px_scene.specs.Lines.{back, front, keyword_of};
 ghost use Rattle.px_scene.specs.Parsed.{as_form, keyword_in, name_in, stated};
 ghost use Rattle.px_scene.specs.declared.line.Keyword.TheVariants as Kind;
 
-use crate::line::{Due, Keyword, keyword_of};
+use crate::line::{Due, Keyword, Paint, Plane, keyword_of};
 use px_num::Linear;
 use px_show::{Cause, Version};
 use px_text::{is_name, number_of};
-
-/// The numbers of a colour, which no limit holds yet.
-#[derive(Clone, Copy)]
-pub(crate) struct Paint {
-    pub red: i64,
-    pub green: i64,
-    pub blue: i64,
-}
-
-/// The numbers of a front or a back, its colour's too where it has its own.
-#[derive(Clone, Copy)]
-pub(crate) struct Plane {
-    pub form: Linear,
-    pub paint: Option<Paint>,
-}
 
 /// What a line says that is due and of good form, with its numbers; what stands before it is not
 /// asked yet.
