@@ -5,7 +5,7 @@ use Rattle.px_num.proofs.ListLaws.{length-tabulate}
 use Rattle.px_macro.specs.Fields.{with_number}
 use Rattle.px_macro.specs.Macros.{AreOfOneLength, IsField, IsLawfulInMore, MeaningsJoin, MemoryStaysLong, after_macro}
 use Rattle.px_macro.specs.declared.field.Field.{Field}
-use Rattle.px_macro.specs.declared.operation.Macro.TheVariants.{All, KeepSign, KeepBit, LoadLinear, KeepAtMost}
+use Rattle.px_macro.specs.declared.operation.Macro.TheVariants.{All, KeepSign, LoadLinear, KeepAtMost}
 use Rattle.px_macro.specs.declared.operation.Macro.TheVariants.{AddLinear, LoadConst, SetBit, Toggle, Copy, KeepLess}
 
 field_in_more : (f : Field) (bits more : ℕ) → bits ≤ more → IsField f bits → IsField f more
