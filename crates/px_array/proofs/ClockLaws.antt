@@ -7,9 +7,8 @@ use Rattle.px_num.proofs.ListLaws.{get_or-tabulate, length-tabulate}
 use Rattle.px_pixel.specs.Acts.{after_act}
 use Rattle.px_pixel.specs.Pixels.{PixelState, zero_pixel}
 use Rattle.px_pixel.specs.declared.act.Act.{Act}
-use Rattle.px_pixel.specs.declared.act.Act.TheVariants.{Nop, EnableAll, EnableCarry, EnableTree, EnableBit, SetCarry}
-use Rattle.px_pixel.specs.declared.act.Act.TheVariants.{Fetch, StoreTree, StoreLatch, StoreConst, Toggle, CarryTree}
-use Rattle.px_pixel.specs.declared.act.Act.TheVariants.{CarryLatch, AddTree}
+use Rattle.px_pixel.specs.declared.act.Act.TheVariants.{StoreTree, StoreLatch, StoreConst, Toggle}
+use Rattle.px_pixel.specs.declared.act.Act.TheVariants.{AddTree}
 use Rattle.px_tree.specs.Nodes.{TreeState, leaf_output}
 use Rattle.px_array.specs.Arrays.{Device, HasGrid, State, no_pixel, pixel_at, zero_state}
 use Rattle.px_array.specs.Clocks.{after_clock, after_clocks, after_tree_op, all_clocked}
@@ -64,20 +63,12 @@ length-stored true v memory at = length-set memory at v
 length-stored false v memory at = refl
 
 pub length-after_act : (act : Act) (t : Bool) (p : PixelState) → length (after_act act t p).memory ≡ length p.memory
-length-after_act Nop t p = refl
-length-after_act EnableAll t p = refl
-length-after_act (EnableCarry v) t p = refl
-length-after_act (EnableTree v) t p = refl
-length-after_act (EnableBit at v) t p = refl
-length-after_act (SetCarry v) t p = refl
-length-after_act (Fetch at) t p = refl
 length-after_act (StoreTree at) t p = length-stored p.enable _ p.memory at
 length-after_act (StoreLatch at) t p = length-stored p.enable _ p.memory at
 length-after_act (StoreConst at v) t p = length-stored p.enable _ p.memory at
 length-after_act (Toggle at) t p = length-stored p.enable _ p.memory at
-length-after_act (CarryTree at) t p = refl
-length-after_act (CarryLatch at) t p = refl
 length-after_act (AddTree at) t p = length-stored p.enable _ p.memory at
+length-after_act act t p = refl
 
 pub grid_of_zero_state : (bits nx ny : ℕ) → HasGrid bits nx ny (zero_state bits nx ny)
 grid_of_zero_state bits nx ny = record {

@@ -37,36 +37,19 @@ pub record Alike (bits nx ny : ℕ) (k : Known) (s t : State) : Type 0 where
 
 -- what an act reads is known
 abbrev pub suits : Act → Known → Type 0
-suits act.Nop k = Unit {0}
-suits act.EnableAll k = Unit {0}
 suits (act.EnableCarry v) k = k.carry ≡ true
 suits (act.EnableTree v) k = k.tree ≡ true
-suits (act.EnableBit at v) k = Unit {0}
-suits (act.SetCarry v) k = Unit {0}
-suits (act.Fetch at) k = Unit {0}
 suits (act.StoreTree at) k = k.tree ≡ true
 suits (act.StoreLatch at) k = k.latch ≡ true
-suits (act.StoreConst at v) k = Unit {0}
-suits (act.Toggle at) k = Unit {0}
 suits (act.CarryTree at) k = k.tree ≡ true
 suits (act.CarryLatch at) k = k.latch ≡ true
 suits (act.AddTree at) k = (k.tree ≡ true) × (k.carry ≡ true)
+suits a k = Unit {0}
 
 abbrev pub known_by_act : Act → Known → Known
-known_by_act act.Nop k = k
-known_by_act act.EnableAll k = k
-known_by_act (act.EnableCarry v) k = k
-known_by_act (act.EnableTree v) k = k
-known_by_act (act.EnableBit at v) k = k
 known_by_act (act.SetCarry v) k = record { tree = k.tree; carry = true; latch = k.latch }
 known_by_act (act.Fetch at) k = record { tree = k.tree; carry = k.carry; latch = true }
-known_by_act (act.StoreTree at) k = k
-known_by_act (act.StoreLatch at) k = k
-known_by_act (act.StoreConst at v) k = k
-known_by_act (act.Toggle at) k = k
-known_by_act (act.CarryTree at) k = k
-known_by_act (act.CarryLatch at) k = k
-known_by_act (act.AddTree at) k = k
+known_by_act a k = k
 
 pub act_alike : (a : Act) (k : Known) (b c : Bool) (p q : PixelState) → suits a k → (k.tree ≡ true → b ≡ c)
     → AlikePixels k p q → AlikePixels (known_by_act a k) (after_act a b p) (after_act a c q)
@@ -117,19 +100,7 @@ known_by micro k = known_by_op micro.tree (known_by_act micro.act k)
 
 act_keeps_tree : (a : Act) (k : Known) → (known_by_act a k).tree ≡ k.tree
 act_keeps_tree act.Nop k = refl
-act_keeps_tree act.EnableAll k = refl
-act_keeps_tree (act.EnableCarry v) k = refl
-act_keeps_tree (act.EnableTree v) k = refl
-act_keeps_tree (act.EnableBit at v) k = refl
-act_keeps_tree (act.SetCarry v) k = refl
-act_keeps_tree (act.Fetch at) k = refl
-act_keeps_tree (act.StoreTree at) k = refl
-act_keeps_tree (act.StoreLatch at) k = refl
-act_keeps_tree (act.StoreConst at v) k = refl
-act_keeps_tree (act.Toggle at) k = refl
-act_keeps_tree (act.CarryTree at) k = refl
-act_keeps_tree (act.CarryLatch at) k = refl
-act_keeps_tree (act.AddTree at) k = refl
+act_keeps_tree a k = refl
 
 op_alike : (op : TreeOp) (k : Known) (p q : PixelState) → AlikePixels k p q → AlikePixels (known_by_op op k) p q
 op_alike Hold k p q h = h
@@ -181,25 +152,27 @@ run_alike bits nx ny micro k from (suc n) s t keeps h =
 
 -- ---- the operations
 
-fits_choice : (b : Bool) (x y : Act) (k : Known) → suits x k → suits y k → suits (if b then x else y) k
-fits_choice true x y k first second = first
-fits_choice false x y k first second = second
+-- one of two micros, or one of two acts, where each keeps what is known
+keeps_choice : (b : Bool) (x y : Micro) (k : Known) → Keeps x k → Keeps y k → Keeps (if b then x else y) k
+keeps_choice true x y k first second = first
+keeps_choice false x y k first second = second
 
-same_choice : (b : Bool) (x y : Act) (k : Known) → known_by_act x k ≡ k → known_by_act y k ≡ k
-    → known_by_act (if b then x else y) k ≡ k
-same_choice true x y k first second = first
-same_choice false x y k first second = second
+keeps_act : (op : TreeOp) (b : Bool) (x y : Act) (k : Known) → Keeps (record { tree = op; act = x }) k
+    → Keeps (record { tree = op; act = y }) k → Keeps (record { tree = op; act = if b then x else y }) k
+keeps_act op true x y k first second = first
+keeps_act op false x y k first second = second
 
--- where the tree is known, it stays so
-op_keeps : (op : TreeOp) (carry latch : Bool) → known_by_op op (record { tree = true; carry = carry; latch = latch })
-    ≡ record { tree = true; carry = carry; latch = latch }
+-- what is known while a form is fed: where the tree is known, it stays so
+abbrev while_fed : (carry latch : Bool) → Known
+while_fed carry latch = record { tree = true; carry = carry; latch = latch }
+
+op_keeps : (op : TreeOp) (carry latch : Bool) → known_by_op op (while_fed carry latch) ≡ while_fed carry latch
 op_keeps Hold carry latch = refl
-op_keeps Clear carry latch = refl
-op_keeps (Feed a b c) carry latch = refl
+op_keeps op carry latch = refl
 
-keeps_fed : (op : TreeOp) (a : Act) (carry latch : Bool) → suits a (record { tree = true; carry = carry; latch = latch })
-    → known_by_act a (record { tree = true; carry = carry; latch = latch }) ≡ record { tree = true; carry = carry; latch = latch }
-    → Keeps (record { tree = op; act = a }) (record { tree = true; carry = carry; latch = latch })
+keeps_fed : (op : TreeOp) (a : Act) (carry latch : Bool) → suits a (while_fed carry latch)
+    → known_by_act a (while_fed carry latch) ≡ while_fed carry latch
+    → Keeps (record { tree = op; act = a }) (while_fed carry latch)
 keeps_fed op a carry latch fit same = record {
   fit = fit;
   same = ap (known_by_op op) same ∙ op_keeps op carry latch;
@@ -211,18 +184,13 @@ not_first i n low = grind (arith, nat_tests)
 not_zero : (i : ℕ) → 1 ≤ i → (i == 0) ≡ false
 not_zero i some = grind (arith, nat_tests)
 
--- the acts on a bit of the value, where the carry is known if they read it
-record Suits (a : Act) (carry latch : Bool) : Type 0 where
-  fit : suits a (record { tree = true; carry = carry; latch = latch })
-  same : known_by_act a (record { tree = true; carry = carry; latch = latch }) ≡ record { tree = true; carry = carry; latch = latch }
-
-suits_bits : (levels i : ℕ) (first : Act) (each : ℕ → Act) (carry latch : Bool) → 1 ≤ i → ((t : ℕ) → Suits (each t) carry latch)
-    → Suits (act_at levels first each i) carry latch
-suits_bits levels i first each carry latch some fit =
-    rw (not_zero i some) (record {
-      fit = fits_choice (nat_lt levels i) (each (i - 1 - levels)) act.Nop _ (fit (i - 1 - levels)).fit tt;
-      same = same_choice (nat_lt levels i) (each (i - 1 - levels)) act.Nop _ (fit (i - 1 - levels)).same refl;
-    })
+-- the acts on the bits of the value
+bits_keep : (op : TreeOp) (levels i : ℕ) (first : Act) (each : ℕ → Act) (carry latch : Bool) → 1 ≤ i
+    → ((t : ℕ) → Keeps (record { tree = op; act = each t }) (while_fed carry latch))
+    → Keeps (record { tree = op; act = act_at levels first each i }) (while_fed carry latch)
+bits_keep op levels i first each carry latch some keeps =
+    rw (not_zero i some) (keeps_act op (nat_lt levels i) (each (i - 1 - levels)) act.Nop _ (keeps (i - 1 - levels))
+    (keeps_fed op act.Nop carry latch tt refl))
 
 -- the first clock, and then those that need nothing but what is known
 first_then : (bits nx ny : ℕ) (micro : ℕ → Micro) (k l : Known) (n count : ℕ) (s t : State) → count ≡ 1 + n
@@ -243,65 +211,49 @@ module _ (bits nx ny : ℕ) (k : Known) (s t : State) (h : Alike bits nx ny k s 
   steps_alike : (op : Macro) → IsLawful op bits
       → Alike bits nx ny (renewed op k) (steps (micro_at op nx ny) (cycles op nx ny) s)
       (steps (micro_at op nx ny) (cycles op nx ny) t)
-  steps_alike m.All lawful = one_clock (micro_at m.All nx ny) (record { fit = tt; same = refl })
   steps_alike (m.KeepSign form) lawful =
-      let micro = micro_at (m.KeepSign form) nx ny in
       let last = 40 + (nx + ny) in
-      let l : Known = record { tree = true; carry = k.carry; latch = k.latch } in
       let early : (0 == last) ≡ false = not_first 0 last (omega arith) in
-      first_then bits nx ny micro k l last (41 + (nx + ny)) s t (omega arith) (rw early tt) (rw early refl)
+      first_then bits nx ny (micro_at (m.KeepSign form) nx ny) k (while_fed k.carry k.latch) last (41 + (nx + ny)) s t
+      (omega arith) (rw early tt) (rw early refl)
       (λ i low high.
-      keeps_fed (tree_at form nx ny i) (if i == last then act.EnableTree false else act.Nop) k.carry k.latch
-      (fits_choice (i == last) (act.EnableTree false) act.Nop l refl tt)
-      (same_choice (i == last) (act.EnableTree false) act.Nop l refl refl)) h
-  steps_alike (m.KeepBit at v) lawful = one_clock (micro_at (m.KeepBit at v) nx ny) (record { fit = tt; same = refl })
+      let op = tree_at form nx ny i in
+      keeps_act op (i == last) (act.EnableTree false) act.Nop _ (keeps_fed op (act.EnableTree false) k.carry k.latch refl refl)
+      (keeps_fed op act.Nop k.carry k.latch tt refl)) h
   steps_alike (m.LoadLinear form f) lawful =
-      let micro = micro_at (m.LoadLinear form f) nx ny in
-      let l : Known = record { tree = true; carry = k.carry; latch = k.latch } in
-      first_then bits nx ny micro k l (nx + ny + f.len) (1 + (nx + ny) + f.len) s t (omega arith) tt refl
+      first_then bits nx ny (micro_at (m.LoadLinear form f) nx ny) k (while_fed k.carry k.latch) (nx + ny + f.len)
+      (1 + (nx + ny) + f.len) s t (omega arith) tt refl
       (λ i low high.
-      let each : ℕ → Act = λ u. act.StoreTree (f.at + u) in
-      let fit = suits_bits (nx + ny) i act.Nop each k.carry k.latch low (λ u. record { fit = refl; same = refl }) in
-      keeps_fed (tree_at form nx ny i) (act_at (nx + ny) act.Nop each i) k.carry k.latch fit.fit fit.same) h
+      let op = tree_at form nx ny i in
+      bits_keep op (nx + ny) i act.Nop (λ u. act.StoreTree (f.at + u)) k.carry k.latch low
+      (λ u. keeps_fed op (act.StoreTree (f.at + u)) k.carry k.latch refl refl)) h
   steps_alike (m.KeepAtMost form f) lawful =
-      let micro = micro_at (m.KeepAtMost form f) nx ny in
       let last = 1 + (nx + ny) + f.len in
-      let l : Known = record { tree = true; carry = true; latch = k.latch } in
       let early : (0 == last) ≡ false = not_first 0 last (omega arith) in
-      first_then bits nx ny micro k l last (2 + (nx + ny) + f.len) s t (omega arith) (rw early tt) (rw early refl)
+      first_then bits nx ny (micro_at (m.KeepAtMost form f) nx ny) k (while_fed true k.latch) last (2 + (nx + ny) + f.len)
+      s t (omega arith) (rw early tt) (rw early refl)
       (λ i low high.
-      let each : ℕ → Act = λ u. act.CarryTree (f.at + u) in
-      let fit = suits_bits (nx + ny) i (act.SetCarry true) each true k.latch low (λ u. record { fit = refl; same = refl }) in
-      keeps_choice (i == last) (record { tree = Hold; act = act.EnableCarry true })
-      (record { tree = tree_at form nx ny i; act = act_at (nx + ny) (act.SetCarry true) each i }) l
-      (record { fit = refl; same = refl })
-      (keeps_fed (tree_at form nx ny i) (act_at (nx + ny) (act.SetCarry true) each i) true k.latch fit.fit fit.same)) h
-    where
-      keeps_choice : (b : Bool) (x y : Micro) (l : Known) → Keeps x l → Keeps y l → Keeps (if b then x else y) l
-      keeps_choice true x y l first second = first
-      keeps_choice false x y l first second = second
+      let op = tree_at form nx ny i in
+      keeps_choice (i == last) (record { tree = Hold; act = act.EnableCarry true }) _ _ (record { fit = refl; same = refl })
+      (bits_keep op (nx + ny) i (act.SetCarry true) (λ u. act.CarryTree (f.at + u)) true k.latch low
+      (λ u. keeps_fed op (act.CarryTree (f.at + u)) true k.latch refl refl))) h
   steps_alike (m.AddLinear form f) lawful =
-      let micro = micro_at (m.AddLinear form f) nx ny in
-      let l : Known = record { tree = true; carry = true; latch = k.latch } in
-      first_then bits nx ny micro k l (nx + ny + f.len) (1 + (nx + ny) + f.len) s t (omega arith) tt refl
+      first_then bits nx ny (micro_at (m.AddLinear form f) nx ny) k (while_fed true k.latch) (nx + ny + f.len)
+      (1 + (nx + ny) + f.len) s t (omega arith) tt refl
       (λ i low high.
-      let each : ℕ → Act = λ u. act.AddTree (f.at + u) in
-      let fit = suits_bits (nx + ny) i (act.SetCarry false) each true k.latch low (λ u. record { fit = (refl, refl); same = refl }) in
-      keeps_fed (tree_at form nx ny i) (act_at (nx + ny) (act.SetCarry false) each i) true k.latch fit.fit fit.same) h
+      let op = tree_at form nx ny i in
+      bits_keep op (nx + ny) i (act.SetCarry false) (λ u. act.AddTree (f.at + u)) true k.latch low
+      (λ u. keeps_fed op (act.AddTree (f.at + u)) true k.latch (refl, refl) refl)) h
   steps_alike (m.LoadConst f c) lawful =
       let e : 0 + f.len ≡ f.len = omega arith in
       rw e at (run_alike bits nx ny (micro_at (m.LoadConst f c) nx ny) k 0 f.len s t
       (λ i low high. record { fit = tt; same = refl }) h)
-  steps_alike (m.SetBit at v) lawful = one_clock (micro_at (m.SetBit at v) nx ny) (record { fit = tt; same = refl })
-  steps_alike (m.Toggle at) lawful = one_clock (micro_at (m.Toggle at) nx ny) (record { fit = tt; same = refl })
   steps_alike (m.Copy f g) lawful =
-      let micro = micro_at (m.Copy f g) nx ny in
       let l : Known = record { tree = k.tree; carry = k.carry; latch = true } in
-      first_then bits nx ny micro k l (2 * f.len - 1) (2 * f.len) s t (omega (arith, lawful.0.fields.0.from_one)) tt refl
-      (λ i low high. record {
-        fit = fits_choice (i % 2 == 0) (act.Fetch (f.at + i / 2)) (act.StoreLatch (g.at + i / 2)) l tt refl;
-        same = same_choice (i % 2 == 0) (act.Fetch (f.at + i / 2)) (act.StoreLatch (g.at + i / 2)) l refl refl;
-      }) h
+      first_then bits nx ny (micro_at (m.Copy f g) nx ny) k l (2 * f.len - 1) (2 * f.len) s t
+      (omega (arith, lawful.0.fields.0.from_one)) tt refl
+      (λ i low high. keeps_act Hold (i % 2 == 0) (act.Fetch (f.at + i / 2)) (act.StoreLatch (g.at + i / 2)) l
+      (record { fit = tt; same = refl }) (record { fit = refl; same = refl })) h
   steps_alike (m.KeepLess f g) lawful =
       let micro = micro_at (m.KeepLess f g) nx ny in
       let some = lawful.fields.0.from_one in
@@ -316,12 +268,10 @@ module _ (bits nx ny : ℕ) (k : Known) (s t : State) (h : Alike bits nx ny k s 
       run_alike bits nx ny micro l2 2 (2 * f.len) s t
       (λ i low high.
       let later : (i == 0) ≡ false = not_zero i (omega arith) in
-      rw later (record {
-        fit = fits_choice (i == 1 + 2 * f.len) (act.EnableCarry false) _ l2 refl
-            (fits_choice (i % 2 == 1) (act.Fetch (g.at + (i - 1) / 2)) (act.CarryLatch (f.at + (i - 1) / 2)) l2 tt refl);
-        same = same_choice (i == 1 + 2 * f.len) (act.EnableCarry false) _ l2 refl
-            (same_choice (i % 2 == 1) (act.Fetch (g.at + (i - 1) / 2)) (act.CarryLatch (f.at + (i - 1) / 2)) l2 refl refl);
-      })) start
+      rw later (keeps_act Hold (i == 1 + 2 * f.len) (act.EnableCarry false) _ l2 (record { fit = refl; same = refl })
+      (keeps_act Hold (i % 2 == 1) (act.Fetch (g.at + (i - 1) / 2)) (act.CarryLatch (f.at + (i - 1) / 2)) l2
+      (record { fit = tt; same = refl }) (record { fit = refl; same = refl })))) start
+  steps_alike op lawful = one_clock (micro_at op nx ny) (record { fit = tt; same = refl })
 
 pub micros_alike : (bits nx ny : ℕ) (k : Known) (s t : State) (op : Macro) → IsLawful op bits → Alike bits nx ny k s t
     → Alike bits nx ny (renewed op k) (after_clocks (micros op nx ny) s) (after_clocks (micros op nx ny) t)
@@ -341,7 +291,7 @@ all_micros_alike bits nx ny (op ∷ ops) lawful k s t h =
 
 -- ---- where all is known, the states are the same
 
-same_pixel : (p q : PixelState) → p.memory ≡ q.memory → p.enable ≡ q.enable → p.carry ≡ q.carry → p.latch ≡ q.latch → p ≡ q
+pub same_pixel : (p q : PixelState) → p.memory ≡ q.memory → p.enable ≡ q.enable → p.carry ≡ q.carry → p.latch ≡ q.latch → p ≡ q
 same_pixel p q memory enable carry latch =
     ap (λ (x : List Bool). record { memory = x; enable = p.enable; carry = p.carry; latch = p.latch }) memory
     ∙ (ap (λ (x : Bool). record { memory = q.memory; enable = x; carry = p.carry; latch = p.latch }) enable

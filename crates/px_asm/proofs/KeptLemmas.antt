@@ -22,69 +22,27 @@ no e = cc
 
 -- the acts that leave the carry
 abbrev leaves_carry : Act → Bool
-leaves_carry act.Nop = true
-leaves_carry act.EnableAll = true
-leaves_carry (act.EnableCarry v) = true
-leaves_carry (act.EnableTree v) = true
-leaves_carry (act.EnableBit at v) = true
 leaves_carry (act.SetCarry v) = false
-leaves_carry (act.Fetch at) = true
-leaves_carry (act.StoreTree at) = true
-leaves_carry (act.StoreLatch at) = true
-leaves_carry (act.StoreConst at v) = true
-leaves_carry (act.Toggle at) = true
 leaves_carry (act.CarryTree at) = false
 leaves_carry (act.CarryLatch at) = false
 leaves_carry (act.AddTree at) = false
+leaves_carry a = true
 
 carry_left : (a : Act) (b : Bool) (p : PixelState) → leaves_carry a ≡ true → (after_act a b p).carry ≡ p.carry
-carry_left act.Nop b p e = refl
-carry_left act.EnableAll b p e = refl
-carry_left (act.EnableCarry v) b p e = refl
-carry_left (act.EnableTree v) b p e = refl
-carry_left (act.EnableBit at v) b p e = refl
 carry_left (act.SetCarry v) b p e = absurd (no (sym e))
-carry_left (act.Fetch at) b p e = refl
-carry_left (act.StoreTree at) b p e = refl
-carry_left (act.StoreLatch at) b p e = refl
-carry_left (act.StoreConst at v) b p e = refl
-carry_left (act.Toggle at) b p e = refl
 carry_left (act.CarryTree at) b p e = absurd (no (sym e))
 carry_left (act.CarryLatch at) b p e = absurd (no (sym e))
 carry_left (act.AddTree at) b p e = absurd (no (sym e))
+carry_left a b p e = refl
 
 -- and those that leave the latch
 abbrev leaves_latch : Act → Bool
-leaves_latch act.Nop = true
-leaves_latch act.EnableAll = true
-leaves_latch (act.EnableCarry v) = true
-leaves_latch (act.EnableTree v) = true
-leaves_latch (act.EnableBit at v) = true
-leaves_latch (act.SetCarry v) = true
 leaves_latch (act.Fetch at) = false
-leaves_latch (act.StoreTree at) = true
-leaves_latch (act.StoreLatch at) = true
-leaves_latch (act.StoreConst at v) = true
-leaves_latch (act.Toggle at) = true
-leaves_latch (act.CarryTree at) = true
-leaves_latch (act.CarryLatch at) = true
-leaves_latch (act.AddTree at) = true
+leaves_latch a = true
 
 latch_left : (a : Act) (b : Bool) (p : PixelState) → leaves_latch a ≡ true → (after_act a b p).latch ≡ p.latch
-latch_left act.Nop b p e = refl
-latch_left act.EnableAll b p e = refl
-latch_left (act.EnableCarry v) b p e = refl
-latch_left (act.EnableTree v) b p e = refl
-latch_left (act.EnableBit at v) b p e = refl
-latch_left (act.SetCarry v) b p e = refl
 latch_left (act.Fetch at) b p e = absurd (no (sym e))
-latch_left (act.StoreTree at) b p e = refl
-latch_left (act.StoreLatch at) b p e = refl
-latch_left (act.StoreConst at v) b p e = refl
-latch_left (act.Toggle at) b p e = refl
-latch_left (act.CarryTree at) b p e = refl
-latch_left (act.CarryLatch at) b p e = refl
-latch_left (act.AddTree at) b p e = refl
+latch_left a b p e = refl
 
 -- a part of a pixel, and the acts that leave it
 module _ (part : PixelState → Bool) (leaves : Act → Bool)
@@ -101,72 +59,57 @@ module _ (part : PixelState → Bool) (leaves : Act → Bool)
       ∙ (left (micro n).act (leaf_output (steps micro n s).tree place) (pixel_at (steps micro n s) place) (each n)
       ∙ steps_leave bits nx ny micro n s grid each place inside)
 
-  choice_leaves : (b : Bool) (x y : Act) → leaves x ≡ true → leaves y ≡ true → leaves (if b then x else y) ≡ true
-  choice_leaves true x y first second = first
-  choice_leaves false x y first second = second
+-- one of two acts, one of two micros, and the acts on the bits of a value
+module _ (leaves : Act → Bool) where
+  choice : (b : Bool) (x y : Act) → leaves x ≡ true → leaves y ≡ true → leaves (if b then x else y) ≡ true
+  choice true x y first second = first
+  choice false x y first second = second
 
-  micro_leaves : (b : Bool) (x y : Micro) → leaves x.act ≡ true → leaves y.act ≡ true
+  micro_choice : (b : Bool) (x y : Micro) → leaves x.act ≡ true → leaves y.act ≡ true
       → leaves (if b then x else y).act ≡ true
-  micro_leaves true x y first second = first
-  micro_leaves false x y first second = second
+  micro_choice true x y first second = first
+  micro_choice false x y first second = second
 
-  bits_leave : (levels i : ℕ) (first : Act) (each : ℕ → Act) → leaves first ≡ true → leaves act.Nop ≡ true
+  on_bits : (levels i : ℕ) (first : Act) (each : ℕ → Act) → leaves first ≡ true → leaves act.Nop ≡ true
       → ((t : ℕ) → leaves (each t) ≡ true) → leaves (act_at levels first each i) ≡ true
-  bits_leave levels i first each start rest step =
-      choice_leaves (i == 0) first (if nat_lt levels i then each (i - 1 - levels) else act.Nop) start
-      (choice_leaves (nat_lt levels i) (each (i - 1 - levels)) act.Nop (step (i - 1 - levels)) rest)
+  on_bits levels i first each start rest step =
+      choice (i == 0) first (if nat_lt levels i then each (i - 1 - levels) else act.Nop) start
+      (choice (nat_lt levels i) (each (i - 1 - levels)) act.Nop (step (i - 1 - levels)) rest)
 
 micro_leaves_carry : (op : Macro) (nx ny i : ℕ) → (renewed op none_known).carry ≡ false
     → leaves_carry (micro_at op nx ny i).act ≡ true
-micro_leaves_carry m.All nx ny i e = refl
 micro_leaves_carry (m.KeepSign form) nx ny i e =
-    choice_leaves (λ p. p.carry) leaves_carry carry_left (i == 40 + (nx + ny)) (act.EnableTree false) act.Nop refl refl
-micro_leaves_carry (m.KeepBit at v) nx ny i e = refl
+    choice leaves_carry (i == 40 + (nx + ny)) (act.EnableTree false) act.Nop refl refl
 micro_leaves_carry (m.LoadLinear form f) nx ny i e =
-    bits_leave (λ p. p.carry) leaves_carry carry_left (nx + ny) i act.Nop (λ t. act.StoreTree (f.at + t)) refl refl (λ t. refl)
+    on_bits leaves_carry (nx + ny) i act.Nop (λ t. act.StoreTree (f.at + t)) refl refl (λ t. refl)
 micro_leaves_carry (m.KeepAtMost form f) nx ny i e = absurd (no e)
 micro_leaves_carry (m.AddLinear form f) nx ny i e = absurd (no e)
-micro_leaves_carry (m.LoadConst f c) nx ny i e = refl
-micro_leaves_carry (m.SetBit at v) nx ny i e = refl
-micro_leaves_carry (m.Toggle at) nx ny i e = refl
 micro_leaves_carry (m.Copy f g) nx ny i e =
-    choice_leaves (λ p. p.carry) leaves_carry carry_left (i % 2 == 0) (act.Fetch (f.at + i / 2))
-    (act.StoreLatch (g.at + i / 2)) refl refl
+    choice leaves_carry (i % 2 == 0) (act.Fetch (f.at + i / 2)) (act.StoreLatch (g.at + i / 2)) refl refl
 micro_leaves_carry (m.KeepLess f g) nx ny i e = absurd (no e)
+micro_leaves_carry op nx ny i e = refl
 
 micro_leaves_latch : (op : Macro) (nx ny i : ℕ) → (renewed op none_known).latch ≡ false
     → leaves_latch (micro_at op nx ny i).act ≡ true
-micro_leaves_latch m.All nx ny i e = refl
 micro_leaves_latch (m.KeepSign form) nx ny i e =
-    choice_leaves (λ p. p.latch) leaves_latch latch_left (i == 40 + (nx + ny)) (act.EnableTree false) act.Nop refl refl
-micro_leaves_latch (m.KeepBit at v) nx ny i e = refl
+    choice leaves_latch (i == 40 + (nx + ny)) (act.EnableTree false) act.Nop refl refl
 micro_leaves_latch (m.LoadLinear form f) nx ny i e =
-    bits_leave (λ p. p.latch) leaves_latch latch_left (nx + ny) i act.Nop (λ t. act.StoreTree (f.at + t)) refl refl (λ t. refl)
+    on_bits leaves_latch (nx + ny) i act.Nop (λ t. act.StoreTree (f.at + t)) refl refl (λ t. refl)
 micro_leaves_latch (m.KeepAtMost form f) nx ny i e =
-    micro_leaves (λ p. p.latch) leaves_latch latch_left (i == 1 + (nx + ny) + f.len) _ _ refl
-    (bits_leave (λ p. p.latch) leaves_latch latch_left (nx + ny) i (act.SetCarry true) (λ t. act.CarryTree (f.at + t)) refl refl
-    (λ t. refl))
+    micro_choice leaves_latch (i == 1 + (nx + ny) + f.len) _ _ refl
+    (on_bits leaves_latch (nx + ny) i (act.SetCarry true) (λ t. act.CarryTree (f.at + t)) refl refl (λ t. refl))
 micro_leaves_latch (m.AddLinear form f) nx ny i e =
-    bits_leave (λ p. p.latch) leaves_latch latch_left (nx + ny) i (act.SetCarry false) (λ t. act.AddTree (f.at + t)) refl refl
-    (λ t. refl)
-micro_leaves_latch (m.LoadConst f c) nx ny i e = refl
-micro_leaves_latch (m.SetBit at v) nx ny i e = refl
-micro_leaves_latch (m.Toggle at) nx ny i e = refl
+    on_bits leaves_latch (nx + ny) i (act.SetCarry false) (λ t. act.AddTree (f.at + t)) refl refl (λ t. refl)
 micro_leaves_latch (m.Copy f g) nx ny i e = absurd (no e)
 micro_leaves_latch (m.KeepLess f g) nx ny i e = absurd (no e)
+micro_leaves_latch op nx ny i e = refl
 
 micro_holds : (op : Macro) (nx ny i : ℕ) → (renewed op none_known).tree ≡ false → (micro_at op nx ny i).tree ≡ Hold
-micro_holds m.All nx ny i e = refl
 micro_holds (m.KeepSign form) nx ny i e = absurd (no e)
-micro_holds (m.KeepBit at v) nx ny i e = refl
 micro_holds (m.LoadLinear form f) nx ny i e = absurd (no e)
 micro_holds (m.KeepAtMost form f) nx ny i e = absurd (no e)
 micro_holds (m.AddLinear form f) nx ny i e = absurd (no e)
-micro_holds (m.LoadConst f c) nx ny i e = refl
-micro_holds (m.SetBit at v) nx ny i e = refl
-micro_holds (m.Toggle at) nx ny i e = refl
-micro_holds (m.Copy f g) nx ny i e = refl
-micro_holds (m.KeepLess f g) nx ny i e = refl
+micro_holds op nx ny i e = refl
 
 steps_hold : (micro : ℕ → Micro) (n : ℕ) (s : State) → ((i : ℕ) → (micro i).tree ≡ Hold) → (steps micro n s).tree ≡ s.tree
 steps_hold micro zero s each = refl

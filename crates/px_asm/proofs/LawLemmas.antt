@@ -8,8 +8,8 @@ use Rattle.px_tree.specs.Nodes.{IsGrid, leaf_output}
 use Rattle.px_tree.specs.TreeBit.{LeafGivesSign, LeafGivesValue}
 use Rattle.px_macro.specs.FieldLaws.{BitsOfNumber, NumberIsBelow}
 use Rattle.px_macro.specs.declared.field.Field.{Field}
-use Rattle.px_macro.specs.declared.operation.Macro.TheVariants.{All, KeepSign, KeepBit, LoadLinear, KeepAtMost}
-use Rattle.px_macro.specs.declared.operation.Macro.TheVariants.{AddLinear, LoadConst, SetBit, Toggle, Copy, KeepLess}
+use Rattle.px_macro.specs.declared.operation.Macro.TheVariants.{KeepSign, LoadLinear, KeepAtMost}
+use Rattle.px_macro.specs.declared.operation.Macro.TheVariants.{AddLinear, LoadConst, Copy, KeepLess}
 use Rattle.px_array.specs.Arrays.{HasGrid, State, pixel_at, pixel_of}
 use Rattle.px_asm.specs.Micros.{micro_at, tree_at}
 use Rattle.px_asm.specs.Microprograms.{LeaveTheMeaning, bits_of}
@@ -40,8 +40,6 @@ fed_before_last : (form : Linear) (f : Field) (nx ny i : ℕ) → i < 1 + (nx + 
 fed_before_last form f nx ny i low = rw (not_last i (1 + (nx + ny) + f.len) low) refl
 
 pub leave_the_meaning : BitsOfNumber → NumberIsBelow → LeafGivesValue → LeafGivesSign → LeaveTheMeaning
-leave_the_meaning number below leaf sign bits nx ny sizes All lawful s grid x y column row =
-    ap bits_of (pixel_after_run bits nx ny (micro_at All nx ny) 1 s grid x y column row)
 leave_the_meaning number below leaf sign bits nx ny sizes (KeepSign form) lawful s grid x y column row =
     let micro = micro_at (KeepSign form) nx ny in
     let last : 40 + (nx + ny) ≡ suc (39 + (nx + ny)) = omega arith in
@@ -52,8 +50,6 @@ leave_the_meaning number below leaf sign bits nx ny sizes (KeepSign form) lawful
     ∙ sign_of_leaf leaf sign form nx ny x y lawful sizes column row) in
     ap bits_of (pixel_after_run bits nx ny micro (41 + (nx + ny)) s grid x y column row)
     ∙ kept_by_sign (40 + (nx + ny)) (41 + (nx + ny)) tree (value_at form x y) (pixel_of s x y) (omega arith) seen
-leave_the_meaning number below leaf sign bits nx ny sizes (KeepBit at v) lawful s grid x y column row =
-    ap bits_of (pixel_after_run bits nx ny (micro_at (KeepBit at v) nx ny) 1 s grid x y column row)
 leave_the_meaning number below leaf sign bits nx ny sizes (LoadLinear form f) lawful s grid x y column row =
     let micro = micro_at (LoadLinear form f) nx ny in
     let count = 1 + (nx + ny) + f.len in
@@ -91,10 +87,6 @@ leave_the_meaning number below leaf sign bits nx ny sizes (LoadConst f c) lawful
     ∙ put_by_stores f c (nat_bit c) (λ i. (micro i).act) (λ i. leaf_output (steps micro i s).tree (x * 2 ^ ny + y))
     (pixel_of s x y)
     (omega (arith, size, lawful.0.within)) (λ t low. refl) (λ t p low. refl)
-leave_the_meaning number below leaf sign bits nx ny sizes (SetBit at v) lawful s grid x y column row =
-    ap bits_of (pixel_after_run bits nx ny (micro_at (SetBit at v) nx ny) 1 s grid x y column row)
-leave_the_meaning number below leaf sign bits nx ny sizes (Toggle at) lawful s grid x y column row =
-    ap bits_of (pixel_after_run bits nx ny (micro_at (Toggle at) nx ny) 1 s grid x y column row)
 leave_the_meaning number below leaf sign bits nx ny sizes (Copy f g) lawful s grid x y column row =
     let micro = micro_at (Copy f g) nx ny in
     let size = memory_size bits nx ny s grid x y column row in
@@ -106,3 +98,5 @@ leave_the_meaning number below leaf sign bits nx ny sizes (KeepLess f g) lawful 
     ap bits_of (pixel_after_run bits nx ny micro (2 + 2 * f.len) s grid x y column row)
     ∙ kept_if_less number below f g (λ i. leaf_output (steps micro i s).tree (x * 2 ^ ny + y)) (pixel_of s x y)
     lawful.length
+leave_the_meaning number below leaf sign bits nx ny sizes op lawful s grid x y column row =
+    ap bits_of (pixel_after_run bits nx ny (micro_at op nx ny) 1 s grid x y column row)

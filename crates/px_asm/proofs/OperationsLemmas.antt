@@ -62,7 +62,7 @@ pub few_here : (bits nx ny : ℕ) (op : Macro) (d : Device) → HasGrid bits nx 
 few_here bits nx ny op d size grid lawful =
     let count : cycles_on d op ≡ cycles op nx ny =
     ap (λ x. cycles op x d.state.tree.ny) size.columns ∙ ap (λ y. cycles op nx y) size.rows in
-    omega (arith, count, few_cycles op nx ny grid lawful)
+    omega (arith, count, few_cycles op 256 nx ny grid lawful)
 
 -- one operation more by its clocks
 pub clocked_more : (bits : ℕ) (ops : List Macro) (i : ℕ) (d : Macro) (start before now : Device) → CanMake bits ops start
@@ -94,7 +94,7 @@ nearly_more law bits ops i d start before now can within near done =
     ap (λ os. all_untouched os all_known) (take_more ops i d within) ∙ untouched_both (take i ops) op all_known in
     let count : cycles_on before op ≡ cycles op nx ny =
     ap (λ x. cycles op x before.state.tree.ny) first.columns ∙ ap (λ y. cycles op nx y) first.rows in
-    let few = few_cycles op nx ny can.grid (can.lawful i d within) in
+    let few = few_cycles op 256 nx ny can.grid (can.lawful i d within) in
     record {
       known = subst (λ (k : Known). AgreeIn k bits nx ny now.state (all_made (take (i + 1) ops) start).state) (sym left)
           (subst (λ (e : Device). AgreeIn (untouched op (all_untouched (take i ops) all_known)) bits nx ny now.state e.state)
@@ -111,6 +111,28 @@ nearly_more law bits ops i d start before now can within near done =
     }
 
 -- ---- where the operations become the same
+
+module _ (part : Known → Bool) where
+  -- the operations up to one more
+  pub one_more : (ops : List Macro) (b : Bool) (i : ℕ) (before o : Option ℕ) (d : Macro) → o ≡ (if b then Some i else before)
+      → b ≡ part (renewed (get_or ops i d) none_known) → i < length ops → IsOneOf part ops i before
+      → IsOneOf part ops (i + 1) o
+  one_more ops true i before o d is says inside so_far =
+      rw is (omega arith, (get_or ops i d, slice_get-get_or ops i d inside, sym says))
+  one_more ops false i (Some j) o d is says inside so_far = rw is (omega (arith, so_far.0), so_far.1)
+  one_more ops false i None o d is says inside so_far =
+      rw is (λ j x low. elim (cases_lt j i) [
+        | inl below ↦ so_far j x below
+        | inr past ↦
+            let here : j ≡ i = omega arith in
+            let same : get_or ops i x ≡ get_or ops i d =
+            get_or_from_slice_get ops i (get_or ops i d) x (slice_get-get_or ops i d inside) in
+            rw (here, same) (sym says)
+      ])
+
+  pub within : (ops : List Macro) (n : ℕ) (o : Option ℕ) → IsOneOf part ops n o → unwrap_or o n ≤ n
+  within ops n None is = omega arith
+  within ops n (Some i) is = omega (arith, is.0)
 
 module _ (part : Known → Bool) (joins : (a b : Known) → part (joined a b) ≡ (part a || part b))
     (left : (op : Macro) (k : Known) → part (untouched op k) ≡ (part k && not (part (renewed op none_known)))) where
@@ -141,54 +163,12 @@ module _ (part : Known → Bool) (joins : (a b : Known) → part (joined a b) �
       let cut : take (i - first) xs ++ drop (i - first) xs ≡ xs = take-append-drop (i - first) xs in
       rw (← cut, at) (all_here part joins (take (i - first) xs) (drop (suc i) ops) op k here.2)
 
-  -- the operations up to one more
-  pub one_more : (ops : List Macro) (b : Bool) (i : ℕ) (before o : Option ℕ) (d : Macro) → o ≡ (if b then Some i else before)
-      → b ≡ part (renewed (get_or ops i d) none_known) → i < length ops → IsOneOf part ops i before
-      → IsOneOf part ops (i + 1) o
-  one_more ops true i before o d is says inside so_far =
-      rw is (omega arith, (get_or ops i d, slice_get-get_or ops i d inside, sym says))
-  one_more ops false i (Some j) o d is says inside so_far = rw is (omega (arith, so_far.0), so_far.1)
-  one_more ops false i None o d is says inside so_far =
-      rw is (λ j x low. elim (cases_lt j i) [
-        | inl below ↦ so_far j x below
-        | inr past ↦
-            let here : j ≡ i = omega arith in
-            let same : get_or ops i x ≡ get_or ops i d =
-            get_or_from_slice_get ops i (get_or ops i d) x (slice_get-get_or ops i d inside) in
-            rw (here, same) (sym says)
-      ])
-
-  pub earliest_within : (ops : List Macro) (n : ℕ) (o : Option ℕ) → IsOneOf part ops n o → unwrap_or o n ≤ n
-  earliest_within ops n None is = omega arith
-  earliest_within ops n (Some i) is = omega (arith, is.0)
-
-pub within : (ops : List Macro) (n : ℕ) (tree : Option ℕ) → IsOneOf (λ (k : Known). k.tree) ops n tree → unwrap_or tree n ≤ n
-within ops n tree is = earliest_within (λ (k : Known). k.tree) (λ a b. refl) (λ op k. refl) ops n tree is
-
-pub tree_more : (ops : List Macro) (b : Bool) (i : ℕ) (before o : Option ℕ) (d : Macro) → o ≡ (if b then Some i else before)
-    → b ≡ (renewed (get_or ops i d) none_known).tree → i < length ops → IsOneOf (λ (k : Known). k.tree) ops i before
-    → IsOneOf (λ (k : Known). k.tree) ops (i + 1) o
-tree_more ops b i before o d is says inside so_far =
-    one_more (λ (k : Known). k.tree) (λ a b. refl) (λ op k. refl) ops b i before o d is says inside so_far
-
-pub carry_more : (ops : List Macro) (b : Bool) (i : ℕ) (before o : Option ℕ) (d : Macro) → o ≡ (if b then Some i else before)
-    → b ≡ (renewed (get_or ops i d) none_known).carry → i < length ops → IsOneOf (λ (k : Known). k.carry) ops i before
-    → IsOneOf (λ (k : Known). k.carry) ops (i + 1) o
-carry_more ops b i before o d is says inside so_far =
-    one_more (λ (k : Known). k.carry) (λ a b. refl) (λ op k. refl) ops b i before o d is says inside so_far
-
-pub latch_more : (ops : List Macro) (b : Bool) (i : ℕ) (before o : Option ℕ) (d : Macro) → o ≡ (if b then Some i else before)
-    → b ≡ (renewed (get_or ops i d) none_known).latch → i < length ops → IsOneOf (λ (k : Known). k.latch) ops i before
-    → IsOneOf (λ (k : Known). k.latch) ops (i + 1) o
-latch_more ops b i before o d is says inside so_far =
-    one_more (λ (k : Known). k.latch) (λ a b. refl) (λ op k. refl) ops b i before o d is says inside so_far
-
 pub enough : (ops : List Macro) (n first : ℕ) (tree carry latch : Option ℕ) → n ≡ length ops
     → IsOneOf (λ (k : Known). k.tree) ops n tree → IsOneOf (λ (k : Known). k.carry) ops n carry
     → IsOneOf (λ (k : Known). k.latch) ops n latch → first ≤ unwrap_or tree n → first ≤ unwrap_or carry n
     → first ≤ unwrap_or latch n → IsEnough ops first
 enough ops n first tree carry latch n_is is_tree is_carry is_latch before_tree before_carry before_latch =
-    let low : first ≤ n = omega (arith, before_tree, within ops n tree is_tree) in
+    let low : first ≤ n = omega (arith, before_tree, within (λ (k : Known). k.tree) ops n tree is_tree) in
     all_of_them (all_renewed (drop first ops) (all_untouched (take first ops) all_known))
     (known_again (λ (k : Known). k.tree) (λ a b. refl) (λ op k. refl) refl ops n first tree n_is low is_tree before_tree)
     (known_again (λ (k : Known). k.carry) (λ a b. refl) (λ op k. refl) refl ops n first carry n_is low is_carry before_carry)

@@ -8,8 +8,8 @@ use Rattle.px_pixel.specs.declared.act.Act.{Act}
 use Rattle.px_pixel.specs.declared.act.Act.TheVariants as act
 use Rattle.px_macro.specs.Macros.{IsLawful}
 use Rattle.px_macro.specs.declared.operation.Macro.{Macro}
-use Rattle.px_macro.specs.declared.operation.Macro.TheVariants.{All, KeepSign, KeepBit, LoadLinear, KeepAtMost}
-use Rattle.px_macro.specs.declared.operation.Macro.TheVariants.{AddLinear, LoadConst, SetBit, Toggle, Copy, KeepLess}
+use Rattle.px_macro.specs.declared.operation.Macro.TheVariants.{KeepSign, LoadLinear, KeepAtMost}
+use Rattle.px_macro.specs.declared.operation.Macro.TheVariants.{AddLinear, LoadConst, Copy, KeepLess}
 use Rattle.px_array.specs.declared.micro.Micro.{Micro}
 use Rattle.px_asm.specs.Micros.{act_at, cycles, micro_at}
 use Rattle.px_asm.specs.Microprograms.{HaveTheirPlaces}
@@ -39,10 +39,8 @@ before_last i last low differs = grind (arith, nat_tests)
 
 pub has_place : (bits nx ny : ℕ) (m : Macro) → IsLawful m bits → (i : ℕ) → i < cycles m nx ny
     → HasPlace bits (micro_at m nx ny i).act
-has_place bits nx ny All lawful i low = tt
 has_place bits nx ny (KeepSign form) lawful i low =
     chosen bits (i == 40 + (nx + ny)) (act.EnableTree false) act.Nop (λ e. tt) (λ e. tt)
-has_place bits nx ny (KeepBit at v) lawful i low = lawful
 has_place bits nx ny (LoadLinear form f) lawful i low =
     for_each_bit bits (nx + ny) f.len i act.Nop (λ t. act.StoreTree (f.at + t)) tt
     (λ t below. omega (arith, lawful.1.within)) low
@@ -58,8 +56,6 @@ has_place bits nx ny (AddLinear form f) lawful i low =
     for_each_bit bits (nx + ny) f.len i (act.SetCarry false) (λ t. act.AddTree (f.at + t)) tt
     (λ t below. omega (arith, lawful.1.within)) low
 has_place bits nx ny (LoadConst f c) lawful i low = omega (arith, lawful.0.within)
-has_place bits nx ny (SetBit at v) lawful i low = lawful
-has_place bits nx ny (Toggle at) lawful i low = lawful
 has_place bits nx ny (Copy f g) lawful i low =
     let both = lawful.0 in
     chosen bits (i % 2 == 0) (act.Fetch (f.at + i / 2)) (act.StoreLatch (g.at + i / 2))
@@ -79,6 +75,7 @@ has_place bits nx ny (KeepLess f g) lawful i low =
   where
     after_first : (i : ℕ) → (i == 0) ≡ false → 0 < i
     after_first i e = grind (arith, nat_tests)
+has_place bits nx ny op lawful i low = lawful
 
 pub have_their_places : HaveTheirPlaces
 have_their_places bits nx ny m lawful k d low =

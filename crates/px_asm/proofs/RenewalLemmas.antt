@@ -13,16 +13,7 @@ joined a b = record { tree = a.tree || b.tree; carry = a.carry || b.carry; latch
 
 renewed_joins : (op : Macro) (k : Known) → renewed op k ≡ joined (renewed op none_known) k
 renewed_joins m.All k = refl
-renewed_joins (m.KeepSign form) k = refl
-renewed_joins (m.KeepBit at v) k = refl
-renewed_joins (m.LoadLinear form f) k = refl
-renewed_joins (m.KeepAtMost form f) k = refl
-renewed_joins (m.AddLinear form f) k = refl
-renewed_joins (m.LoadConst f c) k = refl
-renewed_joins (m.SetBit at v) k = refl
-renewed_joins (m.Toggle at) k = refl
-renewed_joins (m.Copy f g) k = refl
-renewed_joins (m.KeepLess f g) k = refl
+renewed_joins op k = refl
 
 or_true : (b : Bool) → (b || true) ≡ true
 or_true true = refl

@@ -25,7 +25,7 @@ written_bit : (enable b : Bool) (memory : List Bool) (k : ℕ) → k < length me
 written_bit true b memory k low = get_or-set_same memory k b false low
 written_bit false b memory k low = refl
 
-other_bit : (enable b : Bool) (memory : List Bool) (k i : ℕ) → i ≢ k
+pub other_bit : (enable b : Bool) (memory : List Bool) (k i : ℕ) → i ≢ k
     → bit_at (if enable then slice_set memory k b else memory) i ≡ bit_at memory i
 other_bit true b memory k i differs = get_or-set_other memory k i b false differs
 other_bit false b memory k i differs = refl

@@ -25,17 +25,13 @@ all_known = record { tree = true; carry = true; latch = true }
 
 -- what an operation begins anew: the tree by a clear, the carry where it is set, and the latch where it is fetched
 abbrev pub renewed : Macro → Known → Known
-renewed m.All k = k
 renewed (m.KeepSign form) k = record { tree = true; carry = k.carry; latch = k.latch }
-renewed (m.KeepBit at v) k = k
 renewed (m.LoadLinear form f) k = record { tree = true; carry = k.carry; latch = k.latch }
 renewed (m.KeepAtMost form f) k = record { tree = true; carry = true; latch = k.latch }
 renewed (m.AddLinear form f) k = record { tree = true; carry = true; latch = k.latch }
-renewed (m.LoadConst f c) k = k
-renewed (m.SetBit at v) k = k
-renewed (m.Toggle at) k = k
 renewed (m.Copy f g) k = record { tree = k.tree; carry = k.carry; latch = true }
 renewed (m.KeepLess f g) k = record { tree = k.tree; carry = true; latch = true }
+renewed op k = k
 
 -- what the operation does not begin anew is as it was
 pub record IsKept (op : Macro) (nx ny : ℕ) (before now : State) : Type 0 where

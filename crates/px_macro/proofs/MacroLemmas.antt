@@ -5,7 +5,7 @@ use Rattle.px_num.proofs.ListLaws.{length-tabulate}
 use Rattle.px_macro.specs.Fields.{with_number}
 use Rattle.px_macro.specs.Macros.{AreOfOneLength, IsField, IsLawfulInMore, MeaningsJoin, MemoryStaysLong, after_macro}
 use Rattle.px_macro.specs.declared.field.Field.{Field}
-use Rattle.px_macro.specs.declared.operation.Macro.TheVariants.{All, KeepSign, KeepBit, LoadLinear, KeepAtMost}
+use Rattle.px_macro.specs.declared.operation.Macro.TheVariants.{All, KeepSign, LoadLinear, KeepAtMost}
 use Rattle.px_macro.specs.declared.operation.Macro.TheVariants.{AddLinear, LoadConst, SetBit, Toggle, Copy, KeepLess}
 
 field_in_more : (f : Field) (bits more : ℕ) → bits ≤ more → IsField f bits → IsField f more
@@ -21,15 +21,13 @@ fields_in_more f g bits more order h = record {
 pub is_lawful_in_more : IsLawfulInMore
 is_lawful_in_more All bits more order h = h
 is_lawful_in_more (KeepSign form) bits more order h = h
-is_lawful_in_more (KeepBit at v) bits more order h = omega arith
 is_lawful_in_more (LoadLinear form f) bits more order h = (h.0, field_in_more f bits more order h.1)
 is_lawful_in_more (KeepAtMost form f) bits more order h = (h.0, field_in_more f bits more order h.1)
 is_lawful_in_more (AddLinear form f) bits more order h = (h.0, field_in_more f bits more order h.1)
 is_lawful_in_more (LoadConst f c) bits more order h = (field_in_more f bits more order h.0, h.1)
-is_lawful_in_more (SetBit at v) bits more order h = omega arith
-is_lawful_in_more (Toggle at) bits more order h = omega arith
 is_lawful_in_more (Copy f g) bits more order h = (fields_in_more f g bits more order h.0, h.1)
 is_lawful_in_more (KeepLess f g) bits more order h = fields_in_more f g bits more order h
+is_lawful_in_more op bits more order h = omega arith
 
 length_put : (enable : Bool) (f : Field) (n : ℕ) (memory : List Bool)
     → length (if enable then with_number f n memory else memory) ≡ length memory
@@ -42,17 +40,13 @@ length_put_bit true v at memory = length-set memory at v
 length_put_bit false v at memory = refl
 
 pub memory_stays_long : MemoryStaysLong
-memory_stays_long All x y p = refl
-memory_stays_long (KeepSign form) x y p = refl
-memory_stays_long (KeepBit at v) x y p = refl
 memory_stays_long (LoadLinear form f) x y p = length_put p.enable f _ p.memory
-memory_stays_long (KeepAtMost form f) x y p = refl
 memory_stays_long (AddLinear form f) x y p = length_put p.enable f _ p.memory
 memory_stays_long (LoadConst f c) x y p = length_put p.enable f c p.memory
 memory_stays_long (SetBit at v) x y p = length_put_bit p.enable v at p.memory
 memory_stays_long (Toggle at) x y p = length_put_bit p.enable _ at p.memory
 memory_stays_long (Copy f g) x y p = length_put p.enable g _ p.memory
-memory_stays_long (KeepLess f g) x y p = refl
+memory_stays_long op x y p = refl
 
 pub meanings_join : MeaningsJoin
 meanings_join [] ns x y p = refl
