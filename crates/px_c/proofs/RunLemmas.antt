@@ -51,7 +51,7 @@ gains None bits u input before after meets leaves = absurd cc
 gains (Some (c.Make work)) bits u input before after meets leaves = leaves.wrote.all
 gains (Some c.Debug) bits u input before after meets leaves =
     subst (λ bytes. Appends before.out.written after.out.written bytes)
-    (debugged_whole bits input.bytes (output (debugged input.bytes bits)) meets) leaves.wrote.all
+    (debugged_whole bits input.bytes (output (debugged input.bytes bits)) meets) leaves.answered.wrote.all
 gains (Some c.Shadow) bits u input before after meets leaves = leaves.wrote.all
 gains (Some (c.Sample n)) bits u input before after meets leaves = leaves.wrote.all
 gains (Some c.Play) bits u input before after meets leaves = leaves.wrote.all

@@ -1,6 +1,7 @@
 -- Each line is answered before more is asked for.
-use Rattle.std.proofs.Common.{ℕ, ◌≡◌, ◌-◌, ◌++◌, List, [], ◌∷◌, length, true, Option, None, refl, ap, sym, subst, ◌∙◌}
-use Rattle.std.proofs.Common.{arith, append_assoc, append-nil, length-append}
+use Rattle.std.proofs.Common.{ℕ, ◌≡◌, ◌-◌, ◌++◌, List, [], ◌∷◌, length, true, false, Option, Some, None, refl}
+use Rattle.std.proofs.Common.{ap, sym, subst, ◌∙◌}
+use Rattle.std.proofs.Common.{arith, append_assoc, append-nil, is_some, length-append}
 use Rattle.std.proofs.lemmas.List.{take_all}
 use Rattle.std.specs.Io.KnownBytes.{Appends, Consumes}
 use Rattle.px_io.proofs.ToldLaws.{appends_none, consumes_both}
@@ -8,22 +9,22 @@ use Rattle.px_asked.specs.Asks.{Ask, all_given}
 use Rattle.px_asked.proofs.AskLaws.{asked_both, given-append}
 use Rattle.px_lines.specs.Lines.{whole_lines}
 use Rattle.px_lines.specs.Listenings.{ListenedTo, Listens, Silent}
-use Rattle.px_lines.specs.Parts.{part_end}
+use Rattle.px_lines.specs.declared.reading.Opening.{Opening}
 use Rattle.px_scene.specs.Scenes.{SceneView}
 use Rattle.px_session.specs.Prompts.{Moment, Prompt, Prompts}
 use Rattle.px_session.specs.Servings.{seen}
 use Rattle.px_session.specs.Sessions.{Stand, answers, session_opened}
 use Rattle.px_debug_run.specs.Askings.{AnswersInTime, InTime, due}
-use Rattle.px_debug_run.specs.Debugs.{command_text, has_part, session_of, whole_commands, within_limit}
-use Rattle.px_debug_run.proofs.DebugLemmas.{Holds, Laws, Seated, grown, holds, more_than}
-use Rattle.px_debug_run.proofs.OpenLemmas.{no_part}
+use Rattle.px_debug_run.specs.Debugs.{command_text, has_part, session_of, whole_commands}
+use Rattle.px_debug_run.specs.Sittings.{HasParts, more_than}
+use Rattle.px_debug_run.proofs.ServedLemmas.{Begins, Holds, holds}
+use Rattle.px_debug_run.proofs.StopLemmas.{no_part}
 
--- nothing is due while no scene part is whole
-none_due : (bits : ℕ) (text : List ℕ) → part_end (within_limit text) ≡ None → due bits text ≡ []
-unfolding due has_part
+-- nothing is due while no scene part is whole, and behind one the answers to the lines behind it
+none_due : (bits : ℕ) (text : List ℕ) → has_part text ≡ false → due bits text ≡ []
+unfolding due
 none_due bits text none = rw none refl
 
--- and behind one the answers to the lines behind it
 answers_due : (bits : ℕ) (text : List ℕ) → has_part text ≡ true
     → due bits text ≡ answers bits (session_of text) (whole_commands text)
 unfolding due
@@ -32,32 +33,37 @@ answers_due bits text part = rw part refl
 listened : (bits : ℕ) (w : Option (List ℕ)) (text : List ℕ) (xs : List Ask) → Silent 1048577 w text xs
     → InTime bits w text xs
 listened bits w text [] silent = tt
-listened bits w text (a ∷ xs) silent = (
-  rw (silent.0, none_due bits text silent.1) (appends_none w),
-  λ part. absurd (no_part text silent.1 part),
-  listened bits w (text ++ a.bytes) xs silent.2,
-)
+listened bits w text (a ∷ xs) silent =
+    let none : has_part text ≡ false = no_part text silent.1 in (
+      rw (silent.0, none_due bits text none) (appends_none w),
+      λ part. absurd (let two : true ≡ false = sym part ∙ none in cc),
+      listened bits w (text ++ a.bytes) xs silent.2,
+    )
 
-prompt : Laws → (bits n : ℕ) (text z : List ℕ) (scene : SceneView) (s : Stand) (m : ℕ)
-    (behind : List ℕ) (xs : List Ask) → Seated bits n text scene → s.session ≡ session_opened scene
-    → m ≡ more_than text - length z
-    → behind ≡ command_text text ++ z → Prompt bits s m behind xs → InTime bits s.out.written (text ++ z) xs
-prompt laws bits n text z scene s m behind [] seated start count is prompts = tt
-prompt laws bits n text z scene s m behind (a ∷ xs) seated start count is prompts =
-    let t = text ++ z in
-    let held : Holds bits scene t = holds laws bits n text scene seated z in
-    let all : seen (more_than text) z ≡ z = take_all (more_than text - 1) z (omega (arith, count, prompts.2)) in
-    let here : behind ≡ command_text t =
-    is ∙ ap (λ k. command_text text ++ k) (sym all) ∙ sym (grown laws.kept laws.within text z n seated.part).behind in
-    let began : s.session ≡ session_of t = start ∙ ap session_opened (sym held.scene) in
+prompt : (bits n : ℕ) (o : Opening) (scene : SceneView) (z : List ℕ) (s : Stand) (m : ℕ) (behind : List ℕ)
+    (xs : List Ask)
+    → Begins bits o scene → o.part ≡ Some n → s.session ≡ session_opened scene → m ≡ more_than o.text.items - length z
+    → behind ≡ command_text o.text.items ++ z → Prompt bits s m behind xs
+    → InTime bits s.out.written (o.text.items ++ z) xs
+prompt bits n o scene z s m behind [] begins part start count is prompts = tt
+prompt bits n o scene z s m behind (a ∷ xs) begins part start count is prompts =
+    let t = o.text.items ++ z in
+    let held : Holds bits o scene z t =
+    holds bits o scene begins z t (λ none. absurd (let two : Some n ≡ None = sym part ∙ none in cc)) refl in
+    let whole : has_part t ≡ true = held.whole ∙ ap is_some part in
+    let all : seen (more_than o.text.items) z ≡ z =
+    take_all (more_than o.text.items - 1) z (omega (arith, count, prompts.2)) in
+    let here : behind ≡ command_text t = is ∙ ap (λ k. command_text o.text.items ++ k) (sym all) ∙ sym held.behind in
     let same : answers bits s.session (whole_lines behind) ≡ due bits t =
-    ap (λ k. answers bits s.session (whole_lines k)) here ∙ ap (λ k. answers bits k (whole_commands t)) began
-    ∙ sym (answers_due bits t held.part) in (
+    ap (λ k. answers bits s.session (whole_lines k)) here
+    ∙ ap (λ k. answers bits k (whole_commands t)) (start ∙ ap session_opened (sym held.scene))
+    ∙ sym (answers_due bits t whole) in (
       subst (λ k. Appends s.out.written a.told k) same prompts.0,
       λ part. (held.admits, rw here at prompts.1),
-      rw (append_assoc text z a.bytes) (prompt laws bits n text (z ++ a.bytes) scene s (m - length a.bytes)
-          (behind ++ a.bytes) xs seated start (omega (arith, count, length-append z a.bytes))
-          (rw is (append_assoc (command_text text) z a.bytes)) prompts.3),
+      rw (append_assoc o.text.items z a.bytes)
+          (prompt bits n o scene (z ++ a.bytes) s (m - length a.bytes) (behind ++ a.bytes) xs
+          begins part start (omega (arith, count, length-append z a.bytes))
+          (rw is (append_assoc (command_text o.text.items) z a.bytes)) prompts.3),
     )
 
 in_time_both : (bits : ℕ) (w : Option (List ℕ)) (text : List ℕ) (xs ys : List Ask) → InTime bits w text xs
@@ -85,21 +91,23 @@ pub answers_unread : (bits : ℕ) (a b : Option (List Ask)) (r s w : Option (Lis
 answers_unread bits a b r s w (text, took, listens) = answers_listened bits a b r s w text took listens
 
 -- and lines behind it were answered
-pub answers_served : Laws → (bits n : ℕ) (a : Option (List Ask)) (r w : Option (List ℕ)) (text read : List ℕ)
-    (scene : SceneView) (more : ℕ) (was now : Moment) → Seated bits n text scene → Consumes r was.rest text
-    → Listens 1048577 a was.asks w text → was.at.session ≡ session_opened scene → was.at.out.written ≡ w
-    → more ≡ more_than text → read ≡ command_text text
-    → Prompts bits read more was now → AnswersInTime bits a now.asks r now.rest w
-answers_served laws bits n a r w text read scene more was now seated took listens start same left behind prompts =
+pub answers_served : (bits n : ℕ) (o : Opening) (part read : List ℕ) (scene : SceneView) (a : Option (List Ask))
+    (r w : Option (List ℕ)) (more : ℕ) (was now : Moment) → Begins bits o scene → HasParts o part read → o.part ≡ Some n
+    → Consumes r was.rest o.text.items → Listens 1048577 a was.asks w o.text.items
+    → was.at.session ≡ session_opened scene
+    → was.at.out.written ≡ w → more ≡ more_than o.text.items → Prompts bits read more was now
+    → AnswersInTime bits a now.asks r now.rest w
+answers_served bits n o part read scene a r w more was now begins parts is took listens start same left prompts =
     let xs = listens.asks in
     let ys = prompts.asks in
+    let text = o.text.items in
     record {
       asks = xs ++ ys;
       asked = asked_both a was.asks now.asks xs ys listens.asked prompts.asked;
       taken = rw (given-append xs ys, listens.given)
           (consumes_both r was.rest now.rest text (all_given ys) took prompts.taken);
       in_time = in_time_both bits w [] xs ys (listened bits w [] xs listens.silent)
-          (rw listens.given (rw same at (rw (append-nil text) at (prompt laws bits n text [] scene was.at more read ys seated
-          start
-          (omega (arith, left)) (behind ∙ sym (append-nil (command_text text))) prompts.prompt))));
+          (rw listens.given (rw same at
+          (rw (append-nil text) at (prompt bits n o scene [] was.at more read ys begins is start
+          (omega (arith, left)) (parts.commands ∙ sym (append-nil (command_text text))) prompts.prompt))));
     }

@@ -1,6 +1,4 @@
 pub mod AskingLemmas
-pub mod DebugLemmas
-pub mod ErrLemmas
-pub mod OpenLemmas
-pub mod OpenStopLemmas
 pub mod PartLemmas
+pub mod ServedLemmas
+pub mod StopLemmas

@@ -1,82 +1,110 @@
--- The scene of a scene part.
-use Rattle.std.proofs.Common.{ℕ, ◌≡◌, ◌<◌, ◌≤◌, inl, List, length, take, drop, min, Some, None, Result, IfErr, IfOk}
-use Rattle.std.proofs.Common.{refl, ap, sym, ◌∙◌, arith, length-take}
-use Rattle.std.proofs.lemmas.List.{take_all, take-take, take_min}
-use Rattle.px_scene.specs.Scenes.{SceneView}
-use Rattle.px_scene.specs.Text.{worded}
-use Rattle.px_scene.specs.Reading.{scene_of}
-use Rattle.px_lines.specs.Parts.{part_end}
-use Rattle.px_lines.specs.PartLaws.{PartIsWithin}
+-- The scene part of bytes that were read, with more behind them.
+use Rattle.std.proofs.Common.{ℕ, ◌≡◌, ◌+◌, ◌-◌, ◌<◌, ◌≤◌, ◌++◌, ◌&&◌, not, inl, inr, List, [], drop, length}
+use Rattle.std.proofs.Common.{min, take, true, false, Bool, unwrap_or}
+use Rattle.std.proofs.Common.{Option, Some, None, is_some, refl, ap, sym, ◌∙◌, arith, append-nil}
+use Rattle.std.proofs.lemmas.Bool.{cases_lt}
+use Rattle.std.proofs.lemmas.List.{take_all, take_min, take-append-le, drop-append-le}
+use Rattle.std.proofs.Math.Seq.{take-append-add}
+use Rattle.px_lines.specs.PartLaws.{PartIsKept, PartIsWithin}
+use Rattle.px_lines.specs.Parts.{behind_part, holds_part, part_end, scene_part}
 use Rattle.px_lines.specs.declared.reading.Opening.{Opening}
-use Rattle.px_outcome.specs.declared.stop.Stop.{Stop}
-use Rattle.px_outcome.specs.declared.stop.Stop.TheVariants as s
-use Rattle.px_debug_run.specs.Debugs.{command_text, scene_part_of, scene_written, within_limit}
-use Rattle.px_outcome.specs.Refusals.{text_refusal}
-use Rattle.px_debug_run.specs.Sittings.{IsPartStop, OpensOn}
-use Rattle.px_outcome.specs.Stops.{IsTextStop}
-use Rattle.px_debug_run.proofs.ErrLemmas.{if_err_by, if_ok_by}
+use Rattle.px_session.specs.Servings.{seen}
+use Rattle.px_outcome.specs.Refusals.{is_long}
+use Rattle.px_outcome.proofs.LimitLaws.{short_is}
+use Rattle.px_debug_run.specs.Debugs.{command_text, has_part, scene_part_of, within_limit}
+use Rattle.px_debug_run.specs.Sittings.{Grown, HasParts, IsOpening, more_than}
 
--- the part of a text where it ends
-pub part_is : PartIsWithin → (text : List ℕ) (n : ℕ) → part_end (within_limit text) ≡ Some n → scene_part_of text
-    ≡ take n text
-unfolding scene_part_of
-part_is within text n is =
-    let less : n ≤ length (take 1048576 text) = within (within_limit text) n is in
-    rw is (take-take n 1048576 text (omega (arith, less, length-take 1048576 text)))
+pub cut_both : (n : ℕ) (xs ys : List ℕ) → take n (xs ++ ys) ≡ take n xs ++ take (n - length xs) ys
+cut_both n xs ys = elim (cases_lt n (length xs)) [
+  | inl less ↦ (
+      let none : n - length xs ≡ 0 = omega arith in
+      rw (take-append-le n xs ys (omega arith), none) (sym (append-nil (take n xs))))
+  | inr more ↦ (
+      let is : n ≡ length xs + (n - length xs) = omega arith in
+      ap (λ k. take k (xs ++ ys)) is ∙ take-append-add xs ys (n - length xs)
+      ∙ ap (λ t. t ++ take (n - length xs) ys) (sym (take_all n xs (omega arith))))
+]
 
--- and of one where it does not
-pub part_all : (text : List ℕ) → length text < 1048577 → part_end (within_limit text) ≡ None → scene_part_of text ≡ text
-unfolding scene_part_of
-part_all text short none =
-    let all : within_limit text ≡ text = take_all 1048576 text (omega arith) in
-    rw none (take_all (length (within_limit text)) (within_limit text) (omega arith) ∙ all)
+pub within_both : (text z : List ℕ) → within_limit (text ++ z) ≡ within_limit text ++ seen (more_than text) z
+within_both text z =
+    let count : 1048576 - length text ≡ 1048577 - length text - 1 = omega arith in
+    cut_both 1048576 text z ∙ ap (λ k. within_limit text ++ take k z) count
 
-written : (part : List ℕ) → scene_of (worded part) ≡ scene_written part
-unfolding scene_written
-written part = refl
+pub and_not : (a b : Bool) → b ≡ true → (a && not b) ≡ false
+and_not true b is = rw is refl
+and_not false b is = refl
 
-pub scene_is : (r : Result SceneView Stop) (o : Opening) (part : List ℕ) → scene_part_of o.text.items ≡ part
-    → (o.part ≡ None → length o.text.items < 1048577)
-    → IfOk r (λ scene. (text_refusal part ≡ None) × (scene ≡ scene_of (worded part)))
-    → IfOk r (λ scene. OpensOn o scene)
-scene_is r o part is short ok = if_ok_by r ok (λ scene good. record {
-  good = rw is good.0;
-  scene = good.1 ∙ written part ∙ ap scene_written (sym is);
-  short = short;
-})
+part_grown : (w x : List ℕ) (n : ℕ) → n ≤ length w → part_end w ≡ Some n → part_end (w ++ x) ≡ Some n
+    → scene_part (w ++ x) ≡ scene_part w
+part_grown w x n less is end = rw (end, is) (take-append-le n w x less)
 
-pub stop_is : (r : Result SceneView Stop) (o : Opening) (part : List ℕ) → scene_part_of o.text.items ≡ part
-    → (o.part ≡ None → length o.text.items < 1048577)
-    → IfErr r (λ stop. IsTextStop stop part) → IfErr r (λ stop. IsPartStop stop o)
-stop_is r o part is short err = if_err_by r err (λ stop bad. by_stop stop bad)
+behind_grown : (w x : List ℕ) (n : ℕ) → n ≤ length w → part_end w ≡ Some n → part_end (w ++ x) ≡ Some n
+    → behind_part (w ++ x) ≡ behind_part w ++ x
+behind_grown w x n less is end = rw (end, is) (drop-append-le n w x less)
+
+-- a scene part that is whole
+grown_whole : PartIsKept → (o : Opening) (more : List ℕ) (n : ℕ) → n ≤ length (within_limit o.text.items)
+    → part_end (within_limit o.text.items) ≡ Some n → o.part ≡ Some n → Grown o more
+unfolding scene_part_of has_part command_text
+grown_whole kept o more n less is named =
+    let w = within_limit o.text.items in
+    let x = seen (more_than o.text.items) more in
+    let both : within_limit (o.text.items ++ more) ≡ w ++ x = within_both o.text.items more in
+    let end : part_end (w ++ x) ≡ Some n = kept w x n is in
+    record {
+      part = ap scene_part both ∙ part_grown w x n less is end;
+      behind = ap behind_part both ∙ behind_grown w x n less is end;
+      whole = ap holds_part both ∙ ap is_some (end ∙ sym named);
+      within = and_not (is_long (o.text.items ++ more)) (has_part (o.text.items ++ more))
+          (ap holds_part both ∙ ap is_some end);
+    }
+
+-- and one that is the whole input
+grown_all : (o : Opening) (more : List ℕ) → more ≡ [] → length o.text.items < 1048577
+    → part_end (within_limit o.text.items) ≡ None → o.part ≡ None → Grown o more
+unfolding has_part
+grown_all o more nothing short none named =
+    let text = o.text.items in
+    let same : text ++ more ≡ text = rw nothing (append-nil text) in
+    let unseen : seen (more_than text) more ≡ [] = rw nothing (take_all (more_than text - 1) [] (omega arith)) in
+    record {
+      part = ap scene_part_of same;
+      behind = ap command_text same ∙ sym (rw unseen (append-nil (command_text text)));
+      whole = ap has_part same ∙ ap is_some (none ∙ sym named);
+      within = rw (ap is_long same ∙ short_is text short) refl;
+    }
+
+pub is_opening : PartIsKept → PartIsWithin → (o : Opening) → length o.text.items ≤ 1048577
+    → o.part ≡ part_end (within_limit o.text.items) → IsOpening o
+is_opening kept within o few part = by_end o.part refl
   where
-    by_stop : (stop : Stop) → IsTextStop stop part → IsPartStop stop o
-    by_stop (s.Refused reason) bad = inl (rw is bad, short)
-    by_stop (s.Memory _) bad = tt
-    by_stop s.Usage bad = absurd bad
-    by_stop s.ReadFault bad = absurd bad
-    by_stop s.WriteFault bad = absurd bad
+    by_end : (end : Option ℕ) → o.part ≡ end → IsOpening o
+    by_end (Some n) is =
+        let less = within (within_limit o.text.items) n (sym part ∙ is) in
+        record {
+          few = few;
+          part = part;
+          within = rw is less;
+          grown = λ more follows. grown_whole kept o more n less (sym part ∙ is) is;
+        }
+    by_end None is = record {
+      few = few;
+      part = part;
+      within = rw is (omega arith);
+      grown = λ more follows. grown_all o more (follows is).0 (follows is).1 (sym part ∙ is) is;
+    }
 
--- what was read behind a part
-pub behind_is : (text : List ℕ) (n : ℕ) → part_end (within_limit text) ≡ Some n → command_text text
-    ≡ drop n (take (min (length text) 1048576) text)
-unfolding command_text
-behind_is text n is =
-    let all : take (min (length text) 1048576) text ≡ within_limit text =
-    ap (λ k. take k text) (omega arith) ∙ take_min 1048576 text in
-    rw (is, all) refl
+-- the parts of the bytes that count
+pub within_is : (text xs : List ℕ) (k : ℕ) → xs ≡ text → k ≡ min (length text) 1048576 → take k xs ≡ within_limit text
+within_is text xs k same count =
+    rw same (ap (λ n. take n text) (count ∙ (omega arith)) ∙ take_min 1048576 text)
 
--- a part ends within what is seen of a text
-pub within_seen : PartIsWithin → (text : List ℕ) (n k : ℕ) → part_end (within_limit text) ≡ Some n
-    → k ≡ min (length text) 1048576 → n ≤ k
-within_seen within text n k is count =
-    let less : n ≤ length (take 1048576 text) = within (within_limit text) n is in
-    omega (arith, less, length-take 1048576 text, count)
-
-pub within_text : PartIsWithin → (text : List ℕ) (n : ℕ) → part_end (within_limit text) ≡ Some n → n ≤ length text
-within_text within text n is =
-    let less : n ≤ length (take 1048576 text) = within (within_limit text) n is in
-    omega (arith, less, length-take 1048576 text)
-
-pub some_none : {n : ℕ} → Some n ≡ None → ⊥
-some_none e = cc
+pub parts_are : (o : Opening) (w : List ℕ) (n : ℕ) → IsOpening o → w ≡ within_limit o.text.items
+    → n ≡ unwrap_or o.part (length w)
+    → (o.part ≡ None → length o.text.items < 1048577) → HasParts o (take n w) (drop n w)
+unfolding scene_part_of command_text
+parts_are o w n opening counted cut short = record {
+  part = rw (cut, counted, opening.part) refl;
+  commands = rw (cut, counted, opening.part) refl;
+  short = short;
+}

@@ -1,8 +1,7 @@
 -- What `debug` answers and leaves: a session over the bytes of an input. Clauses of public calls stand on it.
-use Rattle.std.specs.Prelude.{◌≡◌, ◌⊎◌, ℕ, ◌-◌, ◌≤◌, List, [], Bool, true, false, ◌&&◌, not, if◌then◌else◌, length}
+use Rattle.std.specs.Prelude.{◌≡◌, ◌⊎◌, ℕ, List, Bool, true, false, ◌&&◌, not, if◌then◌else◌}
 use Rattle.std.specs.Prelude.{take, None, Result, Ok, Err}
-use Rattle.px_num.specs.Want.{want}
-use Rattle.px_io.specs.Told.{TakesFirst, TakesNone}
+use Rattle.px_io.specs.Told.{TakesNone}
 use Rattle.px_text.specs.declared.text.TheConstants.{MAX_TEXT_BYTES}
 use Rattle.px_array.specs.Slots.{ArrayView, IsRunOnce, none_open}
 use Rattle.px_scene.specs.Scenes.{SceneView}
@@ -12,8 +11,8 @@ use Rattle.px_control.specs.Program.{IsAt}
 use Rattle.px_debug.specs.Moves.{Fits, SessionView}
 use Rattle.px_lines.specs.Lines.{all_lines, whole_lines}
 use Rattle.px_lines.specs.Parts.{behind_part, holds_part, scene_part}
-use Rattle.px_session.specs.Servings.{Gives}
-use Rattle.px_session.specs.Sessions.{after, answers, clocks_over, has_quit, session_opened, until_quit}
+use Rattle.px_session.specs.Servings.{Answered, Broken}
+use Rattle.px_session.specs.Sessions.{answers, has_quit, session_opened, stand, until_quit}
 use Rattle.px_outcome.specs.declared.refusal.Refusal.TheVariants as r
 use Rattle.px_outcome.specs.declared.stop.Stop.{Stop}
 use Rattle.px_outcome.specs.declared.stop.Stop.TheVariants as s
@@ -60,7 +59,8 @@ session_of bytes = session_opened (part_scene bytes)
 unfoldable pub admitted : (part : List ℕ) → (bits : ℕ) → Outcome → Outcome
 admitted part bits outcome = unless_refused (text_refusal part) (drawable bits (scene_written part) outcome)
 
--- the answers to the commands up to a quit; past the limit of a text, where no whole line before is a quit, to those lines,
+-- the answers to the commands up to a quit; past the limit of a text, where no whole line before is a quit, to
+-- those lines,
 -- and then the refusal
 unfoldable pub answered : (bytes : List ℕ) → (bits : ℕ) → Outcome
 answered bytes bits =
@@ -71,30 +71,24 @@ answered bytes bits =
 -- a scene part that is not whole within the limit of a text is past it
 unfoldable pub debugged : (bytes : List ℕ) → (bits : ℕ) → Outcome
 debugged bytes bits =
-    if is_long bytes && not (has_part bytes) then refused too_long else admitted (scene_part_of bytes) bits (answered bytes bits)
+    if is_long bytes && not (has_part bytes) then refused too_long else admitted (scene_part_of bytes) bits
+    (answered bytes bits)
 
--- lines were obeyed, from the start of the session on: the array is as its broadcasts up to there leave it, its slots keep what
--- each quarter of them left, and its work is at most the clocks that the lines may make
-pub record IsAfter (bits : ℕ) (bytes : List ℕ) (lines : List (List ℕ)) (now : ArrayView) : Type 0 where
-  pub at : IsAt bits (part_scene bytes) (after (session_of bytes) lines).now now.device
-  pub fits : Fits bits (after (session_of bytes) lines) now.device now.slots
-  pub work : now.work ≤ clocks_over (session_of bytes) lines
+-- from the start of a session on all of the lines were answered, and the output was then finished where `ends`
+-- is true; the array is as
+-- the session leaves it
+pub record IsAnswered (ends : Bool) (bits : ℕ) (from : SessionView) (lines : List (List ℕ)) (before after : Ends) :
+    Type 0 where
+  pub now : SessionView
+  pub answered : Answered ends bits (stand from 0 before.out) (stand now after.array.work after.out) lines
+  pub fits : Fits bits now after.array.device after.array.slots
 
--- all of the lines were answered, and the output then finished where `ends` is true
-pub record IsAnswered (ends : Bool) (bits : ℕ) (bytes : List ℕ) (lines : List (List ℕ)) (before after : Ends) : Type 0 where
-  pub wrote : Gives ends before.out after.out (answers bits (session_of bytes) lines)
-  pub array : IsAfter bits bytes lines after.array
-
--- a write failed in the answer to one of the lines, or in finishing behind the last: so many lines were obeyed, of whose
--- answers a front was written, with all answers but the last in it
-pub record IsBroken (bits : ℕ) (bytes : List ℕ) (lines : List (List ℕ)) (before after : Ends) : Type 0 where
-  pub count : ℕ
-  pub within : count ≤ length lines
-  pub some : count ≡ 0 → lines ≡ []
-  pub gained : ℕ
-  pub enough : length (answers bits (session_of bytes) (take (count - 1) lines)) ≤ gained
-  pub wrote : TakesFirst gained before.out after.out (answers bits (session_of bytes) (take count lines))
-  pub array : IsAfter bits bytes (take count lines) after.array
+-- a write failed in the answer to one of the lines, or in finishing behind the last; the array is as the
+-- session leaves it
+pub record IsBroken (bits : ℕ) (from : SessionView) (lines : List (List ℕ)) (before after : Ends) : Type 0 where
+  pub now : SessionView
+  pub broken : Broken true bits (stand from 0 before.out) (stand now after.array.work after.out) lines
+  pub fits : Fits bits now after.array.device after.array.slots
 
 -- the scene part of some bytes is a scene's that an array with pixels of so many bits can draw
 abbrev pub Admits : (bits : ℕ) → (bytes : List ℕ) → Type 0
@@ -103,13 +97,14 @@ Admits bits bytes = (outcome : Outcome) → admitted (scene_part_of bytes) bits 
 -- a write failed behind a scene part that is a scene's that the array can draw
 pub record IsBrokenOff (bits : ℕ) (taken : List ℕ) (before after : Ends) : Type 0 where
   pub admits : Admits bits taken
-  pub broken : IsBroken bits taken (until_quit (all_commands taken)) before after
+  pub broken : IsBroken bits (session_of taken) (until_quit (all_commands taken)) before after
 
--- a read failed behind a whole scene part: it is a scene's that the array can draw, no whole command is a quit, and all are answered
+-- a read failed behind a whole scene part: it is a scene's that the array can draw, no whole command is a quit,
+-- and all are answered
 pub record IsCutOff (bits : ℕ) (taken : List ℕ) (before after : Ends) : Type 0 where
   pub admits : Admits bits taken
   pub quiet : has_quit (whole_commands taken) ≡ false
-  pub answered : IsAnswered false bits taken (whole_commands taken) before after
+  pub answered : IsAnswered false bits (session_of taken) (whole_commands taken) before after
 
 -- and where the scene part was not whole, nothing is done
 pub record LeavesAtReadFault (bits : ℕ) (taken : List ℕ) (before after : Ends) : Type 0 where
@@ -118,12 +113,14 @@ pub record LeavesAtReadFault (bits : ℕ) (taken : List ℕ) (before after : End
 
 -- at a limit: that of the text behind a scene part, or another
 abbrev pub LeavesAtLimit : Outcome → (bits : ℕ) → (bytes : List ℕ) → (before after : Ends) → Type 0
-LeavesAtLimit (cut text reason) bits bytes before after = IsAnswered false bits bytes (whole_commands bytes) before after
+LeavesAtLimit (cut text reason) bits bytes before after =
+    IsAnswered false bits (session_of bytes) (whole_commands bytes) before after
 LeavesAtLimit outcome bits bytes before after = IsUntouched before after
 
 -- for want of memory the array is as before, or none is open, or it is opened for the scene
 abbrev pub IsKeptOrOpened : (bits : ℕ) → SceneView → (before now : ArrayView) → Type 0
-IsKeptOrOpened bits scene before now = (now ≡ before) ⊎ (now ≡ none_open) ⊎ (IsAt bits scene 0 now.device × IsRunOnce now)
+IsKeptOrOpened bits scene before now = (now ≡ before) ⊎ (now ≡ none_open)
+    ⊎ (IsAt bits scene 0 now.device × IsRunOnce now)
 
 -- and only behind a scene part that is accepted is it not as before
 abbrev pub LeavesAtMemory : (bits : ℕ) → (taken : List ℕ) → (before now : ArrayView) → Type 0
@@ -133,7 +130,7 @@ LeavesAtMemory bits taken before now =
 -- what is written, and what is left of the array
 abbrev pub LeavesSession : Result (Unit {0}) Stop → (bits : ℕ) → Input → (before after : Ends) → Type 0
 LeavesSession (Ok u) bits input before after =
-    IsAnswered true bits input.bytes (until_quit (all_commands input.bytes)) before after
+    IsAnswered true bits (session_of input.bytes) (until_quit (all_commands input.bytes)) before after
 LeavesSession (Err (s.Refused (r.Limit line kind found))) bits input before after =
     LeavesAtLimit (debugged input.bytes bits) bits input.bytes before after
 LeavesSession (Err s.ReadFault) bits input before after = LeavesAtReadFault bits input.taken before after
@@ -145,4 +142,5 @@ LeavesSession (Err stop) bits input before after = IsUntouched before after
 -- what a session does over an input
 abbrev pub PerformsSession : Result (Unit {0}) Stop → (bits : ℕ) → (before after : Ends) → Type 0
 PerformsSession result bits before after =
-    PerformsOver result (λ bytes. debugged bytes bits) (λ input. LeavesSession result bits input before after) before after
+    PerformsOver result (λ bytes. debugged bytes bits) (λ input. LeavesSession result bits input before after) before
+    after

@@ -1,5 +1,7 @@
 -- What the pieces of `debug` say by their results. Only proofs and private functions stand on it.
-use Rattle.std.specs.Prelude.{◌≡◌, ◌⊎◌, ℕ, ◌<◌, ◌≤◌, List, true, ⊤, Option, Some, None, Result, Ok, Err, length}
+use Rattle.std.specs.Prelude.{◌≡◌, ℕ, ◌-◌, ◌<◌, ◌≤◌, List, [], ◌++◌, true, false, ◌&&◌, not, ⊤, Option, None}
+use Rattle.std.specs.Prelude.{Result, Ok, Err}
+use Rattle.std.specs.Prelude.{is_some, length, unwrap_or}
 use Rattle.std.specs.Io.KnownBytes.{Consumes, IsAtEnd}
 use Rattle.px_io.specs.Told.{SinkState, Tells}
 use Rattle.px_array.specs.Slots.{ArrayView}
@@ -7,24 +9,43 @@ use Rattle.px_scene.specs.Scenes.{SceneView}
 use Rattle.px_lines.specs.Parts.{part_end}
 use Rattle.px_lines.specs.Readings.{TookNoPart}
 use Rattle.px_lines.specs.declared.reading.Opening.{Opening}
-use Rattle.px_session.specs.Prompts.{Moment}
-use Rattle.px_session.specs.Servings.{Serves}
+use Rattle.px_session.specs.Servings.{seen}
 use Rattle.px_session.specs.declared.serving.Ending.{Ending}
 use Rattle.px_session.specs.declared.serving.Ending.TheVariants as e
 use Rattle.px_outcome.specs.declared.refusal.TheConstants.{READ_LIMIT}
-use Rattle.px_outcome.specs.declared.refusal.Refusal.{Refusal}
 use Rattle.px_outcome.specs.declared.status.Status.{Status}
 use Rattle.px_outcome.specs.declared.status.Status.TheVariants as status
 use Rattle.px_outcome.specs.declared.stop.Stop.{Stop}
 use Rattle.px_outcome.specs.declared.stop.Stop.TheVariants as s
-use Rattle.px_debug_run.specs.Debugs.{IsKeptOrOpened, scene_part_of, part_scene, within_limit}
-use Rattle.px_outcome.specs.Refusals.{text_refusal, too_long}
+use Rattle.px_outcome.specs.Refusals.{is_long, too_long}
+use Rattle.px_debug_run.specs.Debugs.{IsKeptOrOpened, command_text, has_part, scene_part_of, within_limit}
+
+-- how many bytes may yet be read behind some
+abbrev pub more_than : List ℕ → ℕ
+more_than text = READ_LIMIT - length text
+
+-- bytes that were read, with more behind them, have the same scene part
+pub record Grown (o : Opening) (more : List ℕ) : Type 0 where
+  pub part : scene_part_of (o.text.items ++ more) ≡ scene_part_of o.text.items
+  pub behind : command_text (o.text.items ++ more) ≡ command_text o.text.items ++ seen (more_than o.text.items) more
+  pub whole : has_part (o.text.items ++ more) ≡ is_some o.part
+  pub within : (is_long (o.text.items ++ more) && not (has_part (o.text.items ++ more))) ≡ false
+
+-- what may come behind them: nothing, where the scene part is not whole and they are the whole input
+abbrev pub Follows : Opening → (more : List ℕ) → Type 0
+Follows o more = o.part ≡ None → (more ≡ []) × (length o.text.items < READ_LIMIT)
+
+-- the bytes that were read, and where the scene part ends in them
+pub record IsOpening (o : Opening) : Type 0 where
+  pub few : length o.text.items ≤ READ_LIMIT
+  pub part : o.part ≡ part_end (within_limit o.text.items)
+  pub within : unwrap_or o.part (length (within_limit o.text.items)) ≤ length (within_limit o.text.items)
+  pub grown : (more : List ℕ) → Follows o more → Grown o more
 
 -- an input was read until its scene part was whole, or to its end or its limit
 pub record Opens (o : Opening) (known_old known_new : Option (List ℕ)) : Type 0 where
   pub taken : Consumes known_old known_new o.text.items
-  pub few : length o.text.items ≤ READ_LIMIT
-  pub part : o.part ≡ part_end (within_limit o.text.items)
+  pub opening : IsOpening o
   pub end : o.part ≡ None → length o.text.items < READ_LIMIT → IsAtEnd known_new
 
 -- why it was not
@@ -33,22 +54,17 @@ IsOpenStop s.ReadFault known_old known_new = TookNoPart known_old known_new READ
 IsOpenStop (s.Memory _) known_old known_new = ⊤
 IsOpenStop stop known_old known_new = ⊥
 
--- its scene part is a scene's
-pub record OpensOn (o : Opening) (found : SceneView) : Type 0 where
-  pub good : text_refusal (scene_part_of o.text.items) ≡ None
-  pub scene : found ≡ part_scene o.text.items
+-- the scene part, and what was read behind it
+pub record HasParts (o : Opening) (front behind : List ℕ) : Type 0 where
+  pub part : front ≡ scene_part_of o.text.items
+  pub commands : behind ≡ command_text o.text.items
   pub short : o.part ≡ None → length o.text.items < READ_LIMIT
 
--- why it is none: the part is refused, or it is not whole within the limit
-abbrev pub IsPartRefusal : (o : Opening) → Refusal → Type 0
-IsPartRefusal o reason =
-    ((text_refusal (scene_part_of o.text.items) ≡ Some reason) × (o.part ≡ None → length o.text.items < READ_LIMIT))
-    ⊎ ((o.part ≡ None) × (length o.text.items ≡ READ_LIMIT) × (reason ≡ too_long))
-
-abbrev pub IsPartStop : Stop → (o : Opening) → Type 0
-IsPartStop (s.Refused reason) o = IsPartRefusal o reason
-IsPartStop (s.Memory _) o = ⊤
-IsPartStop stop o = ⊥
+-- a scene part that is not whole within the limit of a text
+pub record IsTooLong (o : Opening) (stop : Stop) : Type 0 where
+  pub refused : stop ≡ s.Refused too_long
+  pub none : o.part ≡ None
+  pub full : length o.text.items ≡ READ_LIMIT
 
 -- what is left of the array where no session began
 abbrev pub LeavesClosed : Status → (bits : ℕ) → SceneView → (before now : ArrayView) → Type 0
@@ -62,12 +78,6 @@ result_of e.End = Ok tt
 result_of e.Long = Err (s.Refused too_long)
 result_of e.ReadFault = Err s.ReadFault
 result_of e.WriteFault = Err s.WriteFault
-
--- command lines were answered
-pub record Sits (answer : Result (Unit {0}) Stop) (bits : ℕ) (read : List ℕ) (more : ℕ) (before after : Moment) : Type 0 where
-  pub ending : Ending
-  pub result : answer ≡ result_of ending
-  pub serves : Serves ending bits read more before after
 
 -- the output was finished, or a write failed in it
 abbrev pub Finishes : Result (Unit {0}) Stop → (before after : SinkState) → Type 0

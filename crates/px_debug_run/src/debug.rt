@@ -1,20 +1,18 @@
 //! The command `debug`: a session over the scene part of the input, whose command lines are the rest.
-ghost use Rattle.std.specs.Prelude.{◌≡◌, ◌≢◌, ◌+◌, ◌-◌, ◌^◌, ◌<◌, ◌≤◌, ℕ, IfErr, IfOk, OnErr, OnOk, Err, Some, length};
+ghost use Rattle.std.specs.Prelude.{◌≡◌, ◌≢◌, ◌≤◌, ℕ, IfErr, IfOk, OnErr, OnOk, Err};
 ghost use Rattle.std.specs.Io.KnownBytes.{Keeps};
 ghost use Rattle.px_io.specs.Told.{ConsumesAtMost};
 ghost use Rattle.px_array.specs.Slots.{array_view};
 ghost use Rattle.px_debug.specs.Moves.{Fits};
 ghost use Rattle.px_lines.specs.Listenings.{ListenedTo, Listens};
-ghost use Rattle.px_lines.specs.Parts.{part_end};
-ghost use Rattle.px_session.specs.Prompts.{moment};
 ghost use Rattle.px_session.specs.Sessions.{session_opened};
 ghost use Rattle.px_outcome.specs.declared.stop.Stop.{Stop};
 ghost use Rattle.px_debug_run.specs.Askings.{AnswersInTime};
-ghost use Rattle.px_debug_run.specs.Debugs.{PerformsSession, command_text, within_limit};
+ghost use Rattle.px_debug_run.specs.Debugs.{PerformsSession};
 ghost use Rattle.px_outcome.specs.Outcomes.{Outcome, drawable};
 ghost use Rattle.px_outcome.specs.Ends.{ends};
 ghost use Rattle.px_outcome.specs.Results.{HasCauses, status_of};
-ghost use Rattle.px_debug_run.specs.Sittings.{Finishes, IsOpenStop, IsPartStop, LeavesClosed, Opens, OpensOn, Sits};
+ghost use Rattle.px_debug_run.specs.Sittings.{Finishes, HasParts, IsOpenStop, IsOpening, IsTooLong, LeavesClosed, Opens, result_of};
 ghost use Rattle.px_outcome.specs.Stops.{IsReadStop, StopsAt};
 
 use px_array::Array;
@@ -23,7 +21,7 @@ use px_asm::Operating;
 use px_debug::Session;
 use px_io::Sink;
 use px_lines::{Opening, laws_of_parts, read_part};
-use px_outcome::{READ_LIMIT, Stop, behind, open_job, scene_in, too_long};
+use px_outcome::{READ_LIMIT, Stop, open_job, scene_in, too_long};
 use px_scene::Scene;
 use px_session::{Ending, laws_of_sessions, serve};
 use std::alloc::Global;
@@ -49,17 +47,15 @@ pub fn debug_input<S: Asks<O>, O: Sink, A: Operating>(
     ensures in_time { AnswersInTime A.BITS (S.asks input.old) (S.asks input.new)
         (S.rest input.old) (S.rest input.new) (O.state out.old).written }
 {
-    laws_of_parts();
     laws_of_sessions();
     let opening = open_input(alloc, input, out)?;
-    let scene = scene_of(alloc, &opening)?;
+    let end = opening.part;
+    let more = READ_LIMIT - opening.text.len();
+    let (part, read) = parts_of(&opening)?;
+    let scene = scene_in(alloc, part)?;
     let mut session = open_session(alloc, &scene, array)?;
-    match opening.part {
-        Some(length) => {
-            let read = commands(opening.text.as_slice(), length);
-            let more = READ_LIMIT - opening.text.len();
-            sit(&mut session, array, read, input, more, out)
-        }
+    match end {
+        Some(_) => result_of(serve(&mut session, array, read, input, more, out)),
         None => finish(out),
     }
 }
@@ -77,25 +73,25 @@ fn open_input<S: Asks<O>, O: Sink>(alloc: Global, input: &mut S, out: &O) -> Res
     ensures cause { IfErr result (λ stop.
         IsReadStop stop (S.faults input.old) (S.faults input.new)) }
 {
+    laws_of_parts();
     match read_part(alloc, input, out, READ_LIMIT) {
         Ok(opening) => Ok(opening),
         Err(fault) => Err(Stop::from(fault)),
     }
 }
 
-/// The scene of the scene part; a part that is not whole within the limit is past it.
-fn scene_of(alloc: Global, opening: &Opening) -> Result<Scene, Stop>
-    requires part { opening.now.part ≡ part_end (within_limit opening.now.text.items) }
-    requires few { length opening.now.text.items ≤ READ_LIMIT }
-    ensures ok { IfOk result (λ scene. OpensOn opening.now scene) }
-    ensures err { IfErr result (λ stop. IsPartStop stop opening.now) }
+/// The scene part, and what was read behind it without the byte past the limit; a part that is not
+/// whole within the limit is past it.
+fn parts_of(opening: &Opening) -> Result<(&[u8], &[u8]), Stop>
+    requires { IsOpening opening.now }
+    ensures ok { IfOk result (λ parts. HasParts opening.now parts.0.now parts.1.now) }
+    ensures err { IfErr result (λ stop. IsTooLong opening.now stop) }
 {
-    laws_of_parts();
-    match opening.part {
-        Some(length) => scene_in(alloc, &opening.text[..length]),
-        None if opening.text.len() < READ_LIMIT => scene_in(alloc, opening.text.as_slice()),
-        None => Err(Stop::Refused(too_long())),
+    if opening.part.is_none() && opening.text.len() == READ_LIMIT {
+        return Err(Stop::Refused(too_long()));
     }
+    let counted = &opening.text[..opening.text.len().min(READ_LIMIT - 1)];
+    Ok(counted.split_at(opening.part.unwrap_or(counted.len())))
 }
 
 /// Opens the array for a scene, and a session on it.
@@ -122,35 +118,12 @@ fn open_session<'s, A: Array>(
     }
 }
 
-/// What was read behind the scene part, without the byte past the limit.
-fn commands(text: &[u8], length: usize) -> &[u8]
-    requires part { part_end (within_limit text.now) ≡ Some length }
-    ensures { result.now ≡ command_text text.now }
-{
-    laws_of_parts();
-    behind(&text[..text.len().min(READ_LIMIT - 1)], length)
-}
-
-/// Answers command lines up to a quit, the end of the input or its limit.
-fn sit<S: Asks<O>, O: Sink, A: Operating>(
-    session: &mut Session<'_>,
-    array: &mut A,
-    read: &[u8],
-    input: &mut S,
-    more: usize,
-    out: &mut O,
-) -> Result<(), Stop>
-    requires fits { Fits A.BITS session.old (A.device array.old) (A.slots array.old) }
-    requires counted { session.old.lines + length read.now + more < 2 ^ 64 - 1 }
-    ensures fits { Fits A.BITS session.new (A.device array.new) (A.slots array.new) }
+/// What a session comes to that ended so.
+fn result_of(ending: Ending) -> Result<(), Stop>
+    ensures result { result ≡ result_of ending }
     ensures worded { result ≢ Err Stop.Usage }
-    ensures sits { Sits result A.BITS read.now more
-        (moment session.old (A.work array.old) (O.state out.old)
-        (S.asks input.old) (S.rest input.old) (S.faults input.old))
-        (moment session.new (A.work array.new) (O.state out.new)
-        (S.asks input.new) (S.rest input.new) (S.faults input.new)) }
 {
-    match serve(session, array, read, input, more, out) {
+    match ending {
         Ending::Quit | Ending::End => Ok(()),
         Ending::Long => Err(Stop::Refused(too_long())),
         Ending::ReadFault => Err(Stop::ReadFault),
