@@ -131,14 +131,17 @@ def glued(words, with_word):
     return words
 
 
-def options(words, flags, with_word):
-    """Splits words into the others and what the options say; `with_word` take the word behind."""
-    words = glued(list(words), with_word)
+def options(words, flags, with_word, repeated=()):
+    """Splits words into the others and what the options say; `with_word` take the word behind, and so do those that may be repeated,
+    which give a list."""
+    words = glued(list(words), (*with_word, *repeated))
     parser = Words(add_help=False, allow_abbrev=False, argument_default=argparse.SUPPRESS)
     for flag in flags:
         parser.add_argument(flag, dest=flag, action="store_true")
     for option in with_word:
         parser.add_argument(option, dest=option, metavar="WORD")
+    for option in repeated:
+        parser.add_argument(option, dest=option, metavar="WORD", action="append")
     parser.add_argument("others", nargs="*")
     said = vars(parser.parse_intermixed_args(words))
     return said.pop("others", []), said

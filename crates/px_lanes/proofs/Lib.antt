@@ -1,3 +1,4 @@
 pub mod BlockLaws
 pub mod LaneLemmas
 pub mod OffsetLemmas
+pub mod SignLemmas

@@ -97,6 +97,16 @@ offset_step form ny j k =
     with_bit form ny (j % 2 ^ k) k (j / 2 ^ k % 2) (omega arith) (omega arith)
     ∙ ap (offset form ny) (sym cut ∙ ap (λ n. j % n) (sym double))
 
+-- in a column that has whole words
+pub offset_in_column : (form : Linear) (ny j : ℕ) → 6 ≤ ny → j < 64 → offset form ny j ≡ form.b *ℤ pos j
+offset_in_column form ny j high small =
+    let most : 2 ^ 6 ≤ 2 ^ ny = pow-le-pow_right {n = 2} (omega arith) high in
+    let inside : j < 2 ^ ny = omega arith in
+    rw (div-eq_of_lt inside, mod-eq_of_lt inside) (alone form.a (form.b *ℤ pos j))
+  where
+    alone : (a z : ℤ) → (a *ℤ pos 0) +ℤ z ≡ z
+    alone a z = omega (arith, ints)
+
 -- ---- the first pixel of a word
 
 pub sum_of_values : (a b k : ℤ) (c d e f x y : ℕ) → x ≡ c + e → y ≡ d + f

@@ -1,5 +1,5 @@
 //! Numbers in 64 lanes: word `t` has bit `t` of each of them.
-ghost use Rattle.std.specs.Prelude.{◌≡◌, ◌<◌, ◌≤◌, ◌^◌, ◌+ℤ◌, pos, ℕ, ℤ, cond, not, if◌then◌else◌, length, slice_index};
+ghost use Rattle.std.specs.Prelude.{◌≡◌, ◌<◌, ◌≤◌, ◌^◌, ◌+ℤ◌, pos, ℕ, ℤ, cond, nat_lt, not, if◌then◌else◌, length, slice_index};
 ghost use Rattle.px_num.specs.Bits.{bit_of, majority, nat_bit};
 ghost use Rattle.px_lanes.specs.Lanes.{HasValue};
 ghost use Rattle.px_rows.specs.Rows.{HasAll};
@@ -10,6 +10,13 @@ pub fn all_of(v: bool) -> u64
     ensures { HasAll result v }
 {
     if v { !0 } else { 0 }
+}
+
+/// A word whose first so many bits are 1.
+pub fn full_word(pixels: usize) -> u64
+    ensures { (i : ℕ) → i < 64 → nat_bit result i ≡ nat_lt i pixels }
+{
+    if pixels < 64 { (1 << pixels) - 1 } else { !0 }
 }
 
 /// The value where the mask is 1, and else the target.
@@ -70,19 +77,6 @@ pub fn add_constant(words: &mut [u64], mask: u64, k: i64)
         words[t] = word ^ addend ^ carry;
         carry = majority_word(word, addend, carry);
     }
-}
-
-/// The sign of the sum of a number and the lanes' numbers: its bit 39, where all are of 40 bits.
-pub fn signs(words: &[u64; 40], k: i64) -> u64
-    ensures { (j : ℕ) (u : ℤ) → j < 64 → HasValue words.now j u
-        → nat_bit result j ≡ bit_of (u +ℤ k) 39 }
-{
-    let number = word_of(k);
-    let mut carry = 0;
-    for t in 0..39 {
-        carry = majority_word(words[t], all_of(word_bit(number, t)), carry);
-    }
-    words[39] ^ all_of(word_bit(number, 39)) ^ carry
 }
 
 /// Words of which every lane has the same number.

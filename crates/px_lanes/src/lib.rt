@@ -3,10 +3,14 @@
 
 mod blocks;
 mod lanes;
+mod sides;
 mod sums;
 mod values;
 
 pub use blocks::{BLOCK, block_step, block_values};
-pub use lanes::{add_constant, all_of, chosen_word, constant_words, majority_word, signs, turned};
+pub use lanes::{
+    add_constant, all_of, chosen_word, constant_words, full_word, majority_word, turned,
+};
+pub use sides::signs;
 pub use sums::{Carries, added_bit, bit_of_all};
 pub use values::{BITS, add_base, base_of, offset_of, offsets, span, word_values};

@@ -1,6 +1,6 @@
--- A set has no solid from its end on.
+-- A set has no solid before its start, and none from its end on.
 use Rattle.std.proofs.Common.{ℕ, zero, suc, ◌≡◌, ◌<◌, ◌≤◌, ◌+◌, ◌-◌, ◌*◌, ◌/◌, ◌%◌, ◌^◌, ◌==◌, false}
-use Rattle.std.proofs.Common.{[], ◌∷◌, ap, sym, subst, ◌∙◌, arith, inl, inr, slice_index, add-one}
+use Rattle.std.proofs.Common.{[], ◌∷◌, refl, ap, sym, subst, ◌∙◌, arith, inl, inr, slice_index, add-one}
 use Rattle.std.specs.List.{filter}
 use Rattle.std.specs.Int.{bit_at}
 use Rattle.std.proofs.lemmas.Bool.{cases_eq}
@@ -13,6 +13,30 @@ use Rattle.px_sets.specs.Sets.{has, solids, below}
 module _ (s : SolidSet) where
   abbrev word : ℕ → ℕ
   word place = slice_index s.words place
+
+  -- no clear bit of the word at this place, and none of those below
+  pub none_before : (place clear : ℕ) → ((k : ℕ) → k < place → word k ≡ 0) → clear ≤ 64
+      → ((i : ℕ) → i < clear → bit_at (word place) i ≡ 0) → (q : ℕ) → q < 64 * place + clear → has s q ≡ false
+  none_before place clear below most low q before = elim (cases_eq (q / 64) place) [
+    | inl same ↦ rw same (ap (λ b. b == 1) (low (q % 64) (omega (arith, same, before))))
+    | inr other ↦ ap (λ w. bit_at w (q % 64) == 1) (below (q / 64) (omega (arith, other, before, most)))
+        ∙ ap (λ b. b == 1) (bit_at-zero (q % 64))
+  ]
+
+  pub below_second : word 0 ≡ 0 → (k : ℕ) → k < 1 → word k ≡ 0
+  below_second first k low = subst (λ j. word j ≡ 0) (omega (arith, low)) first
+
+  pub below_third : word 0 ≡ 0 → word 1 ≡ 0 → (k : ℕ) → k < 2 → word k ≡ 0
+  below_third first second k low = elim (cases_eq k 1) [
+    | inl same ↦ rw same second
+    | inr other ↦ below_second first k (omega (arith, low, other))
+  ]
+
+  pub below_last : word 0 ≡ 0 → word 1 ≡ 0 → word 2 ≡ 0 → (k : ℕ) → k < 3 → word k ≡ 0
+  below_last first second third k low = elim (cases_eq k 2) [
+    | inl same ↦ rw same third
+    | inr other ↦ below_third first second k (omega (arith, low, other))
+  ]
 
   -- no bit of the word at this place from the used ones on, and none of those above
   pub none_past : (place used : ℕ) → ((k : ℕ) → place < k → k < 4 → word k ≡ 0) → word place < 2 ^ used
@@ -45,6 +69,14 @@ module _ (s : SolidSet) where
   dropped : (n : ℕ) → has s n ≡ false → filter (has s) (below (n + 1)) ≡ filter (has s) (below n)
   dropped n e = rw (add-one n) (filter-append (has s) (below n) (n ∷ [])
       ∙ rw e (append-nil (filter (has s) (below n))))
+
+  -- none of those before the start is in the set
+  pub none_below : (start : ℕ) → ((q : ℕ) → q < start → has s q ≡ false) → filter (has s) (below start) ≡ []
+  none_below zero before = refl
+  none_below (suc n) before =
+      let next : suc n ≡ n + 1 = omega arith in
+      ap (λ k. filter (has s) (below k)) next ∙ dropped n (before n (omega arith))
+      ∙ none_below n (λ q low. before q (omega (arith, low)))
 
   -- those below the end are all
   pub all_below : (end : ℕ) → end ≤ 256 → ((q : ℕ) → q < 256 → end ≤ q → has s q ≡ false)

@@ -1,5 +1,6 @@
 //! Sets of solids.
 ghost use Rattle.std.specs.Prelude.{◌≡◌, ◌<◌, ◌≤◌, ◌||◌, ◌==◌, ◌^◌, ℕ, false, not, nat_eq};
+ghost use Rattle.std.specs.Int.{bit_at};
 ghost use Rattle.std.specs.List.{list_any};
 ghost use Rattle.px_sets.specs.Sets.{has, empty, one, sets_joined, solids};
 ghost use Rattle.px_sets.specs.SetLaws.{LawsOfSets};
@@ -54,12 +55,29 @@ impl SolidSet {
         ensures { result.items ≡ solids self.now }
     {
         let mut list = ArrayVec::new();
-        for solid in 0..self.end() {
+        for solid in self.start()..self.end() {
             if self.has(solid as u8) {
                 list.push(solid as u8);
             }
         }
         list
+    }
+
+    /// The least solid of the set, or 256.
+    fn start(&self) -> usize
+        ensures most { result ≤ 256 }
+        ensures before { (q : ℕ) → q < result → has self.now q ≡ false }
+    {
+        let [a, b, c, d] = self.words;
+        if a != 0 {
+            clear_bits(a)
+        } else if b != 0 {
+            64 + clear_bits(b)
+        } else if c != 0 {
+            128 + clear_bits(c)
+        } else {
+            192 + clear_bits(d)
+        }
     }
 
     /// One more than the greatest solid of the set, or 0.
@@ -94,6 +112,14 @@ impl SolidSet {
         words[usize::from(solid / 64)] = 1 << (solid % 64);
         SolidSet { words }
     }
+}
+
+/// The bits of a word before its lowest 1.
+fn clear_bits(word: u64) -> usize
+    ensures most { result ≤ 64 }
+    ensures clear { (i : ℕ) → i < result → bit_at word i ≡ 0 }
+{
+    word.trailing_zeros() as usize
 }
 
 /// The bits of a word up to its highest 1.

@@ -1,12 +1,16 @@
-use Rattle.std.proofs.Common.{◌≡◌, ap, arith, ◌∙◌}
-use Rattle.std.specs.List.{filter}
-use Rattle.px_sets.specs.Sets.{has, below}
-use Rattle.px_sets.proofs.EndLemmas.{all_below}
+use Rattle.std.proofs.Common.{◌≤◌, sym, ◌∙◌, arith, rules}
+use Rattle.px_sets.proofs.EndLemmas.{all_below, none_below}
 use Rattle.px_sets.proofs.set.SolidSet.solids.Goals as goal
+
+pub loop-solid-init : goal.loop-solid-init
+loop-solid-init c = record {
+  solids = c.new-list.ensures ∙ sym (none_below c.args.self.now c.start-solid.result c.start-solid.ensures.before);
+  room = search rules;
+  few = c.start-solid.ensures.most;
+}
 
 pub returns : goal.returns
 returns c =
-    let ended : c.loop-solid.solid ≡ c.end-solid-end.result =
-    omega (arith, c.loop-solid-test.false, c.loop-solid.auto.solid-end) in
-    c.loop-solid.invariant.solids ∙ ap (λ n. filter (has c.args.self.now) (below n)) ended
-    ∙ all_below c.args.self.now c.end-solid-end.result c.end-solid-end.ensures.most c.end-solid-end.ensures.past
+    let past : c.end-solid-end.result ≤ c.loop-solid.solid = c.loop-solid-test.false in
+    c.loop-solid.invariant.solids ∙ all_below c.args.self.now c.loop-solid.solid c.loop-solid.invariant.few
+    (λ q small from. c.end-solid-end.ensures.past q small (omega (arith, past, from)))

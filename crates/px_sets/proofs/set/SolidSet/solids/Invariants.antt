@@ -9,4 +9,5 @@ abbrev pub invariant-loop-solid : goal.invariant-loop-solid
 invariant-loop-solid l = record {
   solids : l.list.items ≡ filter (has l.self) (below l.solid);
   room : array_vec_len l.list ≤ l.solid;
+  few : l.solid ≤ 256;
 }

@@ -1,0 +1,11 @@
+use Rattle.std.proofs.Common.{◌≡◌, ℕ, ◌<◌, ◌≤◌, ◌+ℤ◌, false}
+use Rattle.std.specs.Int.{is_negative}
+use Rattle.px_num.specs.Bits.{nat_bit}
+use Rattle.px_lanes.specs.Lanes.{offset}
+use Rattle.px_lanes.proofs.sides.signs_of_pixels.Given as goal
+
+abbrev pub invariant-loop-j : goal.invariant-loop-j
+invariant-loop-j l = record {
+  done : (i : ℕ) → i < l.j → nat_bit l.word i ≡ is_negative (offset l.form l.ny i +ℤ l.base);
+  rest : (i : ℕ) → l.j ≤ i → nat_bit l.word i ≡ false;
+}

@@ -1,0 +1,11 @@
+use Rattle.std.proofs.Common.{arith, inl, inr, w64}
+use Rattle.std.proofs.lemmas.Bool.{cases_eq}
+use Rattle.std.proofs.lemmas.Nat.Bits.{bit_at-trailing_zeros, bit_at-zero}
+use Rattle.px_sets.proofs.set.clear_bits.Goals as goal
+
+pub returns-clause-clear : goal.returns-clause-clear
+returns-clause-clear c i low = elim (cases_eq c.args.word 0) [
+  | inl none ↦ rw none (bit_at-zero i)
+  | inr some ↦
+      (bit_at-trailing_zeros w64 c.args.word (omega (arith, some)) c.ranges.word.fits).2 i (omega (arith, low))
+]
