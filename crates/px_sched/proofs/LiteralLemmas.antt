@@ -120,7 +120,7 @@ module _ (covering : CoveringLaw) (s : SolidView) (d : Depths) (x y : ℕ) where
       let law = covering s end x y in
       let c = cell_of d (enters_at s x y) in
       where_is_true (c == c) (face_number s (covering_front s x y)) (greatest_fronts s x y) (same_true c c refl)
-      (in_fronts (covering_front s x y) law.front_there law.front_value)
+      (in_fronts (covering_front s x y) law.front.there law.front.value)
 
   pub record PlainSeen (z n : ℕ) : Type 0 where
     pub cell : cell_of d (enters_at s x y) ≡ z
@@ -130,7 +130,7 @@ module _ (covering : CoveringLaw) (s : SolidView) (d : Depths) (x y : ℕ) where
   plain_seen lawful z n h =
       let two = in_where_true (cell_of d (enters_at s x y) == z) n (greatest_fronts s x y) h in
       let r = out_fronts n two.1 in
-      let least = (covering s end x y).least_number lawful r.place r.front r.value_is in
+      let least = (covering s end x y).front.least lawful r.place r.front r.value_is in
       record { cell = same_holds (cell_of d (enters_at s x y)) z two.0; number = omega (arith, least, r.number_is) }
 
   -- ---- a barred literal
@@ -156,10 +156,10 @@ module _ (covering : CoveringLaw) (s : SolidView) (d : Depths) (x y : ℕ) where
   barred_shows there =
       let law = covering s end x y in
       let back = covering_back s end x y in
-      let low = lt_fails back first_back law.back_behind in
+      let low = lt_fails back first_back law.back.behind in
       subst (λ n. In n (faces_at s.backs x y (leaves_at s end x y))) (sym (back_number back low))
       (in_faces (level end ∷ []) (0 ∷ []) x y (leaves_at s end x y) s.backs (back - first_back) (omega arith)
-      (ap (λ p. value_at p x y) (sym (back_plane back low)) ∙ law.back_value))
+      (ap (λ p. value_at p x y) (sym (back_plane back low)) ∙ law.back.value))
 
   pub barred_there : (z : ℕ) → covering_back s end x y < first_back + length s.backs
       → is_inside_before s d x y z ≡ true → cell_of d (leaves_at s end x y) ≡ z
@@ -204,8 +204,8 @@ module _ (covering : CoveringLaw) (s : SolidView) (d : Depths) (x y : ℕ) where
       ap (λ p. value_at p x y) (back_plane face (omega arith)
       ∙ ap (λ k. get_or (back_planes s.backs end) k (level 0)) place)
       ∙ r.value_is in
-      let first = law.least_index face (omega (arith, r.below)) (lt_false face first_back (omega arith)) value in
-      let low = lt_fails back first_back law.back_behind in
+      let first = law.back.least face (omega (arith, r.below)) (lt_false face first_back (omega arith)) value in
+      let low = lt_fails back first_back law.back.behind in
       let order = numbers_grow s.backs (0 ∷ []) (back - first_back) r.place lawful.backs.order (omega (arith, first))
       r.below in
       record {
