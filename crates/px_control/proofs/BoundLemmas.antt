@@ -181,12 +181,14 @@ each_paid scene lawful = record {
   where_par = λ v. omega arith;
   less = omega arith;
   copy = omega (arith, lawful.some_depth);
-  cleared = λ some. grind (arith, nat_tests);
-  number = λ solid face. omega (arith, (scene_layout scene lawful).some_number);
-  signs = λ solid face there k d low. omega arith;
-  load = λ solid face there. omega arith;
-  at_most = λ solid face there. omega arith;
-  behind = λ solid face there. omega arith;
+  faces = record {
+    cleared = λ some. grind (arith, nat_tests);
+    number = λ solid face. omega (arith, (scene_layout scene lawful).some_number);
+    signs = λ solid face there k d low. omega arith;
+    load = λ solid face there. omega arith;
+    at_most = λ solid face there. omega arith;
+    behind = λ solid face there. omega arith;
+  };
 }
 
 pub some_clocks : (scene : SceneView) → IsLawfulScene scene → length (passes scene) ≤ total scene

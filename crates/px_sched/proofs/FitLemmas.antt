@@ -94,13 +94,15 @@ module _ (ranges : EdgesAreInRange) (planes : PlanesAreInRange) (scene : SceneVi
     where_par = λ v. omega arith;
     less = record { fields = (field_t, field_b); length = refl };
     copy = (record { fields = (field_t, field_b); length = refl }, inr (omega arith));
-    cleared = λ some. (fraction some, pow_pos f);
-    number = λ solid face. (number, numbers_fit scene lawful solid face);
-    signs = λ solid face there. ranges (solid_of scene solid) (solid_lawful solid) end face end_small there;
-    load = moved (2 ^ f - 1) (omega arith);
-    at_most = λ solid face there.
-        (plane_range (face_plane (solid_of scene solid) end face) (plane solid face there), deep);
-    behind = moved (2 ^ f) (omega arith);
+    faces = record {
+      cleared = λ some. (fraction some, pow_pos f);
+      number = λ solid face. (number, numbers_fit scene lawful solid face);
+      signs = λ solid face there. ranges (solid_of scene solid) (solid_lawful solid) end face end_small there;
+      load = moved (2 ^ f - 1) (omega arith);
+      at_most = λ solid face there.
+          (plane_range (face_plane (solid_of scene solid) end face) (plane solid face there), deep);
+      behind = moved (2 ^ f) (omega arith);
+    };
   }
 
   pub step_fits : (step : Step) → IsStep scene step → All (λ m. IsLawful m (need_of l)) (operations scene l step)
