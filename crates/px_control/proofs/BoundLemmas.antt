@@ -1,5 +1,6 @@
 -- A scene of few products takes less than 2 ^ 43 clocks, and at least one for each operation.
-use Rattle.std.proofs.Common.{◌≡◌, ℕ, ◌+◌, ◌-◌, ◌*◌, ◌^◌, ◌==◌, ◌<◌, ◌≤◌, false, List, [], ◌∷◌, length, get_or, refl, ap}
+use Rattle.std.proofs.Common.{◌≡◌, ℕ, ◌+◌, ◌-◌, ◌*◌, ◌^◌, ◌==◌, ◌<◌, ◌≤◌, false, List, [], ◌∷◌, length, get_or}
+use Rattle.std.proofs.Common.{refl, ap}
 use Rattle.std.proofs.Common.{sym, subst, arith, inl, inr}
 use Rattle.std.specs.List.{All, sum_by}
 use Rattle.std.proofs.lemmas.Bool.{cases_Bool}
@@ -154,7 +155,8 @@ module _ (count : EdgesAreCounted) (scene : SceneView) (lawful : IsLawfulScene s
             (steps_there scene kept)),
         counted steps,
         steps_sum scene once kept,
-        sum_by-le number 1244160 kept (λ k d there. few_added (get_or kept k d) (kept_known scene lawful known k d there)
+        sum_by-le number 1244160 kept
+            (λ k d there. few_added (get_or kept k d) (kept_known scene lawful known k d there)
             (known.apart scene (sum_of_products scene.show) k d there)),
         few,
       )

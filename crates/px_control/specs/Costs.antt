@@ -1,4 +1,5 @@
--- What operations come to: how many they are, or the clocks that they take. Only proofs and private functions stand on it.
+-- What operations come to: how many they are, or the clocks that they take. Only proofs and private functions
+-- stand on it.
 use Rattle.std.specs.Prelude.{◌≡◌, ℕ, ◌+◌, ◌*◌, ◌≤◌, true}
 use Rattle.std.specs.List.{sum_by}
 use Rattle.px_face.specs.Edges.{edge_count}
@@ -8,7 +9,8 @@ use Rattle.px_macro.specs.declared.operation.Macro.TheVariants as m
 use Rattle.px_model.specs.Cells.{depths_of}
 use Rattle.px_model.specs.Scenes.{SceneView}
 use Rattle.px_sched.specs.declared.step.Step.{Step}
-use Rattle.px_sched.specs.declared.step.Step.TheVariants.{Begin, Candidate, Clear, Close, Confirm, Drop, Front, Merge, Open, Start, Turn}
+use Rattle.px_sched.specs.declared.step.Step.TheVariants.{Begin, Candidate, Clear, Close, Confirm, Drop, Front}
+use Rattle.px_sched.specs.declared.step.Step.TheVariants.{Merge, Open, Start, Turn}
 use Rattle.px_sched.specs.Layouts.{layout_of}
 use Rattle.px_sched.specs.Passes.{solid_of}
 use Rattle.px_sched.specs.Worths.{bare}

@@ -81,7 +81,8 @@ module _ (ranges : EdgesAreInRange) (planes : PlanesAreInRange) (scene : SceneVi
   moved : (n : ℕ) → n ≤ 2 ^ f → (solid face : ℕ) → IsThere scene solid face
       → IsInTreeRange (plus (face_plane (solid_of scene solid) end face) n) × IsField (deep_part l l.key_t) (need_of l)
   moved n low solid face there =
-      (plus_range (face_plane (solid_of scene solid) end face) n (omega (arith, unit_most)) (plane solid face there), deep)
+      (plus_range (face_plane (solid_of scene solid) end face) n (omega (arith, unit_most)) (plane solid face there),
+          deep)
 
   each_lawful : HoldsOf scene l (λ m. IsLawful m (need_of l))
   each_lawful = record {

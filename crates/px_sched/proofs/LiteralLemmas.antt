@@ -23,7 +23,8 @@ use Rattle.px_sched.proofs.MemberLaws.{In, all_in, in_either, in_right, out_filt
 
 -- faces among others, by their places
 module _ (planes : List Linear) (numbers : List ℕ) (x y : ℕ) (v : ℤ) where
-  in_faces : (fs : List Face) (k : ℕ) → k < length fs → value_at (get_or (planes_in_faces fs ++ planes) k (level 0)) x y ≡ v
+  in_faces : (fs : List Face) (k : ℕ) → k < length fs → value_at (get_or (planes_in_faces fs ++ planes) k (level 0)) x
+      y ≡ v
       → In (get_or (numbers_in_faces fs ++ numbers) k 0) (faces_at fs x y v)
   in_faces [] k h e = absurd (omega arith)
   in_faces (f ∷ fs) zero h e = rw (int_same_true (value_at f.plane x y) v e) (inl refl)
@@ -148,7 +149,8 @@ module _ (covering : CoveringLaw) (s : SolidView) (d : Depths) (x y : ℕ) where
   back_number face low =
       let count : length (s.near_number ∷ numbers_in_faces s.fronts) ≡ first_back =
       omega (arith, length-map s.fronts (λ f. f.number)) in
-      get_or-append_right (s.near_number ∷ numbers_in_faces s.fronts) (numbers_in_faces s.backs ++ 0 ∷ []) first_back face 0
+      get_or-append_right (s.near_number ∷ numbers_in_faces s.fronts) (numbers_in_faces s.backs ++ 0 ∷ []) first_back
+          face 0
       count low
 
   pub barred_shows : covering_back s end x y < first_back + length s.backs

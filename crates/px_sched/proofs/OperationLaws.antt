@@ -50,7 +50,8 @@ module _ (scene : SceneView) where
   candidates_there : (solid : ℕ) (plain : Bool)
       → All There (map (Candidate solid) (candidate_faces (solid_of scene solid) plain))
   candidates_there solid true =
-      faces_there (Candidate solid) solid (λ face there. there) 0 (length (solid_of scene solid).fronts + 1) (omega arith)
+      faces_there (Candidate solid) solid (λ face there. there) 0 (length (solid_of scene solid).fronts + 1)
+          (omega arith)
   candidates_there solid false =
       let s = solid_of scene solid in
       faces_there (Candidate solid) solid (λ face there. there) (length s.fronts + 1) (length s.backs) (omega arith)
@@ -136,7 +137,8 @@ module _ (scene : SceneView) (l : LayoutView) (P : Macro → Type 0) (h : HoldsO
   end = end_of (depths_of scene)
 
   covered : (solid face : ℕ) → IsThere scene solid face → All P (keep_covered end (solid_of scene solid) face)
-  covered solid face there = All-map P m.KeepSign (edges (solid_of scene solid) end face) (h.faces.signs solid face there)
+  covered solid face there = All-map P m.KeepSign (edges (solid_of scene solid) end face)
+      (h.faces.signs solid face there)
 
   passed : (solid face : ℕ) (form : Linear) (operation : Macro) → IsThere scene solid face
       → P (m.KeepAtMost form (deep_part l l.key_t)) → P operation
@@ -162,7 +164,8 @@ module _ (scene : SceneView) (l : LayoutView) (P : Macro → Type 0) (h : HoldsO
       (All-append P (load ∷ clear) last (All-cons P load clear (h.faces.load solid face there)
       (fraction_all P (depths_of scene) zero (λ some. All-from_recursion P zero (h.faces.cleared some, tt))))
       (All-from_recursion P last (h.faces.number solid face, (h.alive true, tt)))))
-  each_operation (Drop solid face) there = passed solid face _ _ there (h.faces.at_most solid face there) (h.alive false)
+  each_operation (Drop solid face) there = passed solid face _ _ there (h.faces.at_most solid face there)
+      (h.alive false)
   each_operation Clear there = All-from_recursion P (operations scene l Clear) (h.all, (h.par, tt))
   each_operation (Front solid face) there = passed solid face _ _ there (h.faces.behind solid face there) h.turned
   each_operation Confirm there =

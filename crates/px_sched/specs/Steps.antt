@@ -8,7 +8,8 @@ use Rattle.px_model.specs.Cells.{depths_of}
 use Rattle.px_face.specs.Faces.{face_count}
 use Rattle.px_sched.specs.declared.literal.Literal.{Literal}
 use Rattle.px_sched.specs.declared.step.Step.{Step}
-use Rattle.px_sched.specs.declared.step.Step.TheVariants.{Start, Open, Candidate, Drop, Clear, Front, Confirm, Begin, Turn, Close, Merge}
+use Rattle.px_sched.specs.declared.step.Step.TheVariants.{Start, Open, Candidate, Drop, Clear, Front, Confirm}
+use Rattle.px_sched.specs.declared.step.Step.TheVariants.{Begin, Turn, Close, Merge}
 use Rattle.px_sched.specs.Layouts.{LayoutView}
 use Rattle.px_sched.specs.Passes.{confirm, judge, literal_at, operations, solid_of, steps_with, where_fraction}
 
