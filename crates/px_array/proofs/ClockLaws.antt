@@ -64,20 +64,12 @@ length-stored true v memory at = length-set memory at v
 length-stored false v memory at = refl
 
 pub length-after_act : (act : Act) (t : Bool) (p : PixelState) → length (after_act act t p).memory ≡ length p.memory
-length-after_act Nop t p = refl
-length-after_act EnableAll t p = refl
-length-after_act (EnableCarry v) t p = refl
-length-after_act (EnableTree v) t p = refl
-length-after_act (EnableBit at v) t p = refl
-length-after_act (SetCarry v) t p = refl
-length-after_act (Fetch at) t p = refl
 length-after_act (StoreTree at) t p = length-stored p.enable _ p.memory at
 length-after_act (StoreLatch at) t p = length-stored p.enable _ p.memory at
 length-after_act (StoreConst at v) t p = length-stored p.enable _ p.memory at
 length-after_act (Toggle at) t p = length-stored p.enable _ p.memory at
-length-after_act (CarryTree at) t p = refl
-length-after_act (CarryLatch at) t p = refl
 length-after_act (AddTree at) t p = length-stored p.enable _ p.memory at
+length-after_act other t p = refl
 
 pub grid_of_zero_state : (bits nx ny : ℕ) → HasGrid bits nx ny (zero_state bits nx ny)
 grid_of_zero_state bits nx ny = record {

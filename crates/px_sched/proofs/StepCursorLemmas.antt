@@ -65,16 +65,10 @@ module _ (scene : SceneView) (products : List Product) where
   -- the other literal of a step is one of those of its product
   asked : (q : Literal) (rs : List Literal) (s : Step) → length rs ≤ 512 → IsStepOf scene q rs s → HasFewOthers s
   asked q rs step.Start few is = absurd is
-  asked q rs step.Open few is = tt
-  asked q rs (step.Candidate solid face) few is = tt
-  asked q rs (step.Drop solid face) few is = tt
-  asked q rs step.Clear few is = tt
-  asked q rs (step.Front solid face) few is = tt
-  asked q rs step.Confirm few is = tt
   asked q rs (step.Begin other) few is = omega (arith, few, is)
   asked q rs (step.Turn other solid face) few is = omega (arith, few, is.0)
   asked q rs (step.Close other plain) few is = omega (arith, few, is)
-  asked q rs step.Merge few is = tt
+  asked q rs other few is = tt
 
   pub others_here : (st : Stage) (s : Step) → Some s ≡ step_of st → IsStage scene products st → HasFewOthers s
   others_here Start s here is = subst (λ o. HasFewOthers (unwrap_or o s)) (sym here) tt
