@@ -103,13 +103,13 @@ depth_plain v.Three bits fraction b f = rw (decimal_plain bits b, decimal_plain 
 
 first_plain : (scene : SceneView) → IsWritable scene → list_all is_written (first_words scene) ≡ true
 first_plain scene is =
-    let w = is.lawful.width in let h = is.lawful.height in let b = is.lawful.depth
+    let w = is.lawful.sizes.width_limit in let h = is.lawful.sizes.height_limit in let b = is.lawful.sizes.depth_limit
     in rw (
       decimal_plain scene.width (omega arith),
       decimal_plain scene.height (omega arith),
       version_plain (version_for scene),
       depth_plain (version_for scene) scene.depth_bits scene.fraction_bits (omega arith)
-          (let f = is.lawful.fraction in omega arith),
+          (let f = is.lawful.sizes.fraction_limit in omega arith),
     ) refl
 
 named : (scene : SceneView) → IsWritable scene → has_names (named_by (names_of scene.solids) scene.show) ≡ true

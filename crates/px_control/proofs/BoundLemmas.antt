@@ -89,8 +89,8 @@ module _ (count : EdgesAreCounted) (scene : SceneView) (lawful : IsLawfulScene s
   levels =
       omega (
         arith,
-        (exponent_between scene.width lawful.width).1,
-        (exponent_between scene.height lawful.height).1,
+        (exponent_between scene.width lawful.sizes.width_limit).1,
+        (exponent_between scene.height lawful.sizes.height_limit).1,
       )
 
   number_most : l.number_bits ≤ 12
@@ -98,10 +98,10 @@ module _ (count : EdgesAreCounted) (scene : SceneView) (lawful : IsLawfulScene s
 
   few_bare : (step : Step) → sum_by taken (bare l (depths_of scene) step) ≤ 410
   few_bare (Candidate solid face) = elim (cases_Bool (scene.fraction_bits == 0)) [
-    | inl none ↦ rw none (omega (arith, levels, lawful.depth, number_most))
-    | inr some ↦ rw some (omega (arith, levels, lawful.depth, lawful.fraction, number_most))
+    | inl none ↦ rw none (omega (arith, levels, lawful.sizes.depth_limit, number_most))
+    | inr some ↦ rw some (omega (arith, levels, lawful.sizes.depth_limit, lawful.sizes.fraction_limit, number_most))
   ]
-  few_bare step = omega (arith, levels, lawful.depth, number_most)
+  few_bare step = omega (arith, levels, lawful.sizes.depth_limit, number_most)
 
   -- the clocks of a step
   few_step : (step : Step) → HasFace (IsThere scene) step → sum_by taken (operations scene l step) ≤ 6133
@@ -175,14 +175,14 @@ paid f (x ∷ xs) all =
 each_paid : (scene : SceneView) → IsLawfulScene scene → HoldsOf scene (layout_of scene) (λ m. 1 ≤ cycles_in scene m)
 each_paid scene lawful = record {
   all = omega arith;
-  best = omega (arith, lawful.some_depth);
+  best = omega (arith, lawful.sizes.some_depth);
   alive = λ v. omega arith;
   par = omega arith;
   turned = omega arith;
   where_alive = omega arith;
   where_par = λ v. omega arith;
   less = omega arith;
-  copy = omega (arith, lawful.some_depth);
+  copy = omega (arith, lawful.sizes.some_depth);
   faces = record {
     cleared = λ some. grind (arith, nat_tests);
     number = λ solid face. omega (arith, (scene_layout scene lawful).some_number);

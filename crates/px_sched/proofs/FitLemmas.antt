@@ -50,11 +50,11 @@ module _ (ranges : EdgesAreInRange) (planes : PlanesAreInRange) (scene : SceneVi
 
   end_small : end < 2 ^ 32
   end_small =
-      let bound : 2 ^ (scene.depth_bits + f) ≤ 2 ^ 24 = pow_mono {i = scene.depth_bits + f} {j = 24} lawful.depth in
+      let bound : 2 ^ (scene.depth_bits + f) ≤ 2 ^ 24 = pow_mono {i = scene.depth_bits + f} {j = 24} lawful.sizes.depth_limit in
       omega (arith, small, bound)
 
   unit_most : 2 ^ f ≤ 2 ^ 8
-  unit_most = pow_mono {i = f} {j = 8} lawful.fraction
+  unit_most = pow_mono {i = f} {j = 8} lawful.sizes.fraction_limit
 
   solid_lawful : (solid : ℕ) → IsLawfulSolid (solid_of scene solid)
   solid_lawful solid = any_solid IsLawfulSolid scene solids no_solid_lawful solid
