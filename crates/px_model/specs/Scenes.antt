@@ -91,6 +91,11 @@ pub record IsNumberedFrom (first : ℕ) (s : SolidView) : Type 0 where
   pub backs : All (λ f. f.number < first + faces_in s) s.backs
   pub once : (n : ℕ) → first < n → n < first + faces_in s → has_number s.fronts n ≡ not (has_number s.backs n)
 
+-- face numbers run from the first over the solids in their order
+abbrev pub AreNumberedFrom : ℕ → List SolidView → Type 0
+AreNumberedFrom first [] = ⊤
+AreNumberedFrom first (s ∷ ss) = IsNumberedFrom first s × AreNumberedFrom (first + faces_in s) ss
+
 -- a picture and depths within their limits
 pub record AreSizes (width height depth_bits fraction_bits : ℕ) : Type 0 where
   pub some_width : 1 ≤ width
@@ -100,11 +105,6 @@ pub record AreSizes (width height depth_bits fraction_bits : ℕ) : Type 0 where
   pub some_depth : 1 ≤ depth_bits
   pub depth_limit : depth_bits + fraction_bits ≤ MAX_DEPTH_BITS
   pub fraction_limit : fraction_bits ≤ MAX_FRACTION_BITS
-
--- face numbers run from the first over the solids in their order
-abbrev pub AreNumberedFrom : ℕ → List SolidView → Type 0
-AreNumberedFrom first [] = ⊤
-AreNumberedFrom first (s ∷ ss) = IsNumberedFrom first s × AreNumberedFrom (first + faces_in s) ss
 
 pub record IsLawfulScene (s : SceneView) : Type 0 where
   pub sizes : AreSizes s.width s.height s.depth_bits s.fraction_bits
