@@ -55,7 +55,7 @@ same_twice from middle to a b c h k p q = record {
 pub pair_law : (line : Bool) (h : ℕ) (outputs carries parents first second o k new_outputs new_carries : List ℕ)
     → IsPart h outputs parents → IsDoubled (get_or parents 0 0) first → IsDoubled (get_or parents 1 0) second
     → IsFedTwo (λ i j. line) (2 * h) first (rows outputs carries) (rows o k)
-        → IsFedTwo (λ i j. line) (2 * h + 2) second (rows o k) (rows new_outputs new_carries)
+    → IsFedTwo (λ i j. line) (2 * h + 2) second (rows o k) (rows new_outputs new_carries)
     → IsFed line (2 * h) (2 * h + 4) (rows outputs carries) (rows new_outputs new_carries)
 pair_law line h outputs carries parents first second o k new_outputs new_carries p d1 d2 t1 t2 = record {
   fed = λ w low high. elim (cases_lt w (2 * h + 2)) [
@@ -89,7 +89,7 @@ pair_law line h outputs carries parents first second o k new_outputs new_carries
 pub span_law : (line : Bool) (g h to : ℕ) (outputs carries o k new_outputs new_carries : List ℕ) → 2 ≤ g → h ≡ g + 2
     → h ≤ to → g % 2 ≡ 0
     → IsFed line (2 * h) (2 * to) (rows outputs carries) (rows o k)
-        → IsFed line (2 * g) (2 * g + 4) (rows o k) (rows new_outputs new_carries)
+    → IsFed line (2 * g) (2 * g + 4) (rows o k) (rows new_outputs new_carries)
     → IsFed line (2 * g) (2 * to) (rows outputs carries) (rows new_outputs new_carries)
 span_law line g h to outputs carries o k new_outputs new_carries two e le even a b = record {
   fed = λ w low high. elim (cases_lt w (2 * h)) [

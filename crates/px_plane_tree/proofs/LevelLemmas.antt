@@ -50,7 +50,7 @@ pub record IsFedDown (nx : ℕ) (now : Lines) (u : ℕ) (old new : Levels) : Typ
 pub at_next : (nx : ℕ) (now : Lines) (u : ℕ) (outputs carries : List ℕ) (still : List Bool) (o k : List ℕ)
     (s : List Bool)
     → 1 ≤ u → IsFedDown nx now u (levels outputs carries still) (levels o k s)
-        → IsFedDown nx now (u - 1 + 1) (levels outputs carries still) (levels o k s)
+    → IsFedDown nx now (u - 1 + 1) (levels outputs carries still) (levels o k s)
 at_next nx now u outputs carries still o k s some before =
     let e : u ≡ u - 1 + 1 = omega arith in
     subst (λ n. IsFedDown nx now n (levels outputs carries still) (levels o k s)) e before
@@ -96,7 +96,7 @@ pub fed_more : (nx : ℕ) (now : Lines) (u : ℕ) (outputs carries : List ℕ) (
     (s : List Bool) (new_outputs new_carries : List ℕ) (r : Bool)
     → 1 ≤ u → u < length still → length s ≡ length still
     → IsFedDown nx now (u + 1) (levels outputs carries still) (levels o k s)
-        → IsFed (level_line nx now u) (2 * 2 ^ u) (4 * 2 ^ u) (rows o k) (rows new_outputs new_carries)
+    → IsFed (level_line nx now u) (2 * 2 ^ u) (4 * 2 ^ u) (rows o k) (rows new_outputs new_carries)
     → (r ≡ true → new_outputs ≡ o) → (r ≡ true → new_carries ≡ k)
     → IsFedDown nx now u (levels outputs carries still) (levels new_outputs new_carries (set s u r))
 fed_more nx now u outputs carries still o k s new_outputs new_carries r some within long before level same_outputs
@@ -172,7 +172,7 @@ next_rest nx last now u outputs carries still o k s some within before rest line
 pub next_odd : (nx : ℕ) (now : Lines) (u : ℕ) (outputs carries : List ℕ) (still : List Bool) (o k : List ℕ)
     (s : List Bool) → u < length still → length outputs ≡ 2 ^ (length still + 1)
     → IsHeap outputs carries → IsFedDown nx now (u + 1) (levels outputs carries still) (levels o k s)
-        → HasOdd (2 * 2 ^ u) (4 * 2 ^ u) k
+    → HasOdd (2 * 2 ^ u) (4 * 2 ^ u) k
 next_odd nx now u outputs carries still o k s within levels heap before = record {
   each = λ w j low high in_word even.
       let top : 2 ^ (u + 1 + 1) ≡ 4 * 2 ^ u = ap (λ n. 2 ^ n) (omega arith) ∙ pow-add 2 2 u in
@@ -190,10 +190,10 @@ next_fits u n m within levels =
 
 module _ (nx : ℕ) (now : Lines) (heads outputs carries : List ℕ) (still : List Bool) (o k : List ℕ) (s : List Bool)
     (new_outputs new_carries : List ℕ) (r : Bool)
-    (heap : IsHeap outputs carries) (levels : length outputs ≡ 2 ^ (length still + 1)) (some : 1 ≤ length still)
+    (heap : IsHeap outputs carries) (sized : length outputs ≡ 2 ^ (length still + 1)) (some : 1 ≤ length still)
     (long : length s ≡ length still) (lines : HasLines now.a now.b (2 ^ (nx + 1)) heads)
     (before : IsFedDown nx now 1 (levels outputs carries still) (levels o k s))
-        (first : IsFedFirst heads now.c (rows o k) (rows new_outputs new_carries)) where
+    (first : IsFedFirst heads now.c (rows o k) (rows new_outputs new_carries)) where
   head : (w : ℕ) → w < 4 → WordFed (place_line now.a now.b (2 ^ (nx + 1)) w) now.c outputs carries new_outputs
       new_carries w
   head w low =
@@ -273,7 +273,7 @@ module _ (nx : ℕ) (now : Lines) (heads outputs carries : List ℕ) (still : Li
               (same_word _ (λ j. level_line nx now (u + 1)) _ (nat_bit (get_or new_outputs (w / 2) 0)) w _ _ _
               (λ j in_word. sym (level_place_line nx now (u + 1) w j (omega arith) (omega arith) (omega arith) in_word))
               (λ i in_word. same_parent now.c outputs (w / 2) i (omega arith) ∙ ap (λ n. nat_bit n i) (sym parent))
-              (all_words w (omega (arith, levels))));
+              (all_words w (omega (arith, sized))));
           outputs_rest = record { below = λ k low. refl; above = λ k high. refl };
           carries_rest = record { below = λ k low. refl; above = λ k high. refl };
         }

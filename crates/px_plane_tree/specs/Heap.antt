@@ -36,10 +36,10 @@ pub record IsSameBut (from to : ℕ) (old new : List ℕ) : Type 0 where
 pub record IsFedTwo (line : ℕ → ℕ → Bool) (at : ℕ) (both : List ℕ) (old new : Rows) : Type 0 where
   pub output_bit : (i j : ℕ) → i < 2 → j < 64 → nat_bit (slice_index new.outputs (at + i)) j
       ≡ (next_node (eqb (j % 2) 1) (nat_bit (slice_index both i) j) (line i j)
-          (nat_bit (slice_index old.carries (at + i)) j)).output
+      (nat_bit (slice_index old.carries (at + i)) j)).output
   pub carry_bit : (i j : ℕ) → i < 2 → j < 64 → nat_bit (slice_index new.carries (at + i)) j
       ≡ (next_node (eqb (j % 2) 1) (nat_bit (slice_index both i) j) (line i j)
-          (nat_bit (slice_index old.carries (at + i)) j)).carry
+      (nat_bit (slice_index old.carries (at + i)) j)).carry
   pub outputs_rest : IsSameBut at (at + 2) old.outputs new.outputs
   pub carries_rest : IsSameBut at (at + 2) old.carries new.carries
 
@@ -96,7 +96,7 @@ abbrev pub next_row : Bool → Bool → Bool → ℕ → List ℕ → List ℕ �
 next_row a b c first_b outputs carries p =
     cond (nat_lt p 2) (node_of outputs carries p)
     (next_node (eqb (p % 2) 1) (cond (nat_lt p 4) c (row_bit outputs (p / 2))) (line_at a b first_b p)
-        (row_bit carries p))
+    (row_bit carries p))
 
 -- every node was fed
 pub record IsFedHeap (a b c : Bool) (first_b : ℕ) (old new : Rows) : Type 0 where

@@ -50,7 +50,7 @@ pub record IsNext (line : Bool) (both old outputs carries : List ℕ) : Type 0 w
 pub record IsNextBy (lines both old outputs carries : List ℕ) : Type 0 where
   pub output : (i j : ℕ) → i < 2 → j < 64 → nat_bit (slice_index outputs i) j
       ≡ (next_node (eqb (j % 2) 1) (nat_bit (slice_index both i) j) (nat_bit (slice_index lines i) j)
-          (nat_bit (slice_index old i) j)).output
+      (nat_bit (slice_index old i) j)).output
   pub carry : (i j : ℕ) → i < 2 → j < 64 → nat_bit (slice_index carries i) j
       ≡ (next_node (eqb (j % 2) 1) (nat_bit (slice_index both i) j) (nat_bit (slice_index lines i) j)
-          (nat_bit (slice_index old i) j)).carry
+      (nat_bit (slice_index old i) j)).carry

@@ -44,7 +44,7 @@ pub returns-clause-fed : goal.returns-clause-fed
 returns-clause-fed c =
     let one : c.loop-u.u ≡ 1 = omega arith in
     let before = subst (λ n. IsFedDown c.args.nx c.args.now n (levels c.args.outputs.now c.args.carries.now
-        c.args.still.now) (levels c.loop-u.outputs c.loop-u.carries c.loop-u.still)) one c.loop-u.invariant.down in
+    c.args.still.now) (levels c.loop-u.outputs c.loop-u.carries c.loop-u.still)) one c.loop-u.invariant.down in
     fed_heap c.args.nx c.args.now c.args.heads.now _ _ _ _ _ _ _ _ c.feed_head.result c.requires.heap
     c.requires.levels c.requires.some c.loop-u.auto.still c.requires.heads before c.feed_head.ensures.fed
     (c.feed_head.auto.outputs ∙ c.loop-u.auto.outputs) (c.feed_head.auto.carries ∙ c.loop-u.auto.carries)
@@ -53,7 +53,7 @@ pub returns-clause-still : goal.returns-clause-still
 returns-clause-still c =
     let one : c.loop-u.u ≡ 1 = omega arith in
     let before = subst (λ n. IsFedDown c.args.nx c.args.now n (levels c.args.outputs.now c.args.carries.now
-        c.args.still.now) (levels c.loop-u.outputs c.loop-u.carries c.loop-u.still)) one c.loop-u.invariant.down in
+    c.args.still.now) (levels c.loop-u.outputs c.loop-u.carries c.loop-u.still)) one c.loop-u.invariant.down in
     are_still c.args.nx c.args.now c.args.heads.now _ _ _ _ _ _ _ _ c.feed_head.result c.requires.heap
     c.requires.levels c.requires.some c.loop-u.auto.still c.requires.heads before c.feed_head.ensures.fed
     c.feed_head.ensures.second c.feed_head.ensures.third
