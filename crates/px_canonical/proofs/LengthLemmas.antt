@@ -160,8 +160,8 @@ canonical_short scene is =
     in let few = law.solids
     in let faces = law.faces
     in let first = begin_short (version_for scene) scene.width scene.height scene.depth_bits scene.fraction_bits
-    (let m = law.width in omega arith) (let m = law.height in omega arith) (let m = law.depth in omega arith)
-    (let m = law.fraction in omega arith)
+    (let m = law.sizes.width_limit in omega arith) (let m = law.sizes.height_limit in omega arith) (let m = law.sizes.depth_limit in omega arith)
+    (let m = law.sizes.fraction_limit in omega arith)
     in let solids = solids_short scene.solids 1 is.solids law.numbers law.names
     in let show = line_short (codes "show") (shown ∷ []) 4 (1 + length shown) (omega arith)
     (omega (arith, length-append (32 ∷ shown) []))

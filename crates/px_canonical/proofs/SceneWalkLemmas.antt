@@ -183,9 +183,9 @@ scene_walk scene is =
     in let below = subst (λ (n : ℕ). HasLeavesBelow n scene.show) (sym names) law.shown
     in let stand = standing (start_of scene)
     in let first = begin_walk (version_for scene) scene.width scene.height scene.depth_bits scene.fraction_bits
-    (can_write scene.fraction_bits (has_difference scene.show)) law.some_width law.width law.some_height law.height
-    law.some_depth law.depth
-    law.fraction
+    (can_write scene.fraction_bits (has_difference scene.show)) law.sizes.some_width law.sizes.width_limit law.sizes.some_height law.sizes.height_limit
+    law.sizes.some_depth law.sizes.depth_limit
+    law.sizes.fraction_limit
     in let solids = solids_walk (start_of scene) scene.solids [] 0 is.solids law.numbers
     (let faces = law.faces in omega arith) law.names law.different (let few = law.solids in omega arith)
     in let signs = signs_of (version_for scene) (names_of scene.solids) scene.show

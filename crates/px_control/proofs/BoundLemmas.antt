@@ -1,5 +1,6 @@
 -- A scene of few products takes less than 2 ^ 43 clocks, and at least one for each operation.
-use Rattle.std.proofs.Common.{◌≡◌, ℕ, ◌+◌, ◌-◌, ◌*◌, ◌^◌, ◌==◌, ◌<◌, ◌≤◌, false, List, [], ◌∷◌, length, get_or, refl, ap}
+use Rattle.std.proofs.Common.{◌≡◌, ℕ, ◌+◌, ◌-◌, ◌*◌, ◌^◌, ◌==◌, ◌<◌, ◌≤◌, false, List, [], ◌∷◌, length, get_or}
+use Rattle.std.proofs.Common.{refl, ap}
 use Rattle.std.proofs.Common.{sym, subst, arith, inl, inr}
 use Rattle.std.specs.List.{All, sum_by}
 use Rattle.std.proofs.lemmas.Bool.{cases_Bool}
@@ -88,8 +89,8 @@ module _ (count : EdgesAreCounted) (scene : SceneView) (lawful : IsLawfulScene s
   levels =
       omega (
         arith,
-        (exponent_between scene.width lawful.width).1,
-        (exponent_between scene.height lawful.height).1,
+        (exponent_between scene.width lawful.sizes.width_limit).1,
+        (exponent_between scene.height lawful.sizes.height_limit).1,
       )
 
   number_most : l.number_bits ≤ 12
@@ -97,10 +98,10 @@ module _ (count : EdgesAreCounted) (scene : SceneView) (lawful : IsLawfulScene s
 
   few_bare : (step : Step) → sum_by taken (bare l (depths_of scene) step) ≤ 410
   few_bare (Candidate solid face) = elim (cases_Bool (scene.fraction_bits == 0)) [
-    | inl none ↦ rw none (omega (arith, levels, lawful.depth, number_most))
-    | inr some ↦ rw some (omega (arith, levels, lawful.depth, lawful.fraction, number_most))
+    | inl none ↦ rw none (omega (arith, levels, lawful.sizes.depth_limit, number_most))
+    | inr some ↦ rw some (omega (arith, levels, lawful.sizes.depth_limit, lawful.sizes.fraction_limit, number_most))
   ]
-  few_bare step = omega (arith, levels, lawful.depth, number_most)
+  few_bare step = omega (arith, levels, lawful.sizes.depth_limit, number_most)
 
   -- the clocks of a step
   few_step : (step : Step) → HasFace (IsThere scene) step → sum_by taken (operations scene l step) ≤ 6133
@@ -154,7 +155,8 @@ module _ (count : EdgesAreCounted) (scene : SceneView) (lawful : IsLawfulScene s
             (steps_there scene kept)),
         counted steps,
         steps_sum scene once kept,
-        sum_by-le number 1244160 kept (λ k d there. few_added (get_or kept k d) (kept_known scene lawful known k d there)
+        sum_by-le number 1244160 kept
+            (λ k d there. few_added (get_or kept k d) (kept_known scene lawful known k d there)
             (known.apart scene (sum_of_products scene.show) k d there)),
         few,
       )
@@ -173,20 +175,22 @@ paid f (x ∷ xs) all =
 each_paid : (scene : SceneView) → IsLawfulScene scene → HoldsOf scene (layout_of scene) (λ m. 1 ≤ cycles_in scene m)
 each_paid scene lawful = record {
   all = omega arith;
-  best = omega (arith, lawful.some_depth);
+  best = omega (arith, lawful.sizes.some_depth);
   alive = λ v. omega arith;
   par = omega arith;
   turned = omega arith;
   where_alive = omega arith;
   where_par = λ v. omega arith;
   less = omega arith;
-  copy = omega (arith, lawful.some_depth);
-  cleared = λ some. grind (arith, nat_tests);
-  number = λ solid face. omega (arith, (scene_layout scene lawful).some_number);
-  signs = λ solid face there k d low. omega arith;
-  load = λ solid face there. omega arith;
-  at_most = λ solid face there. omega arith;
-  behind = λ solid face there. omega arith;
+  copy = omega (arith, lawful.sizes.some_depth);
+  faces = record {
+    cleared = λ some. grind (arith, nat_tests);
+    number = λ solid face. omega (arith, (scene_layout scene lawful).some_number);
+    signs = λ solid face there k d low. omega arith;
+    load = λ solid face there. omega arith;
+    at_most = λ solid face there. omega arith;
+    behind = λ solid face there. omega arith;
+  };
 }
 
 pub some_clocks : (scene : SceneView) → IsLawfulScene scene → length (passes scene) ≤ total scene

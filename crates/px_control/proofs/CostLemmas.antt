@@ -1,5 +1,6 @@
 -- What the passes of a scene come to, by the rates of their steps.
-use Rattle.std.proofs.Common.{false, ◌≡◌, ◌==◌, ◌<◌, ◌∙◌, ℕ, All, List, length, get_or, refl, ap, sym, subst, arith, inl, inr}
+use Rattle.std.proofs.Common.{false, ◌≡◌, ◌==◌, ◌<◌, ◌∙◌, ℕ, All, List, length, get_or, refl, ap, sym, subst}
+use Rattle.std.proofs.Common.{arith, inl, inr}
 use Rattle.std.specs.List.{sum_by}
 use Rattle.std.proofs.lemmas.Bool.{cases_Bool}
 use Rattle.std.proofs.lemmas.List.Concat.{length-flat_map}
@@ -107,13 +108,16 @@ module _ (count : EdgesAreCounted) (scene : SceneView) (measure : Measure) where
     rated_is : (step : Step) → HasFace (IsThere scene) step
         → sum_by (worth scene measure) (operations scene l step) ≡ rated rates scene (first step)
     rated_is (Candidate solid face) there =
-        rw (are.candidate, are.edge) (weighed count scene l (worth scene measure) blind (Candidate solid face) there)
+        rw (are.faces.candidate, are.faces.edge)
+            (weighed count scene l (worth scene measure) blind (Candidate solid face) there)
     rated_is (Drop solid face) there =
-        rw (are.drop, are.edge) (weighed count scene l (worth scene measure) blind (Drop solid face) there)
+        rw (are.faces.drop, are.faces.edge) (weighed count scene l (worth scene measure) blind (Drop solid face) there)
     rated_is (Front solid face) there =
-        rw (are.front, are.edge) (weighed count scene l (worth scene measure) blind (Front solid face) there)
+        rw (are.faces.front, are.faces.edge)
+            (weighed count scene l (worth scene measure) blind (Front solid face) there)
     rated_is (Turn other solid face) there =
-        rw (are.turn, are.edge) (weighed count scene l (worth scene measure) blind (Turn other solid face) there)
+        rw (are.faces.turn, are.faces.edge)
+            (weighed count scene l (worth scene measure) blind (Turn other solid face) there)
     rated_is step there = omega (arith, are, weighed count scene l (worth scene measure) blind step there)
 
     -- what is told of the products that are kept

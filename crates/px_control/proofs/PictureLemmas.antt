@@ -20,7 +20,7 @@ use Rattle.px_model.proofs.GridLaws.{exponent_between, exponent_is}
 use Rattle.px_array.proofs.ClockLaws.{grid_of_zero_state}
 
 pub scene_grid : (scene : SceneView) → IsLawfulScene scene → IsGrid (columns_of scene) (rows_of scene)
-scene_grid scene lawful = (exponent_between scene.width lawful.width, exponent_between scene.height lawful.height)
+scene_grid scene lawful = (exponent_between scene.width lawful.sizes.width_limit, exponent_between scene.height lawful.sizes.height_limit)
 
 zero_pixel_at : (bits count place : ℕ) → place < count → get_or (replicate count (zero_pixel bits)) place no_pixel
     ≡ zero_pixel bits
@@ -38,8 +38,8 @@ picture_law more meanings lawful shown bits scene device law solids at x y left 
     let nx = columns_of scene
     in let ny = rows_of scene
     in let start = zero_state bits nx ny
-    in let column : x < 2 ^ nx = omega (arith, (exponent_is scene.width law.width).enough)
-    in let row : y < 2 ^ ny = omega (arith, (exponent_is scene.height law.height).enough)
+    in let column : x < 2 ^ nx = omega (arith, (exponent_is scene.width law.sizes.width_limit).enough)
+    in let row : y < 2 ^ ny = omega (arith, (exponent_is scene.height law.sizes.height_limit).enough)
     in let pixel : pixel_of start x y ≡ zero_pixel bits =
     zero_pixel_at bits (2 ^ (nx + ny)) (x * 2 ^ ny + y) (index_below nx ny x y column row)
     in let left_there = meanings bits nx ny (scene_grid scene law) (passes scene)

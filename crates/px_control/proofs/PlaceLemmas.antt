@@ -29,7 +29,8 @@ pub record Here (scene : SceneView) (p : Place) (m : Macro) : Type 0 where
   pub below : p.clock < total scene
   pub next : start_of scene (p.operation + 1) ≡ start_of scene p.operation + cycles_in scene m
 
-pub here_of : (scene : SceneView) (p : Place) (m : Macro) → HaveLawfulPasses scene → StandsFor scene p → p.current ≡ Some m
+pub here_of : (scene : SceneView) (p : Place) (m : Macro) → HaveLawfulPasses scene → StandsFor scene p
+    → p.current ≡ Some m
     → Here scene p m
 unfolding program
 here_of scene p m lawful stands e =
@@ -100,7 +101,8 @@ next_broadcast scene p m lawful stands e d =
     in rw stands.clock (micro_here (passes scene) (columns_of scene) (rows_of scene) p.operation p.micro m d h.at
     h.micro)
 
-pub next_is : (scene : SceneView) (p : Place) (m : Macro) → HaveLawfulPasses scene → StandsFor scene p → p.current ≡ Some m →
+pub next_is : (scene : SceneView) (p : Place) (m : Macro) → HaveLawfulPasses scene → StandsFor scene p
+    → p.current ≡ Some m →
     slice_get (program scene) p.clock ≡ Some (micro_at m (columns_of scene) (rows_of scene) p.micro)
 next_is scene p m lawful stands e =
     let h = here_of scene p m lawful stands e

@@ -89,7 +89,8 @@ cycles_are bits scene n device m at =
     ∙ ap (λ y. cycles m (columns_of scene) y) (rows_are bits scene n device at)
 
 -- the array after these broadcasts
-pub at_run : (bits : ℕ) (scene : SceneView) (p : Place) (m : Macro) (to : ℕ) (before now : Device) → HaveLawfulPasses scene
+pub at_run : (bits : ℕ) (scene : SceneView) (p : Place) (m : Macro) (to : ℕ) (before now : Device)
+    → HaveLawfulPasses scene
     → StandsFor scene p →
     p.current ≡ Some m → p.micro ≤ to → to ≤ cycles_in scene m → IsAt bits scene p.clock before →
     now ≡ all_clocked (between p.micro to (micros_on before m)) before → IsAt bits scene (p.clock + (to - p.micro)) now

@@ -1,5 +1,7 @@
 -- Operations that are made at once on the way through a program.
-use Rattle.std.proofs.Common.{◌≡◌, ℕ, suc, ◌+◌, ◌-◌, ◌<◌, ◌≤◌, List, [], ◌∷◌, ◌++◌, length, take, drop, get_or, Option, Some, None, refl, sym, ap, subst, ◌∙◌, inl, inr, arith, length-append, length-drop, get_or-drop}
+use Rattle.std.proofs.Common.{◌≡◌, ℕ, suc, ◌+◌, ◌-◌, ◌<◌, ◌≤◌, List, [], ◌∷◌, ◌++◌, length, take, drop, get_or}
+use Rattle.std.proofs.Common.{Option, Some, None, refl, sym, ap, subst, ◌∙◌, inl, inr, arith, length-append}
+use Rattle.std.proofs.Common.{length-drop, get_or-drop}
 use Rattle.std.proofs.Common.{Bool, true, false, ◌||◌, ◌⊎◌}
 use Rattle.std.specs.Prelude.{IfSome, IsSome}
 use Rattle.std.specs.List.{between, slice_get}
@@ -10,7 +12,8 @@ use Rattle.std.proofs.lemmas.List.Concat.{flat_map-append}
 use Rattle.std.proofs.Math.ListN.{drop_of_length-le}
 use Rattle.px_array.specs.Arrays.{Device, HasGrid, State, zero_state}
 use Rattle.px_array.specs.Clocks.{after_clocks, all_clocked}
-use Rattle.px_array.proofs.ClockLaws.{after_clocks-append, all_clocked-append, grid_after_clocks, grid_of_zero_state, nx-after_clocks, ny-after_clocks}
+use Rattle.px_array.proofs.ClockLaws.{after_clocks-append, all_clocked-append, grid_after_clocks}
+use Rattle.px_array.proofs.ClockLaws.{grid_of_zero_state, nx-after_clocks, ny-after_clocks}
 use Rattle.px_asm.specs.Making.{cycles_on, micros_on}
 use Rattle.px_asm.specs.Micros.{all_micros, cycles, micros}
 use Rattle.px_asm.specs.Operated.{Agree, BecomeTheSame, IsOperated, Known, StayInAgreement, all_renewed, none_known}
@@ -71,7 +74,8 @@ pub near_more : StayInAgreement → (bits : ℕ) (scene : SceneView) (p : Place)
     → p.micro ≡ 0 → IsLawful m bits → IsNear bits scene p.clock before → IsOperated bits m before now
     → end ≡ p.clock + (cycles_in scene m - p.micro) → IsNear bits scene end now
 near_more law bits scene p m before now end grid lawful stands e first places near operated end_is =
-    let agree = law bits (columns_of scene) (rows_of scene) grid m places before now (array_after bits scene p.clock).state
+    let agree = law bits (columns_of scene) (rows_of scene) grid m places before now
+        (array_after bits scene p.clock).state
     near.agree operated in
     let state = state_more bits scene p m lawful stands e first near.enough in
     let count = cycles_here scene m before near.agree.first.columns near.agree.first.rows in
@@ -88,7 +92,8 @@ none_past xs k e = elim (slice_get_cases xs k).1 [
   | inr w ↦ w.0
 ]
 
-pub none_left : (scene : SceneView) (p : Place) → StandsFor scene p → p.current ≡ None → length (passes scene) ≤ p.operation
+pub none_left : (scene : SceneView) (p : Place) → StandsFor scene p → p.current ≡ None
+    → length (passes scene) ≤ p.operation
 none_left scene p stands e = none_past (passes scene) p.operation (stands.current ∙ e)
 
 -- the operations from one on are it and those behind it
@@ -115,7 +120,8 @@ joined_front ms k j low =
     ap (λ i. drop k (take i ms)) (sym j_is) ∙ drop-take k (j - k) ms in
     ap (λ ys. take k ms ++ ys) rest ∙ (sym (take-add k (j - k) ms) ∙ ap (λ i. take i ms) j_is)
 
-pub left_more : (scene : SceneView) (p : Place) (m : Macro) (before now : Device) (k j : ℕ) → StandsFor scene p → p.current ≡ Some m
+pub left_more : (scene : SceneView) (p : Place) (m : Macro) (before now : Device) (k j : ℕ) → StandsFor scene p
+    → p.current ≡ Some m
     → k ≡ p.operation + 1 → p.operation < j → now ≡ all_clocked (micros m (columns_of scene) (rows_of scene)) before
     → after_left scene k j now ≡ after_left scene p.operation j before
 left_more scene p m before now k j stands e next low is =
@@ -145,9 +151,11 @@ front_is scene k =
     ap (λ ms. take (length first) ms) (sym cut) ∙ take-append_seam first rest
 
 -- where all is begun anew the broadcasts up to an operation make of an array that is near the one that is wanted
-pub near_end : BecomeTheSame → (bits : ℕ) (scene : SceneView) (p : Place) (before now : Device) (j : ℕ) → HaveLawfulPasses scene
+pub near_end : BecomeTheSame → (bits : ℕ) (scene : SceneView) (p : Place) (before now : Device) (j : ℕ)
+    → HaveLawfulPasses scene
     → (more : (m : Macro) → IsLawful m (need_of (layout_of scene)) → IsLawful m bits)
-    → StandsFor scene p → p.micro ≡ 0 → p.operation ≤ j → AllRenewed scene p.operation j → IsNear bits scene p.clock before
+    → StandsFor scene p → p.micro ≡ 0 → p.operation ≤ j → AllRenewed scene p.operation j
+        → IsNear bits scene p.clock before
     → after_left scene j j now ≡ after_left scene p.operation j before → IsAt bits scene (start_of scene j) now
 unfolding array_after
 near_end law bits scene p before now j lawful more stands first low anew near left =
@@ -182,7 +190,8 @@ near_end law bits scene p before now j lawful more stands first low anew near le
       enough = near.enough;
       reached = done
           ∙ (ap (λ (s : State). record { state = s; clocks = before.clocks + length (all_micros ops nx ny) }) state
-          ∙ ap (λ n. record { state = after_clocks (take (start_of scene j) (program scene)) zeros; clocks = n }) count);
+          ∙ ap (λ n. record { state = after_clocks (take (start_of scene j) (program scene)) zeros; clocks = n })
+              count);
     }
   where
     now_is : (d : Device) → d ≡ all_clocked [] d
@@ -208,7 +217,8 @@ clock_there scene p j stands first at =
 
 pub renewed_there : BecomeTheSame → (bits : ℕ) (scene : SceneView) (p q : Place) (before now : Device) (j : ℕ)
     → HaveLawfulPasses scene → (more : (m : Macro) → IsLawful m (need_of (layout_of scene)) → IsLawful m bits)
-    → StandsFor scene p → p.micro ≡ 0 → p.operation ≤ j → AllRenewed scene p.operation j → IsNear bits scene p.clock before
+    → StandsFor scene p → p.micro ≡ 0 → p.operation ≤ j → AllRenewed scene p.operation j
+        → IsNear bits scene p.clock before
     → StandsFor scene q → q.micro ≡ 0 → q.operation ≡ j
     → after_left scene q.operation j now ≡ after_left scene p.operation j before → IsAt bits scene q.clock now
 renewed_there law bits scene p q before now j lawful more from first low anew near there again at left =
@@ -216,7 +226,8 @@ renewed_there law bits scene p q before now j lawful more from first low anew ne
     (ap (λ k. after_left scene k j now) (sym at) ∙ left) in
     subst (λ n. IsAt bits scene n now) (sym (clock_there scene q j there again at)) end
 
-pub made_law : (scene : SceneView) (n : ℕ) (m : Macro) (before now : Device) (to : ℕ) → IsSized scene n before → to ≡ cycles_in scene m
+pub made_law : (scene : SceneView) (n : ℕ) (m : Macro) (before now : Device) (to : ℕ) → IsSized scene n before
+    → to ≡ cycles_in scene m
     → now ≡ all_clocked (between 0 to (micros_on before m)) before
     → now ≡ all_clocked (micros m (columns_of scene) (rows_of scene)) before
 made_law scene n m before now to sized to_is is =
@@ -231,7 +242,8 @@ sized_more scene n end m before now sized is end_is =
     record {
       columns = ap (λ (d : Device). d.state.tree.nx) is ∙ (nx-after_clocks ms before.state ∙ sized.columns);
       rows = ap (λ (d : Device). d.state.tree.ny) is ∙ (ny-after_clocks ms before.state ∙ sized.rows);
-      clocks = omega (arith, ap (λ (d : Device). d.clocks) is, count_of_them m (columns_of scene) (rows_of scene), sized.clocks);
+      clocks = omega (arith, ap (λ (d : Device). d.clocks) is, count_of_them m (columns_of scene) (rows_of scene),
+          sized.clocks);
     }
 
 -- ---- where each part is begun anew
@@ -282,7 +294,8 @@ fresh_from scene from behind (Some x) (Some y) (Some z) k least tree carry latch
     }
 
 -- an array that is where the program stands is near it
-pub near_of_at : (bits : ℕ) (scene : SceneView) (n : ℕ) (device : Device) → IsAt bits scene n device → IsNear bits scene n device
+pub near_of_at : (bits : ℕ) (scene : SceneView) (n : ℕ) (device : Device) → IsAt bits scene n device
+    → IsNear bits scene n device
 unfolding array_after
 near_of_at bits scene n device at =
     let nx = columns_of scene in

@@ -1,4 +1,5 @@
--- What operations come to: how many they are, or the clocks that they take. Only proofs and private functions stand on it.
+-- What operations come to: how many they are, or the clocks that they take. Only proofs and private functions
+-- stand on it.
 use Rattle.std.specs.Prelude.{◌≡◌, ℕ, ◌+◌, ◌*◌, ◌≤◌, true}
 use Rattle.std.specs.List.{sum_by}
 use Rattle.px_face.specs.Edges.{edge_count}
@@ -8,7 +9,8 @@ use Rattle.px_macro.specs.declared.operation.Macro.TheVariants as m
 use Rattle.px_model.specs.Cells.{depths_of}
 use Rattle.px_model.specs.Scenes.{SceneView}
 use Rattle.px_sched.specs.declared.step.Step.{Step}
-use Rattle.px_sched.specs.declared.step.Step.TheVariants.{Begin, Candidate, Clear, Close, Confirm, Drop, Front, Merge, Open, Start, Turn}
+use Rattle.px_sched.specs.declared.step.Step.TheVariants.{Begin, Candidate, Clear, Close, Confirm, Drop, Front}
+use Rattle.px_sched.specs.declared.step.Step.TheVariants.{Merge, Open, Start, Turn}
 use Rattle.px_sched.specs.Layouts.{layout_of}
 use Rattle.px_sched.specs.Passes.{solid_of}
 use Rattle.px_sched.specs.Worths.{bare}
@@ -34,35 +36,43 @@ but_edges scene measure m = worth scene measure m
 abbrev pub bare_worth : SceneView → Measure → Step → ℕ
 bare_worth scene measure step = sum_by (worth scene measure) (bare (layout_of scene) (depths_of scene) step)
 
--- what steps come to but for their edges, by their kinds, and an edge
+-- what the steps of a face come to but for their edges, by their kinds, and an edge
+pub record AreFaceRates (scene : SceneView) (measure : Measure) (rates : Rates) : Type 0 where
+  pub candidate : rates.candidate ≡ bare_worth scene measure (Candidate 0 0)
+  pub drop : rates.drop ≡ bare_worth scene measure (Drop 0 0)
+  pub front : rates.front ≡ bare_worth scene measure (Front 0 0)
+  pub turn : rates.turn ≡ bare_worth scene measure (Turn 0 0 0)
+  pub edge : rates.edge ≡ worth scene measure (m.KeepSign (level 0))
+
+-- what all steps come to
 pub record AreRates (scene : SceneView) (measure : Measure) (rates : Rates) : Type 0 where
   pub start : rates.start ≡ bare_worth scene measure Start
   pub opening : rates.opening ≡ bare_worth scene measure Open
-  pub candidate : rates.candidate ≡ bare_worth scene measure (Candidate 0 0)
-  pub drop : rates.drop ≡ bare_worth scene measure (Drop 0 0)
   pub clear : rates.clear ≡ bare_worth scene measure Clear
-  pub front : rates.front ≡ bare_worth scene measure (Front 0 0)
   pub confirm : rates.confirm ≡ bare_worth scene measure Confirm
   pub begin : rates.begin ≡ bare_worth scene measure (Begin 0)
-  pub turn : rates.turn ≡ bare_worth scene measure (Turn 0 0 0)
   pub close : rates.close ≡ bare_worth scene measure (Close 0 true)
   pub merge : rates.merge ≡ bare_worth scene measure Merge
-  pub edge : rates.edge ≡ worth scene measure (m.KeepSign (level 0))
+  pub faces : AreFaceRates scene measure rates
+
+-- none of those of a face is great
+pub record AreLowForFaces (rates : Rates) : Type 0 where
+  pub candidate : rates.candidate ≤ 8364
+  pub drop : rates.drop ≤ 8364
+  pub front : rates.front ≤ 8364
+  pub turn : rates.turn ≤ 8364
+  pub edge : rates.edge ≤ 82
 
 -- none of them is great
 pub record AreLow (rates : Rates) : Type 0 where
   pub start : rates.start ≤ 8364
   pub opening : rates.opening ≤ 8364
-  pub candidate : rates.candidate ≤ 8364
-  pub drop : rates.drop ≤ 8364
   pub clear : rates.clear ≤ 8364
-  pub front : rates.front ≤ 8364
   pub confirm : rates.confirm ≤ 8364
   pub begin : rates.begin ≤ 8364
-  pub turn : rates.turn ≤ 8364
   pub close : rates.close ≤ 8364
   pub merge : rates.merge ≤ 8364
-  pub edge : rates.edge ≤ 82
+  pub faces : AreLowForFaces rates
 
 -- a face's step by what it is but for its edges
 abbrev pub with_edges : Rates → SceneView → (bare solid : ℕ) → ℕ

@@ -1,4 +1,5 @@
--- The grid of an array on which a scene's broadcasts are made: it has a pixel for each one of the picture. Clauses of public calls stand on it.
+-- The grid of an array on which a scene's broadcasts are made: it has a pixel for each one of the picture.
+-- Clauses of public calls stand on it.
 use Rattle.std.specs.Prelude.{ℕ, ◌^◌, ◌≤◌}
 use Rattle.px_array.specs.Arrays.{Device, HasGrid, IsOpen}
 use Rattle.px_model.specs.Scenes.{IsGridExponent, IsLawfulScene, SceneView}

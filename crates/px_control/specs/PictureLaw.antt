@@ -1,4 +1,5 @@
--- The keys that an array stores after the whole program of a scene are the picture. Clauses of public calls stand on it.
+-- The keys that an array stores after the whole program of a scene are the picture. Clauses of public calls
+-- stand on it.
 use Rattle.std.specs.Prelude.{ℕ, All}
 use Rattle.px_array.specs.Arrays.{Device, pixel_of}
 use Rattle.px_model.specs.Scenes.{IsLawfulScene, SceneView, IsLawfulSolid}

@@ -1,4 +1,5 @@
--- The program of a scene: what is broadcast, clock by clock, and the array after so many clocks. Clauses of public calls stand on it.
+-- The program of a scene: what is broadcast, clock by clock, and the array after so many clocks. Clauses of
+-- public calls stand on it.
 use Rattle.std.specs.Prelude.{◌≡◌, All, ℕ, ◌+◌, ◌-◌, ◌≤◌, nat_le, nat_lt, List, [], ◌∷◌, filter, length, take}
 use Rattle.px_array.specs.declared.micro.Micro.{Micro}
 use Rattle.px_array.specs.Arrays.{Device, zero_state}

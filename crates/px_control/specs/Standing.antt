@@ -15,7 +15,8 @@ abbrev pub IsWithinOperation : SceneView → (micro : ℕ) → Option Macro → 
 IsWithinOperation scene micro None = micro ≡ 0
 IsWithinOperation scene micro (Some m) = micro < cycles_in scene m
 
--- the place is that of its clock: its operation and micro are those of the next broadcast, and its cursor has given the operation
+-- the place is that of its clock: its operation and micro are those of the next broadcast, and its cursor has
+-- given the operation
 pub record StandsFor (scene : SceneView) (p : Place) : Type 0 where
   pub cursor : Stands scene p.cursor
   pub given : p.cursor.given ≡ min (p.operation + 1) (length (passes scene))
@@ -29,7 +30,8 @@ pub record JobView : Type 0 where
   pub scene : SceneView
   pub place : Place
 
--- what a refusal leaves of the array, of its slots and its work too: only for want of memory may it be another one, and then none is open
+-- what a refusal leaves of the array, of its slots and its work too: only for want of memory may it be another
+-- one, and then none is open
 abbrev pub LeavesOnRefusal : JobFault → (before now : ArrayView) → Type 0
 LeavesOnRefusal (PixelMemory need) before now = now ≡ before
 LeavesOnRefusal (Products count) before now = now ≡ before

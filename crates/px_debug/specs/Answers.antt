@@ -24,11 +24,6 @@ trace_text scene now = trace_lines (now - 32) (keep_last 32 (take now (program s
 
 -- the answer to a command after its move, where the line has this number
 unfoldable pub answer_in : SceneView → State → (now number : ℕ) → Command → List ℕ
-answer_in scene s now number (c.Step n) = now_line now
-answer_in scene s now number (c.Macro n) = now_line now
-answer_in scene s now number c.Run = now_line now
-answer_in scene s now number (c.Until n) = now_line now
-answer_in scene s now number (c.Back n) = now_line now
 answer_in scene s now number c.At = place_line scene now
 answer_in scene s now number (c.Pixel x y) = if is_pixel s x y then pixel_line s x y else unknown_line number
 answer_in scene s now number (c.Field x y) = if is_pixel s x y then field_line (layout_of scene) s x y else unknown_line number
@@ -37,6 +32,7 @@ answer_in scene s now number c.Trace = trace_text scene now
 answer_in scene s now number c.Quit = []
 answer_in scene s now number c.Nothing = []
 answer_in scene s now number c.Unknown = unknown_line number
+answer_in scene s now number other = now_line now
 
 abbrev pub answer : (bits : ℕ) → SceneView → (now number : ℕ) → Command → List ℕ
 answer bits scene now number command = answer_in scene (array_after bits scene now).state now number command

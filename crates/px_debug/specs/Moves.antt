@@ -28,30 +28,12 @@ moved scene now (c.Macro n) = after_ends n (ends_after scene now) now (total sce
 moved scene now c.Run = total scene
 moved scene now (c.Until n) = max now (min n (total scene))
 moved scene now (c.Back n) = now - n
-moved scene now c.At = now
-moved scene now (c.Pixel x y) = now
-moved scene now (c.Field x y) = now
-moved scene now (c.Tree level index) = now
-moved scene now c.Trace = now
-moved scene now c.Quit = now
-moved scene now c.Nothing = now
-moved scene now c.Unknown = now
+moved scene now other = now
 
 -- only `quit` ends a session
 abbrev pub going : Command → Going
 going c.Quit = g.Quit
-going (c.Step n) = g.More
-going (c.Macro n) = g.More
-going c.Run = g.More
-going (c.Until n) = g.More
-going (c.Back n) = g.More
-going c.At = g.More
-going (c.Pixel x y) = g.More
-going (c.Field x y) = g.More
-going (c.Tree level index) = g.More
-going c.Trace = g.More
-going c.Nothing = g.More
-going c.Unknown = g.More
+going other = g.More
 
 -- a quarter of a program, and a clock at least
 abbrev pub quarter_of : SceneView → ℕ
@@ -68,14 +50,7 @@ most_clocks scene now (c.Step n) = moved scene now (c.Step n) - now
 most_clocks scene now (c.Macro n) = moved scene now (c.Macro n) - now
 most_clocks scene now c.Run = total scene - now
 most_clocks scene now (c.Until n) = moved scene now (c.Until n) - now
-most_clocks scene now c.At = 0
-most_clocks scene now (c.Pixel x y) = 0
-most_clocks scene now (c.Field x y) = 0
-most_clocks scene now (c.Tree level index) = 0
-most_clocks scene now c.Trace = 0
-most_clocks scene now c.Quit = 0
-most_clocks scene now c.Nothing = 0
-most_clocks scene now c.Unknown = 0
+most_clocks scene now other = 0
 
 -- an array is as the session's broadcasts leave it, its slots keep what each passed quarter left, and nothing else
 pub record Fits (bits : ℕ) (s : SessionView) (device : Device) (slots : List (Option Device)) : Type 0 where

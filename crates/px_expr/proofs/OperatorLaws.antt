@@ -11,15 +11,11 @@ use Rattle.px_expr.specs.Cells.{truth_of, combination_of}
 -- the node that joins two places is seen as its operator between them
 pub shape_of_op : (op : Op) (left right : ℕ) → shape_of (op_node op left right) ≡ p.Join op left right
 shape_of_op o.Union left right = refl
-shape_of_op o.Meet left right = refl
-shape_of_op o.Minus left right = refl
-shape_of_op o.Differ left right = refl
+shape_of_op other left right = refl
 
 pub none_of_none : (op : Op) → truth_of op false false ≡ false
 none_of_none o.Union = refl
-none_of_none o.Meet = refl
-none_of_none o.Minus = refl
-none_of_none o.Differ = refl
+none_of_none other = refl
 
 -- each side is taken in one sense
 abbrev pub IsOneWay : Combination → Type 0
@@ -29,7 +25,5 @@ IsOneWay (EitherWay sense) = ⊥
 
 -- only a symmetric difference takes its sides in both senses
 pub one_way : (op : Op) → op ≢ o.Differ → IsOneWay (combination_of op)
-one_way o.Union other = tt
-one_way o.Meet other = tt
-one_way o.Minus other = tt
 one_way o.Differ other = absurd (other refl)
+one_way rest other = tt

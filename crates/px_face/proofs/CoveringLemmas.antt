@@ -84,7 +84,8 @@ lead_is v ps i low =
 some_values : (v : Linear → ℤ) (ps : List Linear) (n : ℕ) → length ps ≡ n + 1 → length (map v ps) ≡ n + 1
 some_values v ps n e = length-map ps v ∙ e
 
-number_at : (fs : List Face) (i : ℕ) (f : Face) → i < length fs → get_or (numbers_in_faces fs) i 0 ≡ (get_or fs i f).number
+number_at : (fs : List Face) (i : ℕ) (f : Face) → i < length fs → get_or (numbers_in_faces fs) i 0
+    ≡ (get_or fs i f).number
 number_at fs i f low = get_or-map (λ g. g.number) fs i f 0 low
 
 -- the numbers of the near face and the fronts grow with their places
@@ -260,7 +261,8 @@ module _ (s : SolidView) (end x y : ℕ) where
 
   number_front : (face : ℕ) → face ≤ length s.fronts → face_number s face
       ≡ get_or (s.near_number ∷ numbers_in_faces s.fronts) face 0
-  number_front face low = get_or_append_left (s.near_number ∷ numbers_in_faces s.fronts) (numbers_in_faces s.backs ++ 0 ∷ []) 0
+  number_front face low = get_or_append_left (s.near_number ∷ numbers_in_faces s.fronts)
+      (numbers_in_faces s.backs ++ 0 ∷ []) 0
       face (omega (arith, length-map s.fronts (λ f. f.number)))
 
   least_number : IsLawfulSolid s → (face : ℕ) → is_front_face s face ≡ true → value_at (face_plane s end face) x y
@@ -279,14 +281,18 @@ module _ (s : SolidView) (end x y : ℕ) where
       record {
         fronts = fronts_cover;
         backs = backs_cover;
-        front_there = lt_true front_place n (omega (arith, front_low));
-        back_there = omega (arith, back_low);
-        back_behind = lt_false (n + back_place) n high;
-        front_value = ap at (plane_front front_place front_low) ∙ front_value;
-        back_value = ap at (plane_back (n + back_place) high)
-            ∙ ap (λ j. at (get_or (back_planes s.backs end) j (level 0))) moved ∙ back_value;
-        least_number = least_number;
-        least_index = least_index;
+        front = record {
+          there = lt_true front_place n (omega (arith, front_low));
+          value = ap at (plane_front front_place front_low) ∙ front_value;
+          least = least_number;
+        };
+        back = record {
+          there = omega (arith, back_low);
+          behind = lt_false (n + back_place) n high;
+          value = ap at (plane_back (n + back_place) high)
+              ∙ ap (λ j. at (get_or (back_planes s.backs end) j (level 0))) moved ∙ back_value;
+          least = least_index;
+        };
         values = cells_are s end x y;
         depths = depths_are s end x y;
       }

@@ -75,7 +75,7 @@ module _ (s : SolidView) (end x y : ℕ) (law : IsCoveredOnce s end x y) where
       (where_here (is_met s end x y) (eqb i (covering_front s x y)) (le_z (value_at (face_plane s end i) x y) (pos z))
       (le_z (enters_at s x y) (pos z))
       (λ e. ap (λ v. le_z v (pos z)) (ap (λ j. value_at (face_plane s end j) x y)
-      (eqb_holds i (covering_front s x y) e) ∙ law.front_value)))
+      (eqb_holds i (covering_front s x y) e) ∙ law.front.value)))
 
   backs_passed : (z i : ℕ) → length s.fronts + 1 ≤ i → i < face_count s → is_passed_at s end x y z i
       ≡ ((is_met s end x y && le_z (leaves_at s end x y) (pos z)) && eqb i (covering_back s end x y))
@@ -84,7 +84,7 @@ module _ (s : SolidView) (end x y : ℕ) (law : IsCoveredOnce s end x y) where
       (where_here (is_met s end x y) (eqb i (covering_back s end x y))
       (le_z (value_at (face_plane s end i) x y) (pos z)) (le_z (leaves_at s end x y) (pos z))
       (λ e. ap (λ v. le_z v (pos z)) (ap (λ j. value_at (face_plane s end j) x y)
-      (eqb_holds i (covering_back s end x y) e) ∙ law.back_value)))
+      (eqb_holds i (covering_back s end x y) e) ∙ law.back.value)))
 
   pub odd_inside_at : ((v : ℕ) → is_inside_at s end x y v
       ≡ is_odd (count_by (is_passed_at s end x y v) (range_with_len 0 (face_count s))))
@@ -97,13 +97,13 @@ module _ (s : SolidView) (end x y : ℕ) (law : IsCoveredOnce s end x y) where
       let nb = length s.backs + 1 in
       let count : face_count s ≡ nf + nb = omega arith in
       let none : 0 + nf ≡ nf = omega arith in
-      let front_low = lt_holds (covering_front s x y) nf law.front_there in
+      let front_low = lt_holds (covering_front s x y) nf law.front.there in
       let fronts : count_by test (range_with_len 0 nf) ≡ cond (met && entered) 1 0 =
       count_one test 0 nf (covering_front s x y) (met && entered) (λ i p q. fronts_passed z i (omega arith))
       (omega arith) (omega arith) in
       let backs : count_by test (range_with_len nf nb) ≡ cond (met && left) 1 0 =
       count_one test nf nb (covering_back s end x y) (met && left) (λ i p q. backs_passed z i p (omega arith))
-      (omega arith) (omega (arith, law.back_there)) in
+      (omega arith) (omega (arith, law.back.there)) in
       law.values z
       ∙ ap (λ b. met && entered && b) (lt_is_not_le (leaves_at s end x y) (pos z))
       ∙ odd_between met entered left (λ m. left_is_entered (enters_at s x y) (leaves_at s end x y) (pos z)

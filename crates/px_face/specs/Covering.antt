@@ -1,7 +1,8 @@
 -- The main theorem: where a solid is met at a pixel, exactly one of its fronts and one of its backs
 -- cover the pixel and bound its cells there, and elsewhere none covers; and a cell is inside where an
 -- odd number of covering faces stands at or before it. Clauses of public calls stand on it.
-use Rattle.std.specs.Prelude.{◌≡◌, ℕ, suc, ◌+◌, ◌%◌, ◌<◌, ◌≤◌, ◌==◌, ℤ, pos, neg_ℤ, ◌≤ℤ◌, ◌<ℤ◌, Bool, true, false, ◌&&◌, nat_le, nat_lt, List, [], ◌∷◌, length, map, count_by, if◌then◌else◌}
+use Rattle.std.specs.Prelude.{◌≡◌, ℕ, suc, ◌+◌, ◌%◌, ◌<◌, ◌≤◌, ◌==◌, ℤ, pos, neg_ℤ, ◌≤ℤ◌, ◌<ℤ◌, Bool, true}
+use Rattle.std.specs.Prelude.{false, ◌&&◌, nat_le, nat_lt, List, [], ◌∷◌, length, map, count_by, if◌then◌else◌}
 use Rattle.std.specs.List.{list_all, range_with_len}
 use lib.Signed.{le_z, lt_z}
 use Rattle.px_num.specs.Forms.{value_at}
@@ -28,6 +29,23 @@ abbrev pub covering_back : SolidView → (end : ℕ) → (x y : ℕ) → ℕ
 covering_back s end x y =
     length s.fronts + 1 + greatest_place (map (λ p. neg_ℤ (value_at p x y)) (back_planes s.backs end))
 
+-- the front that covers: of those with the greatest value the one of least number
+pub record IsCoveringFront (s : SolidView) (end x y : ℕ) : Type 0 where
+  pub there : is_front_face s (covering_front s x y) ≡ true
+  pub value : value_at (face_plane s end (covering_front s x y)) x y ≡ enters_at s x y
+  pub least : IsLawfulSolid s → (face : ℕ) → is_front_face s face ≡ true →
+      value_at (face_plane s end face) x y ≡ enters_at s x y →
+      face_number s (covering_front s x y) ≤ face_number s face
+
+-- the back that covers: of those with the least value the one of least index
+pub record IsCoveringBack (s : SolidView) (end x y : ℕ) : Type 0 where
+  pub there : covering_back s end x y < face_count s
+  pub behind : is_front_face s (covering_back s end x y) ≡ false
+  pub value : value_at (face_plane s end (covering_back s end x y)) x y ≡ leaves_at s end x y
+  pub least : (face : ℕ) → face < face_count s → is_front_face s face ≡ false →
+      value_at (face_plane s end face) x y ≡ leaves_at s end x y →
+      covering_back s end x y ≤ face
+
 -- the covering law at a pixel
 pub record IsCoveredOnce (s : SolidView) (end x y : ℕ) : Type 0 where
   -- where the solid is met one of its fronts covers and one of its backs, and elsewhere none
@@ -35,19 +53,8 @@ pub record IsCoveredOnce (s : SolidView) (end x y : ℕ) : Type 0 where
       covers s end face x y ≡ (is_met s end x y && face == covering_front s x y)
   pub backs : (face : ℕ) → face < face_count s → is_front_face s face ≡ false →
       covers s end face x y ≡ (is_met s end x y && face == covering_back s end x y)
-  pub front_there : is_front_face s (covering_front s x y) ≡ true
-  pub back_there : covering_back s end x y < face_count s
-  pub back_behind : is_front_face s (covering_back s end x y) ≡ false
-  -- of the fronts with the greatest value it is the one of least number,
-  -- and of the backs with the least value the one of least index
-  pub front_value : value_at (face_plane s end (covering_front s x y)) x y ≡ enters_at s x y
-  pub back_value : value_at (face_plane s end (covering_back s end x y)) x y ≡ leaves_at s end x y
-  pub least_number : IsLawfulSolid s → (face : ℕ) → is_front_face s face ≡ true →
-      value_at (face_plane s end face) x y ≡ enters_at s x y →
-      face_number s (covering_front s x y) ≤ face_number s face
-  pub least_index : (face : ℕ) → face < face_count s → is_front_face s face ≡ false →
-      value_at (face_plane s end face) x y ≡ leaves_at s end x y →
-      covering_back s end x y ≤ face
+  pub front : IsCoveringFront s end x y
+  pub back : IsCoveringBack s end x y
   -- a value is inside where the solid is met, from the front's value to before the back's
   pub values : (v : ℕ) → is_inside_at s end x y v
       ≡ (is_met s end x y && le_z (enters_at s x y) (pos v) && lt_z (pos v) (leaves_at s end x y))

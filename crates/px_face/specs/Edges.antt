@@ -1,4 +1,5 @@
--- The edges of a face: the forms that are at least 0 where the face bounds its solid. Clauses of public calls stand on it.
+-- The edges of a face: the forms that are at least 0 where the face bounds its solid. Clauses of public calls
+-- stand on it.
 use Rattle.std.specs.Prelude.{ℕ, pos, ◌+◌, ◌-◌, Bool, List, ◌++◌, length, map, take, drop, get_or, if◌then◌else◌}
 use Rattle.std.specs.List.{list_all}
 use lib.Signed.{le_z}

@@ -1,4 +1,5 @@
--- The faces of a solid by their index: the near face, its fronts, its backs, and last the far limit. Clauses of public calls stand on it.
+-- The faces of a solid by their index: the near face, its fronts, its backs, and last the far limit. Clauses of
+-- public calls stand on it.
 use Rattle.std.specs.Prelude.{ℕ, pos, ◌+◌, Bool, List, [], ◌∷◌, ◌++◌, length, map, get_or, nat_lt}
 use Rattle.px_num.specs.declared.linear.Linear.{Linear}
 use Rattle.px_model.specs.declared.solid.Face.{Face}

@@ -1,4 +1,5 @@
--- The edges of a face but for the sides: how its plane is ordered among the others. Only proofs and private functions stand on it.
+-- The edges of a face but for the sides: how its plane is ordered among the others. Only proofs and private
+-- functions stand on it.
 use Rattle.std.specs.Prelude.{ℕ, List, ◌++◌, get_or}
 use Rattle.px_num.specs.declared.linear.Linear.{Linear}
 use Rattle.px_model.specs.Scenes.{SolidView}

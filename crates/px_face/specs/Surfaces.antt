@@ -50,7 +50,8 @@ pub record ShowsBackground (scene : SceneView) (x y : ℕ) : Type 0 where
 
 -- a picture shows no face but the scene's
 abbrev pub PicturesShowFaces : Type 0
-PicturesShowFaces = (scene : SceneView) → IsLawfulScene scene → (x y : ℕ) → (picture scene x y).face ≤ faces_of scene.solids
+PicturesShowFaces = (scene : SceneView) → IsLawfulScene scene → (x y : ℕ)
+    → (picture scene x y).face ≤ faces_of scene.solids
 
 abbrev pub PicturesShowBackground : Type 0
 PicturesShowBackground = (scene : SceneView) → IsLawfulScene scene → All IsLawfulSolid scene.solids → (x y : ℕ) →

@@ -103,16 +103,6 @@ row_shown scene layout state plane strip y above held =
     (λ x low left. ap (shown_pixel scene plane) (held.each x y (omega arith) refl above)
     ∙ pixel_shown scene layout state plane x y)
 
--- what a strip holds is shown where the array stores faces
-pub faces_shown : (scene : SceneView) (layout : LayoutView) (state : State) (plane : Plane) (strip : List ℕ) (y : ℕ)
-    → y < scene.height → y < 2 ^ state.tree.ny → StoresFaces scene layout state
-    → HoldsRow strip (field_of layout plane) state scene.width y
-    → (x : ℕ) → x < scene.width → IsShown scene plane (strip_number strip x y)
-faces_shown scene layout state p.Depth strip y high above faces held x left = tt
-faces_shown scene layout state p.Face strip y high above faces held x left = tt
-faces_shown scene layout state p.Colour strip y high above faces held x left =
-    omega (arith, held.each x y left refl above, faces x y left high)
-
 -- a strip that has the numbers of a row has those of another one of its eight
 pub other_row : (strip : List ℕ) (field : Field) (state : State) (width y other : ℕ) → other / 8 ≡ y / 8
     → HoldsRow strip field state width y → HoldsRow strip field state width other

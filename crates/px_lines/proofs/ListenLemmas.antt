@@ -8,9 +8,6 @@ use Rattle.px_lines.specs.Hearings.{Begun, Heard, Waits}
 use Rattle.px_lines.specs.Listenings.{ListenedTo, Listens, Silent}
 use Rattle.px_lines.specs.Parts.{part_end}
 
-listens_none : (n : ℕ) (a : Option (List Ask)) (w : Option (List ℕ)) → Listens n a a w []
-listens_none n a w = record { asks = []; asked = asked_none a; given = refl; silent = tt }
-
 silent_more : (n : ℕ) (w : Option (List ℕ)) (text : List ℕ) (xs : List Ask) (a : Ask) → Silent n w text xs
     → a.told ≡ w → part_end (take (n - 1) (text ++ all_given xs)) ≡ None → Silent n w text (xs ++ a ∷ [])
 silent_more n w text [] a silent told none = (told, rw (append-nil text) at none, tt)

@@ -192,13 +192,15 @@ module _ (pixels : Pixels) where
   pub scene_kept : (width height : ℕ) (scene : SceneView) → IsLawfulScene scene → HasSceneOver pixels width height scene
       → IsLawfulScene (scene_over pixels width height scene)
   scene_kept width height scene lawful over = record {
-    some_width = over.some_width;
-    width = over.width;
-    some_height = over.some_height;
-    height = over.height;
-    some_depth = lawful.some_depth;
-    depth = over.depth;
-    fraction = over.fraction;
+    sizes = record {
+      some_width = over.some_width;
+      width_limit = over.width;
+      some_height = over.some_height;
+      height_limit = over.height;
+      some_depth = lawful.sizes.some_depth;
+      depth_limit = over.depth;
+      fraction_limit = over.fraction;
+    };
     solids = let few = lawful.solids in rw (length-map scene.solids (solid_over pixels)) few;
     names = rw (names_kept scene.solids) lawful.names;
     different = rw (names_kept scene.solids) lawful.different;

@@ -96,14 +96,18 @@ abbrev pub AreNumberedFrom : ℕ → List SolidView → Type 0
 AreNumberedFrom first [] = ⊤
 AreNumberedFrom first (s ∷ ss) = IsNumberedFrom first s × AreNumberedFrom (first + faces_in s) ss
 
+-- a picture and depths within their limits
+pub record AreSizes (width height depth_bits fraction_bits : ℕ) : Type 0 where
+  pub some_width : 1 ≤ width
+  pub width_limit : width ≤ MAX_PICTURE_SIZE
+  pub some_height : 1 ≤ height
+  pub height_limit : height ≤ MAX_PICTURE_SIZE
+  pub some_depth : 1 ≤ depth_bits
+  pub depth_limit : depth_bits + fraction_bits ≤ MAX_DEPTH_BITS
+  pub fraction_limit : fraction_bits ≤ MAX_FRACTION_BITS
+
 pub record IsLawfulScene (s : SceneView) : Type 0 where
-  pub some_width : 1 ≤ s.width
-  pub width : s.width ≤ MAX_PICTURE_SIZE
-  pub some_height : 1 ≤ s.height
-  pub height : s.height ≤ MAX_PICTURE_SIZE
-  pub some_depth : 1 ≤ s.depth_bits
-  pub depth : s.depth_bits + s.fraction_bits ≤ MAX_DEPTH_BITS
-  pub fraction : s.fraction_bits ≤ MAX_FRACTION_BITS
+  pub sizes : AreSizes s.width s.height s.depth_bits s.fraction_bits
   pub solids : length s.solids ≤ MAX_SOLIDS
   pub names : AllPass is_name (names_of s.solids)
   pub different : AllPairs (λ m n. m ≢ n) (names_of s.solids)

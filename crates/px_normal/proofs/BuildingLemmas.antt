@@ -16,7 +16,7 @@ use Rattle.px_normal.specs.declared.step.Wanted.{Wanted}
 use Rattle.px_normal.specs.Forms.{Forms, forms}
 use Rattle.px_normal.specs.Crowd.{of_root, of_left, of_right, wanted_forms, wanted_lists, first_past_limit, crowd}
 use Rattle.px_normal.specs.Building.{steps_of, shape_step, sides_wanted, walked, built, newest_lists, CanBuild}
-use Rattle.px_normal.proofs.CrowdLemmas.{wanted_sides, past_none, past_some}
+use Rattle.px_normal.proofs.CrowdLemmas.{wanted_sides}
 
 walked_op : (op : Op) (l r : ℕ) (nodes : List Node) (first : Wanted) (wanted : List Wanted) (known : List Step)
     → walked (op_node op l r ∷ nodes) (first ∷ wanted) known ≡ walked nodes (of_right op first ∷ of_left op first
@@ -116,26 +116,3 @@ module _ (boxes : ℕ → Option CellBox) where
 
   turned : (rest before : List Step) (step : Step) → rest ≡ before ++ step ∷ [] → reverse rest ≡ step ∷ reverse before
   turned rest before step last = ap reverse last ∙ reverse-append before (step ∷ [])
-
-  pub can_step : (tree : Tree) (lists : List Forms) (rest before : List Step) (step : Step) → rest ≡ before ++ step
-      ∷ [] → IsOnTheWay tree lists rest → CanBuild (length lists) step
-  can_step tree lists rest before step last is = (rw (turned rest before step last) at is.can).0
-
-  pub stepped : (tree : Tree) (lists now : List Forms) (rest before : List Step) (step : Step) → rest ≡ before ++ step
-      ∷ [] → now ≡ built boxes lists step
-      → first_past_limit (newest_lists now) ≡ None → IsOnTheWay tree lists rest → IsOnTheWay tree now before
-  stepped tree lists now rest before step last made_is few is =
-      let e = turned rest before step last
-      in let within : first_past_limit (newest_lists (built boxes lists step)) ≡ None = rw made_is at few
-      in rw made_is record {
-        last = rw e at is.last;
-        way = sym (past_none (newest_lists (built boxes lists step)) _ within) ∙ (rw e at is.way);
-        can = (rw e at is.can).1;
-      }
-
-  pub stopped : (tree : Tree) (lists : List Forms) (rest before : List Step) (step : Step) (count : ℕ)
-      → rest ≡ before ++ step ∷ []
-      → first_past_limit (newest_lists (built boxes lists step)) ≡ Some count → IsOnTheWay tree lists rest
-      → crowd boxes tree ≡ Some count
-  stopped tree lists rest before step count last many is =
-      sym (rw (turned rest before step last) at is.way) ∙ past_some (newest_lists (built boxes lists step)) _ count many

@@ -89,23 +89,3 @@ module _ (boxes : ℕ → Option CellBox) where
       (wanted_forms boxes (of_right op wanted) y)) ≡ wanted_forms boxes wanted (combined op x y)
   wanted_sides op wanted x y =
       blank_sides op wanted (live boxes x) (live boxes y) ∙ ap (blank wanted) (sym (live_sides boxes op x y))
-
-pub past_none : (xs ys : List (List Product)) → first_past_limit xs ≡ None → first_past_limit (xs ++ ys)
-    ≡ first_past_limit ys
-past_none [] ys none = refl
-past_none (x ∷ xs) ys none = step (nat_lt MAX_PRODUCTS (length x)) refl (past_none xs ys) where
-  step : (b : Bool) → nat_lt MAX_PRODUCTS (length x) ≡ b → (first_past_limit xs ≡ None → first_past_limit (xs ++ ys)
-      ≡ first_past_limit ys) → first_past_limit ((x ∷ xs) ++ ys) ≡ first_past_limit ys
-  step true e rest = absurd (some_is_none (length x) (rw e at none)) where
-    some_is_none : (n : ℕ) → Some n ≡ None → ⊥
-    some_is_none n e = cc
-  step false e rest = rw e (rest (rw e at none))
-
-pub past_some : (xs ys : List (List Product)) (count : ℕ) → first_past_limit xs ≡ Some count
-    → first_past_limit (xs ++ ys) ≡ Some count
-past_some [] ys count some = absurd cc
-past_some (x ∷ xs) ys count some = step (nat_lt MAX_PRODUCTS (length x)) refl (past_some xs ys count) where
-  step : (b : Bool) → nat_lt MAX_PRODUCTS (length x) ≡ b → (first_past_limit xs ≡ Some count
-      → first_past_limit (xs ++ ys) ≡ Some count) → first_past_limit ((x ∷ xs) ++ ys) ≡ Some count
-  step true e rest = rw e (rw e at some)
-  step false e rest = rw e (rest (rw e at some))

@@ -20,29 +20,21 @@ read_stops (read.Memory _) old new failed memory = memory refl
 pub stop_causes : (stop : Stop) (k m : ℕ) → IsSceneStop stop → HasCauses (Err stop) k k m m
 stop_causes (s.Refused reason) k m is = record { read = λ e. cc; write = λ e. cc; input = λ e. refl; out = λ e. refl }
 stop_causes (s.Memory _) k m is = record { read = λ e. cc; write = λ e. cc; input = λ e. refl; out = λ e. refl }
-stop_causes s.Usage k m is = absurd is
-stop_causes s.ReadFault k m is = absurd is
-stop_causes s.WriteFault k m is = absurd is
+stop_causes other k m is = absurd is
 
 pub stop_writes : (stop : Stop) (text : List ℕ) (a : SinkState) → IsSceneStop stop → Wrote (Err stop) text a a
 stop_writes (s.Refused reason) text a is = stays a
 stop_writes (s.Memory _) text a is = stays a
-stop_writes s.Usage text a is = absurd is
-stop_writes s.ReadFault text a is = absurd is
-stop_writes s.WriteFault text a is = absurd is
+stop_writes other text a is = absurd is
 
 pub not_usage : (result : Result (Unit {0}) Stop) (stop : Stop) → result ≡ Err stop → IsSceneStop stop
     → result ≢ Err s.Usage
-not_usage result s.Usage at is = absurd is
 not_usage result (s.Refused reason) at is = λ e. cc
 not_usage result (s.Memory _) at is = λ e. cc
-not_usage result s.ReadFault at is = absurd is
-not_usage result s.WriteFault at is = absurd is
+not_usage result other at is = absurd is
 
 pub not_read : (result : Result (Unit {0}) Stop) (stop : Stop) → result ≡ Err stop → IsSceneStop stop
     → result ≢ Err s.ReadFault
-not_read result s.ReadFault at is = absurd is
 not_read result (s.Refused reason) at is = λ e. cc
 not_read result (s.Memory _) at is = λ e. cc
-not_read result s.Usage at is = absurd is
-not_read result s.WriteFault at is = absurd is
+not_read result other at is = absurd is

@@ -39,12 +39,7 @@ enabled p = record p { enable = true }
 
 -- the place that an act names, if any, is below the number of memory bits
 abbrev pub HasPlace : ℕ → Act → Type 0
-HasPlace bits Nop = ⊤
-HasPlace bits EnableAll = ⊤
-HasPlace bits (EnableCarry v) = ⊤
-HasPlace bits (EnableTree v) = ⊤
 HasPlace bits (EnableBit at v) = at < bits
-HasPlace bits (SetCarry v) = ⊤
 HasPlace bits (Fetch at) = at < bits
 HasPlace bits (StoreTree at) = at < bits
 HasPlace bits (StoreLatch at) = at < bits
@@ -53,3 +48,4 @@ HasPlace bits (Toggle at) = at < bits
 HasPlace bits (CarryTree at) = at < bits
 HasPlace bits (CarryLatch at) = at < bits
 HasPlace bits (AddTree at) = at < bits
+HasPlace bits other = ⊤

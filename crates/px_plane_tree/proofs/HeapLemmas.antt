@@ -6,7 +6,7 @@ use Rattle.px_num.specs.Bits.{nat_bit}
 use Rattle.px_tree.specs.Nodes.{next_node}
 use Rattle.px_rows.proofs.BitLaws.{bit-and, bit-or}
 use Rattle.px_plane_tree.specs.Lanes.{IsDoubled, IsPart}
-use Rattle.px_plane_tree.specs.Heap.{IsFedWord, IsSameBut, IsFedTwo, IsFed, IsFedFirst, parent_bit}
+use Rattle.px_plane_tree.specs.Heap.{IsFedWord, IsSameBut, IsFedTwo, IsFed, IsFedFirst, parent_bit, rows}
 
 pub moved : (line parent : ℕ → Bool) (w a b c x y z : ℕ) → a ≡ x → b ≡ y → c ≡ z → IsFedWord line parent w a b c
     → IsFedWord line parent w x y z
@@ -15,7 +15,7 @@ moved line parent w a b c x y z ea eb ec f =
     (subst (λ n. IsFedWord line parent w a b n) ec f))
 
 module _ (line : ℕ → ℕ → Bool) (at : ℕ) (both outputs carries new_outputs new_carries : List ℕ)
-    (t : IsFedTwo line at both outputs carries new_outputs new_carries) where
+    (t : IsFedTwo line at both (rows outputs carries) (rows new_outputs new_carries)) where
   -- both words have their parents in one word
   pub two_words : (parent : ℕ → Bool) → at % 2 ≡ 0 → ((i j : ℕ) → i < 2 → j < 64 → nat_bit (get_or both i 0) j
       ≡ parent (32 * i + j / 2))
@@ -54,9 +54,9 @@ same_twice from middle to a b c h k p q = record {
 
 pub pair_law : (line : Bool) (h : ℕ) (outputs carries parents first second o k new_outputs new_carries : List ℕ)
     → IsPart h outputs parents → IsDoubled (get_or parents 0 0) first → IsDoubled (get_or parents 1 0) second
-    → IsFedTwo (λ i j. line) (2 * h) first outputs carries o k → IsFedTwo (λ i j. line) (2 * h + 2) second o k
-    new_outputs new_carries
-    → IsFed line (2 * h) (2 * h + 4) outputs carries new_outputs new_carries
+    → IsFedTwo (λ i j. line) (2 * h) first (rows outputs carries) (rows o k)
+    → IsFedTwo (λ i j. line) (2 * h + 2) second (rows o k) (rows new_outputs new_carries)
+    → IsFed line (2 * h) (2 * h + 4) (rows outputs carries) (rows new_outputs new_carries)
 pair_law line h outputs carries parents first second o k new_outputs new_carries p d1 d2 t1 t2 = record {
   fed = λ w low high. elim (cases_lt w (2 * h + 2)) [
     | inl l ↦
@@ -88,8 +88,9 @@ pair_law line h outputs carries parents first second o k new_outputs new_carries
 -- the words from `middle` on, and then those below
 pub span_law : (line : Bool) (g h to : ℕ) (outputs carries o k new_outputs new_carries : List ℕ) → 2 ≤ g → h ≡ g + 2
     → h ≤ to → g % 2 ≡ 0
-    → IsFed line (2 * h) (2 * to) outputs carries o k → IsFed line (2 * g) (2 * g + 4) o k new_outputs new_carries
-    → IsFed line (2 * g) (2 * to) outputs carries new_outputs new_carries
+    → IsFed line (2 * h) (2 * to) (rows outputs carries) (rows o k)
+    → IsFed line (2 * g) (2 * g + 4) (rows o k) (rows new_outputs new_carries)
+    → IsFed line (2 * g) (2 * to) (rows outputs carries) (rows new_outputs new_carries)
 span_law line g h to outputs carries o k new_outputs new_carries two e le even a b = record {
   fed = λ w low high. elim (cases_lt w (2 * h)) [
     | inl l ↦
@@ -156,9 +157,9 @@ pub first_law : (lines : List ℕ) (c : Bool) (outputs carries first second part
     new_carries : List ℕ) (root : ℕ)
     → ((i : ℕ) → i < 64 → nat_bit root i ≡ cond (nat_lt i 2) (c && eqb i 1) (nat_bit (get_or outputs 0 0) i))
     → IsPart 0 lines part → IsPart 2 lines part2 → IsDoubled root first → IsDoubled (get_or outputs 1 0) second
-    → IsFedTwo (λ i j. nat_bit (get_or part i 0) j) 0 first outputs carries o k
-    → IsFedTwo (λ i j. nat_bit (get_or part2 i 0) j) 2 second o k new_outputs new_carries
-    → IsFedFirst lines c outputs carries new_outputs new_carries
+    → IsFedTwo (λ i j. nat_bit (get_or part i 0) j) 0 first (rows outputs carries) (rows o k)
+    → IsFedTwo (λ i j. nat_bit (get_or part2 i 0) j) 2 second (rows o k) (rows new_outputs new_carries)
+    → IsFedFirst lines c (rows outputs carries) (rows new_outputs new_carries)
 first_law lines c outputs carries first second part part2 o k new_outputs new_carries root r p p2 d1 d2 t1 t2 = record {
   fed = λ w high. elim (cases_lt w 2) [
     | inl l ↦

@@ -8,9 +8,11 @@ use Rattle.std.proofs.Math.Nat.{one-le-pow}
 use Rattle.px_num.specs.Bits.{nat_bit}
 use Rattle.px_num.proofs.TruthLaws.{double_pow, power_grows}
 use Rattle.px_tree.specs.declared.lines.Lines.{Lines}
-use Rattle.px_plane_tree.specs.Heap.{AreStill, HasLines, HasOdd, IsAtRest, IsFed, IsFedFirst, IsFedHeap, IsFedWord}
+use Rattle.px_plane_tree.specs.Heap.{AreStill, HasLines, HasOdd, IsAtRest, IsFed, IsFedFirst, IsFedHeap}
+use Rattle.px_plane_tree.specs.Heap.{IsFedWord, rows}
 use Rattle.px_plane_tree.specs.Heap.{IsHeap, level_line, parent_bit}
-use Rattle.px_plane_tree.proofs.FedWordLemmas.{WordFed, node_law, place_line, same_line, same_parent, same_word, still_heap}
+use Rattle.px_plane_tree.proofs.FedWordLemmas.{WordFed, node_law, place_line, same_line, same_parent, same_word}
+use Rattle.px_plane_tree.proofs.FedWordLemmas.{still_heap}
 use Rattle.px_plane_tree.proofs.HeapLemmas.{moved}
 
 -- powers of a place that is written as a sum
@@ -20,27 +22,38 @@ power_of k e h = ap (λ n. 2 ^ n) h ∙ double_pow e
 pub power_some : (e : ℕ) → 1 ≤ 2 ^ e
 power_some e = one-le-pow e 2 (omega arith)
 
+-- a heap's rows, with which of its levels did not move
+pub record Levels : Type 0 where
+  pub outputs : List ℕ
+  pub carries : List ℕ
+  pub still : List Bool
+
+abbrev pub levels : (outputs carries : List ℕ) (still : List Bool) → Levels
+levels outputs carries still = record { outputs = outputs; carries = carries; still = still }
+
 -- the words below 2^(u + 1) are as they were, the others were fed, and `still` tells which of the levels of these
 -- stayed
-pub record IsFedDown (nx : ℕ) (now : Lines) (u : ℕ) (outputs carries : List ℕ) (still : List Bool)
-    (new_outputs new_carries : List ℕ) (new_still : List Bool) : Type 0 where
-  pub fed : (w : ℕ) → 2 ^ (u + 1) ≤ w → w < length outputs → WordFed (place_line now.a now.b (2 ^ (nx + 1)) w) now.c
-      outputs carries new_outputs new_carries w
-  pub outputs_rest : (w : ℕ) → w < 2 ^ (u + 1) → get_or new_outputs w 0 ≡ get_or outputs w 0
-  pub carries_rest : (w : ℕ) → w < 2 ^ (u + 1) → get_or new_carries w 0 ≡ get_or carries w 0
-  pub outputs_stay : (v : ℕ) → u ≤ v → v < length still → get_or new_still v false ≡ true → (w : ℕ) → 2 ^ (v + 1) ≤ w
-      → w < 2 ^ (v + 2) → get_or new_outputs w 0 ≡ get_or outputs w 0
-  pub carries_stay : (v : ℕ) → u ≤ v → v < length still → get_or new_still v false ≡ true → (w : ℕ) → 2 ^ (v + 1) ≤ w
-      → w < 2 ^ (v + 2) → get_or new_carries w 0 ≡ get_or carries w 0
-  pub still_rest : (v : ℕ) → v < u → get_or new_still v false ≡ get_or still v false
+pub record IsFedDown (nx : ℕ) (now : Lines) (u : ℕ) (old new : Levels) : Type 0 where
+  pub fed : (w : ℕ) → 2 ^ (u + 1) ≤ w → w < length old.outputs → WordFed (place_line now.a now.b (2 ^ (nx + 1)) w) now.c
+      old.outputs old.carries new.outputs new.carries w
+  pub outputs_rest : (w : ℕ) → w < 2 ^ (u + 1) → get_or new.outputs w 0 ≡ get_or old.outputs w 0
+  pub carries_rest : (w : ℕ) → w < 2 ^ (u + 1) → get_or new.carries w 0 ≡ get_or old.carries w 0
+  pub outputs_stay : (v : ℕ) → u ≤ v → v < length old.still → get_or new.still v false ≡ true → (w : ℕ)
+      → 2 ^ (v + 1) ≤ w
+      → w < 2 ^ (v + 2) → get_or new.outputs w 0 ≡ get_or old.outputs w 0
+  pub carries_stay : (v : ℕ) → u ≤ v → v < length old.still → get_or new.still v false ≡ true → (w : ℕ)
+      → 2 ^ (v + 1) ≤ w
+      → w < 2 ^ (v + 2) → get_or new.carries w 0 ≡ get_or old.carries w 0
+  pub still_rest : (v : ℕ) → v < u → get_or new.still v false ≡ get_or old.still v false
 
 -- the place from which levels were fed, as one more than that of the level that comes next
 pub at_next : (nx : ℕ) (now : Lines) (u : ℕ) (outputs carries : List ℕ) (still : List Bool) (o k : List ℕ)
     (s : List Bool)
-    → 1 ≤ u → IsFedDown nx now u outputs carries still o k s → IsFedDown nx now (u - 1 + 1) outputs carries still o k s
+    → 1 ≤ u → IsFedDown nx now u (levels outputs carries still) (levels o k s)
+    → IsFedDown nx now (u - 1 + 1) (levels outputs carries still) (levels o k s)
 at_next nx now u outputs carries still o k s some before =
     let e : u ≡ u - 1 + 1 = omega arith in
-    subst (λ n. IsFedDown nx now n outputs carries still o k s) e before
+    subst (λ n. IsFedDown nx now n (levels outputs carries still) (levels o k s)) e before
 
 -- the line of a word is that of its level
 pub level_place_line : (nx : ℕ) (lines : Lines) (u w j : ℕ) → 4 ≤ w → 2 ^ (u + 1) ≤ w → w < 2 ^ (u + 2) → j < 64
@@ -82,10 +95,10 @@ set_there still u v b other = get_or-set_other still u v b false other
 pub fed_more : (nx : ℕ) (now : Lines) (u : ℕ) (outputs carries : List ℕ) (still : List Bool) (o k : List ℕ)
     (s : List Bool) (new_outputs new_carries : List ℕ) (r : Bool)
     → 1 ≤ u → u < length still → length s ≡ length still
-    → IsFedDown nx now (u + 1) outputs carries still o k s → IsFed (level_line nx now u) (2 * 2 ^ u) (4 * 2 ^ u) o k
-    new_outputs new_carries
+    → IsFedDown nx now (u + 1) (levels outputs carries still) (levels o k s)
+    → IsFed (level_line nx now u) (2 * 2 ^ u) (4 * 2 ^ u) (rows o k) (rows new_outputs new_carries)
     → (r ≡ true → new_outputs ≡ o) → (r ≡ true → new_carries ≡ k)
-    → IsFedDown nx now u outputs carries still new_outputs new_carries (set s u r)
+    → IsFedDown nx now u (levels outputs carries still) (levels new_outputs new_carries (set s u r))
 fed_more nx now u outputs carries still o k s new_outputs new_carries r some within long before level same_outputs
     same_carries =
     let here : 2 ^ (u + 1) ≡ 2 * 2 ^ u = power_of (u + 1) u (omega arith) in
@@ -138,7 +151,7 @@ fed_more nx now u outputs carries still o k s new_outputs new_carries r some wit
 -- the level that comes next is at rest, where it and its parents were still and its line is the same
 pub next_rest : (nx : ℕ) (last now : Lines) (u : ℕ) (outputs carries : List ℕ) (still : List Bool) (o k : List ℕ)
     (s : List Bool)
-    → 1 ≤ u → u < length still → IsFedDown nx now (u + 1) outputs carries still o k s
+    → 1 ≤ u → u < length still → IsFedDown nx now (u + 1) (levels outputs carries still) (levels o k s)
     → AreStill nx last still outputs carries
     → level_line nx now u ≡ level_line nx last u → get_or s (u - 1) false ≡ true → get_or s u false ≡ true
     → IsAtRest (level_line nx now u) (2 * 2 ^ u) (4 * 2 ^ u) o k
@@ -158,7 +171,8 @@ next_rest nx last now u outputs carries still o k s some within before rest line
 -- the rest of what a level asks
 pub next_odd : (nx : ℕ) (now : Lines) (u : ℕ) (outputs carries : List ℕ) (still : List Bool) (o k : List ℕ)
     (s : List Bool) → u < length still → length outputs ≡ 2 ^ (length still + 1)
-    → IsHeap outputs carries → IsFedDown nx now (u + 1) outputs carries still o k s → HasOdd (2 * 2 ^ u) (4 * 2 ^ u) k
+    → IsHeap outputs carries → IsFedDown nx now (u + 1) (levels outputs carries still) (levels o k s)
+    → HasOdd (2 * 2 ^ u) (4 * 2 ^ u) k
 next_odd nx now u outputs carries still o k s within levels heap before = record {
   each = λ w j low high in_word even.
       let top : 2 ^ (u + 1 + 1) ≡ 4 * 2 ^ u = ap (λ n. 2 ^ n) (omega arith) ∙ pow-add 2 2 u in
@@ -176,10 +190,10 @@ next_fits u n m within levels =
 
 module _ (nx : ℕ) (now : Lines) (heads outputs carries : List ℕ) (still : List Bool) (o k : List ℕ) (s : List Bool)
     (new_outputs new_carries : List ℕ) (r : Bool)
-    (heap : IsHeap outputs carries) (levels : length outputs ≡ 2 ^ (length still + 1)) (some : 1 ≤ length still)
+    (heap : IsHeap outputs carries) (sized : length outputs ≡ 2 ^ (length still + 1)) (some : 1 ≤ length still)
     (long : length s ≡ length still) (lines : HasLines now.a now.b (2 ^ (nx + 1)) heads)
-    (before : IsFedDown nx now 1 outputs carries still o k s) (first : IsFedFirst heads now.c o k new_outputs
-    new_carries) where
+    (before : IsFedDown nx now 1 (levels outputs carries still) (levels o k s))
+    (first : IsFedFirst heads now.c (rows o k) (rows new_outputs new_carries)) where
   head : (w : ℕ) → w < 4 → WordFed (place_line now.a now.b (2 ^ (nx + 1)) w) now.c outputs carries new_outputs
       new_carries w
   head w low =
@@ -202,7 +216,7 @@ module _ (nx : ℕ) (now : Lines) (heads outputs carries : List ℕ) (still : Li
   ]
 
   pub fed_heap : length new_outputs ≡ length outputs → length new_carries ≡ length carries
-      → IsFedHeap now.a now.b now.c (2 ^ (nx + 1)) outputs carries new_outputs new_carries
+      → IsFedHeap now.a now.b now.c (2 ^ (nx + 1)) (rows outputs carries) (rows new_outputs new_carries)
   fed_heap long_outputs long_carries = record {
     heap = still_heap now.a now.b now.c (2 ^ (nx + 1)) outputs carries new_outputs new_carries heap all_words
         long_outputs long_carries;
@@ -259,7 +273,7 @@ module _ (nx : ℕ) (now : Lines) (heads outputs carries : List ℕ) (still : Li
               (same_word _ (λ j. level_line nx now (u + 1)) _ (nat_bit (get_or new_outputs (w / 2) 0)) w _ _ _
               (λ j in_word. sym (level_place_line nx now (u + 1) w j (omega arith) (omega arith) (omega arith) in_word))
               (λ i in_word. same_parent now.c outputs (w / 2) i (omega arith) ∙ ap (λ n. nat_bit n i) (sym parent))
-              (all_words w (omega (arith, levels))));
+              (all_words w (omega (arith, sized))));
           outputs_rest = record { below = λ k low. refl; above = λ k high. refl };
           carries_rest = record { below = λ k low. refl; above = λ k high. refl };
         }

@@ -15,7 +15,7 @@ use Rattle.px_num.proofs.TruthLaws.{power_grows}
 use Rattle.px_tree.specs.declared.lines.Lines.{Lines}
 use Rattle.px_tree.specs.declared.node.Node.{Node}
 use Rattle.px_tree.specs.Nodes.{IsGrid, after_feed, cleared, next_at, next_node, zero_node}
-use Rattle.px_plane_tree.specs.Heap.{AreStill, IsFedHeap, level_line, node_of}
+use Rattle.px_plane_tree.specs.Heap.{AreStill, IsFedHeap, level_line, node_of, rows}
 use Rattle.px_rows.specs.Rows.{row_bit}
 use Rattle.px_plane_tree.specs.Trees.{AreSmallLevels, IsTree, heights, seen_tree}
 use Rattle.px_rows.proofs.BitLaws.{bit_down, bit_of_low}
@@ -37,7 +37,7 @@ small_power k h = let le : k ≤ 5 = omega arith in pow-le-pow_right {n = 2} (om
 
 pub fed_law : (a b c : Bool) (first_b n : ℕ) (outputs carries new_outputs new_carries : List ℕ)
     → n ≤ 64 * length outputs
-    → IsFedHeap a b c first_b outputs carries new_outputs new_carries
+    → IsFedHeap a b c first_b (rows outputs carries) (rows new_outputs new_carries)
     → tabulate n (node_of new_outputs new_carries)
     ≡ tabulate n (next_at a b c first_b (tabulate n (node_of outputs carries)))
 fed_law a b c first_b n outputs carries new_outputs new_carries enough f =
@@ -157,7 +157,8 @@ zero_still nx m n still = record {
 
 pub zero_tree : (nx ny w : ℕ) (still : List Bool) → IsGrid nx ny → length still ≡ heights (nx + ny)
     → w ≡ 2 ^ (length still + 1)
-    → IsTree nx ny (replicate w 0) (replicate w 0) (replicate 6 0) still (record { a = false; b = false; c = false })
+    → IsTree nx ny (rows (replicate w 0) (replicate w 0)) (replicate 6 0) still
+    (record { a = false; b = false; c = false })
 zero_tree nx ny w still grid tall words =
     let size = is_tall (nx + ny) (length still) tall in
     let four : 4 ≤ 2 ^ (length still + 1) = power_grows 2 (length still + 1) (let some = size.some in omega arith) in
@@ -182,8 +183,8 @@ zero_tree nx ny w still grid tall words =
     }
 
 pub cleared_tree : (nx ny : ℕ) (outputs carries small : List ℕ) (still new_still : List Bool) (last : Lines)
-    → IsTree nx ny outputs carries small still last → length new_still ≡ length still
-    → IsTree nx ny (replicate (length outputs) 0) (replicate (length carries) 0) (replicate (length small) 0)
+    → IsTree nx ny (rows outputs carries) small still last → length new_still ≡ length still
+    → IsTree nx ny (rows (replicate (length outputs) 0) (replicate (length carries) 0)) (replicate (length small) 0)
     new_still (record { a = false; b = false; c = false })
 cleared_tree nx ny outputs carries small still new_still last t long =
     rw (t.heap.same, t.low.long) (zero_tree nx ny (length outputs) new_still t.grid (long ∙ t.tall) (t.words
@@ -191,13 +192,14 @@ cleared_tree nx ny outputs carries small still new_still last t long =
 
 pub fed_tree : (nx ny : ℕ) (last now : Lines) (outputs carries small : List ℕ) (still : List Bool)
     (new_outputs new_carries new_small : List ℕ) (new_still : List Bool) (word : ℕ)
-    → IsTree nx ny outputs carries small still last → IsFedHeap now.a now.b now.c (2 ^ (nx + 1)) outputs carries
-    new_outputs new_carries → AreStill nx now new_still new_outputs new_carries
+    → IsTree nx ny (rows outputs carries) small still last
+    → IsFedHeap now.a now.b now.c (2 ^ (nx + 1)) (rows outputs carries) (rows new_outputs new_carries)
+    → AreStill nx now new_still new_outputs new_carries
     → length new_outputs ≡ length outputs → length new_still ≡ length still → length new_small ≡ length small
     → word ≡ get_or new_outputs 0 0
     → ((k j : ℕ) → 1 ≤ k → k < 6 → j < 64 → nat_bit (get_or new_small k 0) j ≡ cond (nat_lt j (2 ^ k))
     (nat_bit word (2 ^ k + j)) false)
-    → IsTree nx ny new_outputs new_carries new_small new_still now
+    → IsTree nx ny (rows new_outputs new_carries) new_small new_still now
 fed_tree nx ny last now outputs carries small still new_outputs new_carries new_small new_still word t f s lo lt ls e
     bits = record {
       grid = t.grid;
@@ -217,7 +219,8 @@ fed_tree nx ny last now outputs carries small still new_outputs new_carries new_
 
 pub fed_seen : (nx ny : ℕ) (a b c : Bool) (outputs carries new_outputs new_carries : List ℕ) → 2 ^ (nx + ny + 1) ≤ 64
     * length outputs
-    → IsFedHeap a b c (2 ^ (nx + 1)) outputs carries new_outputs new_carries → seen_tree nx ny new_outputs new_carries
+    → IsFedHeap a b c (2 ^ (nx + 1)) (rows outputs carries) (rows new_outputs new_carries)
+    → seen_tree nx ny new_outputs new_carries
     ≡ after_feed a b c (seen_tree nx ny outputs carries)
 fed_seen nx ny a b c outputs carries new_outputs new_carries enough f =
     ap (λ (nodes : List Node). record { nx = nx; ny = ny; nodes = nodes })

@@ -11,12 +11,14 @@ pub record HasLanes (n top : ℕ) (v : List ℕ) : Type 0 where
 -- sixteen bytes, each made of four bits of a byte, from bit `from` on, each bit twice
 pub record IsTwice (from : ℕ) (bytes result : List ℕ) : Type 0 where
   pub lanes : HasLanes 16 256 result
-  pub each : (k j : ℕ) → k < 16 → j < 8 → nat_bit (slice_index result k) j ≡ nat_bit (slice_index bytes k) (from + j / 2)
+  pub each : (k j : ℕ) → k < 16 → j < 8 → nat_bit (slice_index result k) j ≡ nat_bit (slice_index bytes k)
+      (from + j / 2)
 
 -- the bytes of two words
 pub record HasBytes (words bytes : List ℕ) : Type 0 where
   pub lanes : HasLanes 16 256 bytes
-  pub each : (k j : ℕ) → k < 16 → j < 8 → nat_bit (slice_index bytes k) j ≡ nat_bit (slice_index words (k / 8)) (8 * (k % 8) + j)
+  pub each : (k j : ℕ) → k < 16 → j < 8 → nat_bit (slice_index bytes k) j ≡ nat_bit (slice_index words (k / 8))
+      (8 * (k % 8) + j)
 
 -- the two words that hold the bits of one word, each bit twice
 pub record IsDoubled (word : ℕ) (result : List ℕ) : Type 0 where
@@ -39,10 +41,16 @@ pub record IsOdd (words : List ℕ) : Type 0 where
 
 -- the new outputs and carries of nodes whose parents' outputs are `both` and whose line is the same
 pub record IsNext (line : Bool) (both old outputs carries : List ℕ) : Type 0 where
-  pub output : (i j : ℕ) → i < 2 → j < 64 → nat_bit (slice_index outputs i) j ≡ (next_node (eqb (j % 2) 1) (nat_bit (slice_index both i) j) line (nat_bit (slice_index old i) j)).output
-  pub carry : (i j : ℕ) → i < 2 → j < 64 → nat_bit (slice_index carries i) j ≡ (next_node (eqb (j % 2) 1) (nat_bit (slice_index both i) j) line (nat_bit (slice_index old i) j)).carry
+  pub output : (i j : ℕ) → i < 2 → j < 64 → nat_bit (slice_index outputs i) j
+      ≡ (next_node (eqb (j % 2) 1) (nat_bit (slice_index both i) j) line (nat_bit (slice_index old i) j)).output
+  pub carry : (i j : ℕ) → i < 2 → j < 64 → nat_bit (slice_index carries i) j
+      ≡ (next_node (eqb (j % 2) 1) (nat_bit (slice_index both i) j) line (nat_bit (slice_index old i) j)).carry
 
 -- the same where `lines` has each odd node's line, and its even bits are 0
 pub record IsNextBy (lines both old outputs carries : List ℕ) : Type 0 where
-  pub output : (i j : ℕ) → i < 2 → j < 64 → nat_bit (slice_index outputs i) j ≡ (next_node (eqb (j % 2) 1) (nat_bit (slice_index both i) j) (nat_bit (slice_index lines i) j) (nat_bit (slice_index old i) j)).output
-  pub carry : (i j : ℕ) → i < 2 → j < 64 → nat_bit (slice_index carries i) j ≡ (next_node (eqb (j % 2) 1) (nat_bit (slice_index both i) j) (nat_bit (slice_index lines i) j) (nat_bit (slice_index old i) j)).carry
+  pub output : (i j : ℕ) → i < 2 → j < 64 → nat_bit (slice_index outputs i) j
+      ≡ (next_node (eqb (j % 2) 1) (nat_bit (slice_index both i) j) (nat_bit (slice_index lines i) j)
+      (nat_bit (slice_index old i) j)).output
+  pub carry : (i j : ℕ) → i < 2 → j < 64 → nat_bit (slice_index carries i) j
+      ≡ (next_node (eqb (j % 2) 1) (nat_bit (slice_index both i) j) (nat_bit (slice_index lines i) j)
+      (nat_bit (slice_index old i) j)).carry

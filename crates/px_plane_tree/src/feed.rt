@@ -3,7 +3,7 @@ ghost use Rattle.std.specs.Prelude.{◌≡◌, ℕ, ◌<◌, ◌≤◌, ◌+◌,
 ghost use Rattle.std.specs.Prelude.{eqb, cond, ◌&&◌};
 ghost use Rattle.px_num.specs.Bits.{nat_bit};
 ghost use Rattle.px_plane_tree.specs.Lanes.{IsOdd, IsNext};
-ghost use Rattle.px_plane_tree.specs.Heap.{HasOdd, IsFed, IsFedTwo, IsFedFirst};
+ghost use Rattle.px_plane_tree.specs.Heap.{HasOdd, IsFed, IsFedTwo, IsFedFirst, rows};
 
 use crate::doubling::doubled_pair;
 use crate::next::{next_by, next_with, next_without};
@@ -28,7 +28,7 @@ fn feed_two(outputs: &mut [u64], carries: &mut [u64], at: usize, both: u64x2, li
     requires outputs { at + 2 ≤ length outputs.old }
     requires carries { at + 2 ≤ length carries.old }
     requires odd { HasOdd at (at + 2) carries.old }
-    ensures { IsFedTwo (λ i j. line) at both outputs.old carries.old outputs.new carries.new }
+    ensures { IsFedTwo (λ i j. line) at both (rows outputs.old carries.old) (rows outputs.new carries.new) }
 {
     let old = load(carries, at);
     let (output, carry) = next_of(both, old, line);
@@ -43,7 +43,7 @@ fn feed_pair(outputs: &mut [u64], carries: &mut [u64], h: usize, line: bool)
     requires outputs { 2 * h + 4 ≤ length outputs.old }
     requires carries { 2 * h + 4 ≤ length carries.old }
     requires odd { HasOdd (2 * h) (2 * h + 4) carries.old }
-    ensures { IsFed line (2 * h) (2 * h + 4) outputs.old carries.old outputs.new carries.new }
+    ensures { IsFed line (2 * h) (2 * h + 4) (rows outputs.old carries.old) (rows outputs.new carries.new) }
 {
     let parents = load(outputs, h);
     let (first, second) = doubled_pair(parents);
@@ -59,7 +59,7 @@ fn feed_span(outputs: &mut [u64], carries: &mut [u64], from: usize, to: usize, l
     requires outputs { 2 * to ≤ length outputs.old }
     requires carries { 2 * to ≤ length carries.old }
     requires odd { HasOdd (2 * from) (2 * to) carries.old }
-    ensures { IsFed line (2 * from) (2 * to) outputs.old carries.old outputs.new carries.new }
+    ensures { IsFed line (2 * from) (2 * to) (rows outputs.old carries.old) (rows outputs.new carries.new) }
 {
     let mut h = to;
     while h > from {
@@ -75,7 +75,7 @@ pub fn feed_parents(outputs: &mut [u64], carries: &mut [u64], from: usize, to: u
     requires outputs { 2 * to ≤ length outputs.old }
     requires carries { 2 * to ≤ length carries.old }
     requires odd { HasOdd (2 * from) (2 * to) carries.old }
-    ensures { IsFed line (2 * from) (2 * to) outputs.old carries.old outputs.new carries.new }
+    ensures { IsFed line (2 * from) (2 * to) (rows outputs.old carries.old) (rows outputs.new carries.new) }
 {
     if line {
         feed_span(outputs, carries, from, to, true);
@@ -92,7 +92,7 @@ fn feed_two_by(outputs: &mut [u64], carries: &mut [u64], at: usize, both: u64x2,
     requires odd { HasOdd at (at + 2) carries.old }
     requires odd_lines { IsOdd lines }
     ensures { IsFedTwo (λ i j. nat_bit
-        (slice_index lines i) j) at both outputs.old carries.old outputs.new carries.new }
+        (slice_index lines i) j) at both (rows outputs.old carries.old) (rows outputs.new carries.new) }
 {
     let old = load(carries, at);
     let (output, carry) = next_by(both, old, lines);
@@ -120,7 +120,7 @@ pub fn feed_first(outputs: &mut [u64], carries: &mut [u64], lines: &[u64], c: bo
     requires lines { 4 ≤ length lines.now }
     requires odd { HasOdd 0 4 carries.old }
     requires odd_lines { HasOdd 0 4 lines.now }
-    ensures { IsFedFirst lines.now c outputs.old carries.old outputs.new carries.new }
+    ensures { IsFedFirst lines.now c (rows outputs.old carries.old) (rows outputs.new carries.new) }
 {
     let root = rooted(outputs[0], c);
     let (first, second) = doubled_pair(u64x2::from_array([root, outputs[1]]));

@@ -2,7 +2,7 @@
 ghost use Rattle.std.specs.Prelude.{◌≡◌, ℕ, ◌<◌, ◌≤◌, ◌+◌, ◌-◌, ◌*◌, ◌^◌, ◌%◌, IsTrue, true, false};
 ghost use Rattle.std.specs.Prelude.{length, slice_index, slice_index_or};
 ghost use Rattle.px_num.specs.Bits.{nat_bit};
-ghost use Rattle.px_plane_tree.specs.Heap.{AreStill, HasLines, HasOdd, IsAtRest, IsFed, IsFedHeap};
+ghost use Rattle.px_plane_tree.specs.Heap.{AreStill, HasLines, HasOdd, IsAtRest, IsFed, IsFedHeap, rows};
 ghost use Rattle.px_plane_tree.specs.Heap.{IsFedFirst, IsHeap, level_line, line_bit};
 
 use crate::feed::{feed_first, feed_parents};
@@ -33,7 +33,7 @@ pub fn feed_heap(
     requires heads { HasLines now.a now.b (2 ^ (nx + 1)) heads.now }
     requires still { AreStill nx last still.old outputs.old carries.old }
     ensures fed { IsFedHeap now.a now.b now.c (2 ^
-        (nx + 1)) outputs.old carries.old outputs.new carries.new }
+        (nx + 1)) (rows outputs.old carries.old) (rows outputs.new carries.new) }
     ensures still { AreStill nx now still.new outputs.new carries.new }
 {
     // From the leaves upwards, so that each level is written before its parents.
@@ -91,7 +91,7 @@ fn feed_level(
     requires odd { HasOdd (2 * half) (4 * half) carries.old }
     requires rest { IsTrue may_rest → IsTrue rested →
         IsAtRest line (2 * half) (4 * half) outputs.old carries.old }
-    ensures fed { IsFed line (2 * half) (4 * half) outputs.old carries.old outputs.new carries.new }
+    ensures fed { IsFed line (2 * half) (4 * half) (rows outputs.old carries.old) (rows outputs.new carries.new) }
     ensures outputs { IsTrue result → outputs.new ≡ outputs.old }
     ensures carries { IsTrue result → carries.new ≡ carries.old }
 {
@@ -110,7 +110,7 @@ fn feed_head(outputs: &mut [u64], carries: &mut [u64], heads: &[u64], c: bool) -
     requires heads { 4 ≤ length heads.now }
     requires odd { HasOdd 0 4 carries.old }
     requires odd_heads { HasOdd 0 4 heads.now }
-    ensures fed { IsFedFirst heads.now c outputs.old carries.old outputs.new carries.new }
+    ensures fed { IsFedFirst heads.now c (rows outputs.old carries.old) (rows outputs.new carries.new) }
     ensures second { IsTrue result → slice_index outputs.new 2 ≡ slice_index outputs.old 2 }
     ensures third { IsTrue result → slice_index outputs.new 3 ≡ slice_index outputs.old 3 }
 {

@@ -38,6 +38,7 @@ pub struct PlaneTree {
 impl Model for PlaneTree {
     ghost use Rattle.std.specs.Prelude.{◌≡◌, ◌+◌, ◌^◌};
     ghost use Rattle.px_tree.specs.Nodes.{TreeState};
+    ghost use Rattle.px_plane_tree.specs.Heap.{rows};
     ghost use Rattle.px_plane_tree.specs.Trees.{AreHeads, IsTree, seen_tree};
 
     ghost Value = { TreeState };
@@ -45,7 +46,7 @@ impl Model for PlaneTree {
     ghost view = { λ t. seen_tree t.nx t.ny t.outputs.items t.carries.items };
 
     ghost invariant = { λ t. record {
-      tree : IsTree t.nx t.ny t.outputs.items t.carries.items t.small.items t.still.items t.last;
+      tree : IsTree t.nx t.ny (rows t.outputs.items t.carries.items) t.small.items t.still.items t.last;
       first_b : t.heads.first_b ≡ 2 ^ (t.nx + 1);
       heads : AreHeads t.heads;
     } };

@@ -1,6 +1,6 @@
 //! Whether a feed would leave words in heap order as they are.
 ghost use Rattle.std.specs.Prelude.{◌≡◌, ℕ, ◌<◌, ◌≤◌, ◌+◌, ◌*◌, ◌%◌, IsTrue, length, slice_index};
-ghost use Rattle.px_plane_tree.specs.Heap.{HasOdd, IsAtRest, IsFedTwo};
+ghost use Rattle.px_plane_tree.specs.Heap.{HasOdd, IsAtRest, IsFedTwo, rows};
 
 use crate::doubling::doubled_pair;
 use crate::feed::next_of;
@@ -47,8 +47,7 @@ fn are_two_at_rest(outputs: &[u64], carries: &[u64], at: usize, both: u64x2, lin
     requires outputs { at + 2 ≤ length outputs.now }
     requires carries { at + 2 ≤ length carries.now }
     requires odd { HasOdd at (at + 2) carries.now }
-    ensures { IsTrue result → IsFedTwo
-        (λ i j. line) at both outputs.now carries.now outputs.now carries.now }
+    ensures { IsTrue result → IsFedTwo (λ i j. line) at both (rows outputs.now carries.now) (rows outputs.now carries.now) }
 {
     let old = load(carries, at);
     let (output, carry) = next_of(both, old, line);

@@ -116,9 +116,7 @@ read_plays bytes bits s.ReadFault before after m n read idle =
     record { meets = tt; writes = idle.out; array = idle.array }
 read_plays bytes bits (s.Memory _) before after m n read idle =
     record { meets = tt; writes = idle.out; array = inl idle.array }
-read_plays bytes bits s.Usage before after m n read idle = absurd read
-read_plays bytes bits (s.Refused reason) before after m n read idle = absurd read
-read_plays bytes bits s.WriteFault before after m n read idle = absurd read
+read_plays bytes bits other before after m n read idle = absurd read
 
 -- the work stops at a read
 pub performs_unread : (result : Result (Unit {0}) Stop) (bits : ℕ) (stop : Stop) (before after : Ends) (m n : ℕ)

@@ -113,13 +113,13 @@ passes_lawful_in_all more layouts lawful scene h solids =
 
 pub passes_read_back : TextsAreReadBack → PassesAreReadBack
 passes_read_back texts bits scene can few =
-    texts bits (passes_listing scene) few (exponent_between scene.width can.scene_is.width, exponent_between scene.height can.scene_is.height)
+    texts bits (passes_listing scene) few (exponent_between scene.width can.scene_is.sizes.width_limit, exponent_between scene.height can.scene_is.sizes.height_limit)
     can.lawful
 
 pub scenes_grid : PassesHaveTheScenesGrid
 scenes_grid scene lawful = record {
-  columns = exponent_is scene.width lawful.width;
-  rows = exponent_is scene.height lawful.height;
+  columns = exponent_is scene.width lawful.sizes.width_limit;
+  rows = exponent_is scene.height lawful.sizes.height_limit;
 }
 
 -- the picture law holds of a memory with as many zeros behind it as the layout may need, whose first bits come out as those of

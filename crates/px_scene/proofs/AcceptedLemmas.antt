@@ -102,13 +102,7 @@ shown_leaves n (Some tree) is = is
 
 drawn_lawful : (draft : DraftView) → IsLawfulDraft draft → is_nothing draft.due ≡ true → IsLawfulScene (drawn draft)
 drawn_lawful draft is ended = record {
-  some_width = is.sizes.some_width;
-  width = is.sizes.width_limit;
-  some_height = is.sizes.some_height;
-  height = is.sizes.height_limit;
-  some_depth = is.sizes.some_depth;
-  depth = is.sizes.depth_limit;
-  fraction = is.sizes.fraction_limit;
+  sizes = is.sizes;
   solids = is.solids.few;
   names = is.solids.names;
   different = is.solids.different;

@@ -3,9 +3,8 @@ use Rattle.std.specs.Prelude.{◌≡◌, ◌≢◌, ℕ, ◌+◌, ◌-◌, ◌<�
 use Rattle.std.specs.Prelude.{AllPairs, slice_get, IfSome, IsSomeAnd, Option}
 use Rattle.std.specs.List.{AllPass}
 use Rattle.px_expr.specs.Tree.{HasLeavesBelow, Tree}
-use Rattle.px_model.specs.declared.limits.TheConstants.{MAX_DEPTH_BITS, MAX_FACES, MAX_FRACTION_BITS}
-use Rattle.px_model.specs.declared.limits.TheConstants.{MAX_PICTURE_SIZE, MAX_SOLIDS}
-use Rattle.px_model.specs.Scenes.{SolidView, names_of, AreNumberedFrom, faces_of}
+use Rattle.px_model.specs.declared.limits.TheConstants.{MAX_FACES, MAX_SOLIDS}
+use Rattle.px_model.specs.Scenes.{AreSizes, SolidView, names_of, AreNumberedFrom, faces_of}
 use Rattle.px_text.specs.Text.{is_name}
 use Rattle.px_scene.specs.declared.line.Due.{Due}
 use Rattle.px_scene.specs.declared.line.Due.TheVariants as d
@@ -36,16 +35,6 @@ is_ended d.Solid = false
 is_ended d.Plane = false
 is_ended d.End = true
 is_ended d.Nothing = true
-
--- a picture and depths within their limits
-pub record AreSizes (width height depth_bits fraction_bits : ℕ) : Type 0 where
-  pub some_width : 1 ≤ width
-  pub width_limit : width ≤ MAX_PICTURE_SIZE
-  pub some_height : 1 ≤ height
-  pub height_limit : height ≤ MAX_PICTURE_SIZE
-  pub some_depth : 1 ≤ depth_bits
-  pub depth_limit : depth_bits + fraction_bits ≤ MAX_DEPTH_BITS
-  pub fraction_limit : fraction_bits ≤ MAX_FRACTION_BITS
 
 -- named solids within their limits, whose faces have the numbers up to this one
 pub record AreNumbered (numbered : ℕ) (solids : List SolidView) : Type 0 where

@@ -122,7 +122,7 @@ module _ (covering : CoveringLaw) (parity : ValueParityLaw) (scene : SceneView) 
       fold-map (after_step scene l) (Candidate solid) k (range_with_len 0 nf)
       ∙ fold_single t (loaded l d s) k 0 nf (covering_front s l.x l.y) (is_met s far l.x l.y)
       (λ i low high. law.fronts i (lt_true i nf (omega arith)))
-      (omega arith) (omega (arith, lt_holds (covering_front s l.x l.y) nf law.front_there))
+      (omega arith) (omega (arith, lt_holds (covering_front s l.x l.y) nf law.front.there))
   candidates_keys solid false k =
       let s = solid_of scene solid in
       let law = covering s far l.x l.y in
@@ -136,7 +136,7 @@ module _ (covering : CoveringLaw) (parity : ValueParityLaw) (scene : SceneView) 
       fold-map (after_step scene l) (Candidate solid) k (range_with_len nf nb)
       ∙ elim (cases_lt kb (nf + nb)) [
         | inl numbered ↦ rw (lt_true kb (nf + nb) numbered, and_true m) (fold_single t (loaded l d s) k nf nb kb m
-            back (lt_fails kb nf law.back_behind) numbered)
+            back (lt_fails kb nf law.back.behind) numbered)
         | inr limit ↦ rw (lt_false kb (nf + nb) limit, and_false m) (fold_none t (loaded l d s) k nf nb
             (λ i low high. back i low high
             ∙ elsewhere m i (nf + nb) kb high limit))
@@ -185,20 +185,21 @@ module _ (covering : CoveringLaw) (parity : ValueParityLaw) (scene : SceneView) 
 
   -- the depth of a candidate is that of its cell
   loaded_deep : (s : SolidView) (plain : Bool) → is_covered s plain far l.x l.y ≡ true
-      → without_fraction l (residue l (plus (face_plane s far (face_found s plain far l.x l.y)) (2 ^ d.fraction_bits - 1)))
+      → without_fraction l (residue l
+          (plus (face_plane s far (face_found s plain far l.x l.y)) (2 ^ d.fraction_bits - 1)))
       ≡ value_of d (cell_found s plain d l.x l.y)
   loaded_deep s true met =
       let more = 2 ^ d.fraction_bits - 1 in
       ap (λ v. without_fraction l (modulo v (l.depth_bits + l.fraction_bits)))
       (value_at-plus (face_plane s far (covering_front s l.x l.y)) more l.x l.y
-      ∙ ap (λ v. v +ℤ pos more) (covering s far l.x l.y).front_value)
+      ∙ ap (λ v. v +ℤ pos more) (covering s far l.x l.y).front.value)
       ∙ rounded l d room (enters_at s l.x l.y) (enters_depth covering far s l.x l.y met)
   loaded_deep s false both =
       let more = 2 ^ d.fraction_bits - 1 in
       let met = and_left (is_met s far l.x l.y) _ both in
       ap (λ v. without_fraction l (modulo v (l.depth_bits + l.fraction_bits)))
       (value_at-plus (face_plane s far (covering_back s far l.x l.y)) more l.x l.y
-      ∙ ap (λ v. v +ℤ pos more) (covering s far l.x l.y).back_value)
+      ∙ ap (λ v. v +ℤ pos more) (covering s far l.x l.y).back.value)
       ∙ rounded l d room (leaves_at s far l.x l.y) (leaves_depth covering far s l.x l.y met)
 
   cell_test : (solid : ℕ) (plain : Bool) → let s = solid_of scene solid in is_covered s plain far l.x l.y ≡ true
@@ -230,7 +231,8 @@ module _ (covering : CoveringLaw) (parity : ValueParityLaw) (scene : SceneView) 
             record {
               best = c.best ∙ ap (λ (k : Keys). k.best) here;
               alive = c.alive
-                  ∙ ap (λ (k : Keys). k.alive && ((d.fraction_bits == 0) || test covering scene l room solid plain k.deep))
+                  ∙ ap (λ (k : Keys). k.alive
+                      && ((d.fraction_bits == 0) || test covering scene l room solid plain k.deep))
                   here
                   ∙ ap (λ v. (d.fraction_bits == 0) || test covering scene l room solid plain v) deep
                   ∙ cell_test solid plain yea ∙ rw yea refl;
@@ -245,7 +247,8 @@ module _ (covering : CoveringLaw) (parity : ValueParityLaw) (scene : SceneView) 
             record {
               best = c.best ∙ ap (λ (k : Keys). k.best) here;
               alive = c.alive
-                  ∙ ap (λ (k : Keys). k.alive && ((d.fraction_bits == 0) || test covering scene l room solid plain k.deep))
+                  ∙ ap (λ (k : Keys). k.alive
+                      && ((d.fraction_bits == 0) || test covering scene l room solid plain k.deep))
                   here
                   ∙ rw (dead, nay) refl;
               has = λ e. absurd (never (is_covered s plain far l.x l.y)

@@ -280,7 +280,8 @@ module _ (laws : FieldLaws) (scene : SceneView) (w i x y : ℕ)
 
     loading : (memory : List Bool) (c : Bool) → IsLong memory
         → keys (after_macros (m.LoadLinear form (t_deep w f i)
-        ∷ where_fraction d (m.LoadConst (t_fraction w f i) 0 ∷ []) ++ numbered ∷ risen ∷ []) x y (pixel memory c)).memory
+        ∷ where_fraction d (m.LoadConst (t_fraction w f i) 0 ∷ []) ++ numbered ∷ risen ∷ []) x y
+            (pixel memory c)).memory
         ≡ (if c then loaded place d s (keys memory) face else keys memory)
     loading memory c long = elim (cases_Bool (f == 0)) [
       | inl none ↦ rw none (without c (no_fraction f none))
@@ -387,16 +388,7 @@ module _ (laws : FieldLaws) (scene : SceneView) (w i x y : ℕ)
   anew : (step : Step) (p : PixelBits) → after_macros (operations scene l step) x y p
       ≡ after_macros (operations scene l step) x y (pixel p.memory true)
   anew Start p = refl
-  anew Open p = refl
-  anew (Candidate solid face) p = refl
-  anew (Drop solid face) p = refl
-  anew Clear p = refl
-  anew (Front solid face) p = refl
-  anew Confirm p = refl
-  anew (Begin other) p = refl
-  anew (Turn other solid face) p = refl
-  anew (Close other plain) p = refl
-  anew Merge p = refl
+  anew other p = refl
 
   -- steps one after another
   pub all_steps : (steps : List Step) (p : PixelBits) → IsLong p.memory

@@ -127,7 +127,7 @@ module _ (covering : CoveringLaw) (scene : SceneView) (l : KeyedPixel) (room : H
       (le_z leaves (pos v))
       (λ m here.
       ap (λ w. nat_le (modulo w bits) v) (ap (λ j. value_at (face_plane s end j) l.x l.y)
-      (eqb_holds i (covering_back s end l.x l.y) here) ∙ (covering s end l.x l.y).back_value)
+      (eqb_holds i (covering_back s end l.x l.y) here) ∙ (covering s end l.x l.y).back.value)
       ∙ at_most_is leaves end bits v (end_small l d room) (leaves_depth covering end s l.x l.y m)))
 
   -- of the fronts only the covering one can turn
@@ -143,7 +143,7 @@ module _ (covering : CoveringLaw) (scene : SceneView) (l : KeyedPixel) (room : H
       let less : e.depth < end = omega (arith, ints, e.is, below.1, below.2) in
       ap (λ w. nat_le (modulo w bits) v) (value_at-plus (face_plane s end i) unit l.x l.y
       ∙ ap (λ w. w +ℤ pos unit) (ap (λ j. value_at (face_plane s end j) l.x l.y)
-      (eqb_holds i (covering_front s l.x l.y) here) ∙ (covering s end l.x l.y).front_value))
+      (eqb_holds i (covering_front s l.x l.y) here) ∙ (covering s end l.x l.y).front.value))
       ∙ more_at_most enters end bits v e unit (omega (arith, less, end_room l d room))))
 
   abbrev drop_steps : List Step
@@ -167,7 +167,7 @@ module _ (covering : CoveringLaw) (scene : SceneView) (l : KeyedPixel) (room : H
       ∙ ap (λ a. record k { alive = a })
       (fold_single (t k.deep) (λ alive i. false) k.alive nf nb kb g
       (λ i low high. back_drops k.deep i (law.backs i (omega arith) (lt_false i nf low)))
-      (lt_fails kb nf law.back_behind) (omega (arith, law.back_there))
+      (lt_fails kb nf law.back.behind) (omega (arith, law.back.there))
       ∙ and_not g k.alive)
 
   and_here : (a b c g h : Bool) → (b && c) ≡ (g && h) → (a && (b && c)) ≡ ((a && g) && h)
@@ -192,7 +192,7 @@ module _ (covering : CoveringLaw) (scene : SceneView) (l : KeyedPixel) (room : H
       (fold_single (λ i. k.alive && t k.deep i) (λ odd i. not odd) false 0 nf kf (k.alive && g)
       (λ i low high. and_here k.alive (covers s end i l.x l.y) (nat_le (residue l (plus (face_plane s end i) unit))
       k.deep) g (eqb i kf) (front_turns k.deep i (law.fronts i (lt_true i nf (omega arith)))))
-      (omega arith) (omega (arith, lt_holds kf nf law.front_there))
+      (omega arith) (omega (arith, lt_holds kf nf law.front.there))
       ∙ turned_from_false (k.alive && g)) in
       fold-append (after_step scene l) start turns (Confirm ∷ [])
       ∙ ap (λ (q : Keys). if beq q.par false then record q { alive = false } else q) turned

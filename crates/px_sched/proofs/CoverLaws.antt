@@ -66,7 +66,7 @@ module _ (covering : CoveringLaw) (end : ℕ) (s : SolidView) (x y : ℕ) where
       record {
         depth = one.depth;
         is = ap (λ j. value_at (face_plane s end j) x y) same
-            ∙ (covering s end x y).front_value ∙ one.is;
+            ∙ (covering s end x y).front.value ∙ one.is;
         below = one.below;
       }
 
@@ -79,7 +79,7 @@ module _ (covering : CoveringLaw) (end : ℕ) (s : SolidView) (x y : ℕ) where
       record {
         depth = one.depth;
         is = ap (λ j. value_at (face_plane s end j) x y) same
-            ∙ (covering s end x y).back_value ∙ one.is;
+            ∙ (covering s end x y).back.value ∙ one.is;
         below = one.below;
       }
 

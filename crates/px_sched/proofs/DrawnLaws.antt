@@ -1,5 +1,6 @@
 -- The kept products of a scene have literals, and these are of solids of the scene.
-use Rattle.std.proofs.Common.{◌≡◌, ℕ, ◌<◌, All, true, false, List, [], ◌∷◌, get_or, length, refl, sym, subst, arith, inl, inr}
+use Rattle.std.proofs.Common.{◌≡◌, ℕ, ◌<◌, All, true, false, List, [], ◌∷◌, get_or, length, refl, sym, subst}
+use Rattle.std.proofs.Common.{arith, inl, inr}
 use Rattle.std.proofs.Common.{length-append}
 use Rattle.std.proofs.lemmas.List.{length-map}
 use Rattle.std.proofs.lemmas.List.Elements.{All-cons, All-nil}
@@ -25,7 +26,8 @@ all_members : {X : Type 0} (P : X → Type 0) (xs : List X) → ((x : X) → In 
 all_members P [] each = All-nil P
 all_members P (x ∷ xs) each = All-cons P x xs (each x (inl refl)) (all_members P xs (λ y h. each y (inr h)))
 
-drawn : (scene : SceneView) (p : Product) → HasPlain p → HasSolidsBelow (length scene.solids) p → HasKnownLiterals scene p
+drawn : (scene : SceneView) (p : Product) → HasPlain p → HasSolidsBelow (length scene.solids) p
+    → HasKnownLiterals scene p
 drawn scene p plain known = record {
   some = omega (
     arith,
@@ -40,7 +42,8 @@ drawn scene p plain known = record {
 }
 
 -- by the laws of the lower crates
-pub kept_drawn : PlainIsKept → KnownAreKept → ((tree : Tree) → HasLeavesBelow 256 tree → All HasPlain (sum_of_products tree))
+pub kept_drawn : PlainIsKept → KnownAreKept
+    → ((tree : Tree) → HasLeavesBelow 256 tree → All HasPlain (sum_of_products tree))
     → ((count : ℕ) (tree : Tree) → HasLeavesBelow 256 tree → HasLeavesBelow count tree
     → All (HasSolidsBelow count) (sum_of_products tree))
     → (scene : SceneView) → IsLawfulScene scene → (ps : List Product) → ps ≡ kept_of scene (sum_of_products scene.show)

@@ -1,5 +1,6 @@
 -- How many passes there can be.
-use Rattle.std.proofs.Common.{◌≡◌, ℕ, zero, suc, inl, inr, ◌+◌, ◌^◌, ◌≤◌, ◌==◌, All, Bool, true, false, not, List, [], ◌∷◌}
+use Rattle.std.proofs.Common.{◌≡◌, ℕ, zero, suc, inl, inr, ◌+◌, ◌^◌, ◌≤◌, ◌==◌, All, Bool, true, false, not}
+use Rattle.std.proofs.Common.{List, [], ◌∷◌}
 use Rattle.std.proofs.Common.{filter, get_or, length, refl, ap, arith, length-append}
 use Rattle.std.specs.List.{sum_by}
 use Rattle.std.proofs.lemmas.Bool.{cases_Bool}
@@ -81,7 +82,8 @@ few_others q p =
     let other : Literal → Bool = λ r. not (r.solid == q.solid) in
     omega (arith, length-filter other (literals p), count_by-le-length other (literals p), few_literals p)
 
-pub few_candidates : (s : SolidView) (plain : Bool) → length (candidate_faces s plain) ≤ length s.fronts + 1 + length s.backs
+pub few_candidates : (s : SolidView) (plain : Bool) → length (candidate_faces s plain) ≤ length s.fronts + 1 + length
+    s.backs
 few_candidates s true = omega (arith, length-range_with_len 0 (length s.fronts + 1))
 few_candidates s false = omega (arith, length-range_with_len (length s.fronts + 1) (length s.backs))
 
@@ -125,7 +127,8 @@ module _ (count : EdgesAreCounted) (scene : SceneView) (l : LayoutView) (lawful 
 
   few_bare : (step : Step) → sum_by once (bare l (depths_of scene) step) ≤ 5
   few_bare (Candidate solid face) =
-      elim (cases_Bool (scene.fraction_bits == 0)) [ inl none ↦ rw none (omega arith) | inr some ↦ rw some (omega arith) ]
+      elim (cases_Bool (scene.fraction_bits == 0)) [ inl none ↦ rw none (omega arith) | inr some ↦
+          rw some (omega arith) ]
   few_bare step = omega arith
 
   few_operations : (step : Step) → HasFace (IsThere scene) step → length (operations scene l step) ≤ 102
@@ -160,7 +163,8 @@ module _ (count : EdgesAreCounted) (scene : SceneView) (l : LayoutView) (lawful 
       omega (
         arith,
         flat_sum once steps (literals p),
-        sum_by-le (λ q. sum_by once (steps q)) (2 ^ 16) (literals p) (λ k d low. few_literal p (get_or (literals p) k d)),
+        sum_by-le (λ q. sum_by once (steps q)) (2 ^ 16) (literals p)
+            (λ k d low. few_literal p (get_or (literals p) k d)),
         few_literals p,
       )
 

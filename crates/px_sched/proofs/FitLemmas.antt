@@ -50,11 +50,11 @@ module _ (ranges : EdgesAreInRange) (planes : PlanesAreInRange) (scene : SceneVi
 
   end_small : end < 2 ^ 32
   end_small =
-      let bound : 2 ^ (scene.depth_bits + f) ≤ 2 ^ 24 = pow_mono {i = scene.depth_bits + f} {j = 24} lawful.depth in
+      let bound : 2 ^ (scene.depth_bits + f) ≤ 2 ^ 24 = pow_mono {i = scene.depth_bits + f} {j = 24} lawful.sizes.depth_limit in
       omega (arith, small, bound)
 
   unit_most : 2 ^ f ≤ 2 ^ 8
-  unit_most = pow_mono {i = f} {j = 8} lawful.fraction
+  unit_most = pow_mono {i = f} {j = 8} lawful.sizes.fraction_limit
 
   solid_lawful : (solid : ℕ) → IsLawfulSolid (solid_of scene solid)
   solid_lawful solid = any_solid IsLawfulSolid scene solids no_solid_lawful solid
@@ -81,7 +81,8 @@ module _ (ranges : EdgesAreInRange) (planes : PlanesAreInRange) (scene : SceneVi
   moved : (n : ℕ) → n ≤ 2 ^ f → (solid face : ℕ) → IsThere scene solid face
       → IsInTreeRange (plus (face_plane (solid_of scene solid) end face) n) × IsField (deep_part l l.key_t) (need_of l)
   moved n low solid face there =
-      (plus_range (face_plane (solid_of scene solid) end face) n (omega (arith, unit_most)) (plane solid face there), deep)
+      (plus_range (face_plane (solid_of scene solid) end face) n (omega (arith, unit_most)) (plane solid face there),
+          deep)
 
   each_lawful : HoldsOf scene l (λ m. IsLawful m (need_of l))
   each_lawful = record {
@@ -94,13 +95,15 @@ module _ (ranges : EdgesAreInRange) (planes : PlanesAreInRange) (scene : SceneVi
     where_par = λ v. omega arith;
     less = record { fields = (field_t, field_b); length = refl };
     copy = (record { fields = (field_t, field_b); length = refl }, inr (omega arith));
-    cleared = λ some. (fraction some, pow_pos f);
-    number = λ solid face. (number, numbers_fit scene lawful solid face);
-    signs = λ solid face there. ranges (solid_of scene solid) (solid_lawful solid) end face end_small there;
-    load = moved (2 ^ f - 1) (omega arith);
-    at_most = λ solid face there.
-        (plane_range (face_plane (solid_of scene solid) end face) (plane solid face there), deep);
-    behind = moved (2 ^ f) (omega arith);
+    faces = record {
+      cleared = λ some. (fraction some, pow_pos f);
+      number = λ solid face. (number, numbers_fit scene lawful solid face);
+      signs = λ solid face there. ranges (solid_of scene solid) (solid_lawful solid) end face end_small there;
+      load = moved (2 ^ f - 1) (omega arith);
+      at_most = λ solid face there.
+          (plane_range (face_plane (solid_of scene solid) end face) (plane solid face there), deep);
+      behind = moved (2 ^ f) (omega arith);
+    };
   }
 
   pub step_fits : (step : Step) → IsStep scene step → All (λ m. IsLawful m (need_of l)) (operations scene l step)

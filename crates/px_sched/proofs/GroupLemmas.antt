@@ -11,7 +11,8 @@ use Rattle.px_sched.specs.declared.literal.Literal.{Literal}
 use Rattle.px_sched.specs.declared.step.Step.{Step}
 use Rattle.px_sched.specs.declared.group.Stage.TheVariants.{At}
 use Rattle.px_sched.specs.declared.step.Step.TheVariants.{Open}
-use Rattle.px_sched.specs.Groups.{IsGroup, from_stage, literal_of, literals_from, no_product, others_of, product_at, products_from}
+use Rattle.px_sched.specs.Groups.{IsGroup, from_stage, literal_of, literals_from, no_product, others_of}
+use Rattle.px_sched.specs.Groups.{product_at, products_from}
 use Rattle.px_sched.specs.Passes.{literal_at, literal_steps, literals, no_literal, others, product_steps}
 use Rattle.px_sched.specs.Steps.{IsStep, IsStepOf, behind_step}
 use Rattle.px_sched.specs.Onward.{AreKnown, from_step, from_step_if_any, HasKnownLiterals}
@@ -26,7 +27,8 @@ others_are products g q rs all e f h =
     ∙ ap (λ (p : Literal). filter (λ r. not (r.solid == p.solid)) (literals (product_at products g.product))) f
 
 pub others_known : (scene : SceneView) (products : List Product) (g : Group) (rs : List Literal)
-    → g.product < length products → All (HasKnownLiterals scene) products → rs ≡ others_of products g → AreKnown scene rs
+    → g.product < length products → All (HasKnownLiterals scene) products → rs ≡ others_of products g
+        → AreKnown scene rs
 others_known scene products g rs there drawn e =
     let known = (All-get_or (HasKnownLiterals scene) products g.product no_product there drawn).known in
     subst (AreKnown scene) (sym e)

@@ -22,9 +22,9 @@ bit_length_some n some = let first : nat_le (2 ^ 0) n ≡ true = le_true 1 n som
 
 pub scene_layout : (scene : SceneView) → IsLawfulScene scene → IsLayout (layout_of scene)
 scene_layout scene lawful = record {
-  some_depth = lawful.some_depth;
-  depth = lawful.depth;
-  fraction = lawful.fraction;
+  some_depth = lawful.sizes.some_depth;
+  depth = lawful.sizes.depth_limit;
+  fraction = lawful.sizes.fraction_limit;
   some_number =
       bit_length_some (faces_of scene.solids)
       (some_face scene.solids (some_solid scene.show (length scene.solids) lawful.shown));

@@ -23,7 +23,8 @@ use Rattle.px_sched.proofs.MemberLaws.{In, all_in, in_either, in_right, out_filt
 
 -- faces among others, by their places
 module _ (planes : List Linear) (numbers : List ℕ) (x y : ℕ) (v : ℤ) where
-  in_faces : (fs : List Face) (k : ℕ) → k < length fs → value_at (get_or (planes_in_faces fs ++ planes) k (level 0)) x y ≡ v
+  in_faces : (fs : List Face) (k : ℕ) → k < length fs → value_at (get_or (planes_in_faces fs ++ planes) k (level 0)) x
+      y ≡ v
       → In (get_or (numbers_in_faces fs ++ numbers) k 0) (faces_at fs x y v)
   in_faces [] k h e = absurd (omega arith)
   in_faces (f ∷ fs) zero h e = rw (int_same_true (value_at f.plane x y) v e) (inl refl)
@@ -120,7 +121,7 @@ module _ (covering : CoveringLaw) (s : SolidView) (d : Depths) (x y : ℕ) where
       let law = covering s end x y in
       let c = cell_of d (enters_at s x y) in
       where_is_true (c == c) (face_number s (covering_front s x y)) (greatest_fronts s x y) (same_true c c refl)
-      (in_fronts (covering_front s x y) law.front_there law.front_value)
+      (in_fronts (covering_front s x y) law.front.there law.front.value)
 
   pub record PlainSeen (z n : ℕ) : Type 0 where
     pub cell : cell_of d (enters_at s x y) ≡ z
@@ -130,7 +131,7 @@ module _ (covering : CoveringLaw) (s : SolidView) (d : Depths) (x y : ℕ) where
   plain_seen lawful z n h =
       let two = in_where_true (cell_of d (enters_at s x y) == z) n (greatest_fronts s x y) h in
       let r = out_fronts n two.1 in
-      let least = (covering s end x y).least_number lawful r.place r.front r.value_is in
+      let least = (covering s end x y).front.least lawful r.place r.front r.value_is in
       record { cell = same_holds (cell_of d (enters_at s x y)) z two.0; number = omega (arith, least, r.number_is) }
 
   -- ---- a barred literal
@@ -148,7 +149,8 @@ module _ (covering : CoveringLaw) (s : SolidView) (d : Depths) (x y : ℕ) where
   back_number face low =
       let count : length (s.near_number ∷ numbers_in_faces s.fronts) ≡ first_back =
       omega (arith, length-map s.fronts (λ f. f.number)) in
-      get_or-append_right (s.near_number ∷ numbers_in_faces s.fronts) (numbers_in_faces s.backs ++ 0 ∷ []) first_back face 0
+      get_or-append_right (s.near_number ∷ numbers_in_faces s.fronts) (numbers_in_faces s.backs ++ 0 ∷ []) first_back
+          face 0
       count low
 
   pub barred_shows : covering_back s end x y < first_back + length s.backs
@@ -156,10 +158,10 @@ module _ (covering : CoveringLaw) (s : SolidView) (d : Depths) (x y : ℕ) where
   barred_shows there =
       let law = covering s end x y in
       let back = covering_back s end x y in
-      let low = lt_fails back first_back law.back_behind in
+      let low = lt_fails back first_back law.back.behind in
       subst (λ n. In n (faces_at s.backs x y (leaves_at s end x y))) (sym (back_number back low))
       (in_faces (level end ∷ []) (0 ∷ []) x y (leaves_at s end x y) s.backs (back - first_back) (omega arith)
-      (ap (λ p. value_at p x y) (sym (back_plane back low)) ∙ law.back_value))
+      (ap (λ p. value_at p x y) (sym (back_plane back low)) ∙ law.back.value))
 
   pub barred_there : (z : ℕ) → covering_back s end x y < first_back + length s.backs
       → is_inside_before s d x y z ≡ true → cell_of d (leaves_at s end x y) ≡ z
@@ -204,8 +206,8 @@ module _ (covering : CoveringLaw) (s : SolidView) (d : Depths) (x y : ℕ) where
       ap (λ p. value_at p x y) (back_plane face (omega arith)
       ∙ ap (λ k. get_or (back_planes s.backs end) k (level 0)) place)
       ∙ r.value_is in
-      let first = law.least_index face (omega (arith, r.below)) (lt_false face first_back (omega arith)) value in
-      let low = lt_fails back first_back law.back_behind in
+      let first = law.back.least face (omega (arith, r.below)) (lt_false face first_back (omega arith)) value in
+      let low = lt_fails back first_back law.back.behind in
       let order = numbers_grow s.backs (0 ∷ []) (back - first_back) r.place lawful.backs.order (omega (arith, first))
       r.below in
       record {

@@ -50,7 +50,8 @@ module _ (scene : SceneView) where
   candidates_there : (solid : ℕ) (plain : Bool)
       → All There (map (Candidate solid) (candidate_faces (solid_of scene solid) plain))
   candidates_there solid true =
-      faces_there (Candidate solid) solid (λ face there. there) 0 (length (solid_of scene solid).fronts + 1) (omega arith)
+      faces_there (Candidate solid) solid (λ face there. there) 0 (length (solid_of scene solid).fronts + 1)
+          (omega arith)
   candidates_there solid false =
       let s = solid_of scene solid in
       faces_there (Candidate solid) solid (λ face there. there) (length s.fronts + 1) (length s.backs) (omega arith)
@@ -103,17 +104,8 @@ is_there scene (Front solid face) is = is.there
 is_there scene (Turn other solid face) is = is.there
 is_there scene step is = tt
 
--- what holds of the operations that steps have
-pub record HoldsOf (scene : SceneView) (l : LayoutView) (P : Macro → Type 0) : Type 0 where
-  pub all : P m.All
-  pub best : P (m.LoadConst l.key_b (end_of (depths_of scene) * 2 ^ l.number_bits))
-  pub alive : (v : Bool) → P (m.SetBit l.alive v)
-  pub par : P (m.SetBit l.par false)
-  pub turned : P (m.Toggle l.par)
-  pub where_alive : P (m.KeepBit l.alive true)
-  pub where_par : (v : Bool) → P (m.KeepBit l.par v)
-  pub less : P (m.KeepLess l.key_t l.key_b)
-  pub copy : P (m.Copy l.key_t l.key_b)
+-- what holds of the operations that the steps of a face have
+pub record HoldsOfFaces (scene : SceneView) (l : LayoutView) (P : Macro → Type 0) : Type 0 where
   pub cleared : (scene.fraction_bits == 0) ≡ false → P (m.LoadConst (fraction_part l l.key_t) 0)
   pub number : (solid face : ℕ) → P (m.LoadConst (number_part l l.key_t) (face_number (solid_of scene solid) face))
   pub signs : (solid face : ℕ) → IsThere scene solid face
@@ -127,12 +119,26 @@ pub record HoldsOf (scene : SceneView) (l : LayoutView) (P : Macro → Type 0) :
       → P (m.KeepAtMost (plus (face_plane (solid_of scene solid) (end_of (depths_of scene)) face)
       (2 ^ scene.fraction_bits)) (deep_part l l.key_t))
 
+-- what holds of the operations that steps have
+pub record HoldsOf (scene : SceneView) (l : LayoutView) (P : Macro → Type 0) : Type 0 where
+  pub all : P m.All
+  pub best : P (m.LoadConst l.key_b (end_of (depths_of scene) * 2 ^ l.number_bits))
+  pub alive : (v : Bool) → P (m.SetBit l.alive v)
+  pub par : P (m.SetBit l.par false)
+  pub turned : P (m.Toggle l.par)
+  pub where_alive : P (m.KeepBit l.alive true)
+  pub where_par : (v : Bool) → P (m.KeepBit l.par v)
+  pub less : P (m.KeepLess l.key_t l.key_b)
+  pub copy : P (m.Copy l.key_t l.key_b)
+  pub faces : HoldsOfFaces scene l P
+
 module _ (scene : SceneView) (l : LayoutView) (P : Macro → Type 0) (h : HoldsOf scene l P) where
   abbrev end : ℕ
   end = end_of (depths_of scene)
 
   covered : (solid face : ℕ) → IsThere scene solid face → All P (keep_covered end (solid_of scene solid) face)
-  covered solid face there = All-map P m.KeepSign (edges (solid_of scene solid) end face) (h.signs solid face there)
+  covered solid face there = All-map P m.KeepSign (edges (solid_of scene solid) end face)
+      (h.faces.signs solid face there)
 
   passed : (solid face : ℕ) (form : Linear) (operation : Macro) → IsThere scene solid face
       → P (m.KeepAtMost form (deep_part l l.key_t)) → P operation
@@ -155,16 +161,17 @@ module _ (scene : SceneView) (l : LayoutView) (P : Macro → Type 0) (h : HoldsO
       let last : List Macro = m.LoadConst (number_part l l.key_t) (face_number s face) ∷ m.SetBit l.alive true ∷ [] in
       All-cons P m.All (keep_covered end s face ++ (load ∷ clear ++ last)) h.all
       (All-append P (keep_covered end s face) (load ∷ clear ++ last) (covered solid face there)
-      (All-append P (load ∷ clear) last (All-cons P load clear (h.load solid face there)
-      (fraction_all P (depths_of scene) zero (λ some. All-from_recursion P zero (h.cleared some, tt))))
-      (All-from_recursion P last (h.number solid face, (h.alive true, tt)))))
-  each_operation (Drop solid face) there = passed solid face _ _ there (h.at_most solid face there) (h.alive false)
+      (All-append P (load ∷ clear) last (All-cons P load clear (h.faces.load solid face there)
+      (fraction_all P (depths_of scene) zero (λ some. All-from_recursion P zero (h.faces.cleared some, tt))))
+      (All-from_recursion P last (h.faces.number solid face, (h.alive true, tt)))))
+  each_operation (Drop solid face) there = passed solid face _ _ there (h.faces.at_most solid face there)
+      (h.alive false)
   each_operation Clear there = All-from_recursion P (operations scene l Clear) (h.all, (h.par, tt))
-  each_operation (Front solid face) there = passed solid face _ _ there (h.behind solid face there) h.turned
+  each_operation (Front solid face) there = passed solid face _ _ there (h.faces.behind solid face there) h.turned
   each_operation Confirm there =
       All-from_recursion P (operations scene l Confirm) (h.all, (h.where_par false, (h.alive false, tt)))
   each_operation (Begin other) there = All-from_recursion P (operations scene l (Begin other)) (h.all, (h.par, tt))
-  each_operation (Turn other solid face) there = passed solid face _ _ there (h.at_most solid face there) h.turned
+  each_operation (Turn other solid face) there = passed solid face _ _ there (h.faces.at_most solid face there) h.turned
   each_operation (Close other plain) there = All-from_recursion P (operations scene l (Close other plain))
       (h.all, (h.where_par (not plain), (h.alive false, tt)))
   each_operation Merge there =

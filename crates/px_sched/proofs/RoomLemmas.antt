@@ -17,7 +17,8 @@ use Rattle.px_sched.proofs.LawfulLaws.{all_or}
 use Rattle.px_sched.proofs.LayoutLaws.{counted, passed_over}
 use Rattle.px_sched.proofs.ProductLaws.{numbered_at}
 
-number_below : (first : ℕ) (s : SolidView) → IsNumberedFrom first s → (face : ℕ) → face_number s face < first + faces_in s
+number_below : (first : ℕ) (s : SolidView) → IsNumberedFrom first s → (face : ℕ)
+    → face_number s face < first + faces_in s
 number_below first s h =
     let P : ℕ → Type 0 = λ n. n < first + faces_in s in
     let fronts = numbers_in_faces s.fronts in
@@ -39,7 +40,8 @@ number_in_scene scene lawful solid face = elim (cases_lt solid (length scene.sol
   | inl there ↦
       let at = numbered_at scene.solids 1 solid lawful.numbers there in
       omega (arith, at.within, number_below at.first (solid_of scene solid) at.numbers face)
-  | inr past ↦ subst (λ s. face_number s face ≤ faces_of scene.solids) (sym (get_or_past scene.solids solid no_solid past))
+  | inr past ↦ subst (λ s. face_number s face ≤ faces_of scene.solids)
+      (sym (get_or_past scene.solids solid no_solid past))
       (omega (arith, no_solid_has_none face))
 ]
 

@@ -141,16 +141,7 @@ module _ (scene : SceneView) (l : LayoutView) (products : List Product) where
 
   pub step_some : (step : Step) → 0 < length (operations scene l step)
   step_some step.Start = omega arith
-  step_some Open = omega arith
-  step_some (Candidate solid face) = omega arith
-  step_some (Drop solid face) = omega arith
-  step_some Clear = omega arith
-  step_some (Front solid face) = omega arith
-  step_some Confirm = omega arith
-  step_some (Begin other) = omega arith
-  step_some (Turn other solid face) = omega arith
-  step_some (Close other plain) = omega arith
-  step_some Merge = omega arith
+  step_some other = omega arith
 
   place_zero : (st : Stage) → IsWithinStage scene l st 0
   place_zero Start = omega arith

@@ -1,5 +1,6 @@
 -- A cursor of steps gives the steps in their order.
-use Rattle.std.proofs.Common.{◌≡◌, ℕ, ◌+◌, ◌-◌, ◌^◌, ◌<◌, ◌≤◌, Bool, List, [], ◌∷◌, drop, filter, get_or, length, slice_get, take}
+use Rattle.std.proofs.Common.{◌≡◌, ℕ, ◌+◌, ◌-◌, ◌^◌, ◌<◌, ◌≤◌, Bool, List, [], ◌∷◌, drop, filter, get_or}
+use Rattle.std.proofs.Common.{length, slice_get, take}
 use Rattle.std.proofs.Common.{Option, Some, None, refl, ap, sym, subst, ◌∙◌, arith, length-append, cond, unwrap_or}
 use Rattle.std.specs.List.{flat_map}
 use Rattle.std.proofs.lemmas.List.{drop_more, length-drop, length-take}
@@ -27,7 +28,8 @@ use Rattle.px_sched.proofs.StandingLemmas.{step_some}
 -- a list from one element on
 module _ {X : Type 0} (xs : List X) (k : ℕ) (x : X) (rest : List X) (left : drop k xs ≡ x ∷ rest) where
   head_below : k < length xs
-  head_below = let some : length (drop k xs) ≡ length (x ∷ rest) = ap length left in omega (arith, some, length-drop k xs)
+  head_below = let some : length (drop k xs) ≡ length (x ∷ rest) = ap length left in
+      omega (arith, some, length-drop k xs)
 
   split : get_or xs k x ∷ drop (k + 1) xs ≡ x ∷ rest
   split = sym (drop_more xs k x head_below) ∙ left
@@ -42,13 +44,15 @@ module _ {X : Type 0} (xs : List X) (k : ℕ) (x : X) (rest : List X) (left : dr
   tail_is = ap (drop 1) split
 
   filtered_more : (p : X → Bool) → length (filter p (take (k + 1) xs)) ≡ length (filter p (take k xs)) + cond (p x) 1 0
-  filtered_more p = length-filter_more p xs k x head_below ∙ ap (λ y. length (filter p (take k xs)) + cond (p y) 1 0) head_is
+  filtered_more p = length-filter_more p xs k x head_below ∙ ap (λ y. length (filter p (take k xs)) + cond (p y) 1 0)
+      head_is
 
 ended : {X : Type 0} (xs : List X) (k : ℕ) → drop k xs ≡ [] → length xs ≤ k
 ended xs k none = omega (arith, ap length none, length-drop k xs)
 
 module _ (scene : SceneView) (products : List Product) where
-  here_from : (st : Stage) (s : Step) → Some s ≡ step_of st → from_stage scene products st ≡ s ∷ behind_stage scene products st
+  here_from : (st : Stage) (s : Step) → Some s ≡ step_of st → from_stage scene products st ≡ s
+      ∷ behind_stage scene products st
   here_from Start s here = ap (λ o. unwrap_or o s ∷ behind_stage scene products Start) (sym here)
   here_from (At g) s here = ap (λ o. unwrap_or o s ∷ behind_stage scene products (At g)) (sym here)
   here_from End s here = absurd (cc)
@@ -61,16 +65,10 @@ module _ (scene : SceneView) (products : List Product) where
   -- the other literal of a step is one of those of its product
   asked : (q : Literal) (rs : List Literal) (s : Step) → length rs ≤ 512 → IsStepOf scene q rs s → HasFewOthers s
   asked q rs step.Start few is = absurd is
-  asked q rs step.Open few is = tt
-  asked q rs (step.Candidate solid face) few is = tt
-  asked q rs (step.Drop solid face) few is = tt
-  asked q rs step.Clear few is = tt
-  asked q rs (step.Front solid face) few is = tt
-  asked q rs step.Confirm few is = tt
   asked q rs (step.Begin other) few is = omega (arith, few, is)
   asked q rs (step.Turn other solid face) few is = omega (arith, few, is.0)
   asked q rs (step.Close other plain) few is = omega (arith, few, is)
-  asked q rs step.Merge few is = tt
+  asked q rs other few is = tt
 
   pub others_here : (st : Stage) (s : Step) → Some s ≡ step_of st → IsStage scene products st → HasFewOthers s
   others_here Start s here is = subst (λ o. HasFewOthers (unwrap_or o s)) (sym here) tt
@@ -119,7 +117,8 @@ module _ (scene : SceneView) (products : List Product) where
           few = stands.few;
         }
 
-  pub none_found : (c : StepCursor) → StandsAmong scene products c → None ≡ step_of c.stage → None ≡ slice_get all c.given
+  pub none_found : (c : StepCursor) → StandsAmong scene products c → None ≡ step_of c.stage
+      → None ≡ slice_get all c.given
   none_found c stands here =
       sym (slice_get_past all c.given (ended all c.given (stands.left ∙ end_from c.stage here)))
 
@@ -132,14 +131,16 @@ module _ (scene : SceneView) (products : List Product) (plan : products ≡ plan
   stands_for c stands = subst (λ ps. StandsAmong scene ps c) plan stands
 
 -- each has an operation, so there are no more steps than operations
-some_each : {X Y : Type 0} (f : X → List Y) → ((x : X) → 0 < length (f x)) → (xs : List X) → length xs ≤ length (flat_map f xs)
+some_each : {X Y : Type 0} (f : X → List Y) → ((x : X) → 0 < length (f x)) → (xs : List X)
+    → length xs ≤ length (flat_map f xs)
 some_each f some [] = omega arith
 some_each f some (x ∷ xs) = omega (arith, some x, some_each f some xs, length-append (f x) (flat_map f xs))
 
 pub first_stands : (scene : SceneView) → length (passes scene) < 2 ^ 64
     → StandsAtStep scene (record { given = 0; literals = 0; stage = Start })
 first_stands scene few =
-    let each = some_each (operations scene (layout_of scene)) (step_some scene (layout_of scene) (plan_of scene)) (steps scene) in
+    let each = some_each (operations scene (layout_of scene)) (step_some scene (layout_of scene) (plan_of scene))
+        (steps scene) in
     record {
       stage = tt;
       left = refl;

@@ -1,5 +1,6 @@
 -- Sums over the operations of a step and over the steps of a literal, by the cases of a step.
-use Rattle.std.proofs.Common.{◌≡◌, ℕ, ◌+◌, ◌-◌, ◌*◌, ◌^◌, ◌==◌, All, Bool, true, false, List, [], ◌∷◌, ◌++◌, length, map, get_or}
+use Rattle.std.proofs.Common.{◌≡◌, ℕ, ◌+◌, ◌-◌, ◌*◌, ◌^◌, ◌==◌, All, Bool, true, false, List, [], ◌∷◌, ◌++◌}
+use Rattle.std.proofs.Common.{length, map, get_or}
 use Rattle.std.proofs.Common.{not, refl, ap, sym, ◌∙◌, arith, inl, inr}
 use Rattle.std.specs.List.{flat_map, range_with_len, sum_by}
 use Rattle.std.proofs.lemmas.Bool.{cases_Bool}
@@ -20,7 +21,8 @@ use Rattle.px_model.specs.Scenes.{SceneView}
 use Rattle.px_normal.specs.declared.product.Product.{Product}
 use Rattle.px_sched.specs.declared.literal.Literal.{Literal}
 use Rattle.px_sched.specs.declared.step.Step.{Step}
-use Rattle.px_sched.specs.declared.step.Step.TheVariants.{Begin, Candidate, Clear, Close, Confirm, Drop, Front, Merge, Open, Start, Turn}
+use Rattle.px_sched.specs.declared.step.Step.TheVariants.{Begin, Candidate, Clear, Close, Confirm, Drop, Front}
+use Rattle.px_sched.specs.declared.step.Step.TheVariants.{Merge, Open, Start, Turn}
 use Rattle.px_sched.specs.Layouts.{LayoutView, deep_part, fraction_part, number_part}
 use Rattle.px_sched.specs.Passes.{candidate_faces, confirm, judge, keep_covered, literal_at, literal_steps, no_literal}
 use Rattle.px_sched.specs.Passes.{operations, product_steps, solid_of, steps_with, where_fraction, where_passed}
@@ -87,7 +89,8 @@ module _ (v : Step → ℕ) (scene : SceneView) where
         ]
       ]
 
-  judge_sum : (rs : List Literal) (other : ℕ) → sum_by u (judge scene rs other) ≡ judged_worth v scene (literal_at rs other)
+  judge_sum : (rs : List Literal) (other : ℕ) → sum_by u (judge scene rs other)
+      ≡ judged_worth v scene (literal_at rs other)
   judge_sum rs other =
       let r = literal_at rs other in
       let n = face_count (solid_of scene r.solid) in

@@ -1,6 +1,7 @@
 -- The steps on numbers: what each does to the keys of a pixel, apart from where the memory keeps them.
 -- Only proofs and private functions stand on it.
-use Rattle.std.specs.Prelude.{ℕ, ◌+◌, ◌-◌, ◌*◌, ◌/◌, ◌^◌, Bool, true, false, ◌&&◌, not, nat_le, nat_lt, List, fold, if◌then◌else◌}
+use Rattle.std.specs.Prelude.{ℕ, ◌+◌, ◌-◌, ◌*◌, ◌/◌, ◌^◌, Bool, true, false, ◌&&◌, not, nat_le, nat_lt, List}
+use Rattle.std.specs.Prelude.{fold, if◌then◌else◌}
 use Rattle.std.specs.Bool.{beq}
 use Rattle.px_num.specs.Bits.{modulo}
 use Rattle.px_num.specs.Forms.{plus, value_at}
@@ -10,7 +11,8 @@ use Rattle.px_model.specs.Cells.{Depths, depths_of, end_of}
 use Rattle.px_face.specs.Faces.{face_number, face_plane}
 use Rattle.px_face.specs.Edges.{covers}
 use Rattle.px_sched.specs.declared.step.Step.{Step}
-use Rattle.px_sched.specs.declared.step.Step.TheVariants.{Start, Open, Candidate, Drop, Clear, Front, Confirm, Begin, Turn, Close, Merge}
+use Rattle.px_sched.specs.declared.step.Step.TheVariants.{Start, Open, Candidate, Drop, Clear, Front, Confirm}
+use Rattle.px_sched.specs.declared.step.Step.TheVariants.{Begin, Turn, Close, Merge}
 use Rattle.px_sched.specs.Passes.{solid_of}
 
 -- the best key so far, the candidate's depth with its fraction, its face number, whether it is alive, and the parity

@@ -1,4 +1,5 @@
--- The passes law on numbers: whatever the numbers of a pixel of the picture were, the passes leave the key of what it shows.
+-- The passes law on numbers: whatever the numbers of a pixel of the picture were, the passes leave the key of
+-- what it shows.
 -- Only proofs and private functions stand on it.
 use Rattle.std.specs.Prelude.{◌≡◌, ◌<◌, ◌*◌, ◌^◌, ℕ, All}
 use Rattle.px_model.specs.Scenes.{IsLawfulScene, SceneView, faces_of, IsLawfulSolid}

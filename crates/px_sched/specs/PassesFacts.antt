@@ -1,4 +1,5 @@
--- What holds of the passes of every scene: that they are lawful, and how many there can be. Clauses of public calls stand on it.
+-- What holds of the passes of every scene: that they are lawful, and how many there can be. Clauses of public
+-- calls stand on it.
 use Rattle.std.specs.Prelude.{◌^◌, ◌≤◌, All, length}
 use Rattle.px_macro.specs.Macros.{IsLawful}
 use Rattle.px_prune.specs.Kept.{plan_of}

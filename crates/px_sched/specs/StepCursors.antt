@@ -4,24 +4,16 @@ use Rattle.px_model.specs.Scenes.{SceneView}
 use Rattle.px_normal.specs.declared.product.Product.{Product}
 use Rattle.px_prune.specs.Kept.{plan_of}
 use Rattle.px_sched.specs.declared.step.Step.{Step}
-use Rattle.px_sched.specs.declared.step.Step.TheVariants.{Start, Open, Candidate, Drop, Clear, Front, Confirm, Begin, Turn, Close, Merge}
+use Rattle.px_sched.specs.declared.step.Step.TheVariants.{Start, Open, Candidate, Drop, Clear, Front, Confirm}
+use Rattle.px_sched.specs.declared.step.Step.TheVariants.{Begin, Turn, Close, Merge}
 use Rattle.px_sched.specs.declared.step_cursor.StepCursor.{StepCursor}
 use Rattle.px_sched.specs.Groups.{IsStage, from_stage}
 use Rattle.px_sched.specs.Passes.{steps_with}
 
 -- the step is the first of a literal
 abbrev pub opens_literal : Step → Bool
-opens_literal Start = false
 opens_literal Open = true
-opens_literal (Candidate solid face) = false
-opens_literal (Drop solid face) = false
-opens_literal Clear = false
-opens_literal (Front solid face) = false
-opens_literal Confirm = false
-opens_literal (Begin other) = false
-opens_literal (Turn other solid face) = false
-opens_literal (Close other plain) = false
-opens_literal Merge = false
+opens_literal other = false
 
 -- how many literals have their first step among these
 abbrev pub literals_in : List Step → ℕ
@@ -29,17 +21,10 @@ literals_in steps = length (filter opens_literal steps)
 
 -- where a step asks another literal, there are at most so many
 abbrev pub HasFewOthers : Step → Type 0
-HasFewOthers Start = ⊤
-HasFewOthers Open = ⊤
-HasFewOthers (Candidate solid face) = ⊤
-HasFewOthers (Drop solid face) = ⊤
-HasFewOthers Clear = ⊤
-HasFewOthers (Front solid face) = ⊤
-HasFewOthers Confirm = ⊤
 HasFewOthers (Begin other) = other < 512
 HasFewOthers (Turn other solid face) = other < 512
 HasFewOthers (Close other plain) = other < 512
-HasFewOthers Merge = ⊤
+HasFewOthers other = ⊤
 
 -- the steps that were not given are those from the cursor's stage on
 pub record StandsAmong (scene : SceneView) (products : List Product) (cursor : StepCursor) : Type 0 where

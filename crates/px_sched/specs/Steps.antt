@@ -8,7 +8,8 @@ use Rattle.px_model.specs.Cells.{depths_of}
 use Rattle.px_face.specs.Faces.{face_count}
 use Rattle.px_sched.specs.declared.literal.Literal.{Literal}
 use Rattle.px_sched.specs.declared.step.Step.{Step}
-use Rattle.px_sched.specs.declared.step.Step.TheVariants.{Start, Open, Candidate, Drop, Clear, Front, Confirm, Begin, Turn, Close, Merge}
+use Rattle.px_sched.specs.declared.step.Step.TheVariants.{Start, Open, Candidate, Drop, Clear, Front, Confirm}
+use Rattle.px_sched.specs.declared.step.Step.TheVariants.{Begin, Turn, Close, Merge}
 use Rattle.px_sched.specs.Layouts.{LayoutView}
 use Rattle.px_sched.specs.Passes.{confirm, judge, literal_at, operations, solid_of, steps_with, where_fraction}
 
@@ -98,13 +99,10 @@ IsStep scene step = HasFace (IsFace scene) step
 -- the step is one of literal q, where rs are the other literals
 abbrev pub IsStepOf : SceneView → (q : Literal) → (rs : List Literal) → Step → Type 0
 IsStepOf scene q rs Start = ⊥
-IsStepOf scene q rs Open = ⊤
 IsStepOf scene q rs (Candidate solid face) = (solid ≡ q.solid) × (face < candidates_end (solid_of scene solid) q.plain)
 IsStepOf scene q rs (Drop solid face) = solid ≡ q.solid
-IsStepOf scene q rs Clear = ⊤
 IsStepOf scene q rs (Front solid face) = solid ≡ q.solid
-IsStepOf scene q rs Confirm = ⊤
 IsStepOf scene q rs (Begin other) = other < length rs
 IsStepOf scene q rs (Turn other solid face) = (other < length rs) × (solid ≡ (literal_at rs other).solid)
 IsStepOf scene q rs (Close other plain) = other < length rs
-IsStepOf scene q rs Merge = ⊤
+IsStepOf scene q rs other = ⊤

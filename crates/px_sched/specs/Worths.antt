@@ -1,4 +1,5 @@
--- What steps and their operations are worth together, by the kinds of the steps. Only proofs and private functions stand on it.
+-- What steps and their operations are worth together, by the kinds of the steps. Only proofs and private
+-- functions stand on it.
 use Rattle.std.specs.Prelude.{ℕ, ◌+◌, ◌-◌, ◌*◌, ◌==◌, true, false, List, [], ◌∷◌, ◌++◌, length, if◌then◌else◌}
 use Rattle.std.specs.List.{sum_by}
 use Rattle.px_face.specs.Edges.{edge_count}
@@ -10,7 +11,8 @@ use Rattle.px_model.specs.Scenes.{SceneView}
 use Rattle.px_normal.specs.declared.product.Product.{Product}
 use Rattle.px_sched.specs.declared.literal.Literal.{Literal}
 use Rattle.px_sched.specs.declared.step.Step.{Step}
-use Rattle.px_sched.specs.declared.step.Step.TheVariants.{Begin, Candidate, Clear, Close, Confirm, Drop, Front, Merge, Open, Start, Turn}
+use Rattle.px_sched.specs.declared.step.Step.TheVariants.{Begin, Candidate, Clear, Close, Confirm, Drop, Front}
+use Rattle.px_sched.specs.declared.step.Step.TheVariants.{Merge, Open, Start, Turn}
 use Rattle.px_sched.specs.Layouts.{LayoutView, deep_part, fraction_part, number_part}
 use Rattle.px_sched.specs.Passes.{candidate_faces, literals, solid_of, where_fraction}
 

@@ -20,7 +20,7 @@ use Rattle.px_macro.specs.Macros.{IsLawful}
 use Rattle.px_macro.specs.declared.operation.Macro.{Macro}
 use Rattle.px_control.specs.GridLaw.{IsSizedArray}
 use Rattle.px_asm.specs.Operations.{all_made}
-use Rattle.px_shadow.specs.Carrying.{CanCarryOut, CarriesOut, IsRestOf, carried_out}
+use Rattle.px_shadow.specs.Carrying.{CanCarryOut, CarriesOut, IsRestOf, carried_out, view_by}
 
 pub carried_none : (d : Device) → carried_out [] d ≡ d
 unfolding carried_out
@@ -112,16 +112,19 @@ rest_of xs ys d now is = ap (carried_out ys) is ∙ sym (carried_both xs ys d)
 -- an array with what is told of it
 module _ {A : Type 0} (bits : ℕ) (device : A → Device) (slots : A → List (Option Device)) (work : A → ℕ) where
   pub all_left : (whole : List Macro) (start : A) → CanCarryOut bits whole (device start)
-      → IsRestOf bits device slots work whole whole start start
+      → IsRestOf bits (view_by device slots work) whole whole start start
   all_left whole start can = record { can = can; same = refl; clocks = omega arith; slots = refl; work = omega arith }
 
-  pub left_first : (whole xs ys : List Macro) (start now : A) → IsRestOf bits device slots work whole (xs ++ ys) start
+  pub left_first : (whole xs ys : List Macro) (start now : A)
+      → IsRestOf bits (view_by device slots work) whole (xs ++ ys) start
       now → CanCarryOut bits xs (device now)
   left_first whole xs ys start now left = can_first bits xs ys (device now) left.can
 
-  pub left_next : (whole xs ys : List Macro) (start before now : A) → IsRestOf bits device slots work whole (xs ++ ys)
+  pub left_next : (whole xs ys : List Macro) (start before now : A)
+      → IsRestOf bits (view_by device slots work) whole (xs ++ ys)
       start before →
-      CarriesOut device slots work xs before now → IsRestOf bits device slots work whole ys start now
+      CarriesOut (view_by device slots work) xs before now → IsRestOf bits (view_by device slots work) whole ys start
+          now
   left_next whole xs ys start before now left made = record {
     can = can_second bits xs ys (device before) (device now) left.can made.device;
     same = rest_of xs ys (device before) (device now) made.device ∙ left.same;
@@ -130,8 +133,8 @@ module _ {A : Type 0} (bits : ℕ) (device : A → Device) (slots : A → List (
     work = omega (arith, left.work, left.clocks, made.work, made.clocks);
   }
 
-  pub none_left : (whole : List Macro) (start now : A) → IsRestOf bits device slots work whole [] start now
-      → CarriesOut device slots work whole start now
+  pub none_left : (whole : List Macro) (start now : A) → IsRestOf bits (view_by device slots work) whole [] start now
+      → CarriesOut (view_by device slots work) whole start now
   none_left whole start now left = record {
     device = sym (carried_none (device now)) ∙ left.same;
     clocks = left.clocks;
@@ -140,8 +143,9 @@ module _ {A : Type 0} (bits : ℕ) (device : A → Device) (slots : A → List (
   }
 
   -- the last ones are carried out
-  pub last_made : (whole ms : List Macro) (start before now : A) → IsRestOf bits device slots work whole ms start before →
-      CarriesOut device slots work ms before now → CarriesOut device slots work whole start now
+  pub last_made : (whole ms : List Macro) (start before now : A) → IsRestOf bits (view_by device slots work) whole ms
+      start before →
+      CarriesOut (view_by device slots work) ms before now → CarriesOut (view_by device slots work) whole start now
   last_made whole ms start before now left made =
       none_left whole start now (left_next whole ms [] start before now (rw (append-nil ms) left) made)
 
@@ -149,7 +153,7 @@ module _ {A : Type 0} (bits : ℕ) (device : A → Device) (slots : A → List (
   pub made_out : (ms : List Macro) (before now : A) → device now ≡ all_made ms (device before)
       → (device before).clocks ≤ (device now).clocks → slots now ≡ slots before
       → work now ≡ worked ((device now).clocks - (device before).clocks) (work before)
-      → CarriesOut device slots work ms before now
+      → CarriesOut (view_by device slots work) ms before now
   unfolding carried_out
   made_out ms before now is clocks same grown =
       record { device = is; clocks = clocks; slots = same; work = grown }
@@ -164,16 +168,16 @@ module _ {A : Type 0} (bits : ℕ) (device : A → Device) (slots : A → List (
 
   pub each_cut : {X : Type 0} (f : X → List Macro) (xs : List X) (i : ℕ) (x d : X) (whole tail : List Macro)
       (start now : A) → i < length xs → get_or xs i d ≡ x →
-      IsRestOf bits device slots work whole (flat_map f (drop i xs) ++ tail) start now →
-      IsRestOf bits device slots work whole (f x ++ (flat_map f (drop (i + 1) xs) ++ tail)) start now
+      IsRestOf bits (view_by device slots work) whole (flat_map f (drop i xs) ++ tail) start now →
+      IsRestOf bits (view_by device slots work) whole (f x ++ (flat_map f (drop (i + 1) xs) ++ tail)) start now
   each_cut f xs i x d whole tail start now there is left =
       let cut : flat_map f (drop i xs) ++ tail ≡ f x ++ (flat_map f (drop (i + 1) xs) ++ tail) =
       ap (λ ms. ms ++ tail) (cut_each f xs i x d there is) ∙ append_assoc (f x) (flat_map f (drop (i + 1) xs)) tail in
-      subst (λ ms. IsRestOf bits device slots work whole ms start now) cut left
+      subst (λ ms. IsRestOf bits (view_by device slots work) whole ms start now) cut left
 
   pub each_first : {X : Type 0} (f : X → List Macro) (xs : List X) (i : ℕ) (x d : X) (whole tail : List Macro)
       (start now : A) → i < length xs → get_or xs i d ≡ x →
-      IsRestOf bits device slots work whole (flat_map f (drop i xs) ++ tail) start now
+      IsRestOf bits (view_by device slots work) whole (flat_map f (drop i xs) ++ tail) start now
       → CanCarryOut bits (f x) (device now)
   each_first f xs i x d whole tail start now there is left =
       left_first whole (f x) (flat_map f (drop (i + 1) xs) ++ tail) start now
@@ -181,16 +185,17 @@ module _ {A : Type 0} (bits : ℕ) (device : A → Device) (slots : A → List (
 
   pub each_next : {X : Type 0} (f : X → List Macro) (xs : List X) (i : ℕ) (x d : X) (whole tail : List Macro)
       (start before now : A) → i < length xs → get_or xs i d ≡ x →
-      IsRestOf bits device slots work whole (flat_map f (drop i xs) ++ tail) start before
-      → CarriesOut device slots work (f x) before now →
-      IsRestOf bits device slots work whole (flat_map f (drop (i + 1) xs) ++ tail) start now
+      IsRestOf bits (view_by device slots work) whole (flat_map f (drop i xs) ++ tail) start before
+      → CarriesOut (view_by device slots work) (f x) before now →
+      IsRestOf bits (view_by device slots work) whole (flat_map f (drop (i + 1) xs) ++ tail) start now
   each_next f xs i x d whole tail start before now there is left made =
       left_next whole (f x) (flat_map f (drop (i + 1) xs) ++ tail) start before now
       (each_cut f xs i x d whole tail start before there is left) made
 
   pub each_done : {X : Type 0} (f : X → List Macro) (xs : List X) (i : ℕ) (whole tail : List Macro) (start now : A)
       → length xs ≤ i →
-      IsRestOf bits device slots work whole (flat_map f (drop i xs) ++ tail) start now
-      → IsRestOf bits device slots work whole tail start now
+      IsRestOf bits (view_by device slots work) whole (flat_map f (drop i xs) ++ tail) start now
+      → IsRestOf bits (view_by device slots work) whole tail start now
   each_done f xs i whole tail start now past left =
-      subst (λ ys. IsRestOf bits device slots work whole (flat_map f ys ++ tail) start now) (drop_all i xs past) left
+      subst (λ ys. IsRestOf bits (view_by device slots work) whole (flat_map f ys ++ tail) start now)
+          (drop_all i xs past) left

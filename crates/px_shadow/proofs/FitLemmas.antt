@@ -57,7 +57,7 @@ module _ (laws : Ranges) (scene : SceneView) (lawful : IsLawfulScene scene) (eac
   end = end_of (depths_of scene)
 
   small : end < 2 ^ 32
-  small = omega (arith, end_is_within scene.depth_bits scene.fraction_bits lawful.depth)
+  small = omega (arith, end_is_within scene.depth_bits scene.fraction_bits lawful.sizes.depth_limit)
 
   abbrev Fits : Macro → Type 0
   Fits one = IsLawful one bits

@@ -27,7 +27,8 @@ use Rattle.px_shadow.proofs.SolidLemmas.{GoesOut, Keeps, keeps_all, keeps_bit, k
 use Rattle.px_shadow.proofs.SolidLemmas.{out_bit, solid_goes_out}
 
 -- a number is 0 where each of its bits is
-is_zero : (bit : ℕ → Bool) (n : ℕ) → list_all (λ t. beq (bit t) false) (range_with_len 0 n) ≡ (number_from_bits bit n == 0)
+is_zero : (bit : ℕ → Bool) (n : ℕ) → list_all (λ t. beq (bit t) false) (range_with_len 0 n)
+    ≡ (number_from_bits bit n == 0)
 is_zero bit zero = refl
 is_zero bit (suc n) =
     let e : 0 + n ≡ n = omega arith in

@@ -2,7 +2,7 @@
 use Rattle.std.specs.Prelude.{◌≡◌, ℕ, ◌+◌, ◌-◌, ◌*◌, ◌^◌, ◌≤◌, All, List, length, Option}
 use Rattle.px_array.specs.Arrays.{Device}
 use Rattle.px_array.specs.Clocks.{all_clocked}
-use Rattle.px_array.specs.Slots.{worked}
+use Rattle.px_array.specs.Slots.{ArrayView, array_view, worked}
 use Rattle.px_asm.specs.Micros.{all_micros}
 use Rattle.px_macro.specs.Macros.{IsLawful}
 use Rattle.px_macro.specs.declared.operation.Macro.{Macro}
@@ -19,17 +19,24 @@ pub record CanCarryOut (bits : ℕ) (ms : List Macro) (d : Device) : Type 0 wher
   pub places : All (λ m. IsLawful m bits) ms
   pub counted : d.clocks + 82 * length ms ≤ 2 ^ 64 - 1
 
+-- what is seen of an array
+abbrev pub view_by : {A : Type 0} → (A → Device) → (A → List (Option Device)) → (A → ℕ) → A → ArrayView
+view_by device_of slots_of work_of array = array_view (device_of array) (slots_of array) (work_of array)
+
 -- an array has carried operations out: its slots stay, and its work grows by the clocks
-pub record CarriesOut {A : Type 0} (device_of : A → Device) (slots_of : A → List (Option Device)) (work_of : A → ℕ) (ms : List Macro) (before now : A) : Type 0 where
-  pub device : device_of now ≡ carried_out ms (device_of before)
-  pub clocks : (device_of before).clocks ≤ (device_of now).clocks
-  pub slots : slots_of now ≡ slots_of before
-  pub work : work_of now ≡ worked ((device_of now).clocks - (device_of before).clocks) (work_of before)
+pub record CarriesOut {A : Type 0} (view_of : A → ArrayView) (ms : List Macro) (before now : A) : Type 0 where
+  pub device : (view_of now).device ≡ carried_out ms (view_of before).device
+  pub clocks : (view_of before).device.clocks ≤ (view_of now).device.clocks
+  pub slots : (view_of now).slots ≡ (view_of before).slots
+  pub work : (view_of now).work
+      ≡ worked ((view_of now).device.clocks - (view_of before).device.clocks) (view_of before).work
 
 -- of the whole, carried out from a start on, the rest is left
-pub record IsRestOf {A : Type 0} (bits : ℕ) (device_of : A → Device) (slots_of : A → List (Option Device)) (work_of : A → ℕ) (whole rest : List Macro) (start now : A) : Type 0 where
-  pub can : CanCarryOut bits rest (device_of now)
-  pub same : carried_out rest (device_of now) ≡ carried_out whole (device_of start)
-  pub clocks : (device_of start).clocks ≤ (device_of now).clocks
-  pub slots : slots_of now ≡ slots_of start
-  pub work : work_of now ≡ worked ((device_of now).clocks - (device_of start).clocks) (work_of start)
+pub record IsRestOf {A : Type 0} (bits : ℕ) (view_of : A → ArrayView) (whole rest : List Macro) (start now : A)
+    : Type 0 where
+  pub can : CanCarryOut bits rest (view_of now).device
+  pub same : carried_out rest (view_of now).device ≡ carried_out whole (view_of start).device
+  pub clocks : (view_of start).device.clocks ≤ (view_of now).device.clocks
+  pub slots : (view_of now).slots ≡ (view_of start).slots
+  pub work : (view_of now).work
+      ≡ worked ((view_of now).device.clocks - (view_of start).device.clocks) (view_of start).work

@@ -1,5 +1,6 @@
 -- What the words of a line say so far. Only proofs and private functions stand on it.
-use Rattle.std.specs.Prelude.{◌≡◌, ℕ, ◌==◌, Bool, false, true, All, List, [], ◌∷◌, length, map, codes, if◌then◌else◌, Option, Some, None}
+use Rattle.std.specs.Prelude.{◌≡◌, ℕ, ◌==◌, Bool, false, true, All, List, [], ◌∷◌, length, map, codes}
+use Rattle.std.specs.Prelude.{if◌then◌else◌, Option, Some, None}
 use Rattle.std.specs.List.{filter_map, list_all, slice_split}
 use Rattle.std.specs.Str.{bytes_eq}
 use Rattle.px_text.specs.Text.{Words, words_of, is_name}
@@ -17,7 +18,8 @@ are_some (w ∷ ws) = true
 
 -- the words behind `light`
 abbrev pub said_behind : List SolidView → Words → Said
-said_behind ss ws = s.Light (are_some ws) (list_all is_name ws) (list_all (is_solid_name ss) ws) (set_of (filter_map (solid_named ss) ws))
+said_behind ss ws = s.Light (are_some ws) (list_all is_name ws) (list_all (is_solid_name ss) ws)
+    (set_of (filter_map (solid_named ss) ws))
 
 abbrev pub said_of : List SolidView → Words → Said
 said_of ss [] = s.Nothing

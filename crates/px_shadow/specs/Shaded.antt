@@ -1,4 +1,5 @@
--- An array on which the whole program of a scene was made, and then its shadow passes. Clauses of public calls stand on it.
+-- An array on which the whole program of a scene was made, and then its shadow passes. Clauses of public calls
+-- stand on it.
 use Rattle.std.specs.Prelude.{◌≡◌, ℕ, ◌≤◌, List, length}
 use Rattle.px_array.specs.declared.micro.Micro.{Micro}
 use Rattle.px_array.specs.Arrays.{Device}
@@ -12,7 +13,8 @@ use Rattle.px_shadow.specs.ShadowPasses.{need_with, shadow_passes}
 
 -- the micros of the shadow passes, one after another
 unfoldable pub shadow_program : SceneView → List SolidSet → List Micro
-shadow_program scene lights = all_micros (shadow_passes scene (layout_of scene) lights) (columns_of scene) (rows_of scene)
+shadow_program scene lights = all_micros (shadow_passes scene (layout_of scene) lights) (columns_of scene)
+    (rows_of scene)
 
 -- what they make of the array that stores the picture, and as many clocks more
 unfoldable pub shaded : (bits : ℕ) → SceneView → List SolidSet → Device

@@ -10,7 +10,7 @@ ghost use Rattle.px_control.specs.GridLaw.{CoversThePicture};
 ghost use Rattle.px_control.specs.Program.{IsAt, total};
 ghost use Rattle.px_sched.specs.Passes.{solid_of};
 ghost use Rattle.px_shadow.specs.declared.passes.TheConstants.{MAX_LIGHTS};
-ghost use Rattle.px_shadow.specs.Carrying.{CanCarryOut, CarriesOut};
+ghost use Rattle.px_shadow.specs.Carrying.{CanCarryOut, CarriesOut, view_by};
 ghost use Rattle.px_shadow.specs.Shaded.{IsShaded, shadow_program};
 ghost use Rattle.px_shadow.specs.Stored.{StoresTheLights};
 ghost use Rattle.px_shadow.specs.ShadowPasses.{
@@ -95,7 +95,7 @@ fn all_lights<A: Operating>(array: &mut A, scene: &Scene, layout: &Layout, light
     requires known { All (IsBelow (length scene.now.solids)) lights.now }
     requires can { CanCarryOut A.BITS (shadow_passes scene.now layout.now lights.now)
         (A.device array.old) }
-    ensures { CarriesOut A.device A.slots A.work (shadow_passes scene.now layout.now lights.now)
+    ensures { CarriesOut (view_by A.device A.slots A.work) (shadow_passes scene.now layout.now lights.now)
         array.old array.new }
 {
     for (i, light) in lights.iter().enumerate() {
@@ -115,7 +115,7 @@ fn one_light<A: Operating>(
     requires known { IsBelow (length scene.now.solids) solids.now }
     requires can { CanCarryOut A.BITS (light_passes scene.now layout.now light solids.now)
         (A.device array.old) }
-    ensures { CarriesOut A.device A.slots A.work (light_passes scene.now layout.now light solids.now)
+    ensures { CarriesOut (view_by A.device A.slots A.work) (light_passes scene.now layout.now light solids.now)
         array.old array.new }
 {
     carry_out(
@@ -135,7 +135,7 @@ fn one_solid<A: Operating>(array: &mut A, layout: &Layout, end: u32, light: u32,
     requires number { light ≤ MAX_LIGHTS }
     requires can { CanCarryOut A.BITS (solid_passes layout.now end light solid.now)
         (A.device array.old) }
-    ensures { CarriesOut A.device A.slots A.work (solid_passes layout.now end light solid.now)
+    ensures { CarriesOut (view_by A.device A.slots A.work) (solid_passes layout.now end light solid.now)
         array.old array.new }
 {
     carry_out(array, &[Macro::All, Macro::SetBit(layout.par, false)]);
@@ -158,7 +158,7 @@ fn one_face<A: Operating>(array: &mut A, layout: &Layout, end: u32, solid: &Soli
     requires face { face < face_count solid.now }
     requires can { CanCarryOut A.BITS (stored_turn layout.now end solid.now face)
         (A.device array.old) }
-    ensures { CarriesOut A.device A.slots A.work (stored_turn layout.now end solid.now face)
+    ensures { CarriesOut (view_by A.device A.slots A.work) (stored_turn layout.now end solid.now face)
         array.old array.new }
 {
     let operations = turn_of(layout, end, solid, face);
@@ -185,7 +185,7 @@ fn turn_of(layout: &Layout, end: u32, solid: &Solid, face: usize) -> [Macro; TUR
 fn background<A: Operating>(array: &mut A, layout: &Layout, light: u32)
     requires number { light ≤ MAX_LIGHTS }
     requires can { CanCarryOut A.BITS (background_passes layout.now light) (A.device array.old) }
-    ensures { CarriesOut A.device A.slots A.work (background_passes layout.now light)
+    ensures { CarriesOut (view_by A.device A.slots A.work) (background_passes layout.now light)
         array.old array.new }
 {
     let number = layout.b_number();

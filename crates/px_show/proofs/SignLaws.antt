@@ -17,23 +17,17 @@ use Rattle.px_show.specs.declared.scene_version.Version.{Version}
 
 -- a sign is read as its operator's, where the version has it
 pub sign_marked : (version : Version) (op : Op) → is_sign version op ≡ true → mark version (sign_byte op) ≡ sign op
-sign_marked version o.Union is = refl
-sign_marked version o.Meet is = refl
-sign_marked version o.Minus is = refl
 sign_marked version o.Differ is = rw is refl
+sign_marked version other is = refl
 
 -- a sign is a byte of a word, and of no name
 pub sign_plain : (op : Op) → is_plain_byte (sign_byte op) ≡ true
 sign_plain o.Union = refl
-sign_plain o.Meet = refl
-sign_plain o.Minus = refl
-sign_plain o.Differ = refl
+sign_plain other = refl
 
 pub sign_no_name : (op : Op) → is_name_byte (sign_byte op) ≡ false
 sign_no_name o.Union = refl
-sign_no_name o.Meet = refl
-sign_no_name o.Minus = refl
-sign_no_name o.Differ = refl
+sign_no_name other = refl
 
 root_first : (a b c : Bool) → (a || b) || (c || false) ≡ c || a || b
 root_first true b true = refl

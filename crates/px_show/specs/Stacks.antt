@@ -44,9 +44,7 @@ closing parts = None
 -- the nesting of a side
 abbrev pub nesting_in : Part → Option ℕ
 nesting_in (p.Side n) = Some n
-nesting_in p.Opens = None
-nesting_in (p.Sign op) = None
-nesting_in p.Other = None
+nesting_in other = None
 
 -- of the part that stands alone
 abbrev pub nesting_of : List Part → Option ℕ

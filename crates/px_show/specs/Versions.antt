@@ -62,10 +62,8 @@ op_of b =
 
 -- whether the sign is `^`
 abbrev pub is_differ : Op → Bool
-is_differ o.Union = false
-is_differ o.Meet = false
-is_differ o.Minus = false
 is_differ o.Differ = true
+is_differ other = false
 
 -- whether a version has an operator's sign
 abbrev pub is_sign : Version → Op → Bool

@@ -19,7 +19,7 @@ exponent_below e f less = elim (cases_lt e f) [
 pub part_is : (bits : ℕ) (s : State) (k : ℕ) (part : Part) (i : ℕ) → IsPart bits s.tree.nx s.tree.ny k part
     → part_bit bits s part i ≡ state_bit bits s k i
 part_is bits s k (Plane plane y column) i p =
-    rw (lt-ltb k (plane_words bits s.tree.nx s.tree.ny) p.within, p.plane_is, p.row_is, p.column_is) refl
+    rw (lt-ltb k (plane_words bits s.tree.nx s.tree.ny) p.0, p.1.plane_is, p.1.row_is, p.1.column_is) refl
 part_is bits s k (Outputs first) i p =
     let planes = plane_words bits s.tree.nx s.tree.ny in
     rw (lt_false k planes p.low, lt-ltb k (planes + node_words s.tree.nx s.tree.ny) p.high, p.first_is) refl

@@ -1,5 +1,6 @@
 -- The pixels and nodes whose bits stand in words. Only proofs and private functions stand on it.
-use Rattle.std.specs.Prelude.{◌≡◌, ℕ, ◌+◌, ◌*◌, ◌/◌, ◌%◌, ◌^◌, ◌<◌, ◌≤◌, ◌==◌, ◌&&◌, Bool, false, List, get_or, nat_lt, if◌then◌else◌}
+use Rattle.std.specs.Prelude.{◌≡◌, ℕ, ◌+◌, ◌*◌, ◌/◌, ◌%◌, ◌^◌, ◌<◌, ◌≤◌, ◌==◌, ◌&&◌, Bool, false, List, get_or}
+use Rattle.std.specs.Prelude.{nat_lt, if◌then◌else◌}
 use Rattle.px_num.specs.Bits.{bit_at, nat_bit}
 use Rattle.px_num.specs.Lists.{tabulate}
 use Rattle.px_array.specs.Arrays.{State, pixel_of}
@@ -23,7 +24,8 @@ pub record IsShape (shape : Shape) : Type 0 where
   pub few_words : shape.plane ≤ 2 ^ 12
   pub nodes : shape.nodes ≡ node_words shape.nx shape.ny
   pub few_nodes : shape.nodes ≤ 2 ^ 13
-  pub full : (k i : ℕ) → k < shape.plane → i < 64 → nat_bit shape.full i ≡ nat_lt (64 * (k % row_words shape.nx) + i) (2 ^ shape.nx)
+  pub full : (k i : ℕ) → k < shape.plane → i < 64 → nat_bit shape.full i ≡ nat_lt (64 * (k % row_words shape.nx) + i)
+      (2 ^ shape.nx)
 
 -- a memory bit and the registers of a pixel, at bit i of the cells
 pub record IsCell (at i : ℕ) (cells : Cells) (p : PixelState) : Type 0 where
@@ -70,7 +72,8 @@ fed_in shape lines words place =
 abbrev pub leaf_over : Shape → List ℕ → (k i : ℕ) → Bool
 leaf_over shape words k i =
     let x = 64 * (k % row_words shape.nx) + i in
-    nat_lt x (2 ^ shape.nx) && output_in shape words (2 ^ (shape.nx + shape.ny) + (x * 2 ^ shape.ny + k / row_words shape.nx))
+    nat_lt x (2 ^ shape.nx)
+        && output_in shape words (2 ^ (shape.nx + shape.ny) + (x * 2 ^ shape.ny + k / row_words shape.nx))
 
 -- the pixel, and its leaf, that stand at bit i of word k of each plane; past the last column there is none
 abbrev pub pixel_here : Shape → State → (k i : ℕ) → PixelState

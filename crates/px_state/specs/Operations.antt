@@ -1,6 +1,8 @@
--- The operations of a text as data: of each its kind, its numbers and its first clock, and of a scene's passes what it is for
+-- The operations of a text as data: of each its kind, its numbers and its first clock, and of a scene's passes
+-- what it is for
 -- (docs/PASSES.md, "Steps"). Clauses of public calls stand on it.
-use Rattle.std.specs.Prelude.{◌≡◌, ℕ, ℤ, ◌+◌, ◌<◌, ◌≤◌, pos, Bool, true, false, List, Some, get_or, length, slice_get, take}
+use Rattle.std.specs.Prelude.{◌≡◌, ℕ, ℤ, ◌+◌, ◌<◌, ◌≤◌, pos, Bool, true, false, List, Some, get_or, length}
+use Rattle.std.specs.Prelude.{slice_get, take}
 use Rattle.std.specs.List.{flat_map}
 use Rattle.px_text.specs.Text.{worded}
 use Rattle.px_scene.specs.Reading.{scene_of}
@@ -9,7 +11,8 @@ use Rattle.px_face.specs.Faces.{face_number}
 use Rattle.px_macro.specs.declared.operation.Macro.{Macro}
 use Rattle.px_macro.specs.declared.operation.Macro.TheVariants as m
 use Rattle.px_sched.specs.declared.step.Step.{Step}
-use Rattle.px_sched.specs.declared.step.Step.TheVariants.{Start, Open, Candidate, Drop, Clear, Front, Confirm, Begin, Turn, Close, Merge}
+use Rattle.px_sched.specs.declared.step.Step.TheVariants.{Start, Open, Candidate, Drop, Clear, Front, Confirm}
+use Rattle.px_sched.specs.declared.step.Step.TheVariants.{Begin, Turn, Close, Merge}
 use Rattle.px_sched.specs.Layouts.{layout_of}
 use Rattle.px_sched.specs.Passes.{operations, solid_of, steps}
 use Rattle.px_sched.specs.StepCursors.{literals_in}
@@ -99,7 +102,8 @@ number_of_face scene (Turn other solid face) = face_number (solid_of scene solid
 number_of_face scene (Close other plain) = 0
 number_of_face scene Merge = 0
 
--- the other literal that a step asks, counted from 1 among those of its product that are of other solids; 0 where it asks none
+-- the other literal that a step asks, counted from 1 among those of its product that are of other solids; 0
+-- where it asks none
 abbrev pub other_number : Step → ℕ
 other_number Start = 0
 other_number Open = 0
@@ -113,7 +117,8 @@ other_number (Turn other solid face) = other + 1
 other_number (Close other plain) = other + 1
 other_number Merge = 0
 
--- what the operations of a step are for: its pass, counted from 0, and its literal, counted from 1 among those of all products
+-- what the operations of a step are for: its pass, counted from 0, and its literal, counted from 1 among those
+-- of all products
 abbrev pub purpose_of : SceneView → Step → (pass literal : ℕ) → Operation
 purpose_of scene step pass literal = record no_operation {
   pass = pass;

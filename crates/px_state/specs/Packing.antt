@@ -1,6 +1,8 @@
--- A micro in one word: the place in its bits 0 to 31, then bytes: the act, its value, what the tree does, and the lines.
+-- A micro in one word: the place in its bits 0 to 31, then bytes: the act, its value, what the tree does, and
+-- the lines.
 -- Clauses of public calls stand on it.
-use Rattle.std.specs.Prelude.{◌≡◌, ℕ, ◌+◌, ◌*◌, ◌/◌, ◌%◌, ◌^◌, ◌≤◌, ◌==◌, ◌&&◌, nat_lt, Bool, false, true, if◌then◌else◌}
+use Rattle.std.specs.Prelude.{◌≡◌, ℕ, ◌+◌, ◌*◌, ◌/◌, ◌%◌, ◌^◌, ◌≤◌, ◌==◌, ◌&&◌, nat_lt, Bool, false, true}
+use Rattle.std.specs.Prelude.{if◌then◌else◌}
 use Rattle.px_pixel.specs.Acts.{HasPlace}
 use Rattle.px_pixel.specs.declared.act.Act.{Act}
 use Rattle.px_pixel.specs.declared.act.Act.TheVariants as act
@@ -95,8 +97,10 @@ FieldsTellTheMicro = (word : ℕ) (m n : Micro) → HasFields word m → HasFiel
 -- the act of a number, with its value and its place where it names them
 abbrev pub act_with : (number : ℕ) → (v : Bool) → (at : ℕ) → Act
 act_with number v at =
-    if number == 2 then act.EnableAll else if number == 3 then act.EnableCarry v else if number == 4 then act.EnableTree v else
-    if number == 5 then act.EnableBit at v else if number == 6 then act.SetCarry v else if number == 7 then act.Fetch at else
+    if number == 2 then act.EnableAll else if number == 3 then act.EnableCarry v else if number ==
+        4 then act.EnableTree v else
+    if number == 5 then act.EnableBit at v else if number == 6 then act.SetCarry v else if number ==
+        7 then act.Fetch at else
     if number == 8 then act.StoreTree at else if number == 9 then act.StoreLatch at else
     if number == 10 then act.StoreConst at v else if number == 11 then act.Toggle at else
     if number == 12 then act.CarryTree at else if number == 13 then act.CarryLatch at else
@@ -121,5 +125,7 @@ is_micro bits word = (packed (micro_in word) == word) && nat_lt (place_of (micro
 
 -- the words of micros are those of the micros that are found in them, and no others are
 pub record AreUnpacked : Type 0 where
-  pub back : (bits : ℕ) (m : Micro) → 1 ≤ bits → bits ≤ 2 ^ 32 → HasPlace bits m.act → (is_micro bits (packed m) ≡ true) × (micro_in (packed m) ≡ m)
-  pub only : (bits word : ℕ) → is_micro bits word ≡ true → HasPlace bits (micro_in word).act × (packed (micro_in word) ≡ word)
+  pub back : (bits : ℕ) (m : Micro) → 1 ≤ bits → bits ≤ 2 ^ 32 → HasPlace bits m.act
+      → (is_micro bits (packed m) ≡ true) × (micro_in (packed m) ≡ m)
+  pub only : (bits word : ℕ) → is_micro bits word ≡ true → HasPlace bits (micro_in word).act
+      × (packed (micro_in word) ≡ word)

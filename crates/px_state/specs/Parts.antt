@@ -1,5 +1,5 @@
 -- Where a word of a state stands, and its bits. Only proofs and private functions stand on it.
-use Rattle.std.specs.Prelude.{◌≡◌, ℕ, ◌+◌, ◌-◌, ◌*◌, ◌/◌, ◌%◌, ◌^◌, ◌<◌, ◌≤◌, Bool}
+use Rattle.std.specs.Prelude.{◌≡◌, ℕ, ◌+◌, ◌-◌, ◌*◌, ◌/◌, ◌%◌, ◌^◌, ◌<◌, ◌≤◌, ◌×◌, Bool}
 use Rattle.px_array.specs.Arrays.{State}
 use Rattle.px_state.specs.Words.{column_bit, node_bit, node_words, plane_words, row_words}
 use Rattle.px_state.specs.declared.words.Part.{Part}
@@ -12,8 +12,7 @@ part_bit bits s (Outputs first) i = node_bit (λ n. n.output) s.tree (first + i)
 part_bit bits s (Carries first) i = node_bit (λ n. n.carry) s.tree (first + i)
 
 -- word k of the planes
-pub record IsInPlanes (bits nx ny k plane y column : ℕ) : Type 0 where
-  pub within : k < plane_words bits nx ny
+pub record IsInPlanes (nx ny k plane y column : ℕ) : Type 0 where
   pub plane_is : plane ≡ k / row_words nx / 2 ^ ny
   pub row_is : y ≡ k / row_words nx % 2 ^ ny
   pub column_is : column ≡ 64 * (k % row_words nx)
@@ -26,7 +25,7 @@ pub record IsInNodes (nx ny k start first : ℕ) : Type 0 where
 
 -- the part is that of word k
 abbrev pub IsPart : (bits nx ny k : ℕ) → Part → Type 0
-IsPart bits nx ny k (Plane plane y column) = IsInPlanes bits nx ny k plane y column
+IsPart bits nx ny k (Plane plane y column) = (k < plane_words bits nx ny) × IsInPlanes nx ny k plane y column
 IsPart bits nx ny k (Outputs first) = IsInNodes nx ny k (plane_words bits nx ny) first
 IsPart bits nx ny k (Carries first) = IsInNodes nx ny k (plane_words bits nx ny + node_words nx ny) first
 

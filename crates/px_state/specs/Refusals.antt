@@ -1,5 +1,6 @@
 -- Why a text has no state, and no micros or operations, where it has none. Clauses of public calls stand on it.
-use Rattle.std.specs.Prelude.{◌≡◌, ℕ, ◌+◌, ◌≤◌, ◌^◌, ◌⊎◌, ⊤, Bool, true, false, pos, List, [], ◌∷◌, length, nat_lt, if◌then◌else◌, Option, Some, None, codes, unwrap_or, ◌==◌}
+use Rattle.std.specs.Prelude.{◌≡◌, ℕ, ◌+◌, ◌≤◌, ◌^◌, ◌⊎◌, ⊤, Bool, true, false, pos, List, [], ◌∷◌, length}
+use Rattle.std.specs.Prelude.{nat_lt, if◌then◌else◌, Option, Some, None, codes, unwrap_or, ◌==◌}
 use Rattle.std.specs.List.{filter_map, slice_get, slice_split}
 use Rattle.std.specs.Option.{option_map, option_or}
 use Rattle.std.specs.Str.{bytes_eq}
@@ -50,7 +51,8 @@ starts_listing (w ∷ ws) = Some (bytes_eq w (codes "pxlist"))
 -- a text whose first word is `pxlist` is to be a listing, and every other one a scene
 unfoldable pub is_listing : List ℕ → Bool
 is_listing text =
-    unwrap_or (slice_get (filter_map (λ line. starts_listing (words_of line)) (slice_split (λ b. b == 10) text)) 0) false
+    unwrap_or (slice_get (filter_map (λ line. starts_listing (words_of line)) (slice_split (λ b. b == 10) text)) 0)
+        false
 
 -- more bytes than a text may have
 abbrev pub too_long : StateFault
@@ -92,11 +94,13 @@ course_refusal bits l clock words = refused_by clock (total l) words (room_of bi
 
 -- why there is no state of a text after so many clocks, in a list of so many words
 abbrev pub state_refusal : (bits : ℕ) → List ℕ → (clock room : ℕ) → Option StateFault
-state_refusal bits text clock room = option_or (text_refusal bits text) (course_refusal bits (course_of text) clock room)
+state_refusal bits text clock room =
+    option_or (text_refusal bits text) (course_refusal bits (course_of text) clock room)
 
 -- why a text has not so many micros from a clock on
 abbrev pub micros_refusal : (bits : ℕ) → List ℕ → (first count : ℕ) → Option StateFault
-micros_refusal bits text first count = option_or (text_refusal bits text) (clock_refusal (course_of text) (first + count))
+micros_refusal bits text first count =
+    option_or (text_refusal bits text) (clock_refusal (course_of text) (first + count))
 
 -- why a text has not so many operations from one on
 abbrev pub operation_refusal : ListingView → (operation : ℕ) → Option StateFault

@@ -1,8 +1,11 @@
 -- A state of an array in words of 64 bits. Clauses of public calls stand on it.
--- First the planes, each of them row by row from row 0, and each row from column 0: the bits of memory from bit 0 on, then
--- enable, carry, latch and leaf, which is the output of the tree over the pixel. Then the outputs of all nodes of the tree,
+-- First the planes, each of them row by row from row 0, and each row from column 0: the bits of memory from bit
+-- 0 on, then
+-- enable, carry, latch and leaf, which is the output of the tree over the pixel. Then the outputs of all nodes
+-- of the tree,
 -- and then their carries: node i of level k is bit 2^k + i, so that the levels stand one behind another.
-use Rattle.std.specs.Prelude.{◌≡◌, ℕ, ◌+◌, ◌-◌, ◌*◌, ◌/◌, ◌%◌, ◌^◌, ◌<◌, ◌==◌, Bool, false, if◌then◌else◌, List, drop, get_or, nat_lt}
+use Rattle.std.specs.Prelude.{◌≡◌, ℕ, ◌+◌, ◌-◌, ◌*◌, ◌/◌, ◌%◌, ◌^◌, ◌<◌, ◌==◌, Bool, false, if◌then◌else◌, List}
+use Rattle.std.specs.Prelude.{drop, get_or, nat_lt}
 use Rattle.px_num.specs.Bits.{bit_at, nat_bit}
 use Rattle.px_rows.specs.Rows.{words_for}
 use Rattle.px_tree.specs.Nodes.{TreeState, at_place, leaf_bit}
@@ -62,5 +65,6 @@ state_bit bits s k i =
 
 -- the words begin with those of a state, and what is behind them is as before
 pub record HasWords (bits : ℕ) (s : State) (before now : List ℕ) : Type 0 where
-  pub bit : (k i : ℕ) → k < room_of bits s.tree.nx s.tree.ny → i < 64 → nat_bit (get_or now k 0) i ≡ state_bit bits s k i
+  pub bit : (k i : ℕ) → k < room_of bits s.tree.nx s.tree.ny → i < 64 → nat_bit (get_or now k 0) i
+      ≡ state_bit bits s k i
   pub behind : drop (room_of bits s.tree.nx s.tree.ny) now ≡ drop (room_of bits s.tree.nx s.tree.ny) before

@@ -23,10 +23,8 @@ both_true true b both = (refl, both)
 both_true false b both = absurd cc
 
 no_differ_op : (op : Op) (left right : ℕ) → list_all is_no_differ (op_node op left right ∷ []) ≡ true → op ≢ o.Differ
-no_differ_op o.Union left right none = λ same. absurd cc
-no_differ_op o.Meet left right none = λ same. absurd cc
-no_differ_op o.Minus left right none = λ same. absurd cc
 no_differ_op o.Differ left right none = absurd cc
+no_differ_op other left right none = λ same. absurd cc
 
 -- where no node is "^", no operator of the tree is
 pub no_differ : (others : ℕ) (tree : Tree) → list_all is_no_differ (nodes_behind others tree) ≡ true → HasNoDiffer tree

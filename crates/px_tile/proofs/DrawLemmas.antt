@@ -113,11 +113,8 @@ module _ (scene : SceneView) (width height : ℕ) (some_w : 1 ≤ scene.width) (
 -- every refusal may leave the array as it was
 pub kept_on_refusal : (fault : WideFault) (bits : ℕ) (scene : SceneView) (width height : ℕ) (array : ArrayView)
     → LeavesOnWideRefusal fault bits scene width height array array
-kept_on_refusal (wide.Tiles n) bits scene width height array = refl
-kept_on_refusal (wide.Coefficient n) bits scene width height array = refl
-kept_on_refusal (wide.PixelMemory n) bits scene width height array = refl
-kept_on_refusal (wide.Products n) bits scene width height array = refl
 kept_on_refusal (wide.Memory _) bits scene width height array = inl refl
+kept_on_refusal other bits scene width height array = refl
 
 -- the refusals are those of any two arrays that have both bits enough, or neither
 pub same_refusal : (scene : SceneView) (width height some other : ℕ)

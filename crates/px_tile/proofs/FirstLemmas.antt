@@ -28,7 +28,8 @@ none_before f from (suc i) count none =
     ∙ rw parts.0 (none_before f (from + 1) i count parts.1 ∙ ap (λ a. found_from f a count) next)
 
 -- none of any tile
-pub none_anywhere : {X : Type 0} (f : ℕ → Option X) (from count : ℕ) → ((i : ℕ) → f i ≡ None) → found_from f from count ≡ None
+pub none_anywhere : {X : Type 0} (f : ℕ → Option X) (from count : ℕ) → ((i : ℕ) → f i ≡ None)
+    → found_from f from count ≡ None
 none_anywhere f from zero none = refl
 none_anywhere f from (suc count) none = rw (none from) (none_anywhere f (from + 1) count none)
 

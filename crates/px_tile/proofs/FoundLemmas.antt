@@ -54,9 +54,9 @@ ends_at_most width y later x within before =
 
 -- one row more
 pub rows_more : (scene : SceneView) (y x0 y0 width start : ℕ) (old mid new : List ℕ)
-    → PutsRows scene y x0 y0 width old mid
+    → PutsRows scene y (record { left = x0; top = y0 }) width old mid
     → PutsRow scene scene.width y start mid new → start ≡ (y0 + y) * width + x0 → x0 + scene.width ≤ width
-    → PutsRows scene (y + 1) x0 y0 width old new
+    → PutsRows scene (y + 1) (record { left = x0; top = y0 }) width old new
 rows_more scene y x0 y0 width start old mid new before put is fits = record {
   same_count = put.same_count ∙ before.same_count;
   rows = λ x row left low. elim (cases_lt row y) [

@@ -73,7 +73,7 @@ module _ (scene : SceneView) (lawful : IsLawfulScene scene) (faces : PicturesSho
   far_small : far_of scene < 2 ^ 24
   far_small =
       let most : 2 ^ scene.depth_bits ≤ 2 ^ 24 =
-      pow_mono {i = scene.depth_bits} {j = 24} (omega (arith, lawful.depth)) in
+      pow_mono {i = scene.depth_bits} {j = 24} (omega (arith, lawful.sizes.depth_limit)) in
       omega arith
 
   depth_small : (x y : ℕ) → (picture scene x y).depth < 2 ^ 24

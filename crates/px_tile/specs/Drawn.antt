@@ -1,4 +1,5 @@
--- Where the drawing of a wide picture stands after so many tiles, and what is asked of one tile. Only proofs and private functions stand on it.
+-- Where the drawing of a wide picture stands after so many tiles, and what is asked of one tile. Only proofs
+-- and private functions stand on it.
 use Rattle.std.specs.Prelude.{◌≡◌, ℕ, ◌+◌, ◌*◌, ◌/◌, ◌<◌, ◌⊎◌, List, length, Option}
 use Rattle.px_array.specs.Slots.{ArrayView}
 use Rattle.px_model.specs.Scenes.{SceneView}
@@ -21,7 +22,8 @@ pub record HasTiles (scene : SceneView) (width height count : ℕ) (found : List
 -- the array is as before, or as the last of the first so many tiles left it
 abbrev pub IsLeft : (bits : ℕ) → SceneView → (width height count : ℕ) → (before now : ArrayView) → Type 0
 IsLeft bits scene width height count before now = ((count ≡ 0) × (now ≡ before))
-    ⊎ ((last : ℕ) × (count ≡ last + 1) × (last < tile_count scene width height) × IsTileDrawn bits scene width height last now)
+    ⊎ ((last : ℕ) × (count ≡ last + 1) × (last < tile_count scene width height)
+        × IsTileDrawn bits scene width height last now)
 
 -- the length of the first wanted list past the limit of a tile
 abbrev pub crowd_of_tile : SceneView → (width height tile : ℕ) → Option ℕ

@@ -5,8 +5,5 @@ use Rattle.px_expr.specs.declared.node.Node.TheVariants as n
 
 -- the node is not the operator "^"
 abbrev pub is_no_differ : Node → Bool
-is_no_differ (n.Leaf solid) = true
-is_no_differ (n.Union left right) = true
-is_no_differ (n.Meet left right) = true
-is_no_differ (n.Minus left right) = true
 is_no_differ (n.Differ left right) = false
+is_no_differ other = true

@@ -11,7 +11,8 @@ use Rattle.px_tile.specs.Tilings.{scene_of_tile, tile_count}
 -- the array is as all broadcasts of a tile's scene leave a new one, its slots and its work too
 abbrev pub IsTileDrawn : (bits : ℕ) → SceneView → (width height tile : ℕ) → ArrayView → Type 0
 IsTileDrawn bits scene width height tile now =
-    IsAt bits (scene_of_tile scene width height tile) (total (scene_of_tile scene width height tile)) now.device × IsRunOnce now
+    IsAt bits (scene_of_tile scene width height tile) (total (scene_of_tile scene width height tile)) now.device
+        × IsRunOnce now
 
 -- the array after the last tile
 abbrev pub IsLastDrawn : (bits : ℕ) → SceneView → (width height : ℕ) → ArrayView → Type 0
@@ -23,8 +24,10 @@ abbrev pub IsSomeDrawn : (bits : ℕ) → SceneView → (width height : ℕ) →
 IsSomeDrawn bits scene width height now =
     (tile : ℕ) × (tile < tile_count scene width height) × IsTileDrawn bits scene width height tile now
 
--- what a refusal leaves of the array: only for want of memory may it be another one, and then none is open or a tile is drawn
-abbrev pub LeavesOnWideRefusal : WideFault → (bits : ℕ) → SceneView → (width height : ℕ) → (before now : ArrayView) → Type 0
+-- what a refusal leaves of the array: only for want of memory may it be another one, and then none is open or a
+-- tile is drawn
+abbrev pub LeavesOnWideRefusal : WideFault → (bits : ℕ) → SceneView → (width height : ℕ) → (before now : ArrayView)
+    → Type 0
 LeavesOnWideRefusal (wide.Memory _) bits scene width height before now =
     (now ≡ before) ⊎ (now ≡ none_open) ⊎ IsSomeDrawn bits scene width height now
 LeavesOnWideRefusal fault bits scene width height before now = now ≡ before

@@ -18,10 +18,15 @@ pub record PutsRow (scene : SceneView) (count y start : ℕ) (old new : List ℕ
   pub row : (x : ℕ) → x < count → slice_index new (start + x) ≡ sight_number (picture scene x y)
   pub rest : (place : ℕ) → (place < start) ⊎ (start + count ≤ place) → slice_index new place ≡ slice_index old place
 
+-- the pixel of a wide picture at which a tile begins
+pub record Corner : Type 0 where
+  pub left : ℕ
+  pub top : ℕ
+
 -- so many rows of a tile were put, and the other numbers stayed
-pub record PutsRows (scene : SceneView) (count x0 y0 width : ℕ) (old new : List ℕ) : Type 0 where
+pub record PutsRows (scene : SceneView) (count : ℕ) (at : Corner) (width : ℕ) (old new : List ℕ) : Type 0 where
   pub same_count : length new ≡ length old
   pub rows : (x y : ℕ) → x < scene.width → y < count →
-      number_at new width (x0 + x) (y0 + y) ≡ sight_number (picture scene x y)
-  pub rest : (x y : ℕ) → x < width → (y < y0) ⊎ (y0 + count ≤ y) ⊎ (x < x0) ⊎ (x0 + scene.width ≤ x) →
+      number_at new width (at.left + x) (at.top + y) ≡ sight_number (picture scene x y)
+  pub rest : (x y : ℕ) → x < width → (y < at.top) ⊎ (at.top + count ≤ y) ⊎ (x < at.left) ⊎ (at.left + scene.width ≤ x) →
       number_at new width x y ≡ number_at old width x y

@@ -23,7 +23,8 @@ first_some (answer ∷ answers) = option_or answer (first_some answers)
 -- what is first found of a tile by rows, where it is found of one
 abbrev pub first_of_tiles : {X : Type 0} → (SceneView → Option X) → SceneView → (width height : ℕ) → Option X
 first_of_tiles found scene width height =
-    first_some (map (λ tile. found (scene_of_tile scene width height tile)) (range_with_len 0 (tile_count scene width height)))
+    first_some (map (λ tile. found (scene_of_tile scene width height tile))
+        (range_with_len 0 (tile_count scene width height)))
 
 -- the first coefficient past the limit of the first tile that has one
 abbrev pub first_coefficient : SceneView → (width height : ℕ) → Option ℤ

@@ -1,4 +1,5 @@
--- A tile of a wide picture as a scene of its own, and the scene of the wide picture. Clauses of public calls stand on it.
+-- A tile of a wide picture as a scene of its own, and the scene of the wide picture. Clauses of public calls
+-- stand on it.
 use Rattle.std.specs.Prelude.{ℕ}
 use Rattle.px_model.specs.declared.pixels.Pixels.TheVariants as pixels
 use Rattle.px_model.specs.Pixels.{scene_over}

@@ -42,7 +42,5 @@ serves_refined result s t scene fine bits a b same none is serves =
 -- the stop of a fault is what the finer scene is refused by
 pub fine_stops : (fault : FineFault) (s : ℕ) (scene : SceneView) → IsRefusal (fine_fault s scene) fault
     → StopsAt (unless_refused (fine_refusal s scene)) (fine_stop fault)
-fine_stops (fine.Fraction found) s scene is = record { scene = tt; meets = λ o. rw is refl }
-fine_stops (fine.Picture found) s scene is = record { scene = tt; meets = λ o. rw is refl }
-fine_stops (fine.Coefficient found) s scene is = record { scene = tt; meets = λ o. rw is refl }
 fine_stops (fine.Memory _) s scene is = record { scene = tt; meets = λ o. tt }
+fine_stops other s scene is = record { scene = tt; meets = λ o. rw is refl }

@@ -156,17 +156,13 @@ text_meets : (work : Work) (bytes : List ℕ) (bits : ℕ) (stop : Stop) → IsT
     → Meets (Err stop) (worked_out work bytes bits)
 text_meets work bytes bits (s.Refused reason) is = rw is refl
 text_meets work bytes bits (s.Memory _) is = tt
-text_meets work bytes bits s.Usage is = absurd is
-text_meets work bytes bits s.ReadFault is = absurd is
-text_meets work bytes bits s.WriteFault is = absurd is
+text_meets work bytes bits other is = absurd is
 
 text_writes : (stop : Stop) (bytes text : List ℕ) (before after : SinkState) → IsTextStop stop bytes → TakesNone before after
     → Wrote (Err stop) text before after
 text_writes (s.Refused reason) bytes text before after is idle = idle
 text_writes (s.Memory _) bytes text before after is idle = idle
-text_writes s.Usage bytes text before after is idle = absurd is
-text_writes s.ReadFault bytes text before after is idle = absurd is
-text_writes s.WriteFault bytes text before after is idle = absurd is
+text_writes other bytes text before after is idle = absurd is
 
 -- an array that is as before is what a stop at the text leaves
 text_draws : (bytes : List ℕ) (bits : ℕ) (scene : SceneView) (device : ArrayView) (stop : Stop) → IsTextStop stop bytes
@@ -196,10 +192,7 @@ text_array w.Colour bytes bits scene device stop is = text_draws bytes bits scen
 text_array (w.Refine fineness) bytes bits scene device stop is =
     text_draws bytes bits (fine_scene (doublings fineness) scene) device stop is
 text_array (w.Tile size) bytes bits scene device stop is = text_tiles bytes bits size scene device stop is
-text_array w.Tidy bytes bits scene device stop is = refl
-text_array w.Plan bytes bits scene device stop is = refl
-text_array w.Cost bytes bits scene device stop is = refl
-text_array w.List bytes bits scene device stop is = refl
+text_array other bytes bits scene device stop is = refl
 
 -- the work stops at its text
 pub works_text : (result : Result (Unit {0}) Stop) (work : Work) (bytes lent : List ℕ) (bits : ℕ) (stop : Stop)

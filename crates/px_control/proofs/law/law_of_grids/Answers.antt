@@ -6,8 +6,8 @@ use Rattle.px_control.proofs.law.law_of_grids.Goals as goal
 
 pub returns-clause-covers : goal.returns-clause-covers
 returns-clause-covers c bits scene n device lawful at =
-    let width = exponent_is scene.width lawful.width in
-    let height = exponent_is scene.height lawful.height in
+    let width = exponent_is scene.width lawful.sizes.width_limit in
+    let height = exponent_is scene.height lawful.sizes.height_limit in
     let columns : columns_of scene ≡ device.state.tree.nx =
     sym (ap (λ d. d.state.tree.nx) at.reached ∙ columns_at bits scene n) in
     let rows : rows_of scene ≡ device.state.tree.ny =
@@ -20,6 +20,6 @@ returns-clause-covers c bits scene n device lawful at =
 
 pub returns-clause-least : goal.returns-clause-least
 returns-clause-least c scene lawful = record {
-  columns = exponent_is scene.width lawful.width;
-  rows = exponent_is scene.height lawful.height;
+  columns = exponent_is scene.width lawful.sizes.width_limit;
+  rows = exponent_is scene.height lawful.sizes.height_limit;
 }

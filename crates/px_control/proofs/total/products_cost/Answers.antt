@@ -37,6 +37,7 @@ loop-product-preserved c =
     let second = c.literals_cost-in-loop-product.ensures in (
       more _ _ c.args.first.now scene products i c.as_slice.result.now c.loop-product-test.true before.0
           (c.as_slice.ensures.value ∙ c.literals-list.ensures) first.cost first.few,
-      more _ _ c.args.second.now scene products i c.as_slice-in-loop-product.result.now c.loop-product-test.true before.1
+      more _ _ c.args.second.now scene products i c.as_slice-in-loop-product.result.now c.loop-product-test.true
+          before.1
           (c.as_slice-in-loop-product.ensures.value ∙ c.literals-list.ensures) second.cost second.few,
     )

@@ -7,7 +7,8 @@ use Rattle.px_control.specs.Costs.{rated}
 use Rattle.px_control.proofs.total.products_cost.Given as goal
 
 -- the background and the first products
-pub record AreCounted (cost : ℕ) (rates : Rates) (scene : SceneView) (products : List Product) (count : ℕ) : Type 0 where
+pub record AreCounted (cost : ℕ) (rates : Rates) (scene : SceneView) (products : List Product) (count : ℕ) : Type 0
+    where
   pub counted : cost ≡ products_worth (rated rates scene) scene (take count products)
   pub few : cost ≤ 8364 + count * 2 ^ 39
 

@@ -1,5 +1,5 @@
 use Rattle.std.proofs.Common.{◌-◌, ◌*◌, ◌≡◌, ◌≤◌, ◌%◌}
-use Rattle.px_plane_tree.specs.Heap.{IsFed}
+use Rattle.px_plane_tree.specs.Heap.{IsFed, rows}
 use Rattle.px_plane_tree.proofs.feed.feed_span.Given as goal
 
 abbrev pub invariant-loop-h : goal.invariant-loop-h
@@ -7,7 +7,7 @@ invariant-loop-h l = record {
   from : l.from ≤ l.h;
   to : l.h ≤ l.to;
   even : l.h % 2 ≡ 0;
-  fed : IsFed l.line (2 * l.h) (2 * l.to) l.fn.outputs l.fn.carries l.outputs l.carries;
+  fed : IsFed l.line (2 * l.h) (2 * l.to) (rows l.fn.outputs l.fn.carries) (rows l.outputs l.carries);
 }
 
 abbrev pub decreases-loop-h : goal.decreases-loop-h

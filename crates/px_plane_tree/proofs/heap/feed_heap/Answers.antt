@@ -1,6 +1,7 @@
 use Rattle.std.proofs.Common.{◌≡◌, ◌-◌, length, subst, ◌∙◌, arith}
 use Rattle.px_num.proofs.TruthLaws.{power_grows}
-use Rattle.px_plane_tree.proofs.LevelLemmas.{IsFedDown, are_still, at_next, fed_heap, fed_more, next_fits, next_odd}
+use Rattle.px_plane_tree.proofs.LevelLemmas.{IsFedDown, are_still, at_next, fed_heap, fed_more, next_fits}
+use Rattle.px_plane_tree.proofs.LevelLemmas.{next_odd, levels}
 use Rattle.px_plane_tree.proofs.LevelLemmas.{next_rest}
 use Rattle.px_plane_tree.proofs.heap.feed_heap.Goals as goal
 
@@ -42,8 +43,8 @@ loop-u-preserved c = record {
 pub returns-clause-fed : goal.returns-clause-fed
 returns-clause-fed c =
     let one : c.loop-u.u ≡ 1 = omega arith in
-    let before = subst (λ n. IsFedDown c.args.nx c.args.now n c.args.outputs.now c.args.carries.now c.args.still.now
-    c.loop-u.outputs c.loop-u.carries c.loop-u.still) one c.loop-u.invariant.down in
+    let before = subst (λ n. IsFedDown c.args.nx c.args.now n (levels c.args.outputs.now c.args.carries.now
+    c.args.still.now) (levels c.loop-u.outputs c.loop-u.carries c.loop-u.still)) one c.loop-u.invariant.down in
     fed_heap c.args.nx c.args.now c.args.heads.now _ _ _ _ _ _ _ _ c.feed_head.result c.requires.heap
     c.requires.levels c.requires.some c.loop-u.auto.still c.requires.heads before c.feed_head.ensures.fed
     (c.feed_head.auto.outputs ∙ c.loop-u.auto.outputs) (c.feed_head.auto.carries ∙ c.loop-u.auto.carries)
@@ -51,8 +52,8 @@ returns-clause-fed c =
 pub returns-clause-still : goal.returns-clause-still
 returns-clause-still c =
     let one : c.loop-u.u ≡ 1 = omega arith in
-    let before = subst (λ n. IsFedDown c.args.nx c.args.now n c.args.outputs.now c.args.carries.now c.args.still.now
-    c.loop-u.outputs c.loop-u.carries c.loop-u.still) one c.loop-u.invariant.down in
+    let before = subst (λ n. IsFedDown c.args.nx c.args.now n (levels c.args.outputs.now c.args.carries.now
+    c.args.still.now) (levels c.loop-u.outputs c.loop-u.carries c.loop-u.still)) one c.loop-u.invariant.down in
     are_still c.args.nx c.args.now c.args.heads.now _ _ _ _ _ _ _ _ c.feed_head.result c.requires.heap
     c.requires.levels c.requires.some c.loop-u.auto.still c.requires.heads before c.feed_head.ensures.fed
     c.feed_head.ensures.second c.feed_head.ensures.third

@@ -10,7 +10,7 @@ grown-requires-clause-far c =
       arith,
       c.far.ensures,
       pow_mono {i = c.args.scene.now.depth_bits} {j = 24}
-          (omega (arith, c.width.ensures.lawful.depth)),
+          (omega (arith, c.width.ensures.lawful.sizes.depth_limit)),
     )
 
 pub returns-clause-least : goal.returns-clause-least

@@ -13,11 +13,11 @@ returns-in-None-clause-fits c _ =
     omega (arith, c.if-fraction-most_fraction.false, c.fraction_bits.ensures.value, c.most_fraction.ensures) in
     let one : 1 ≤ 2 ^ s = pow_pos s in
     record {
-      some_width = omega (arith, mul-le-mul one lawful.some_width);
+      some_width = omega (arith, mul-le-mul one lawful.sizes.some_width);
       width = rw (c.parts.ensures.value, c.width.ensures.value) at c.if-width-gt-MAX_PICTURE_SIZE.false;
-      some_height = omega (arith, mul-le-mul one lawful.some_height);
+      some_height = omega (arith, mul-le-mul one lawful.sizes.some_height);
       height = rw (c.parts-2.ensures.value, c.height.ensures.value) at c.if-height-gt-MAX_PICTURE_SIZE.false;
-      depth = omega (arith, fraction, lawful.depth);
+      depth = omega (arith, fraction, lawful.sizes.depth_limit);
       fraction = omega (arith, fraction);
       constants = sym c.in-None.ensures;
     }

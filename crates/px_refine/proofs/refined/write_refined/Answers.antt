@@ -22,7 +22,7 @@ enter_row-requires g c =
       numbers = record {
         is_open = c.requires.open;
         columns = c.requires.columns;
-        wide = lawful.width;
+        wide = lawful.sizes.width_limit;
         row = omega (arith, fits, c.requires.rows);
         room = omega (arith, first, c.requires.room);
         low = omega (arith, first);
@@ -42,7 +42,7 @@ mean_row-row-requires-clause-faces g c =
     let held = rw (c.width-in-loop-y.ensures.value, c.parts-across.ensures.value, c.b_number-faces.ensures.field)
     at c.enter_row.ensures in
     faces_held s c.loop-y.y c.args.fine.now c.args.layout.now state _ c.requires.few fits c.requires.rows held
-    lawful.width lawful.height c.requires.faces
+    lawful.sizes.width_limit lawful.sizes.height_limit c.requires.faces
 
 pub returns-in_err-write_whole-2-clause-err : goal.returns-in_err-write_whole-2-clause-err
 returns-in_err-write_whole-2-clause-err g c =

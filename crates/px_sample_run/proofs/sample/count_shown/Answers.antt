@@ -5,7 +5,7 @@ use Rattle.px_sample_run.proofs.sample.count_shown.Goals as goal
 
 pub plus-shown-requires-clause-first : goal.plus-shown-requires-clause-first
 plus-shown-requires-clause-first g c =
-    most_grows _ _ _ (omega (arith, c.height-y-end.ensures.value, c.laws_of_scenes.ensures.scene.height))
+    most_grows _ _ _ (omega (arith, c.height-y-end.ensures.value, c.laws_of_scenes.ensures.scene.sizes.height_limit))
     c.loop-y.invariant.most
 
 pub plus-shown-requires-clause-second : goal.plus-shown-requires-clause-second

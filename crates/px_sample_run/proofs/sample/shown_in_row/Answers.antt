@@ -5,7 +5,7 @@ use Rattle.px_sample_run.proofs.sample.shown_in_row.Goals as goal
 
 pub plus-shown-requires-clause-first : goal.plus-shown-requires-clause-first
 plus-shown-requires-clause-first g c =
-    most_grows _ _ _ (omega (arith, c.width-x-end.ensures.value, c.laws_of_scenes.ensures.scene.width))
+    most_grows _ _ _ (omega (arith, c.width-x-end.ensures.value, c.laws_of_scenes.ensures.scene.sizes.width_limit))
     c.loop-x.invariant.most
 
 pub plus-shown-requires-clause-second : goal.plus-shown-requires-clause-second
@@ -24,5 +24,5 @@ loop-x-preserved g c =
 
 pub returns-clause-most : goal.returns-clause-most
 returns-clause-most g c =
-    most_grows _ 8589934592 _ (omega (arith, c.width-x-end.ensures.value, c.laws_of_scenes.ensures.scene.width))
+    most_grows _ 8589934592 _ (omega (arith, c.width-x-end.ensures.value, c.laws_of_scenes.ensures.scene.sizes.width_limit))
     c.loop-x.invariant.most

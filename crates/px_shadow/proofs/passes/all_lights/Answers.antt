@@ -1,6 +1,6 @@
 use Rattle.std.proofs.Common.{◌+◌, drop, get_or, subst}
 use Rattle.std.proofs.lemmas.List.{drop_all}
-use Rattle.px_shadow.specs.Carrying.{IsRestOf}
+use Rattle.px_shadow.specs.Carrying.{IsRestOf, view_by}
 use Rattle.px_shadow.specs.ShadowPasses.{light_passes, passes_from, shadow_passes}
 use Rattle.px_shadow.proofs.DeviceLemmas.{left_first, left_next, none_left}
 use Rattle.px_shadow.proofs.StepLemmas.{next_lights, no_light}
@@ -15,7 +15,8 @@ one_light-requires-clause-can g c =
     let next = next_lights scene l lights i c.loop-i-test.true in
     left_first _ _ _ _ (shadow_passes scene l lights) (light_passes scene l (i + 1) (get_or lights i no_light))
     (passes_from scene l (i + 1 + 1) (drop (i + 1) lights)) _ _
-    (subst (λ ms. IsRestOf g.A.Array.BITS g.A.Array.device g.A.Array.slots g.A.Array.work (shadow_passes scene l lights)
+    (subst (λ ms. IsRestOf g.A.Array.BITS (view_by g.A.Array.device g.A.Array.slots g.A.Array.work)
+        (shadow_passes scene l lights)
     ms c.args.array.now c.loop-i.array) next c.loop-i.invariant)
 
 pub loop-i-preserved : goal.loop-i-preserved
@@ -27,7 +28,8 @@ loop-i-preserved g c =
     let next = next_lights scene l lights i c.loop-i-test.true in
     left_next _ _ _ _ (shadow_passes scene l lights) (light_passes scene l (i + 1) (get_or lights i no_light))
     (passes_from scene l (i + 1 + 1) (drop (i + 1) lights)) _ _ _
-    (subst (λ ms. IsRestOf g.A.Array.BITS g.A.Array.device g.A.Array.slots g.A.Array.work (shadow_passes scene l lights)
+    (subst (λ ms. IsRestOf g.A.Array.BITS (view_by g.A.Array.device g.A.Array.slots g.A.Array.work)
+        (shadow_passes scene l lights)
     ms c.args.array.now c.loop-i.array) next c.loop-i.invariant)
     c.one_light.ensures
 
@@ -36,6 +38,7 @@ returns g c =
     let scene = c.args.scene.now in
     let l = c.args.layout.now in
     none_left _ _ _ _ _ _ _
-    (subst (λ sets. IsRestOf g.A.Array.BITS g.A.Array.device g.A.Array.slots g.A.Array.work (shadow_passes scene l
+    (subst (λ sets. IsRestOf g.A.Array.BITS (view_by g.A.Array.device g.A.Array.slots g.A.Array.work)
+        (shadow_passes scene l
     c.args.lights.now) (passes_from scene l (c.loop-i.i + 1) sets) c.args.array.now c.loop-i.array)
     (drop_all c.loop-i.i c.args.lights.now c.loop-i-test.false) c.loop-i.invariant)

@@ -1,7 +1,7 @@
 use Rattle.std.proofs.Common.{false, [], ◌∷◌, ◌++◌, drop}
 use Rattle.std.specs.List.{flat_map, range_with_len}
 use Rattle.px_macro.specs.declared.operation.Macro.TheVariants as m
-use Rattle.px_shadow.specs.Carrying.{IsRestOf}
+use Rattle.px_shadow.specs.Carrying.{IsRestOf, view_by}
 use Rattle.px_shadow.specs.ShadowPasses.{background_passes, light_bit}
 use Rattle.px_shadow.proofs.StepLemmas.{bit_test}
 use Rattle.px_shadow.proofs.passes.background.Given as goal
@@ -9,7 +9,8 @@ use Rattle.px_shadow.proofs.passes.background.Given as goal
 -- the tests of the bits from one on are left
 abbrev pub invariant-loop-t : goal.invariant-loop-t
 invariant-loop-t g l =
-    IsRestOf g.A.Array.BITS g.A.Array.device g.A.Array.slots g.A.Array.work (background_passes l.layout l.light)
+    IsRestOf g.A.Array.BITS (view_by g.A.Array.device g.A.Array.slots g.A.Array.work)
+        (background_passes l.layout l.light)
     (flat_map (bit_test l.layout) (drop l.t (range_with_len 0 l.layout.number_bits))
     ++ m.SetBit (light_bit l.layout l.light) false ∷ [])
     l.fn.array l.array

@@ -4,7 +4,7 @@ use Rattle.px_macro.specs.declared.operation.Macro.TheVariants as m
 use Rattle.px_sets.specs.Sets.{solids}
 use Rattle.px_model.specs.Cells.{depths_of, end_of}
 use Rattle.px_sched.specs.Passes.{solid_of}
-use Rattle.px_shadow.specs.Carrying.{CanCarryOut, CarriesOut}
+use Rattle.px_shadow.specs.Carrying.{CanCarryOut, CarriesOut, view_by}
 use Rattle.px_shadow.specs.ShadowPasses.{light_bit, light_passes, solid_passes}
 use Rattle.px_shadow.proofs.DeviceLemmas.{all_left, can_first, each_done, each_first, each_next, last_made, left_next}
 use Rattle.px_shadow.proofs.StepLemmas.{all_known, same_solid}
@@ -55,7 +55,7 @@ loop-solid-preserved g c =
     let same = same_solid c.args.layout.now c.args.light _ _ _ _ c.end.ensures.value c.solid_at.ensures in
     each_next _ _ _ _ f (solids c.args.solids.now) i _ 0 _ _ _ _ _ there
     (ap (λ (qs : List ℕ). get_or qs i 0) (sym items)) c.loop-solid.invariant
-    (subst (λ ms. CarriesOut g.A.Array.device g.A.Array.slots g.A.Array.work ms c.loop-solid.array
+    (subst (λ ms. CarriesOut (view_by g.A.Array.device g.A.Array.slots g.A.Array.work) ms c.loop-solid.array
     c.one_solid.new.array) same c.one_solid.ensures)
 
 pub background-requires-clause-can : goal.background-requires-clause-can

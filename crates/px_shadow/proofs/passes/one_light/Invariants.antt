@@ -3,14 +3,14 @@ use Rattle.std.specs.List.{flat_map}
 use Rattle.px_sets.specs.Sets.{solids}
 use Rattle.px_model.specs.Cells.{depths_of, end_of}
 use Rattle.px_sched.specs.Passes.{solid_of}
-use Rattle.px_shadow.specs.Carrying.{IsRestOf}
+use Rattle.px_shadow.specs.Carrying.{IsRestOf, view_by}
 use Rattle.px_shadow.specs.ShadowPasses.{background_passes, light_passes, solid_passes}
 use Rattle.px_shadow.proofs.passes.one_light.Given as goal
 
 -- the solids from one on are left
 abbrev pub invariant-loop-solid : goal.invariant-loop-solid
 invariant-loop-solid g l =
-    IsRestOf g.A.Array.BITS g.A.Array.device g.A.Array.slots g.A.Array.work
+    IsRestOf g.A.Array.BITS (view_by g.A.Array.device g.A.Array.slots g.A.Array.work)
     (light_passes l.scene l.layout l.light l.fn.solids)
     (flat_map (λ q. solid_passes l.layout (end_of (depths_of l.scene)) l.light (solid_of l.scene q))
     (drop l.solid-index (solids l.fn.solids))

@@ -17,7 +17,8 @@ loop-place-preserved c =
     let before = c.loop-place.invariant in
     let edge = m.KeepSign c.edge_at.result in
     record {
-      first = turn_more xs i (level 0) c.edge_at.result c.loop-place.operations before.first c.edge_at.ensures.form there
+      first = turn_more xs i (level 0) c.edge_at.result c.loop-place.operations before.first c.edge_at.ensures.form
+          there
           (omega (arith, before.room, c.loop-place-test.true, c.edge_count-edges.ensures.few));
       room = length-set c.loop-place.operations (i + 1) edge ∙ before.room;
     }

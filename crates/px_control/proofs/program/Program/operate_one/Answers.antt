@@ -5,7 +5,8 @@ use Rattle.px_control.proofs.program.Program.operate_one.Goals as goal
 
 pub cycles-cycles-requires : goal.cycles-cycles-requires
 cycles-cycles-requires g c =
-    (here_of c.args.self.now c.args.place.now c.in-Some.m c.laws.ensures.good.lawful c.requires.stands c.in-Some.is).lawful
+    (here_of c.args.self.now c.args.place.now c.in-Some.m c.laws.ensures.good.lawful c.requires.stands
+        c.in-Some.is).lawful
 
 pub operate-requires-clause-lawful : goal.operate-requires-clause-lawful
 operate-requires-clause-lawful g c =
@@ -26,7 +27,8 @@ operate-requires-clause-counted g c =
     let here = here_of c.args.self.now c.args.place.now c.in-Some.m good.lawful c.requires.stands c.in-Some.is in
     omega (
       arith,
-      cycles_here c.args.self.now c.in-Some.m (g.A.Array.device c.args.array.now) near.agree.first.columns near.agree.first.rows,
+      cycles_here c.args.self.now c.in-Some.m (g.A.Array.device c.args.array.now) near.agree.first.columns
+          near.agree.first.rows,
       near.clocks,
       here.below,
       good.clocks,

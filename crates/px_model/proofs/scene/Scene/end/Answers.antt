@@ -13,7 +13,7 @@ returns-clause-small c =
     let f = c.self.inside.fraction_bits in
     let law = c.self.invariant.0 in
     let far = c.far.ensures ∙ ap (λ s. 2 ^ s.depth_bits - 1) (sym c.self.view_is) in
-    rw far (small _ (end_is_within c.self.inside.depth_bits f law.depth))
+    rw far (small _ (end_is_within c.self.inside.depth_bits f law.sizes.depth_limit))
 
 end_is : (w f w' f' : ℕ) → w ≡ w' → f ≡ f' → (2 ^ w - 1) * 2 ^ f ≡ (2 ^ w' - 1) * 2 ^ f'
 end_is w f w' f' p q = rw (p, q) refl
@@ -25,5 +25,5 @@ returns-clause-value c =
     let law = c.self.invariant.0 in
     let far = c.far.ensures ∙ ap (λ s. 2 ^ s.depth_bits - 1) (sym c.self.view_is) in
     rw far
-    (whole ((2 ^ w - 1) * 2 ^ f) (end_is_within w f law.depth)
+    (whole ((2 ^ w - 1) * 2 ^ f) (end_is_within w f law.sizes.depth_limit)
     ∙ end_is w f _ _ (ap (λ s. s.depth_bits) c.self.view_is) (ap (λ s. s.fraction_bits) c.self.view_is))
