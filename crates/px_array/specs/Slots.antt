@@ -1,5 +1,6 @@
 -- What the four slots of an array keep, and how its work grows. Clauses of public calls stand on it.
-use Rattle.std.specs.Prelude.{◌≡◌, ℕ, ◌+◌, ◌-◌, ◌^◌, IsSome, List, Option, None, Some, min, replicate, slice_index_or, slice_set}
+use Rattle.std.specs.Prelude.{◌≡◌, ℕ, ◌+◌, ◌-◌, ◌^◌, IsSome, List, Option, None, Some, min, replicate}
+use Rattle.std.specs.Prelude.{slice_index_or, slice_set}
 use Rattle.px_array.specs.Arrays.{Device, closed}
 
 -- none of the four slots is saved
@@ -34,7 +35,8 @@ array_view device slots work = record { device = device; slots = slots; work = w
 abbrev pub none_open : ArrayView
 none_open = record { device = closed; slots = no_slots; work = 0 }
 
--- since the array was opened each of its clocks was made once, and none was kept: its work is its clocks, and no slot is saved
+-- since the array was opened each of its clocks was made once, and none was kept: its work is its clocks, and
+-- no slot is saved
 pub record IsRunOnce (now : ArrayView) : Type 0 where
   pub slots : now.slots ≡ no_slots
   pub work : now.work ≡ now.device.clocks

@@ -1,5 +1,6 @@
 -- One ask after another. Upper crates cite them.
-use Rattle.std.proofs.Common.{◌≡◌, ℕ, List, [], ◌∷◌, ◌++◌, Option, Some, None, Result, Ok, Err, refl, sym, append_assoc, append-nil}
+use Rattle.std.proofs.Common.{◌≡◌, ℕ, List, [], ◌∷◌, ◌++◌, Option, Some, None, Result, Ok, Err, refl, sym}
+use Rattle.std.proofs.Common.{append_assoc, append-nil}
 use Rattle.std.specs.Io.KnownBytes.{Consumes, ReadConsumes}
 use Rattle.px_io.proofs.ToldLaws.{consumes_kept, consumes_none}
 use Rattle.px_asked.specs.Asks.{Ask, Asked, all_given, given}
@@ -22,7 +23,8 @@ given-one [] a = append-nil a.bytes
 given-one (x ∷ xs) a = rw (given-one xs a) (sym (append_assoc x.bytes (all_given xs) a.bytes))
 
 -- what a read gave is what it took
-pub read_gave : {E : Type 0} (s t : Option (List ℕ)) (r : Result ℕ E) (buf : List ℕ) → ReadConsumes s t r buf → Consumes s t (given r buf)
+pub read_gave : {E : Type 0} (s t : Option (List ℕ)) (r : Result ℕ E) (buf : List ℕ) → ReadConsumes s t r buf
+    → Consumes s t (given r buf)
 read_gave s t (Ok n) buf took = took.0
 read_gave s t (Err e) buf kept = consumes_kept s s t [] (consumes_none s) kept
 

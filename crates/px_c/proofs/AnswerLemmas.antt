@@ -19,7 +19,8 @@ pub accepts : (refusal : Option SceneFault) (due answer : Answer) → refusal �
     → Answers (unless_refused refusal due) answer
 accepts refusal due answer none answers = rw none answers
 
-pub roomy : (room due : ℕ) (found : Found) → due ≤ room → within_room room due found ≡ record { status = OK; found = found }
+pub roomy : (room due : ℕ) (found : Found) → due ≤ room → within_room room due found
+    ≡ record { status = OK; found = found }
 roomy room due found enough =
     let test : nat_lt room due ≡ false = grind (arith, nat_tests) in
     rw test refl

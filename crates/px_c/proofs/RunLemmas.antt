@@ -1,5 +1,6 @@
 -- What a command comes to, as an answer.
-use Rattle.std.proofs.Common.{ℕ, ◌≡◌, ◌∙◌, inl, inr, List, [], length, Bool, true, false, Option, Some, None, Ok, Err, refl, ap, sym, subst}
+use Rattle.std.proofs.Common.{ℕ, ◌≡◌, ◌∙◌, inl, inr, List, [], length, Bool, true, false, Option, Some, None}
+use Rattle.std.proofs.Common.{Ok, Err, refl, ap, sym, subst}
 use Rattle.std.proofs.Common.{if◌then◌else◌, ◌&&◌, not, nat_lt}
 use Rattle.std.specs.Io.KnownBytes.{Appends}
 use Rattle.px_command.specs.declared.command.Command.{Command}
@@ -7,7 +8,8 @@ use Rattle.px_command.specs.declared.command.Command.TheVariants as c
 use Rattle.px_prune.specs.Kept.{crowd_of}
 use Rattle.px_sched.specs.Layouts.{layout_of, need_of}
 use Rattle.px_session.specs.Sessions.{answers, has_quit, until_quit}
-use Rattle.px_debug_run.specs.Debugs.{admitted, all_commands, answered, debugged, has_part, scene_part_of, scene_written, session_of, whole_commands}
+use Rattle.px_debug_run.specs.Debugs.{admitted, all_commands, answered, debugged, has_part, scene_part_of}
+use Rattle.px_debug_run.specs.Debugs.{scene_written, session_of, whole_commands}
 use Rattle.px_outcome.specs.declared.refusal.Refusal.{Refusal}
 use Rattle.px_outcome.specs.declared.stop.Stop.{Stop}
 use Rattle.px_outcome.specs.declared.stop.Stop.TheVariants as s
@@ -22,7 +24,8 @@ use Rattle.px_c.specs.RunAnswers.{bytes_answer, outcome_answer, refusal_answer}
 use Rattle.px_c.specs.RunStops.{stop_answer}
 
 -- what a session answers where nothing is refused
-sitting_whole : (early late short : Bool) (why : Option Refusal) (need : ℕ) (crowd : Option ℕ) (front whole bytes : List ℕ)
+sitting_whole : (early late short : Bool) (why : Option Refusal) (need : ℕ) (crowd : Option ℕ)
+    (front whole bytes : List ℕ)
     → (if early then refused too_long
     else unless_refused why (if short then refused (short_of_bits need)
     else refused_past crowd (if late then cut front too_long else done whole))) ≡ done bytes → whole ≡ bytes
@@ -39,7 +42,8 @@ unfolding debugged admitted answered
 debugged_whole bits text bytes is =
     let scene = scene_written (scene_part_of text) in
     let need = need_of (layout_of scene) in
-    sitting_whole (is_long text && not (has_part text)) (is_long text && not (has_quit (whole_commands text))) (nat_lt bits need)
+    sitting_whole (is_long text && not (has_part text)) (is_long text && not (has_quit (whole_commands text)))
+        (nat_lt bits need)
     (text_refusal (scene_part_of text)) need (crowd_of scene) (answers bits (session_of text) (whole_commands text))
     (answers bits (session_of text) (until_quit (all_commands text))) bytes is
 
@@ -68,7 +72,8 @@ comes_whole command bits u before after text bytes performs rest empty now =
 
 -- and where it does not come, that is for the reason of the text, or a fault
 pub comes_not : (command : Option Command) (bits : ℕ) (stop : Stop) (before after : Ends) (text : List ℕ)
-    → Performs (Err stop) command bits before after → before.rest ≡ Some text → Meets (Err stop) (commanded command text bits)
+    → Performs (Err stop) command bits before after → before.rest ≡ Some text
+        → Meets (Err stop) (commanded command text bits)
 comes_not command bits stop before after text performs rest =
     let is : performs.input.bytes ≡ text = rw rest at performs.known in
     subst (λ t. Meets (Err stop) (commanded command t bits)) is performs.meets
@@ -77,7 +82,8 @@ pub answers_done : (room : ℕ) (o : Outcome) (bytes : List ℕ) (answer : Answe
     → answer ≡ bytes_answer room (length bytes) → Answers (outcome_answer room o) answer
 answers_done room o bytes answer is same = rw is (inl same)
 
-pub answers_stop : (room : ℕ) (o : Outcome) (stop : Stop) → Meets (Err stop) o → Answers (outcome_answer room o) (stop_answer stop)
+pub answers_stop : (room : ℕ) (o : Outcome) (stop : Stop) → Meets (Err stop) o
+    → Answers (outcome_answer room o) (stop_answer stop)
 answers_stop room o s.Usage meets = rw meets (inl refl)
 answers_stop room usage (s.Refused reason) meets = absurd cc
 answers_stop room (refused why) (s.Refused reason) meets =

@@ -43,8 +43,10 @@ cost_found scene = record (scene_found scene) { operations = length (passes scen
 
 -- the refusal of a text: its first bad line, and why, or what it found past a limit
 abbrev pub refused : SceneFault → Answer
-refused (f.Malformed line cause) = record { status = MALFORMED; found = record nothing { line = line; cause = cause_number cause } }
-refused (f.Limit line limit found) = record { status = LIMIT; found = record nothing { line = line; kind = kind_number limit; number = found } }
+refused (f.Malformed line cause) =
+    record { status = MALFORMED; found = record nothing { line = line; cause = cause_number cause } }
+refused (f.Limit line limit found) =
+    record { status = LIMIT; found = record nothing { line = line; kind = kind_number limit; number = found } }
 refused (f.Memory _) = record { status = MEMORY; found = nothing }
 
 -- a refusal of the array as one of the text: a limit of no one line
@@ -68,7 +70,8 @@ unless_refused None answer = answer
 -- what was found, where buffers of so much room have enough of it
 abbrev pub within_room : (room due : ℕ) → Found → Answer
 within_room room due found =
-    if nat_lt room due then record { status = NO_ROOM; found = record found { room = due } } else record { status = OK; found = found }
+    if nat_lt room due then record { status = NO_ROOM; found = record found { room = due } }
+        else record { status = OK; found = found }
 
 -- how many pixels the picture has
 abbrev pub pixels_of : SceneView → ℕ

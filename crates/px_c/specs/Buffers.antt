@@ -2,7 +2,8 @@
 use Rattle.std.specs.Prelude.{◌≡◌, ℕ, ℤ, ◌+◌, ◌*◌, ◌<◌, ◌≤◌, List, ◌++◌, drop, length, slice_index_or}
 use Rattle.px_model.specs.declared.solid.Colour.{Colour}
 
--- the number of each pixel (x, y) of a picture, the rows from the top and each from the left; what lies behind them is as before
+-- the number of each pixel (x, y) of a picture, the rows from the top and each from the left; what lies behind
+-- them is as before
 pub record HoldsNumbers (width height : ℕ) (number : (x y : ℕ) → ℕ) (before now : List ℕ) : Type 0 where
   pub pixels : (x y : ℕ) → x < width → y < height → slice_index_or now (y * width + x) 0 ≡ number x y
   pub rest : (i : ℕ) → width * height ≤ i → slice_index_or now i 0 ≡ slice_index_or before i 0

@@ -32,4 +32,5 @@ on_grid room None ny micros = record { status = NO_GRID; found = nothing }
 
 -- `pxplanes_clocks`, in a buffer of so many words
 abbrev pub clocks_answer : (room grid_width grid_height : ℕ) → (micros : List ℕ) → Answer
-clocks_answer room grid_width grid_height micros = on_grid room (exponent_of grid_width) (exponent_of grid_height) micros
+clocks_answer room grid_width grid_height micros = on_grid room (exponent_of grid_width) (exponent_of grid_height)
+    micros

@@ -1,4 +1,5 @@
--- Products as lists of numbers: a number for each solid, counted from 1, below 0 where the solid is barred, and a 0 behind each product.
+-- Products as lists of numbers: a number for each solid, counted from 1, below 0 where the solid is barred, and
+-- a 0 behind each product.
 -- Clauses of public calls stand on it.
 use Rattle.std.specs.Prelude.{ℕ, ℤ, ◌+◌, pos, neg_ℤ, List, [], ◌∷◌, ◌++◌, map}
 use Rattle.std.specs.List.{flat_map}

@@ -19,7 +19,8 @@ abbrev pub kind_names : List (List ℕ)
 kind_names =
     [] ∷ scene_word k.Text ∷ scene_word k.Picture ∷ scene_word k.Depth ∷ scene_word k.Colour ∷ scene_word k.Coefficient
     ∷ scene_word k.Solids ∷ scene_word k.Fronts ∷ scene_word k.Backs ∷ scene_word k.Sides ∷ scene_word k.Faces
-    ∷ scene_word k.Leaves ∷ scene_word k.Nesting ∷ scene_word k.Fraction ∷ scene_word k.PixelMemory ∷ scene_word k.Products
+    ∷ scene_word k.Leaves ∷ scene_word k.Nesting ∷ scene_word k.Fraction ∷ scene_word k.PixelMemory
+        ∷ scene_word k.Products
     ∷ list_word l.Grid ∷ list_word l.Coefficient ∷ list_word l.Length ∷ list_word l.Place ∷ list_word l.Value
     ∷ list_word l.Overlap ∷ kind_word any.Lights ∷ kind_word any.Tiles ∷ []
 
@@ -27,7 +28,8 @@ kind_names =
 abbrev pub name_in : List (List ℕ) → (number : ℕ) → List ℕ
 name_in names number = unwrap_or (slice_get names number) []
 
--- a call answers the length of a word, which it wrote to the front of a buffer where it fits, and no part of it where it does not
+-- a call answers the length of a word, which it wrote to the front of a buffer where it fits, and no part of it
+-- where it does not
 pub record IsWritten (word : List ℕ) (answer : ℕ) (before now : List ℕ) : Type 0 where
   pub count : answer ≡ length word
   pub fits : length word ≤ length before → now ≡ word ++ drop (length word) before

@@ -26,12 +26,15 @@ run_outcome text words = outcome_of (command_of (words_in words)) text
 
 -- the answer to a refusal: the first bad line, and why, or what was found past a limit
 abbrev pub refusal_answer : Refusal → Answer
-refusal_answer (r.Malformed line cause) = record { status = MALFORMED; found = record nothing { line = line; cause = cause_number cause } }
-refusal_answer (r.Limit line kind found) = record { status = LIMIT; found = record nothing { line = line; kind = limit_number kind; number = found } }
+refusal_answer (r.Malformed line cause) =
+    record { status = MALFORMED; found = record nothing { line = line; cause = cause_number cause } }
+refusal_answer (r.Limit line kind found) =
+    record { status = LIMIT; found = record nothing { line = line; kind = limit_number kind; number = found } }
 
 -- so many bytes are found, where a buffer of so much room has enough of it
 abbrev pub bytes_answer : (room due : ℕ) → Answer
-bytes_answer room due = record { status = if nat_lt room due then NO_ROOM else OK; found = record nothing { room = due } }
+bytes_answer room due =
+    record { status = if nat_lt room due then NO_ROOM else OK; found = record nothing { room = due } }
 
 -- the answer to an outcome, in a buffer of so much room
 abbrev pub outcome_answer : (room : ℕ) → Outcome → Answer

@@ -1,4 +1,5 @@
--- What a call answers that finds the machine, its micros or its operations, of a scene or of a listing. Clauses of public calls stand on it.
+-- What a call answers that finds the machine, its micros or its operations, of a scene or of a listing. Clauses
+-- of public calls stand on it.
 use Rattle.std.specs.Prelude.{◌≡◌, ℕ, ◌+◌, ◌^◌, ◌<◌, ◌≤◌, List, length, Option, Some, None}
 use Rattle.px_array.specs.declared.micro.Micro.{Micro}
 use Rattle.px_listing.specs.Listings.{ListingView}
@@ -18,8 +19,10 @@ use Rattle.px_c.specs.declared.status.TheConstants.{BITS, LIMIT, MALFORMED, NO_C
 
 -- the refusal of a listing: its first bad line, and why, or what it found past a limit
 abbrev pub list_refused : ListFault → Answer
-list_refused (text_fault.Malformed line cause) = record { status = MALFORMED; found = record nothing { line = line; cause = cause_number cause } }
-list_refused (text_fault.Limit line limit found) = record { status = LIMIT; found = record nothing { line = line; kind = list_number limit; number = found } }
+list_refused (text_fault.Malformed line cause) =
+    record { status = MALFORMED; found = record nothing { line = line; cause = cause_number cause } }
+list_refused (text_fault.Limit line limit found) =
+    record { status = LIMIT; found = record nothing { line = line; kind = list_number limit; number = found } }
 list_refused (text_fault.Memory m) = refused (text_fault.Memory m)
 
 -- why there is no state, or there are no micros or operations: the text, its clocks, its operations, or too little room
@@ -28,7 +31,8 @@ state_refused (f.Scene fault) = refused fault
 state_refused (f.Job fault) = refused (scene_fault fault)
 state_refused (f.Listing fault) = list_refused fault
 state_refused (f.NoClock clocks) = record { status = NO_CLOCK; found = record nothing { clocks = clocks } }
-state_refused (f.NoOperation operations) = record { status = NO_OPERATION; found = record nothing { operations = operations } }
+state_refused (f.NoOperation operations) =
+    record { status = NO_OPERATION; found = record nothing { operations = operations } }
 state_refused (f.NoRoom room) = record { status = NO_ROOM; found = record nothing { room = room } }
 state_refused (f.Memory m) = refused (text_fault.Memory m)
 

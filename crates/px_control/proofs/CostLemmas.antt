@@ -23,7 +23,7 @@ use Rattle.px_sched.specs.Layouts.{LayoutView, layout_of, need_of}
 use Rattle.px_sched.specs.Passes.{operations, passes, steps_with}
 use Rattle.px_sched.specs.PassesFacts.{LayoutsAreLawful, StepsAreLawful}
 use Rattle.px_sched.specs.Steps.{HasFace, IsFace, IsStep, IsThere}
-use Rattle.px_sched.specs.Worths.{bare, first, products_worth}
+use Rattle.px_sched.specs.Worths.{bare, first_face_step, products_worth}
 use Rattle.px_sched.proofs.LawfulLaws.{passes_are}
 use Rattle.px_sched.proofs.OperationLaws.{is_there, steps_there}
 use Rattle.px_sched.proofs.WorthLaws.{IsBlind, flat_sum, sum_by-agree, weighed}
@@ -106,7 +106,7 @@ module _ (count : EdgesAreCounted) (scene : SceneView) (measure : Measure) where
 
   module _ (rates : Rates) (are : AreRates scene measure rates) where
     rated_is : (step : Step) → HasFace (IsThere scene) step
-        → sum_by (worth scene measure) (operations scene l step) ≡ rated rates scene (first step)
+        → sum_by (worth scene measure) (operations scene l step) ≡ rated rates scene (first_face_step step)
     rated_is (Candidate solid face) there =
         rw (are.faces.candidate, are.faces.edge)
             (weighed count scene l (worth scene measure) blind (Candidate solid face) there)
@@ -128,7 +128,7 @@ module _ (count : EdgesAreCounted) (scene : SceneView) (measure : Measure) where
         let kept = kept_of scene (sum_of_products scene.show) in
         let own = operations scene l in
         ap (products_worth (rated rates scene) scene) same ∙ sym (products_sum (rated rates scene) scene kept apart)
-        ∙ sym (sum_by-agree (λ step. sum_by (worth scene measure) (own step)) (λ step. rated rates scene (first step))
+        ∙ sym (sum_by-agree (λ step. sum_by (worth scene measure) (own step)) (λ step. rated rates scene (first_face_step step))
         (steps_with scene kept)
         (λ k d low. rated_is (get_or (steps_with scene kept) k d) (steps_there scene kept k d low)))
         ∙ sym (flat_sum (worth scene measure) own (steps_with scene kept))

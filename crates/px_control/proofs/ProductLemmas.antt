@@ -19,7 +19,7 @@ use Rattle.px_sched.specs.declared.literal.Literal.{Literal}
 use Rattle.px_sched.specs.declared.step.Step.{Step}
 use Rattle.px_sched.specs.Passes.{literal, literal_steps, literals, literals_of, no_solid, others}
 use Rattle.px_sched.specs.Passes.{product_steps, steps_with}
-use Rattle.px_sched.specs.Worths.{first, judged_worth, own_worth, products_worth, shares_worth}
+use Rattle.px_sched.specs.Worths.{first_face_step, judged_worth, own_worth, products_worth, shares_worth}
 use Rattle.px_sched.proofs.MemberLaws.{In, any_in}
 use Rattle.px_sched.proofs.ProductLaws.{each_literal, in_solids, in_solids_of}
 use Rattle.px_sched.proofs.WorthLaws.{flat_sum, literal_sum, steps_sum, sum_by-agree}
@@ -178,9 +178,9 @@ all_shares own others f (x ∷ xs) each =
 -- the steps of a product, and of products, where each is worth what the first of its kind is
 module _ (v : Step → ℕ) (scene : SceneView) where
   pub product_sum : (p : Product) → is_void p ≡ false
-      → sum_by (λ step. v (first step)) (product_steps scene p) ≡ shares_worth v scene (literals p)
+      → sum_by (λ step. v (first_face_step step)) (product_steps scene p) ≡ shares_worth v scene (literals p)
   product_sum p apart =
-      let worth : Step → ℕ = λ step. v (first step) in
+      let worth : Step → ℕ = λ step. v (first_face_step step) in
       let steps : Literal → List Step = λ q. literal_steps scene q (others q p) in
       let judged = judged_worth v scene in
       let against : Literal → ℕ = λ q. sum_by judged (others q p) in
@@ -190,9 +190,9 @@ module _ (v : Step → ℕ) (scene : SceneView) where
       ∙ all_shares (own_worth v scene) against judged (literals p) (others_sum judged p 256 refl apart)
 
   pub products_sum : (ps : List Product) → All (λ p. is_void p ≡ false) ps
-      → sum_by (λ step. v (first step)) (steps_with scene ps) ≡ products_worth v scene ps
+      → sum_by (λ step. v (first_face_step step)) (steps_with scene ps) ≡ products_worth v scene ps
   products_sum ps apart =
-      let worth : Step → ℕ = λ step. v (first step) in
+      let worth : Step → ℕ = λ step. v (first_face_step step) in
       omega (
         arith,
         steps_sum scene worth ps,

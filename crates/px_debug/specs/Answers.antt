@@ -6,7 +6,8 @@ use Rattle.px_array.specs.Arrays.{State}
 use Rattle.px_model.specs.Scenes.{SceneView}
 use Rattle.px_sched.specs.Layouts.{layout_of}
 use Rattle.px_control.specs.Program.{array_after, micro_at_clock, operation_at, program, total}
-use Rattle.px_debug_text.specs.Lines.{field_line, is_node, is_pixel, now_line, pixel_line, trace_lines, tree_line, unknown_line}
+use Rattle.px_debug_text.specs.Lines.{field_line, is_node, is_pixel, now_line, pixel_line, trace_lines}
+use Rattle.px_debug_text.specs.Lines.{tree_line, unknown_line}
 use Rattle.px_debug_text.specs.declared.command.Command.{Command}
 use Rattle.px_debug_text.specs.declared.command.Command.TheVariants as c
 
@@ -14,7 +15,8 @@ use Rattle.px_debug_text.specs.declared.command.Command.TheVariants as c
 abbrev pub place_line : SceneView → (now : ℕ) → List ℕ
 place_line scene now =
     if nat_lt now (total scene)
-    then codes "at " ++ decimal now ++ codes " of " ++ decimal (total scene) ++ codes " macro " ++ decimal (operation_at scene now)
+    then codes "at " ++ decimal now ++ codes " of " ++ decimal (total scene) ++ codes " macro "
+        ++ decimal (operation_at scene now)
     ++ codes " micro " ++ decimal (micro_at_clock scene now) ++ codes "\n"
     else codes "at " ++ decimal now ++ codes " of " ++ decimal (total scene) ++ codes " done\n"
 
@@ -26,8 +28,10 @@ trace_text scene now = trace_lines (now - 32) (keep_last 32 (take now (program s
 unfoldable pub answer_in : SceneView → State → (now number : ℕ) → Command → List ℕ
 answer_in scene s now number c.At = place_line scene now
 answer_in scene s now number (c.Pixel x y) = if is_pixel s x y then pixel_line s x y else unknown_line number
-answer_in scene s now number (c.Field x y) = if is_pixel s x y then field_line (layout_of scene) s x y else unknown_line number
-answer_in scene s now number (c.Tree level index) = if is_node s level index then tree_line s level index else unknown_line number
+answer_in scene s now number (c.Field x y) = if is_pixel s x y then field_line (layout_of scene) s x y
+    else unknown_line number
+answer_in scene s now number (c.Tree level index) = if is_node s level index then tree_line s level index
+    else unknown_line number
 answer_in scene s now number c.Trace = trace_text scene now
 answer_in scene s now number c.Quit = []
 answer_in scene s now number c.Nothing = []

@@ -1,5 +1,6 @@
 -- Where a session stands, and where each command leads. Clauses of public calls stand on it.
-use Rattle.std.specs.Prelude.{◌≡◌, ℕ, zero, suc, ◌+◌, ◌-◌, ◌*◌, ◌/◌, ◌≤◌, min, max, nat_lt, if◌then◌else◌, IfSome, List, [], ◌∷◌, Option, Some}
+use Rattle.std.specs.Prelude.{◌≡◌, ℕ, zero, suc, ◌+◌, ◌-◌, ◌*◌, ◌/◌, ◌≤◌, min, max, nat_lt, if◌then◌else◌}
+use Rattle.std.specs.Prelude.{IfSome, List, [], ◌∷◌, Option, Some}
 use Rattle.px_array.specs.Arrays.{Device}
 use Rattle.px_array.specs.Slots.{slot_of}
 use Rattle.px_model.specs.Scenes.{SceneView}

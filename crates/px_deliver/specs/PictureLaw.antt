@@ -1,4 +1,5 @@
--- The picture theorem: what the two maps of an accepted text's scene show, and which scenes an array draws. Clauses of public calls stand on it.
+-- The picture theorem: what the two maps of an accepted text's scene show, and which scenes an array draws.
+-- Clauses of public calls stand on it.
 use Rattle.std.specs.Prelude.{ℕ, ◌≡◌, ◌≤◌, ◌⊎◌, ◌++◌, List, None, length}
 use Rattle.px_model.specs.Scenes.{SceneView}
 use Rattle.px_model.specs.Cells.{Sight}
@@ -12,7 +13,8 @@ use Rattle.px_scene.specs.Reading.{refusal_of, scene_of}
 use Rattle.px_sched.specs.Layouts.{layout_of, need_of}
 use Rattle.px_deliver.specs.Refusals.{job_refusal}
 
--- two pixel maps: at each pixel the depth of its first cell that belongs to the scene's expression, and the lowest-numbered face
+-- two pixel maps: at each pixel the depth of its first cell that belongs to the scene's expression, and the
+-- lowest-numbered face
 -- shown there; the background where no cell belongs
 pub record AreMapsOf (scene : SceneView) (maps : List ℕ) : Type 0 where
   pub sights : (x y : ℕ) → Sight
@@ -25,7 +27,8 @@ abbrev pub TextsHavePictures : Type 0
 TextsHavePictures = (text : List ℕ) → refusal_of text ≡ None →
     AreMapsOf (scene_of (worded text)) (depth_image (scene_of (worded text)) ++ face_image (scene_of (worded text)))
 
--- an array draws a scene whose passes need no more memory bits than a pixel has, and whose expression has no "^" and at most
+-- an array draws a scene whose passes need no more memory bits than a pixel has, and whose expression has no
+-- "^" and at most
 -- so many products in its whole sum
 abbrev pub SmallScenesAreDrawn : Type 0
 SmallScenesAreDrawn = (bits : ℕ) (scene : SceneView) → need_of (layout_of scene) ≤ bits → HasNoDiffer scene.show →

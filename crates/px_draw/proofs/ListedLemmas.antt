@@ -97,7 +97,8 @@ not_refused_by : (reason : Option Refusal) (lines answer : List ℕ) → unless_
 not_refused_by None lines answer is = (refl, cc)
 not_refused_by (Some reason) lines answer is = cc
 
-no_refusal : (refusal : Option ListFault) → refusal ≢ Some (f.Memory want) → list_refusal_by refusal ≡ None → refusal ≡ None
+no_refusal : (refusal : Option ListFault) → refusal ≢ Some (f.Memory want) → list_refusal_by refusal ≡ None
+    → refusal ≡ None
 no_refusal None other none = refl
 no_refusal (Some (f.Malformed line cause)) other none = cc
 no_refusal (Some (f.Limit line kind found)) other none = cc

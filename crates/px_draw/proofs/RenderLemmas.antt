@@ -26,8 +26,10 @@ abbrev maps_of : SceneView → List ℕ
 maps_of scene = depth_image scene ++ (face_image scene ++ [])
 
 -- where the array can draw the scene, its outcome comes
-drawn : (bits : ℕ) (scene : SceneView) (whole : Outcome) → job_refusal bits scene ≡ None → drawable bits scene whole ≡ whole
-drawn bits scene whole = by_bits (nat_lt bits (need_of (layout_of scene))) (need_of (layout_of scene)) (crowd_of scene) whole where
+drawn : (bits : ℕ) (scene : SceneView) (whole : Outcome) → job_refusal bits scene ≡ None → drawable bits scene whole
+    ≡ whole
+drawn bits scene whole = by_bits (nat_lt bits (need_of (layout_of scene))) (need_of (layout_of scene))
+    (crowd_of scene) whole where
   by_bits : (short : Bool) (need : ℕ) (crowd : Option ℕ) (whole : Outcome)
       → (if short then Some (f.PixelMemory need) else too_many_of crowd) ≡ None
       → (if short then out.refused (short_of_bits need) else refused_past crowd whole) ≡ whole
@@ -60,11 +62,13 @@ never_memory : (text : List ℕ) → refusal_of text ≡ Some (s.Memory want) �
 never_memory text = by_length (nat_lt MAX_TEXT_BYTES (length text)) where
   by_length : (long : Bool)
       → (if long then Some (s.Limit 0 kind.Text (pos (MAX_TEXT_BYTES + 1)))
-      else refused (first_bad fault_behind [] (worded text)) (is_nothing (draft_of (worded text)).due) (length (lines_of text)))
+      else refused (first_bad fault_behind [] (worded text)) (is_nothing (draft_of (worded text)).due)
+          (length (lines_of text)))
       ≡ Some (s.Memory want) → ⊥
   by_length true e = absurd cc
   by_length false e =
-      not_memory (first_bad fault_behind [] (worded text)) (is_nothing (draft_of (worded text)).due) (length (lines_of text)) e
+      not_memory (first_bad fault_behind [] (worded text)) (is_nothing (draft_of (worded text)).due)
+          (length (lines_of text)) e
 
 pub rendered_is_accepted : RenderedIsAccepted
 rendered_is_accepted text bits maps e = by_refusal (refusal_of text) refl e where

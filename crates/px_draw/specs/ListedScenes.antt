@@ -21,12 +21,14 @@ pub record IsListed (bits : ℕ) (scene : SceneView) (text : List ℕ) : Type 0 
 
 -- within the limit of a text, `play` answers what the passes of the scene mean
 abbrev pub ListedPassesArePlayed : Type 0
-ListedPassesArePlayed = (bits : ℕ) (scene : SceneView) (text : List ℕ) → IsListed bits scene text → length text ≤ MAX_TEXT_BYTES →
+ListedPassesArePlayed = (bits : ℕ) (scene : SceneView) (text : List ℕ) → IsListed bits scene text
+    → length text ≤ MAX_TEXT_BYTES →
     played_out text bits ≡ done (played_text bits (passes_listing scene))
 
 -- and the array that it leaves stores the picture of the scene in key B of each pixel
 abbrev pub ListedPassesShowThePicture : Type 0
-ListedPassesShowThePicture = (bits : ℕ) (scene : SceneView) (text : List ℕ) (device : Device) → IsListed bits scene text →
+ListedPassesShowThePicture = (bits : ℕ) (scene : SceneView) (text : List ℕ) (device : Device)
+    → IsListed bits scene text →
     IsPlayed bits (listing_written text) device →
     ShowsThePicture scene (layout_of scene) (λ x y. (pixel_of device.state x y).memory)
 
@@ -36,8 +38,10 @@ pub record PlaysTheScene (bits : ℕ) (scene : SceneView) (text answer : List �
   pub picture : (device : Device) → IsPlayed bits (listing_written text) device →
       ShowsThePicture scene (layout_of scene) (λ x y. (pixel_of device.state x y).memory)
 
--- so it is wherever `play` answers `Done` for a text that `list` wrote, however many bits each of the two arrays has: the passes of a
+-- so it is wherever `play` answers `Done` for a text that `list` wrote, however many bits each of the two
+-- arrays has: the passes of a
 -- scene may need fewer than the scene
 abbrev pub DoneShowsThePicture : Type 0
-DoneShowsThePicture = (listed_bits bits : ℕ) (scene : SceneView) (text answer : List ℕ) → IsListed listed_bits scene text →
+DoneShowsThePicture = (listed_bits bits : ℕ) (scene : SceneView) (text answer : List ℕ)
+    → IsListed listed_bits scene text →
     played_out text bits ≡ done answer → PlaysTheScene bits scene text answer

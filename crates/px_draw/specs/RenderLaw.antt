@@ -14,5 +14,6 @@ RenderedIsAccepted = (text : List ℕ) (bits : ℕ) (maps : List ℕ) → outcom
 
 -- a text that is a scene, drawn with so many memory bits a pixel: `render` is to write the maps of its scene
 abbrev pub AcceptedIsRendered : Type 0
-AcceptedIsRendered = (text : List ℕ) (bits : ℕ) → refusal_of text ≡ None → job_refusal bits (scene_of (worded text)) ≡ None →
+AcceptedIsRendered = (text : List ℕ) (bits : ℕ) → refusal_of text ≡ None → job_refusal bits (scene_of (worded text))
+    ≡ None →
     (maps : List ℕ) × (outcome (codes "render" ∷ []) text bits ≡ done maps) × AreMapsOf (scene_of (worded text)) maps

@@ -51,7 +51,8 @@ Leaves (Some c.Play) result bits input before after = LeavesPlayed result bits i
 -- what a command does over an input
 abbrev pub Performs : Result (Unit {0}) Stop → Option Command → (bits : ℕ) → (before after : Ends) → Type 0
 Performs result command bits before after =
-    PerformsOver result (λ bytes. commanded command bytes bits) (λ input. Leaves command result bits input before after) before after
+    PerformsOver result (λ bytes. commanded command bytes bits)
+        (λ input. Leaves command result bits input before after) before after
 
 -- a run of these words, on an array with pixels of so many bits, comes to a result of this status
 pub record IsRunOf (words : List (List ℕ)) (bits : ℕ) (found : Status) (before after : AllEnds) : Type 0 where

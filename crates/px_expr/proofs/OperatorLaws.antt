@@ -5,11 +5,11 @@ use Rattle.px_expr.specs.declared.node.Op.TheVariants as o
 use Rattle.px_expr.specs.declared.node.Shape.TheVariants as p
 use Rattle.px_expr.specs.declared.node.Combination.{Combination}
 use Rattle.px_expr.specs.declared.node.Combination.TheVariants.{Both, Either, EitherWay}
-use Rattle.px_expr.specs.Shapes.{shape_of, op_node}
+use Rattle.px_expr.specs.Shapes.{node_shape, op_node}
 use Rattle.px_expr.specs.Cells.{truth_of, combination_of}
 
 -- the node that joins two places is seen as its operator between them
-pub shape_of_op : (op : Op) (left right : ℕ) → shape_of (op_node op left right) ≡ p.Join op left right
+pub shape_of_op : (op : Op) (left right : ℕ) → node_shape (op_node op left right) ≡ p.Join op left right
 shape_of_op o.Union left right = refl
 shape_of_op other left right = refl
 

@@ -6,7 +6,7 @@ use Rattle.std.proofs.lemmas.List.Sums.{fold-append}
 use Rattle.std.proofs.lemmas.List.Elements.{All-nil, All-cons, All-append}
 use Prim.Native.Nat.{zero, suc}
 use Rattle.px_expr.specs.Tree.{Tree, leaf, join, leaf_count, nesting, HasLeavesBelow}
-use Rattle.px_expr.specs.Shapes.{shape_of, op_node, joined, CanPlace, IsLeafBelow}
+use Rattle.px_expr.specs.Shapes.{node_shape, op_node, joined, CanPlace, IsLeafBelow}
 use Rattle.px_expr.proofs.OperatorLaws.{shape_of_op}
 use Rattle.px_expr.specs.Postorder.{size, nodes_behind, nodes_of, placed, trees_after}
 use Rattle.px_expr.specs.declared.node.Node.{Node}
@@ -49,7 +49,7 @@ tree_of_nodes tree = read_tree 0 tree []
 -- each node in its turn can be placed
 abbrev AllPlaced : List Tree → List Node → Type 0
 AllPlaced trees [] = Unit {0}
-AllPlaced trees (node ∷ nodes) = CanPlace (length trees) (shape_of node) × AllPlaced (placed trees node) nodes
+AllPlaced trees (node ∷ nodes) = CanPlace (length trees) (node_shape node) × AllPlaced (placed trees node) nodes
 
 placed_both : (trees : List Tree) (xs ys : List Node) → AllPlaced trees xs → AllPlaced (fold placed trees xs) ys
     → AllPlaced trees (xs ++ ys)
@@ -72,26 +72,26 @@ placed_tree others (join op left right) trees room =
     (rw (shape_of_op op (others + size left - 1) (others + size left + size right - 1)) (omega arith, omega arith), tt))
 
 placed_at : (trees : List Tree) (nodes : List Node) (i : ℕ) (any : Node) → AllPlaced trees nodes → i < length nodes
-    → CanPlace (length (fold placed trees (take i nodes))) (shape_of (get_or nodes i any))
+    → CanPlace (length (fold placed trees (take i nodes))) (node_shape (get_or nodes i any))
 placed_at trees [] i any all lt = absurd (omega arith)
 placed_at trees (x ∷ xs) zero any all lt = all.0
 placed_at trees (x ∷ xs) (suc i) any all lt = placed_at (placed trees x) xs i any all.1 (omega arith)
 
 pub can_place : (tree : Tree) (i : ℕ) (any : Node) → nesting tree ≤ MAX_NESTING → i < length (nodes_of tree)
-    → CanPlace (length (trees_after (take i (nodes_of tree)))) (shape_of (get_or (nodes_of tree) i any))
+    → CanPlace (length (trees_after (take i (nodes_of tree)))) (node_shape (get_or (nodes_of tree) i any))
 can_place tree i any shallow lt = placed_at [] (nodes_of tree) i any (placed_tree 0 tree [] (omega arith)) lt
 
 abbrev pub AreBelow : ℕ → List Node → Type 0
-AreBelow count nodes = All (λ node. IsLeafBelow count (shape_of node)) nodes
+AreBelow count nodes = All (λ node. IsLeafBelow count (node_shape node)) nodes
 
 op_is_no_leaf : (count : ℕ) (op : Op) (l r : ℕ) → AreBelow count (op_node op l r ∷ [])
 op_is_no_leaf count op l r =
-    All-cons (λ node. IsLeafBelow count (shape_of node)) _ [] (rw (shape_of_op op l r) tt) (All-nil _)
+    All-cons (λ node. IsLeafBelow count (node_shape node)) _ [] (rw (shape_of_op op l r) tt) (All-nil _)
 
 pub leaves_below : (others count : ℕ) (tree : Tree) → HasLeavesBelow count tree
     → AreBelow count (nodes_behind others tree)
 leaves_below others count (leaf solid) below = search rules
 leaves_below others count (join op left right) below =
-    let each = λ (node : Node). IsLeafBelow count (shape_of node)
+    let each = λ (node : Node). IsLeafBelow count (node_shape node)
     in All-append each _ _ (All-append each _ _ (leaves_below others count left below.0)
     (leaves_below (others + size left) count right below.1)) (op_is_no_leaf count op _ _)

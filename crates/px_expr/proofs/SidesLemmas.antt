@@ -7,7 +7,7 @@ use Rattle.std.proofs.lemmas.List.Sums.{sum_by-append}
 use Rattle.std.proofs.lemmas.List.Elements.{All-nil, All-cons}
 use Prim.Native.Nat.{zero, suc}
 use Rattle.px_expr.specs.Tree.{Tree, leaf, join}
-use Rattle.px_expr.specs.Shapes.{shape_of, op_node, sides}
+use Rattle.px_expr.specs.Shapes.{node_shape, op_node, sides}
 use Rattle.px_expr.proofs.OperatorLaws.{shape_of_op}
 use Rattle.px_expr.specs.Postorder.{size, nodes_behind, parent_count}
 use Rattle.px_expr.specs.declared.node.Node.{Node}
@@ -19,7 +19,7 @@ some_node (leaf solid) = omega arith
 some_node (join op left right) = omega arith
 
 abbrev named : ℕ → Node → ℕ
-named place node = count_by (λ side. side == place) (sides (shape_of node))
+named place node = count_by (λ side. side == place) (sides (node_shape node))
 
 abbrev one : ℕ → ℕ → ℕ
 one side place = cond (side == place) 1 0
@@ -68,7 +68,7 @@ parents place before (join op left right) =
 -- each node from a place on stands behind its sides
 abbrev AllBehind : ℕ → List Node → Type 0
 AllBehind place [] = Unit {0}
-AllBehind place (node ∷ nodes) = All (λ side. side < place) (sides (shape_of node)) × AllBehind (place + 1) nodes
+AllBehind place (node ∷ nodes) = All (λ side. side < place) (sides (node_shape node)) × AllBehind (place + 1) nodes
 
 behind_both : (place end : ℕ) (xs ys : List Node) → end ≡ place + length xs → AllBehind place xs → AllBehind end ys
     → AllBehind place (xs ++ ys)
@@ -81,7 +81,7 @@ both_behind place l r first second = All-cons (λ side. side < place) l (r ∷ [
     (All-cons (λ side. side < place) r [] second (All-nil (λ side. side < place)))
 
 op_behind : (place : ℕ) (op : Op) (l r : ℕ) → l < place → r < place
-    → All (λ side. side < place) (sides (shape_of (op_node op l r)))
+    → All (λ side. side < place) (sides (node_shape (op_node op l r)))
 op_behind place op l r first second = rw (shape_of_op op l r) (both_behind place l r first second)
 
 pub behind_tree : (place : ℕ) (tree : Tree) → AllBehind place (nodes_behind place tree)
@@ -99,7 +99,7 @@ behind_tree place (join op left right) =
     )
 
 pub behind_at : (place : ℕ) (nodes : List Node) (i at : ℕ) (any : Node) → at ≡ place + i → AllBehind place nodes
-    → i < length nodes → All (λ side. side < at) (sides (shape_of (get_or nodes i any)))
+    → i < length nodes → All (λ side. side < at) (sides (node_shape (get_or nodes i any)))
 behind_at place [] i at any is all lt = absurd (omega arith)
 behind_at place (x ∷ xs) zero at any is all lt = let same : at ≡ place = omega arith in rw same all.0
 behind_at place (x ∷ xs) (suc i) at any is all lt = behind_at (place + 1) xs i at any (omega arith) all.1 (omega arith)

@@ -6,7 +6,7 @@ use Rattle.std.proofs.Common.{ap, sym, ◌∙◌}
 use Rattle.std.proofs.lemmas.List.{take_all, length-reverse, length-map, reverse-append}
 use Rattle.std.proofs.lemmas.List.Sums.{fold_more}
 use Rattle.px_expr.specs.Tree.{Tree, leaf, join}
-use Rattle.px_expr.specs.Shapes.{shape_of, joined, put}
+use Rattle.px_expr.specs.Shapes.{node_shape, joined, put}
 use Rattle.px_expr.specs.Postorder.{placed, trees_after}
 use Rattle.px_expr.specs.declared.node.Node.{Node}
 use Rattle.px_expr.specs.declared.node.Op.{Op}
@@ -31,10 +31,10 @@ module _ {X : Type 0} (value : Tree → X) (at : ℕ → X) (made : Op → X →
 
   pub values_more : (nodes : List Node) (i : ℕ) (any : Node) (old new : List X) → i < length nodes
       → old ≡ map value (trees_after (take i nodes))
-      → new ≡ put at made old (shape_of (slice_index_or nodes i any))
+      → new ≡ put at made old (node_shape (slice_index_or nodes i any))
       → new ≡ map value (trees_after (take (i + 1) nodes))
   values_more nodes i any old new lt before now =
-      let shape = shape_of (slice_index_or nodes i any)
+      let shape = node_shape (slice_index_or nodes i any)
       in now ∙ ap (λ values. put at made values shape) before
       ∙ sym (value_put (trees_after (take i nodes)) shape)
       ∙ ap (map value) (sym (fold_more placed [] nodes i any lt))

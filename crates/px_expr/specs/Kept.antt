@@ -1,4 +1,5 @@
--- What a builder keeps of trees that wait: all their nodes, and the root and nesting of each. Only proofs and private functions stand on it.
+-- What a builder keeps of trees that wait: all their nodes, and the root and nesting of each. Only proofs and
+-- private functions stand on it.
 use Rattle.std.specs.Prelude.{ℕ, ◌≡◌, ◌≤◌, ◌+◌, ◌-◌, List, [], ◌∷◌, ◌++◌, reverse}
 use Rattle.px_expr.specs.Tree.{Tree, nesting, HasLeavesBelow}
 use Rattle.px_expr.specs.Waiting.{all_leaves}

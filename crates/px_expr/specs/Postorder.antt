@@ -1,7 +1,7 @@
 -- The nodes of a tree in postorder, and the trees that nodes stand for. Clauses of public calls stand on it.
 use Rattle.std.specs.Prelude.{ℕ, ◌+◌, ◌-◌, ◌==◌, List, [], ◌∷◌, ◌++◌, fold, sum_by, count_by}
 use Rattle.px_expr.specs.Tree.{Tree, leaf, join}
-use Rattle.px_expr.specs.Shapes.{shape_of, op_node, put, sides}
+use Rattle.px_expr.specs.Shapes.{node_shape, op_node, put, sides}
 use Rattle.px_expr.specs.declared.node.Node.{Node}
 use Rattle.px_expr.specs.declared.node.Node.TheVariants as n
 
@@ -21,7 +21,7 @@ abbrev pub nodes_of : Tree → List Node
 nodes_of tree = nodes_behind 0 tree
 
 abbrev pub placed : List Tree → Node → List Tree
-placed trees node = put leaf join trees (shape_of node)
+placed trees node = put leaf join trees (node_shape node)
 
 -- the trees that wait after the nodes, the last one first
 abbrev pub trees_after : List Node → List Tree
@@ -30,4 +30,4 @@ trees_after nodes = fold placed [] nodes
 -- how often a place is named as a side
 abbrev pub parent_count : ℕ → List Node → ℕ
 parent_count place nodes =
-    sum_by (λ node. count_by (λ side. side == place) (sides (shape_of node))) nodes
+    sum_by (λ node. count_by (λ side. side == place) (sides (node_shape node))) nodes

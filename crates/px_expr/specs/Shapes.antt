@@ -1,4 +1,5 @@
--- A node as it is read, and what it leaves of values that wait: for every walk over nodes. Clauses of public calls stand on it.
+-- A node as it is read, and what it leaves of values that wait: for every walk over nodes. Clauses of public
+-- calls stand on it.
 use Rattle.std.specs.Prelude.{ℕ, ◌<◌, ◌≤◌, List, [], ◌∷◌}
 use Rattle.px_expr.specs.declared.node.Node.{Node}
 use Rattle.px_expr.specs.declared.node.Node.TheVariants as n
@@ -9,12 +10,12 @@ use Rattle.px_expr.specs.declared.node.Shape.TheVariants as p
 use Rattle.px_expr.specs.declared.node.TheConstants.{MAX_WAITING}
 
 -- a leaf, or an operator between the places of its sides
-abbrev pub shape_of : Node → Shape
-shape_of (n.Leaf solid) = p.Leaf solid
-shape_of (n.Union left right) = p.Join o.Union left right
-shape_of (n.Meet left right) = p.Join o.Meet left right
-shape_of (n.Minus left right) = p.Join o.Minus left right
-shape_of (n.Differ left right) = p.Join o.Differ left right
+abbrev pub node_shape : Node → Shape
+node_shape (n.Leaf solid) = p.Leaf solid
+node_shape (n.Union left right) = p.Join o.Union left right
+node_shape (n.Meet left right) = p.Join o.Meet left right
+node_shape (n.Minus left right) = p.Join o.Minus left right
+node_shape (n.Differ left right) = p.Join o.Differ left right
 
 -- the node that joins the nodes at two places
 abbrev pub op_node : Op → ℕ → ℕ → Node

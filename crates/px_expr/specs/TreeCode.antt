@@ -1,4 +1,5 @@
--- How a tree is stored as a list of solids and operators, each operator after its sides. Only proofs and private functions stand on it.
+-- How a tree is stored as a list of solids and operators, each operator after its sides. Only proofs and
+-- private functions stand on it.
 use Rattle.std.specs.Prelude.{ℕ, ◌≡◌, ◌⊎◌, List, [], ◌∷◌, ◌++◌, fold, refl}
 use Rattle.std.specs.Coded.{Coded, code_by, coded_list, coded_ℕ, coded⊎}
 use Rattle.std.proofs.Common.{ap, ◌∙◌, inl, inr}

@@ -3,7 +3,7 @@ ghost use Rattle.std.specs.Prelude.{◌≡◌, ◌<◌, ◌≤◌, ◌+◌, ◌-
 ghost use Rattle.arrayvec.specs.ArrayVec.{array_vec_len};
 ghost use Rattle.px_expr.specs.Tree.{HasLeavesBelow, IsLawfulTree};
 ghost use Rattle.px_expr.specs.Cells.{is_member, is_true, truth_of};
-ghost use Rattle.px_expr.specs.Shapes.{shape_of, joined, put, CanPlace, IsLeafBelow, sides};
+ghost use Rattle.px_expr.specs.Shapes.{node_shape, joined, put, CanPlace, IsLeafBelow, sides};
 ghost use Rattle.px_expr.specs.Postorder.{nodes_of, trees_after, parent_count};
 ghost use Rattle.px_expr.specs.declared.node.Node.{Node as AnyNode};
 
@@ -45,12 +45,12 @@ impl Expr {
         ensures tree { trees_after result.now ≡ self.now ∷ [] }
         ensures few { length result.now ≤ 2 * MAX_LEAVES - 1 }
         ensures before { (i : ℕ) (any : AnyNode) → i < length result.now →
-            All (λ side. side < i) (sides (shape_of (slice_index_or result.now i any))) }
+            All (λ side. side < i) (sides (node_shape (slice_index_or result.now i any))) }
         ensures once { (i : ℕ) → i + 1 < length result.now → parent_count i result.now ≡ 1 }
         ensures places { (i : ℕ) (any : AnyNode) → i < length result.now →
-            CanPlace (length (trees_after (take i result.now))) (shape_of (slice_index_or result.now i any)) }
+            CanPlace (length (trees_after (take i result.now))) (node_shape (slice_index_or result.now i any)) }
         ensures leaves { (count : ℕ) → HasLeavesBelow count self.now →
-            All (λ node. IsLeafBelow count (shape_of node)) result.now }
+            All (λ node. IsLeafBelow count (node_shape node)) result.now }
         ensures lawful { IsLawfulTree self.now }
     {
         self.nodes.as_slice()

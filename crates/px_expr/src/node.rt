@@ -1,7 +1,7 @@
 //! Operators and what they make of their sides; the nodes of an expression, and their limits.
 ghost use Rattle.std.specs.Prelude.{◌≡◌};
 ghost use Rattle.px_expr.specs.Cells.{combination_of, complement_of, opposite, truth_in, truth_of, truth_when};
-ghost use Rattle.px_expr.specs.Shapes.{op_node, shape_of};
+ghost use Rattle.px_expr.specs.Shapes.{op_node, node_shape};
 
 /// An expression has at most so many leaves (docs/SCENES.md, "Limits").
 pub const MAX_LEAVES: usize = 512;
@@ -65,7 +65,7 @@ pub enum Shape {
 impl Node {
     /// The node as a leaf or an operator.
     pub fn shape(self) -> Shape
-        ensures { result ≡ shape_of self }
+        ensures { result ≡ node_shape self }
     {
         match self {
             Node::Leaf(solid) => Shape::Leaf(solid),

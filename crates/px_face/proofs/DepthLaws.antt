@@ -64,7 +64,7 @@ module _ (s : SolidView) (end x y : ℕ) where
       (list_all (λ f. le_z (value_at f.plane x y) z) s.fronts)
       (ap (λ v. le_z v z) (value_at-level 0 x y))
       (list_all-map (λ u. le_z u z) at (planes_in_faces s.fronts) ∙ list_all-map (λ q. le_z (at q) z) (λ f. f.plane)
-          s.fronts)
+      s.fronts)
       ∙ sym (all_max (λ f. value_at f.plane x y) s.fronts (pos 0) z)
 
   pub fronts_under : (z : ℤ) → list_all (λ u. lt_z u z) (map at (front_planes s.fronts)) ≡ lt_z (enters_at s x y) z

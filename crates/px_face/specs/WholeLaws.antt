@@ -14,4 +14,4 @@ WholeFronts = (s : SolidView) (far x y z : ℕ) → is_inside s (depths far 0) x
 abbrev pub WholeBacks : Type 0
 WholeBacks = (s : SolidView) (far x y z : ℕ)
     → backs_at s (depths far 0) x y z
-        ≡ (if is_inside_before s (depths far 0) x y z then faces_at s.backs x y (pos z) else [])
+    ≡ (if is_inside_before s (depths far 0) x y z then faces_at s.backs x y (pos z) else [])

@@ -15,7 +15,7 @@ use Rattle.px_model.specs.Scenes.{SceneView}
 use Rattle.px_sched.specs.Layouts.{LayoutView}
 use Rattle.px_frame.specs.declared.plane.Plane.{Plane}
 use Rattle.px_frame.specs.declared.plane.Plane.TheVariants as p
-use Rattle.px_frame.specs.Rows.{IsShown, field_of, row_bytes, shown_pixel, strip_pixel}
+use Rattle.px_frame.specs.Rows.{IsShown, field_shown, row_bytes, shown_pixel, strip_pixel}
 use Rattle.px_frame.specs.Stored.{StoresFaces, stored_pixel}
 use Rattle.px_frame.specs.Strips.{HoldsRow, strip_number}
 
@@ -72,7 +72,7 @@ rows_broken a b c front row y height above written next =
 
 -- a stored pixel is what the image shows of the number in its field
 pixel_shown : (scene : SceneView) (layout : LayoutView) (state : State) (plane : Plane) (x y : ℕ)
-    → shown_pixel scene plane (number_in (field_of layout plane) (pixel_of state x y).memory)
+    → shown_pixel scene plane (number_in (field_shown layout plane) (pixel_of state x y).memory)
     ≡ stored_pixel scene layout state plane x y
 pixel_shown scene layout state p.Depth x y = refl
 pixel_shown scene layout state p.Face x y = refl
@@ -95,7 +95,7 @@ same_image width height f g same =
 
 -- a row of what a strip holds is one of what the array stores
 pub row_shown : (scene : SceneView) (layout : LayoutView) (state : State) (plane : Plane) (strip : List ℕ) (y : ℕ)
-    → y < 2 ^ state.tree.ny → HoldsRow strip (field_of layout plane) state scene.width y
+    → y < 2 ^ state.tree.ny → HoldsRow strip (field_shown layout plane) state scene.width y
     → row_of_pixels scene.width (strip_pixel scene plane strip) y
     ≡ row_of_pixels scene.width (stored_pixel scene layout state plane) y
 row_shown scene layout state plane strip y above held =

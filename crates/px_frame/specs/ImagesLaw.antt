@@ -1,4 +1,5 @@
--- The images of an array that stores the picture of a scene are the images of that picture. Clauses of public calls stand on it.
+-- The images of an array that stores the picture of a scene are the images of that picture. Clauses of public
+-- calls stand on it.
 use Rattle.std.specs.Prelude.{◌≡◌}
 use Rattle.px_array.specs.Arrays.{State, pixel_of}
 use Rattle.px_model.specs.Scenes.{IsLawfulScene, SceneView}
@@ -10,8 +11,10 @@ use Rattle.px_frame.specs.Stored.{StoresFaces, stored_image}
 
 abbrev pub ImagesShowThePicture : Type 0
 ImagesShowThePicture = (scene : SceneView) (layout : LayoutView) (state : State) (plane : Plane) →
-    ShowsThePicture scene layout (λ x y. (pixel_of state x y).memory) → stored_image scene layout state plane ≡ picture_image scene plane
+    ShowsThePicture scene layout (λ x y. (pixel_of state x y).memory) → stored_image scene layout state plane
+    ≡ picture_image scene plane
 
 abbrev pub FacesAreOfTheScene : Type 0
 FacesAreOfTheScene = (scene : SceneView) (layout : LayoutView) (state : State) →
-    IsLawfulScene scene → ShowsThePicture scene layout (λ x y. (pixel_of state x y).memory) → StoresFaces scene layout state
+    IsLawfulScene scene → ShowsThePicture scene layout (λ x y. (pixel_of state x y).memory)
+    → StoresFaces scene layout state

@@ -13,10 +13,10 @@ abbrev pub row_bytes : (width : ℕ) → (number : (x y : ℕ) → ℕ) → (y :
 row_bytes width number = row_of_pixels width (number_pixel number)
 
 -- where a pixel stores the number that an image shows
-abbrev pub field_of : LayoutView → Plane → Field
-field_of layout p.Depth = depth_part layout layout.key_b
-field_of layout p.Face = number_part layout layout.key_b
-field_of layout p.Colour = number_part layout layout.key_b
+abbrev pub field_shown : LayoutView → Plane → Field
+field_shown layout p.Depth = depth_part layout layout.key_b
+field_shown layout p.Face = number_part layout layout.key_b
+field_shown layout p.Colour = number_part layout layout.key_b
 
 -- what an image shows of a number: a face that has a colour is one of the scene's
 abbrev pub IsShown : SceneView → Plane → ℕ → Type 0

@@ -1,4 +1,5 @@
--- The images of what an array stores: the depth and the face number in key B of each pixel of the picture. Clauses of public calls stand on it.
+-- The images of what an array stores: the depth and the face number in key B of each pixel of the picture.
+-- Clauses of public calls stand on it.
 use Rattle.std.specs.Prelude.{ℕ, ◌^◌, ◌<◌, ◌≤◌, List}
 use Rattle.px_array.specs.Arrays.{State, pixel_of}
 use Rattle.px_macro.specs.Fields.{number_in}

@@ -1,4 +1,5 @@
--- What a contract sees of a strip: the numbers that the pixels of eight rows store in a field. Clauses of public calls stand on it.
+-- What a contract sees of a strip: the numbers that the pixels of eight rows store in a field. Clauses of
+-- public calls stand on it.
 use Rattle.std.specs.Prelude.{◌≡◌, ℕ, ◌+◌, ◌*◌, ◌/◌, ◌%◌, ◌^◌, ◌<◌, ◌≤◌, List, length, get_or}
 use Rattle.px_array.specs.Arrays.{Device, IsOpen, State, pixel_of}
 use Rattle.px_macro.specs.Fields.{number_in}
@@ -22,5 +23,6 @@ strip_number strip x y = get_or strip (8 * x + y % 8) 0
 -- a strip has the numbers of so many columns in the eight rows that row y is one of
 pub record HoldsRow (strip : List ℕ) (field : Field) (state : State) (width y : ℕ) : Type 0 where
   pub long : length strip ≡ 8 * width
-  pub each : (x row : ℕ) → x < width → row / 8 ≡ y / 8 → row < 2 ^ state.tree.ny → strip_number strip x row ≡ number_in field (pixel_of state x row).memory
+  pub each : (x row : ℕ) → x < width → row / 8 ≡ y / 8 → row < 2 ^ state.tree.ny → strip_number strip x row
+      ≡ number_in field (pixel_of state x row).memory
   pub small : (x row : ℕ) → x < width → strip_number strip x row < 2 ^ 24

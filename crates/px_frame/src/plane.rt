@@ -2,7 +2,7 @@
 ghost use Rattle.std.specs.Prelude.{◌≡◌, ◌+◌, ◌^◌, ◌<◌, ◌≤◌};
 ghost use Rattle.px_sched.specs.Layouts.{need_of};
 ghost use Rattle.px_frame.specs.Picture.{colour_bytes};
-ghost use Rattle.px_frame.specs.Rows.{IsShown, field_of, shown_pixel};
+ghost use Rattle.px_frame.specs.Rows.{IsShown, field_shown, shown_pixel};
 
 use crate::image::three_bytes;
 use px_macro::Field;
@@ -22,7 +22,7 @@ pub enum Plane {
 
 /// Where a pixel stores the number that an image shows.
 pub(crate) fn field_of(plane: Plane, layout: &Layout) -> Field
-    ensures field { result ≡ field_of layout.now plane }
+    ensures field { result ≡ field_shown layout.now plane }
     ensures room { result.at + result.len ≤ need_of layout.now }
     ensures low { result.at ≤ 48 }
     ensures few { result.len ≤ 24 }

@@ -1,6 +1,7 @@
 -- The laws of told bytes over several calls in a row.
 use Rattle.std.proofs.Common.{◌≡◌, ℕ, ◌+◌, ◌-◌, Bool, List, [], ◌++◌, take, drop, length, Option, Some, None}
-use Rattle.std.proofs.Common.{Result, Ok, Err, OnErr, append_assoc, append-nil, refl, sym, arith, length-append, length-drop}
+use Rattle.std.proofs.Common.{Result, Ok, Err, OnErr, append_assoc, append-nil, refl, sym, arith, length-append}
+use Rattle.std.proofs.Common.{length-drop}
 use Prim.Native.Nat.{zero, suc}
 use Rattle.std.proofs.Math.Seq.{take-add, take-append-add}
 use Rattle.std.proofs.lemmas.List.{take_all, take-append-le as take_within}
@@ -56,7 +57,8 @@ takes_none a = record {
 pub takes_both : (a b c : SinkState) (xs ys : List ℕ) → TakesAll a b xs → TakesAll b c ys → TakesAll a c (xs ++ ys)
 takes_both a b c xs ys first second = record {
   all = appends_both a.written b.written c.written xs ys first.all second.all;
-  end = rw (length-append xs ys) (reopens_both a.finished b.finished c.finished (length xs) (length ys) first.end second.end);
+  end = rw (length-append xs ys)
+      (reopens_both a.finished b.finished c.finished (length xs) (length ys) first.end second.end);
 }
 
 -- all of xs, and then a front of ys

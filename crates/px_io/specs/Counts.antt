@@ -1,4 +1,5 @@
--- What a call does to a count of calls or faults, and what a count says of an answer. Clauses of public calls stand on it.
+-- What a call does to a count of calls or faults, and what a count says of an answer. Clauses of public calls
+-- stand on it.
 use Rattle.std.specs.Prelude.{◌≡◌, ℕ, ◌+◌, ◌-◌, ◌^◌, ◌<◌, ◌≤◌, min, List, length, OnOk, OnErr, IfOk, Result}
 
 -- one more, up to the end of the type, where a count stays

@@ -1,4 +1,5 @@
--- A scene over other pixels: the same half-spaces, each with the constant that it has there. Clauses of public calls stand on it.
+-- A scene over other pixels: the same half-spaces, each with the constant that it has there. Clauses of public
+-- calls stand on it.
 use Rattle.std.specs.Prelude.{◌≡◌, ℕ, ℤ, pos, ◌+◌, ◌^◌, ◌≤◌, ◌*ℤ◌, None, map}
 use Rattle.px_num.specs.declared.linear.Linear.{Linear}
 use Rattle.px_num.specs.Forms.{value_at}

@@ -1,4 +1,5 @@
--- The planes of solids in their order, and the first of them whose constant is past the limit. Clauses of public calls stand on it.
+-- The planes of solids in their order, and the first of them whose constant is past the limit. Clauses of
+-- public calls stand on it.
 use Rattle.std.specs.Prelude.{ℕ, ℤ, ◌+◌, ◌==◌, nat_lt, Bool, List, ◌++◌, length, map, filter, find, Option}
 use Rattle.std.specs.Int.RustNames.{unsigned_abs}
 use Rattle.std.specs.List.{flat_map, range_with_len}

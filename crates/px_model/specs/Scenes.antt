@@ -1,11 +1,14 @@
 -- What a contract sees of a solid and of a scene, and what every one keeps. Clauses of public calls stand on it.
-use Rattle.std.specs.Prelude.{ℕ, ◌≤◌, ◌<◌, ◌+◌, ◌==◌, List, length, All, AllPairs, map, find, Option, Some, None, if◌then◌else◌, ◌≡◌, ◌≢◌, ◌^◌, ◌∷◌, [], Bool, not, ⊤, sum_by}
+use Rattle.std.specs.Prelude.{ℕ, ◌≤◌, ◌<◌, ◌+◌, ◌==◌, List, length, All, AllPairs, map, find, Option, Some}
+use Rattle.std.specs.Prelude.{None, if◌then◌else◌, ◌≡◌, ◌≢◌, ◌^◌, ◌∷◌, [], Bool, not, ⊤, sum_by}
 use Rattle.std.specs.Option.{option_or}
 use Rattle.px_num.specs.declared.linear.Linear.{Linear}
 use Rattle.px_num.specs.Forms.{IsWithin}
 use Rattle.px_model.specs.declared.solid.Face.{Face}
 use Rattle.px_model.specs.declared.solid.Colour.{Colour}
-use Rattle.px_model.specs.declared.limits.TheConstants.{MAX_SLOPE, MAX_CONSTANT, MAX_PLANES_OF_A_KIND, MAX_PICTURE_SIZE, MAX_DEPTH_BITS, MAX_FRACTION_BITS, MAX_SOLIDS, MAX_FACES}
+use Rattle.px_model.specs.declared.limits.TheConstants.{MAX_SLOPE, MAX_CONSTANT, MAX_PLANES_OF_A_KIND}
+use Rattle.px_model.specs.declared.limits.TheConstants.{MAX_PICTURE_SIZE, MAX_DEPTH_BITS, MAX_FRACTION_BITS}
+use Rattle.px_model.specs.declared.limits.TheConstants.{MAX_SOLIDS, MAX_FACES}
 use Rattle.std.specs.List.{list_any, AllPass}
 use Rattle.px_expr.specs.Tree.{Tree, HasLeavesBelow}
 use Rattle.px_text.specs.Text.{is_name}

@@ -13,7 +13,7 @@ use Rattle.px_expr.specs.declared.node.Combination.TheVariants.{Both, Either, Ei
 use Rattle.px_sets.specs.declared.cell_box.CellBox.{CellBox}
 use Rattle.px_normal.specs.declared.product.Product.{Product}
 use Rattle.px_normal.specs.declared.step.Wanted.{Wanted}
-use Rattle.px_normal.specs.Forms.{Forms, combined, sum_in, sum_when}
+use Rattle.px_normal.specs.Forms.{Forms, combined_forms, sum_in, sum_when}
 use Rattle.px_normal.specs.Live.{is_live, live}
 use Rattle.px_normal.specs.Crowd.{of_either, of_left, of_right, left_when, right_when, wanted_in, where_wanted}
 use Rattle.px_normal.specs.Crowd.{wanted_forms, first_past_limit}
@@ -76,8 +76,8 @@ forms_are a b c d first second = cc (first, second)
 module _ (boxes : ℕ → Option CellBox) where
   -- a list that is not wanted is in no list that is
   blank_sides : (op : Op) (wanted : Wanted) (x y : Forms)
-      → blank wanted (live boxes (combined op (blank (of_left op wanted) x) (blank (of_right op wanted) y)))
-      ≡ blank wanted (live boxes (combined op x y))
+      → blank wanted (live boxes (combined_forms op (blank (of_left op wanted) x) (blank (of_right op wanted) y)))
+      ≡ blank wanted (live boxes (combined_forms op x y))
   blank_sides op wanted x y =
       let k = combination_of op in
       forms_are _ _ _ _
@@ -85,7 +85,7 @@ module _ (boxes : ℕ → Option CellBox) where
       (where_same wanted.complement _ _ (λ e. ap (filter (is_live boxes)) (complement_kept k wanted x y e)))
 
   pub wanted_sides : (op : Op) (wanted : Wanted) (x y : Forms)
-      → wanted_forms boxes wanted (combined op (wanted_forms boxes (of_left op wanted) x)
-      (wanted_forms boxes (of_right op wanted) y)) ≡ wanted_forms boxes wanted (combined op x y)
+      → wanted_forms boxes wanted (combined_forms op (wanted_forms boxes (of_left op wanted) x)
+      (wanted_forms boxes (of_right op wanted) y)) ≡ wanted_forms boxes wanted (combined_forms op x y)
   wanted_sides op wanted x y =
       blank_sides op wanted (live boxes x) (live boxes y) ∙ ap (blank wanted) (sym (live_sides boxes op x y))

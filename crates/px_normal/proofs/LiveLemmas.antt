@@ -16,7 +16,7 @@ use Rattle.px_sets.specs.declared.set.SolidSet.{SolidSet}
 use Rattle.px_normal.specs.declared.product.Product.{Product}
 use Rattle.px_sets.specs.Sets.{has, sets_joined, solids}
 use Rattle.px_sets.specs.Boxes.{lies_in, has_cell, common_part, everything, narrowed, is_in_box}
-use Rattle.px_normal.specs.Forms.{Forms, both, crossed, combined, sum_in, sum_when}
+use Rattle.px_normal.specs.Forms.{Forms, both, crossed, combined_forms, sum_in, sum_when}
 use Rattle.px_normal.specs.NormalLaw.{holds, shows}
 use Rattle.px_normal.specs.Live.{is_void, box_of_all, has_some_cell, is_live, live}
 use Rattle.px_normal.specs.LiveLaw.{IsPlaceInBoxes, ShowTheSame}
@@ -63,7 +63,8 @@ module _ (x y z : ℕ) where
   has_the_cell (Some b) e = grind arith
 
   module _ (boxes : ℕ → Option CellBox) where
-    in_all : (start : Option CellBox) (qs : List ℕ) → is_in_box start x y z ≡ true → list_all (λ q. is_in_box (boxes q) x y z)
+    in_all : (start : Option CellBox) (qs : List ℕ) → is_in_box start x y z ≡ true
+        → list_all (λ q. is_in_box (boxes q) x y z)
         qs ≡ true
         → is_in_box (fold (λ part q. narrowed part (boxes q)) start qs) x y z ≡ true
     in_all start [] e f = e
@@ -73,12 +74,14 @@ module _ (x y z : ℕ) where
         (in_narrowed x y z start (boxes q) e (and_left (is_in_box (boxes q) x y z) rest f))
         (and_right (is_in_box (boxes q) x y z) rest f)
 
-    in_start : (start : Option CellBox) (qs : List ℕ) → is_in_box (fold (λ part q. narrowed part (boxes q)) start qs) x y
+    in_start : (start : Option CellBox) (qs : List ℕ) → is_in_box (fold (λ part q. narrowed part (boxes q)) start qs)
+        x y
         z ≡ true → is_in_box start x y z ≡ true
     in_start start [] e = e
     in_start start (q ∷ qs) e = (of_narrowed start (boxes q) (in_start (narrowed start (boxes q)) qs e)).0
 
-    in_each : (start : Option CellBox) (qs : List ℕ) → is_in_box (fold (λ part q. narrowed part (boxes q)) start qs) x y z
+    in_each : (start : Option CellBox) (qs : List ℕ) → is_in_box (fold (λ part q. narrowed part (boxes q)) start qs) x
+        y z
         ≡ true → list_all (λ q. is_in_box (boxes q) x y z) qs ≡ true
     in_each start [] e = refl
     in_each start (q ∷ qs) e =
@@ -100,7 +103,8 @@ fewer_solids boxes few many each some = at_first (box_of_all boxes many) refl so
   at_first None is none = absurd cc
   at_first (Some b) is some =
       let x = b.x0 in let y = b.y0 in let z = b.z0
-      in let within : is_in_box (box_of_all boxes many) x y z ≡ true = ap (λ box. is_in_box box x y z) is ∙ first_cell b some
+      in let within : is_in_box (box_of_all boxes many) x y z ≡ true = ap (λ box. is_in_box box x y z) is
+      ∙ first_cell b some
       in has_the_cell x y z (box_of_all boxes few)
       (in_all x y z boxes (Some everything) few (in_start x y z boxes (Some everything) many within)
       (each (λ q. is_in_box (boxes q) x y z) (in_each x y z boxes (Some everything) many within)))
@@ -131,7 +135,8 @@ part_of_both boxes a b =
             in_each x y z boxes (Some everything) (solids b) within.1,
           ) refl
           in has_the_cell x y z (box_of_all boxes (solids (sets_joined a b)))
-          (in_all x y z boxes (Some everything) (solids (sets_joined a b)) (in_start x y z boxes (Some everything) (solids a)
+          (in_all x y z boxes (Some everything) (solids (sets_joined a b))
+          (in_start x y z boxes (Some everything) (solids a)
           within.0) all)
 
       at_common : (box : Option CellBox) → box_of_all boxes (solids (sets_joined a b)) ≡ box → has_some_cell box ≡ true
@@ -281,8 +286,8 @@ module _ (boxes : ℕ → Option CellBox) where
       (record { products = c; complement = d })
   forms_are a b c d first second = cc (first, second)
 
-  pub live_sides : (op : Op) (x y : Forms) → live boxes (combined op x y)
-      ≡ live boxes (combined op (live boxes x) (live boxes y))
+  pub live_sides : (op : Op) (x y : Forms) → live boxes (combined_forms op x y)
+      ≡ live boxes (combined_forms op (live boxes x) (live boxes y))
   live_sides op x y =
       forms_are _ _ _ _ (kept_when (combination_of op) x y) (kept_when (complement_of (combination_of op)) x y)
 

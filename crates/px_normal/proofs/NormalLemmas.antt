@@ -20,7 +20,7 @@ use Rattle.px_expr.specs.declared.node.Combination.TheVariants.{Both, Either, Ei
 use Rattle.px_sets.specs.declared.set.SolidSet.{SolidSet}
 use Rattle.px_normal.specs.declared.product.Product.{Product}
 use Rattle.px_sets.specs.Sets.{has, empty, one, sets_joined, solids, IsBelow}
-use Rattle.px_normal.specs.Forms.{Forms, forms, combined, both, crossed, sum_in, sum_when}
+use Rattle.px_normal.specs.Forms.{Forms, forms, combined_forms, both, crossed, sum_in, sum_when}
 use Rattle.px_normal.specs.Forms.{sum_of_products, plain_one, barred_one, HasPlain, HasSolidsBelow}
 use Rattle.px_normal.specs.NormalLaw.{holds, shows, IsNormalForm}
 use Rattle.px_sets.proofs.BitsLaws.{has-joined, has-one, has-empty}
@@ -165,7 +165,7 @@ module _ (at : ℕ → Cell) (f g : Forms) (c d : Cell) (p : IsNormalForm at f c
   shows_when (EitherWay Complement) n =
       shown_either_way Complement n ∙ rw (face_append n, face_own n c, face_own n d) (grind arith)
 
-  is_of_combined : (op : Op) → IsNormalForm at (combined op f g) (cells_combined op c d)
+  is_of_combined : (op : Op) → IsNormalForm at (combined_forms op f g) (cells_combined op c d)
   is_of_combined op =
       let k = combination_of op in
       let other = truth_of_complement k c.member d.member in
@@ -275,7 +275,8 @@ module _ (count : ℕ) where
       All-append (HasSolidsBelow count) _ _ (each_of_both _ _ left.products (below_in s y right))
       (each_of_both _ _ left.complement (below_in (opposite s) y right))
 
-  below_combined : (op : Op) (x y : Forms) → AllBelow count x → AllBelow count y → AllBelow count (combined op x y)
+  below_combined : (op : Op) (x y : Forms) → AllBelow count x → AllBelow count y
+      → AllBelow count (combined_forms op x y)
   below_combined op x y left right = record {
     products = below_when (combination_of op) x y left right;
     complement = below_when (complement_of (combination_of op)) x y left right;

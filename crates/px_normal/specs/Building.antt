@@ -1,7 +1,7 @@
 -- Steps that build the live lists of an expression. Only proofs and private functions stand on it.
 use Rattle.std.specs.Prelude.{ℕ, ◌≤◌, List, [], ◌∷◌, ◌++◌, Option}
 use Rattle.px_expr.specs.Tree.{Tree, leaf, join}
-use Rattle.px_expr.specs.Shapes.{shape_of, joined}
+use Rattle.px_expr.specs.Shapes.{node_shape, joined}
 use Rattle.px_expr.specs.declared.node.Node.{Node}
 use Rattle.px_expr.specs.declared.node.Shape.{Shape}
 use Rattle.px_expr.specs.declared.node.Shape.TheVariants as p
@@ -10,7 +10,7 @@ use Rattle.px_normal.specs.declared.product.Product.{Product}
 use Rattle.px_normal.specs.declared.step.Step.{Step}
 use Rattle.px_normal.specs.declared.step.Step.TheVariants as s
 use Rattle.px_normal.specs.declared.step.Wanted.{Wanted}
-use Rattle.px_normal.specs.Forms.{Forms, forms, combined}
+use Rattle.px_normal.specs.Forms.{Forms, forms, combined_forms}
 use Rattle.px_normal.specs.Crowd.{of_left, of_right, wanted_forms, both_lists}
 
 abbrev pub steps_of : Wanted → Tree → List Step
@@ -33,14 +33,14 @@ abbrev pub walked : List Node → List Wanted → List Step → List Step
 walked [] wanted known = known
 walked (node ∷ nodes) [] known = known
 walked (node ∷ nodes) (first ∷ wanted) known =
-    walked nodes (sides_wanted (shape_of node) first ++ wanted)
-    (shape_step (shape_of node) first ∷ known)
+    walked nodes (sides_wanted (node_shape node) first ++ wanted)
+    (shape_step (node_shape node) first ∷ known)
 
 -- the lists that wait after a step, the newest first
 abbrev pub built : (ℕ → Option CellBox) → List Forms → Step → List Forms
 built boxes lists (s.Leaf solid wanted) = wanted_forms boxes wanted (forms (leaf solid)) ∷ lists
 built boxes lists (s.Join op wanted) =
-    joined (λ op x y. wanted_forms boxes wanted (combined op x y)) op lists
+    joined (λ op x y. wanted_forms boxes wanted (combined_forms op x y)) op lists
 
 -- a step finds two sides, where it joins two
 abbrev pub CanBuild : ℕ → Step → Type 0

@@ -46,8 +46,8 @@ sum_when (EitherWay sense) x y =
     crossed x.products (sum_in sense y) ++ crossed x.complement (sum_in (opposite sense) y)
 
 -- the lists of two sides under an operator
-abbrev pub combined : Op → Forms → Forms → Forms
-combined op x y = record {
+abbrev pub combined_forms : Op → Forms → Forms → Forms
+combined_forms op x y = record {
   products = sum_when (combination_of op) x y;
   complement = sum_when (complement_of (combination_of op)) x y;
 }
@@ -58,7 +58,7 @@ forms (leaf solid) = record {
   products = plain_one solid ∷ [];
   complement = barred_one solid ∷ [];
 }
-forms (join op left right) = combined op (forms left) (forms right)
+forms (join op left right) = combined_forms op (forms left) (forms right)
 
 abbrev pub sum_of_products : Tree → List Product
 sum_of_products tree = (forms tree).products

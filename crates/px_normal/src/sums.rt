@@ -1,7 +1,7 @@
 //! The live products of a node and of its complement.
 ghost use Rattle.std.specs.Prelude.{◌≡◌, ◌<◌, ◌≤◌, ◌^◌, ◌∷◌, ◌++◌, [], ℕ, Some, None, filter, length, reverse, vec_len, OnOk, OnErr, IfOk};
 ghost use Rattle.px_expr.specs.Tree.{leaf};
-ghost use Rattle.px_normal.specs.Forms.{forms, combined, sum_in, sum_when};
+ghost use Rattle.px_normal.specs.Forms.{forms, combined_forms, sum_in, sum_when};
 ghost use Rattle.px_normal.specs.Live.{boxes_in, is_live};
 ghost use Rattle.px_normal.specs.Crowd.{both_lists, first_past_limit, wanted_forms, where_wanted};
 ghost use Rattle.px_normal.specs.Building.{built, newest_lists, CanBuild};
@@ -154,12 +154,12 @@ impl Sums {
         right: &Sums,
     ) -> Result<Sums, NormalFault>
         ensures lists { IfOk result (λ sums.
-            sums ≡ wanted_forms (boxes_in boxes.now) wanted (combined op left.now right.now)) }
+            sums ≡ wanted_forms (boxes_in boxes.now) wanted (combined_forms op left.now right.now)) }
         ensures few { IfOk result (λ sums. first_past_limit (both_lists sums) ≡ None) }
         ensures small { (count : ℕ) → result ≡ Err (NormalFault.TooMany count) → count ≤ 2 ^ 21 }
         ensures many { (count : ℕ) → result ≡ Err (NormalFault.TooMany count) →
             first_past_limit (both_lists
-            (wanted_forms (boxes_in boxes.now) wanted (combined op left.now right.now)))
+            (wanted_forms (boxes_in boxes.now) wanted (combined_forms op left.now right.now)))
             ≡ Some count }
     {
         let own = op.combination();

@@ -1,5 +1,7 @@
--- What a contract sees of single bits: those of whole numbers and of memories, and the sums of bits. Clauses of public calls stand on it.
-use Rattle.std.specs.Prelude.{ℕ, zero, suc, ◌-◌, ◌/◌, ◌%◌, ◌^◌, ◌==◌, ℤ, pos, negsuc, Bool, true, false, not, ◌&&◌, ◌||◌, List, slice_index_or}
+-- What a contract sees of single bits: those of whole numbers and of memories, and the sums of bits. Clauses of
+-- public calls stand on it.
+use Rattle.std.specs.Prelude.{ℕ, zero, suc, ◌-◌, ◌/◌, ◌%◌, ◌^◌, ◌==◌, ℤ, pos, negsuc, Bool, true, false, not}
+use Rattle.std.specs.Prelude.{◌&&◌, ◌||◌, List, slice_index_or}
 
 -- bit t of a number
 abbrev pub nat_bit : ℕ → ℕ → Bool

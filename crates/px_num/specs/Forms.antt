@@ -1,4 +1,5 @@
--- What a contract says of a linear form: its value at a pixel, and the range that the multiplier tree takes. Clauses of public calls stand on it.
+-- What a contract says of a linear form: its value at a pixel, and the range that the multiplier tree takes.
+-- Clauses of public calls stand on it.
 use Rattle.std.specs.Prelude.{ℕ, ℤ, pos, ◌+ℤ◌, ◌-ℤ◌, ◌*ℤ◌, ◌≤ℤ◌, ◌^◌}
 use Rattle.px_num.specs.declared.linear.Linear.{Linear}
 

@@ -33,7 +33,8 @@ abbrev pub input_of : Option (List ℕ) → (taken : List ℕ) → Input
 input_of known taken = record { bytes = bytes_of known taken; taken = taken }
 
 -- what is so of the bytes of an input is what a command does over it
-pub performs_over : (result : Result (Unit {0}) Stop) (answer : List ℕ → Outcome) (Leaves : Input → Type 0) (before after : Ends)
+pub performs_over : (result : Result (Unit {0}) Stop) (answer : List ℕ → Outcome) (Leaves : Input → Type 0)
+    (before after : Ends)
     (taken : List ℕ) → Consumes before.rest after.rest taken → Meets result (answer (bytes_of before.rest taken))
     → Leaves (input_of before.rest taken) → PerformsOver result answer Leaves before after
 performs_over result answer Leaves before after taken consumed meets leaves = record {
@@ -47,7 +48,8 @@ performs_over result answer Leaves before after taken consumed meets leaves = re
 
 -- what is so of a text that was read is so of the input, where it is so of a text whose front it is so of
 pub of_known : (P : List ℕ → Type 0) (known : Option (List ℕ)) (text : List ℕ)
-    → ((bytes : List ℕ) → P (take 1048577 bytes) → P bytes) → IsFrontOf known 1048577 text → P text → P (bytes_of known text)
+    → ((bytes : List ℕ) → P (take 1048577 bytes) → P bytes) → IsFrontOf known 1048577 text → P text
+        → P (bytes_of known text)
 of_known P None text grows front p = p
 of_known P (Some bytes) text grows front p = grows bytes (subst P front p)
 

@@ -20,7 +20,8 @@ use Rattle.px_outcome.specs.Results.{status_of}
 use Rattle.px_outcome.specs.Stops.{IsTextStop, StopsAt, scene_stop}
 use Rattle.px_outcome.specs.JobStops.{job_stop, products_stop}
 
-pub text_stops : (fault : SceneFault) (text : List ℕ) → (fault ≡ scene_fault.Memory want) ⊎ (refusal_of text ≡ Some fault)
+pub text_stops : (fault : SceneFault) (text : List ℕ) → (fault ≡ scene_fault.Memory want)
+    ⊎ (refusal_of text ≡ Some fault)
     → IsTextStop (scene_stop fault) text
 text_stops (scene_fault.Malformed line cause) text (inl none) = cc
 text_stops (scene_fault.Malformed line cause) text (inr is) = rw is refl

@@ -1,4 +1,5 @@
--- What is told of the ends of a run: of its input, its output, its array and its notes. Clauses of public calls stand on it.
+-- What is told of the ends of a run: of its input, its output, its array and its notes. Clauses of public calls
+-- stand on it.
 use Rattle.std.specs.Prelude.{◌≡◌, ℕ, List, Option}
 use Rattle.px_io.specs.Told.{SinkState, TakesNone}
 use Rattle.px_array.specs.Arrays.{Device}
@@ -11,7 +12,8 @@ pub record Ends : Type 0 where
   pub out : SinkState
   pub array : ArrayView
 
-abbrev pub ends : (rest : Option (List ℕ)) → (faults : ℕ) → SinkState → Device → (slots : List (Option Device)) → (work : ℕ) → Ends
+abbrev pub ends : (rest : Option (List ℕ)) → (faults : ℕ) → SinkState → Device → (slots : List (Option Device))
+    → (work : ℕ) → Ends
 ends rest faults out device slots work =
     record { rest = rest; faults = faults; out = out; array = array_view device slots work }
 

@@ -1,4 +1,5 @@
--- What a command does over an input: what it answers for the bytes, what it leaves, and what it takes. Clauses of public calls stand
+-- What a command does over an input: what it answers for the bytes, what it leaves, and what it takes. Clauses
+-- of public calls stand
 -- on it.
 use Rattle.std.specs.Prelude.{ℕ, ◌≡◌, ◌++◌, List, ⊤, Option, Some, None, Result, drop}
 use Rattle.std.specs.Io.KnownBytes.{Consumes}
@@ -21,8 +22,10 @@ IsInput (Some known) bytes = bytes ≡ known
 abbrev pub BeginsWith : (bytes first : List ℕ) → Type 0
 BeginsWith bytes first = (more : List ℕ) × (bytes ≡ first ++ more)
 
--- over an input, whose bytes begin with those that were taken, the result is that of the bytes' answer, and this is left
-pub record PerformsOver (result : Result (Unit {0}) Stop) (answer : List ℕ → Outcome) (Leaves : Input → Type 0) (before after : Ends)
+-- over an input, whose bytes begin with those that were taken, the result is that of the bytes' answer, and
+-- this is left
+pub record PerformsOver (result : Result (Unit {0}) Stop) (answer : List ℕ → Outcome) (Leaves : Input → Type 0)
+    (before after : Ends)
     : Type 0 where
   pub input : Input
   pub known : IsInput before.rest input.bytes
@@ -32,7 +35,8 @@ pub record PerformsOver (result : Result (Unit {0}) Stop) (answer : List ℕ →
   pub leaves : Leaves input
 
 -- the output of an outcome was written, as the result says, and the array is left so
-pub record WritesAndLeaves (result : Result (Unit {0}) Stop) (o : Outcome) (Leaves : (before now : ArrayView) → Type 0) (before after : Ends)
+pub record WritesAndLeaves (result : Result (Unit {0}) Stop) (o : Outcome) (Leaves : (before now : ArrayView)
+    → Type 0) (before after : Ends)
     : Type 0 where
   pub wrote : Wrote result (output o) before.out after.out
   pub array : Leaves before.array after.array
@@ -42,7 +46,8 @@ abbrev pub IsRestBehind : Option (List ℕ) → Option (List ℕ) → Type 0
 IsRestBehind None new = ⊤
 IsRestBehind (Some bytes) new = new ≡ Some (drop READ_LIMIT bytes)
 
--- a whole text was taken, or its first bytes up to one past the limit of a text; at most as many where reading failed or memory
+-- a whole text was taken, or its first bytes up to one past the limit of a text; at most as many where reading
+-- failed or memory
 abbrev pub TookText : Status → Option (List ℕ) → Option (List ℕ) → Type 0
 TookText status.ReadFault old new = ConsumesAtMost old new READ_LIMIT
 TookText (status.Memory _) old new = ConsumesAtMost old new READ_LIMIT

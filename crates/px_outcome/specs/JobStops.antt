@@ -1,4 +1,5 @@
--- The stop of a job that was not opened, and of a scene that has no plan. Only proofs and private functions stand on it.
+-- The stop of a job that was not opened, and of a scene that has no plan. Only proofs and private functions
+-- stand on it.
 use Rattle.px_normal.specs.declared.fault.NormalFault.{NormalFault}
 use Rattle.px_normal.specs.declared.fault.NormalFault.TheVariants as normal
 use Rattle.px_control.specs.declared.fault.JobFault.{JobFault}

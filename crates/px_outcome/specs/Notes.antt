@@ -22,7 +22,8 @@ unfoldable pub malformed_line : ℕ → Cause → List ℕ
 malformed_line line cause = codes "malformed line " ++ decimal line ++ codes ": " ++ cause_word cause ++ codes "\n"
 
 unfoldable pub limit_line : ℕ → Kind → ℤ → List ℕ
-limit_line line kind found = codes "limit line " ++ decimal line ++ codes ": " ++ kind_word kind ++ codes " " ++ signed_decimal found ++ codes "\n"
+limit_line line kind found = codes "limit line " ++ decimal line ++ codes ": " ++ kind_word kind ++ codes " "
+    ++ signed_decimal found ++ codes "\n"
 
 abbrev pub usage_line : List ℕ
 usage_line = codes "usage: pxplanes [render|colour|tidy|plan|cost|debug|sample N|shadow|tile W H|refine K|list|play]\n"
@@ -48,7 +49,8 @@ note_of s.ReadFault = read_fault_line
 note_of s.WriteFault = write_fault_line
 note_of (s.Memory _) = memory_line
 
--- a line was written whole and the notes finished where they had no fault, and else so or a front of it that is not finished
+-- a line was written whole and the notes finished where they had no fault, and else so or a front of it that is
+-- not finished
 pub record IsTold (line : List ℕ) (before after : SinkState) : Type 0 where
   pub whole : Still before.faults after.faults → FinishesWith before after line
   pub front : FinishesWith before after line ⊎ TakesFront before after line

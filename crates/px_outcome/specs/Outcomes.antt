@@ -1,4 +1,5 @@
--- What a run is to answer, and the limits that a scene meets on its way to an array. Clauses of public calls stand on it.
+-- What a run is to answer, and the limits that a scene meets on its way to an array. Clauses of public calls
+-- stand on it.
 use Rattle.std.specs.Prelude.{ℕ, List, [], Bool, true, false, nat_lt, if◌then◌else◌, Option, Some, None}
 use Rattle.px_prune.specs.Kept.{crowd_of}
 use Rattle.px_scene.specs.Scenes.{SceneView}

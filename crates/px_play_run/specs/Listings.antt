@@ -46,7 +46,8 @@ pub record IsPlayed (bits : ℕ) (l : ListingView) (device : Device) : Type 0 wh
   pub clocks : device.clocks ≡ sum_by (λ m. cycles m l.nx l.ny) l.macros
   pub pixels : HasPlayed bits l device.state
 
--- what is left of the array, of its slots and its work too, where a listing is played: the listing played on a new array, also
+-- what is left of the array, of its slots and its work too, where a listing is played: the listing played on a
+-- new array, also
 -- where its memory could not be written, and else the array as before
 abbrev pub Plays : Status → (bits : ℕ) → ListingView → (before now : ArrayView) → Type 0
 Plays status.Done bits l before now = IsPlayed bits l now.device × IsRunOnce now
@@ -57,9 +58,11 @@ Plays status bits l before now = now ≡ before
 -- what is written, and what is left of the array
 abbrev pub LeavesPlayed : Result (Unit {0}) Stop → (bits : ℕ) → (bytes : List ℕ) → (before after : Ends) → Type 0
 LeavesPlayed result bits bytes before after =
-    WritesAndLeaves result (played_out bytes bits) (λ old new. Plays (status_in result) bits (listing_written bytes) old new) before after
+    WritesAndLeaves result (played_out bytes bits)
+        (λ old new. Plays (status_in result) bits (listing_written bytes) old new) before after
 
 -- what the command does over an input
 abbrev pub PerformsPlay : Result (Unit {0}) Stop → (bits : ℕ) → (before after : Ends) → Type 0
 PerformsPlay result bits before after =
-    PerformsOver result (λ bytes. played_out bytes bits) (λ input. LeavesPlayed result bits input.bytes before after) before after
+    PerformsOver result (λ bytes. played_out bytes bits) (λ input. LeavesPlayed result bits input.bytes before after)
+        before after

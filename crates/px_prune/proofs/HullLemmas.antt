@@ -48,7 +48,8 @@ less_than_itself : (b : CellBox) → is_part (Some b) (record b { x0 = b.x0 + 1 
 less_than_itself b h = grind arith
 
 -- a box that holds the cells, and is a part of each that does, is none exactly where there is no cell
-box_is : (cells : ℕ → ℕ → ℕ → Bool) (box : Option CellBox) → ((x y z : ℕ) → cells x y z ≡ true → is_in_box box x y z ≡ true)
+box_is : (cells : ℕ → ℕ → ℕ → Bool) (box : Option CellBox)
+    → ((x y z : ℕ) → cells x y z ≡ true → is_in_box box x y z ≡ true)
     → ((b : CellBox) → ((x y z : ℕ) → cells x y z ≡ true → lies_in b x y z ≡ true) → is_part box b ≡ true)
     → IsBoxOf cells box
 box_is cells None holds least = record { holds = holds; least = least; none = (λ _. empty_none cells holds, λ _. refl) }

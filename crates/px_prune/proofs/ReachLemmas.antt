@@ -83,7 +83,8 @@ module _ (s : SolidView) (d : Depths) (b : Block) where
         parts : (n p q r u v w : Bool) → p ≡ u → q ≡ v → r ≡ w → n && p && q && r ≡ n && u && v && w
         parts n p q r u v w e f g = grind arith
 
-  none_inside : ((z : ℕ) → can_reach z ≡ false) → (x y z : ℕ) → in_block inside b x y z ≡ true → is_in_box None x y z ≡ true
+  none_inside : ((z : ℕ) → can_reach z ≡ false) → (x y z : ℕ) → in_block inside b x y z ≡ true
+      → is_in_box None x y z ≡ true
   none_inside none x y z h = cc (none z, inside_reaches x y z h)
 
   -- where it can have none
@@ -139,7 +140,8 @@ module _ (s : SolidView) (d : Depths) (b : Block) where
             (pixel_box inside b.x0 b.y0 first end lt (λ z. inside_pixel one z ∙ reached_at z)));
       }
 
-in_cover : (o u : Option CellBox) (x y z : ℕ) → is_covered o u ≡ true → is_in_box o x y z ≡ true → is_in_box u x y z ≡ true
+in_cover : (o u : Option CellBox) (x y z : ℕ) → is_covered o u ≡ true → is_in_box o x y z ≡ true
+    → is_in_box u x y z ≡ true
 in_cover None u x y z e h = cc
 in_cover (Some a) None x y z e h = e
 in_cover (Some a) (Some c) x y z e h = in_part a c x y z e h

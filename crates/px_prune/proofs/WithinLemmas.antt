@@ -27,7 +27,8 @@ module _ (x y z : ℕ) where
   -- a cell in the box of each solid is in their common part
   pub in_fold : (boxes : ℕ → Option CellBox) (m : ℕ → Bool) → ((q : ℕ) → m q ≡ true → is_in_box (boxes q) x y z ≡ true)
       → (qs : List ℕ) (o : Option CellBox)
-      → is_in_box o x y z ≡ true → list_all m qs ≡ true → is_in_box (fold (λ c q. narrowed c (boxes q)) o qs) x y z ≡ true
+      → is_in_box o x y z ≡ true → list_all m qs ≡ true → is_in_box (fold (λ c q. narrowed c (boxes q)) o qs) x y z
+      ≡ true
   in_fold boxes m h [] o p all = p
   in_fold boxes m h (q ∷ qs) o p all =
       in_fold boxes m h qs (narrowed o (boxes q))

@@ -1,4 +1,5 @@
--- A block of pixels: the values of linear forms in it, and the cells of a solid. Only proofs and private functions stand on it.
+-- A block of pixels: the values of linear forms in it, and the cells of a solid. Only proofs and private
+-- functions stand on it.
 use Rattle.std.specs.Prelude.{ℕ, ℤ, pos, ◌≡◌, ◌+◌, ◌-◌, ◌==◌, Bool, true, ◌&&◌, ◌||◌, nat_le, Option, if◌then◌else◌}
 use Rattle.std.specs.Int.Signed.{lt_z}
 use Rattle.px_num.specs.declared.linear.Linear.{Linear}

@@ -1,4 +1,5 @@
--- The bounding box of a solid: the least box that holds all its cells at the pixels of the picture. Clauses of public calls stand on it.
+-- The bounding box of a solid: the least box that holds all its cells at the pixels of the picture. Clauses of
+-- public calls stand on it.
 use Rattle.std.specs.Prelude.{ℕ, ◌≡◌, ◌↔◌, Bool, true, false, ◌&&◌, nat_lt, Option, Some, None, if◌then◌else◌}
 use Prim.Native.Nat.{zero, suc}
 use Rattle.px_model.specs.Scenes.{SceneView}

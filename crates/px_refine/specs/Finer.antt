@@ -1,4 +1,5 @@
--- The finer scene: the same half-spaces over a screen of 2^s times the pixels on each side. Clauses of public calls stand on it.
+-- The finer scene: the same half-spaces over a screen of 2^s times the pixels on each side. Clauses of public
+-- calls stand on it.
 use Rattle.std.specs.Prelude.{ℕ, ◌*◌, ◌^◌}
 use Rattle.px_model.specs.declared.pixels.Pixels.TheVariants as pixels
 use Rattle.px_model.specs.Pixels.{scene_over}

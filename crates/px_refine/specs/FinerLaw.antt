@@ -1,4 +1,5 @@
--- What the finer scene has to do with the scene: at common pixels they have one picture. Clauses of public calls stand on it.
+-- What the finer scene has to do with the scene: at common pixels they have one picture. Clauses of public
+-- calls stand on it.
 use Rattle.std.specs.Prelude.{◌≡◌, ℕ, ◌*◌, ◌^◌}
 use Rattle.px_model.specs.Scenes.{SceneView}
 use Rattle.px_model.specs.Cells.{picture}

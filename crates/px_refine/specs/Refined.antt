@@ -1,4 +1,5 @@
--- The refined image: each sample is the mean of that sample over finer pixels, rounded down. Clauses of public calls stand on it.
+-- The refined image: each sample is the mean of that sample over finer pixels, rounded down. Clauses of public
+-- calls stand on it.
 use Rattle.std.specs.Prelude.{ℕ, ◌+◌, ◌*◌, ◌/◌, ◌^◌, List, sum_by}
 use Rattle.std.specs.List.{range_with_len}
 use Rattle.px_array.specs.Arrays.{State}
@@ -12,7 +13,8 @@ use Rattle.px_refine.specs.Finer.{fine_scene}
 -- the sum of a sample over the 2^s by 2^s finer pixels that the pixel (x, y) is cut into
 abbrev pub block_sum : (s : ℕ) → (sample : (x y : ℕ) → ℕ) → (x y : ℕ) → ℕ
 block_sum s sample x y =
-    sum_by (λ j. sum_by (λ i. sample (2 ^ s * x + i) (2 ^ s * y + j)) (range_with_len 0 (2 ^ s))) (range_with_len 0 (2 ^ s))
+    sum_by (λ j. sum_by (λ i. sample (2 ^ s * x + i) (2 ^ s * y + j)) (range_with_len 0 (2 ^ s)))
+        (range_with_len 0 (2 ^ s))
 
 abbrev pub mean : (s : ℕ) → (sample : (x y : ℕ) → ℕ) → (x y : ℕ) → ℕ
 mean s sample x y = block_sum s sample x y / (2 ^ s * 2 ^ s)

@@ -1,5 +1,6 @@
 -- Blocks of eight words that are read and written.
-use Rattle.std.proofs.Common.{◌≡◌, ℕ, ◌+◌, ◌-◌, ◌*◌, ◌/◌, ◌%◌, ◌<◌, ◌≤◌, Bool, List, length, get_or, ap, ◌∙◌, arith, inl, inr}
+use Rattle.std.proofs.Common.{◌≡◌, ℕ, ◌+◌, ◌-◌, ◌*◌, ◌/◌, ◌%◌, ◌<◌, ◌≤◌, Bool, List, length, get_or, ap, ◌∙◌}
+use Rattle.std.proofs.Common.{arith, inl, inr}
 use Rattle.std.proofs.lemmas.Bool.{cases_lt}
 use Rattle.std.specs.Simd.Lanes.{put_chunk}
 use Rattle.std.proofs.lemmas.Simd.{get_or-put_chunk_at, get_or-put_chunk_below, get_or-put_chunk_above}
@@ -34,7 +35,8 @@ blocks_rest P block start old new w rest k high = w.after k (omega arith) ∙ re
 -- the same of bits
 pub bits_more : (P : ℕ → ℕ → Type 0) (F : ℕ → Bool) (block : ℕ) (old new : List ℕ) → IsWritten P (8 * block) old new
     → ((p : ℕ) → p < 512 * block → row_bit old p ≡ F p)
-    → ((k : ℕ) → 8 * block ≤ k → k < 8 * block + 8 → P k (get_or new k 0) → (j : ℕ) → j < 64 → nat_bit (get_or new k 0) j ≡ F (64 * k + j))
+    → ((k : ℕ) → 8 * block ≤ k → k < 8 * block + 8 → P k (get_or new k 0) → (j : ℕ) → j < 64
+        → nat_bit (get_or new k 0) j ≡ F (64 * k + j))
     → (p : ℕ) → p < 512 * (block + 1) → row_bit new p ≡ F p
 bits_more P F block old new w done now p low = elim (cases_lt p (512 * block)) [
   | inl before ↦

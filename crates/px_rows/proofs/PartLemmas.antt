@@ -9,7 +9,8 @@ word_in_put : (at k i : ℕ) (xs ys : List ℕ) → at + k ≤ length xs → len
     → get_or (put_mid at k xs ys) (at + i) 0 ≡ get_or ys i 0
 word_in_put at k i xs ys within long small = search (rules, places)
 
-word_in_part : (at k i : ℕ) (xs : List ℕ) → at + k ≤ length xs → i < k → get_or (take k (drop at xs)) i 0 ≡ get_or xs (at + i) 0
+word_in_part : (at k i : ℕ) (xs : List ℕ) → at + k ≤ length xs → i < k → get_or (take k (drop at xs)) i 0
+    ≡ get_or xs (at + i) 0
 word_in_part at k i xs within small = search (rules, places)
 
 place_of : (at p : ℕ) → (64 * at + p) / 64 ≡ at + p / 64

@@ -198,7 +198,8 @@ module _ (n : ℕ) where
         (carried_law (get_or a i 0) (get_or b i 0) (get_or c i 0))
 
     -- a ^ (b ^ c)
-    pub summed_lane : IsSummed (get_or (zip2 bit_xor a (zip2 bit_xor b c)) i 0) (get_or a i 0) (get_or b i 0) (get_or c i 0)
+    pub summed_lane : IsSummed (get_or (zip2 bit_xor a (zip2 bit_xor b c)) i 0) (get_or a i 0) (get_or b i 0)
+        (get_or c i 0)
     summed_lane =
         rw (lane bit_xor a (zip2 bit_xor b c) i ha (long bit_xor b c hb hc) h, lane bit_xor b c i hb hc h)
         (summed_law (get_or a i 0) (get_or b i 0) (get_or c i 0))

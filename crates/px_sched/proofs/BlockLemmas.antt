@@ -186,7 +186,7 @@ module _ (covering : CoveringLaw) (parity : ValueParityLaw) (scene : SceneView) 
   -- the depth of a candidate is that of its cell
   loaded_deep : (s : SolidView) (plain : Bool) → is_covered s plain far l.x l.y ≡ true
       → without_fraction l (residue l
-          (plus (face_plane s far (face_found s plain far l.x l.y)) (2 ^ d.fraction_bits - 1)))
+      (plus (face_plane s far (face_found s plain far l.x l.y)) (2 ^ d.fraction_bits - 1)))
       ≡ value_of d (cell_found s plain d l.x l.y)
   loaded_deep s true met =
       let more = 2 ^ d.fraction_bits - 1 in
@@ -232,7 +232,7 @@ module _ (covering : CoveringLaw) (parity : ValueParityLaw) (scene : SceneView) 
               best = c.best ∙ ap (λ (k : Keys). k.best) here;
               alive = c.alive
                   ∙ ap (λ (k : Keys). k.alive
-                      && ((d.fraction_bits == 0) || test covering scene l room solid plain k.deep))
+                  && ((d.fraction_bits == 0) || test covering scene l room solid plain k.deep))
                   here
                   ∙ ap (λ v. (d.fraction_bits == 0) || test covering scene l room solid plain v) deep
                   ∙ cell_test solid plain yea ∙ rw yea refl;
@@ -248,7 +248,7 @@ module _ (covering : CoveringLaw) (parity : ValueParityLaw) (scene : SceneView) 
               best = c.best ∙ ap (λ (k : Keys). k.best) here;
               alive = c.alive
                   ∙ ap (λ (k : Keys). k.alive
-                      && ((d.fraction_bits == 0) || test covering scene l room solid plain k.deep))
+                  && ((d.fraction_bits == 0) || test covering scene l room solid plain k.deep))
                   here
                   ∙ rw (dead, nay) refl;
               has = λ e. absurd (never (is_covered s plain far l.x l.y)

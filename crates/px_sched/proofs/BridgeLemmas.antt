@@ -281,7 +281,7 @@ module _ (laws : FieldLaws) (scene : SceneView) (w i x y : ℕ)
     loading : (memory : List Bool) (c : Bool) → IsLong memory
         → keys (after_macros (m.LoadLinear form (t_deep w f i)
         ∷ where_fraction d (m.LoadConst (t_fraction w f i) 0 ∷ []) ++ numbered ∷ risen ∷ []) x y
-            (pixel memory c)).memory
+        (pixel memory c)).memory
         ≡ (if c then loaded place d s (keys memory) face else keys memory)
     loading memory c long = elim (cases_Bool (f == 0)) [
       | inl none ↦ rw none (without c (no_fraction f none))

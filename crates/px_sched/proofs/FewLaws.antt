@@ -127,8 +127,11 @@ module _ (count : EdgesAreCounted) (scene : SceneView) (l : LayoutView) (lawful 
 
   few_bare : (step : Step) → sum_by once (bare l (depths_of scene) step) ≤ 5
   few_bare (Candidate solid face) =
-      elim (cases_Bool (scene.fraction_bits == 0)) [ inl none ↦ rw none (omega arith) | inr some ↦
-          rw some (omega arith) ]
+      elim (cases_Bool (scene.fraction_bits == 0)) [
+        | inl none ↦ rw none (omega arith)
+        | inr some ↦
+            rw some (omega arith)
+      ]
   few_bare step = omega arith
 
   few_operations : (step : Step) → HasFace (IsThere scene) step → length (operations scene l step) ≤ 102

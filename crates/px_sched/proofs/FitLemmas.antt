@@ -50,7 +50,8 @@ module _ (ranges : EdgesAreInRange) (planes : PlanesAreInRange) (scene : SceneVi
 
   end_small : end < 2 ^ 32
   end_small =
-      let bound : 2 ^ (scene.depth_bits + f) ≤ 2 ^ 24 = pow_mono {i = scene.depth_bits + f} {j = 24} lawful.sizes.depth_limit in
+      let bound : 2 ^ (scene.depth_bits + f) ≤ 2 ^ 24 =
+      pow_mono {i = scene.depth_bits + f} {j = 24} lawful.sizes.depth_limit in
       omega (arith, small, bound)
 
   unit_most : 2 ^ f ≤ 2 ^ 8
@@ -80,9 +81,10 @@ module _ (ranges : EdgesAreInRange) (planes : PlanesAreInRange) (scene : SceneVi
   -- a face's plane so much further
   moved : (n : ℕ) → n ≤ 2 ^ f → (solid face : ℕ) → IsThere scene solid face
       → IsInTreeRange (plus (face_plane (solid_of scene solid) end face) n) × IsField (deep_part l l.key_t) (need_of l)
-  moved n low solid face there =
-      (plus_range (face_plane (solid_of scene solid) end face) n (omega (arith, unit_most)) (plane solid face there),
-          deep)
+  moved n low solid face there = (
+    plus_range (face_plane (solid_of scene solid) end face) n (omega (arith, unit_most)) (plane solid face there),
+    deep,
+  )
 
   each_lawful : HoldsOf scene l (λ m. IsLawful m (need_of l))
   each_lawful = record {

@@ -28,7 +28,7 @@ others_are products g q rs all e f h =
 
 pub others_known : (scene : SceneView) (products : List Product) (g : Group) (rs : List Literal)
     → g.product < length products → All (HasKnownLiterals scene) products → rs ≡ others_of products g
-        → AreKnown scene rs
+    → AreKnown scene rs
 others_known scene products g rs there drawn e =
     let known = (All-get_or (HasKnownLiterals scene) products g.product no_product there drawn).known in
     subst (AreKnown scene) (sym e)

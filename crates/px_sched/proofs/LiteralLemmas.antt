@@ -150,7 +150,7 @@ module _ (covering : CoveringLaw) (s : SolidView) (d : Depths) (x y : ℕ) where
       let count : length (s.near_number ∷ numbers_in_faces s.fronts) ≡ first_back =
       omega (arith, length-map s.fronts (λ f. f.number)) in
       get_or-append_right (s.near_number ∷ numbers_in_faces s.fronts) (numbers_in_faces s.backs ++ 0 ∷ []) first_back
-          face 0
+      face 0
       count low
 
   pub barred_shows : covering_back s end x y < first_back + length s.backs

@@ -51,7 +51,7 @@ module _ (scene : SceneView) where
       → All There (map (Candidate solid) (candidate_faces (solid_of scene solid) plain))
   candidates_there solid true =
       faces_there (Candidate solid) solid (λ face there. there) 0 (length (solid_of scene solid).fronts + 1)
-          (omega arith)
+      (omega arith)
   candidates_there solid false =
       let s = solid_of scene solid in
       faces_there (Candidate solid) solid (λ face there. there) (length s.fronts + 1) (length s.backs) (omega arith)

@@ -140,7 +140,7 @@ pub first_stands : (scene : SceneView) → length (passes scene) < 2 ^ 64
     → StandsAtStep scene (record { given = 0; literals = 0; stage = Start })
 first_stands scene few =
     let each = some_each (operations scene (layout_of scene)) (step_some scene (layout_of scene) (plan_of scene))
-        (steps scene) in
+    (steps scene) in
     record {
       stage = tt;
       left = refl;

@@ -27,7 +27,7 @@ use Rattle.px_sched.specs.Layouts.{LayoutView, deep_part, fraction_part, number_
 use Rattle.px_sched.specs.Passes.{candidate_faces, confirm, judge, keep_covered, literal_at, literal_steps, no_literal}
 use Rattle.px_sched.specs.Passes.{operations, product_steps, solid_of, steps_with, where_fraction, where_passed}
 use Rattle.px_sched.specs.Steps.{HasFace, IsThere}
-use Rattle.px_sched.specs.Worths.{bare, confirm_worth, edges_in, first, judged_worth, own_worth, passing}
+use Rattle.px_sched.specs.Worths.{bare, confirm_worth, edges_in, first_face_step, judged_worth, own_worth, passing}
 use Rattle.px_sched.proofs.MemberLaws.{by_places}
 
 pub sum_by-agree : {A : Type 0} (f g : A → ℕ) (xs : List A) → All (λ x. f x ≡ g x) xs → sum_by f xs ≡ sum_by g xs
@@ -59,15 +59,16 @@ counted {A = A} (x ∷ xs) = let one_each : A → ℕ = λ y. 1 in omega (arith,
 -- the steps of a literal, where each is worth what the first of its kind is
 module _ (v : Step → ℕ) (scene : SceneView) where
   abbrev u : Step → ℕ
-  u step = v (first step)
+  u step = v (first_face_step step)
 
-  alike : (step : ℕ → Step) → ((face : ℕ) → first (step face) ≡ first (step 0)) → (faces : List ℕ)
+  alike : (step : ℕ → Step) → ((face : ℕ) → first_face_step (step face) ≡ first_face_step (step 0)) → (faces : List ℕ)
       → sum_by u (map step faces) ≡ length faces * u (step 0)
   alike step same [] = omega arith
   alike step same (face ∷ faces) =
       omega (arith, sum_by-cons u (step face) (map step faces), ap v (same face), alike step same faces)
 
-  in_range : (step : ℕ → Step) → ((face : ℕ) → first (step face) ≡ first (step 0)) → (from count : ℕ)
+  in_range : (step : ℕ → Step) → ((face : ℕ) → first_face_step (step face) ≡ first_face_step (step 0))
+      → (from count : ℕ)
       → sum_by u (map step (range_with_len from count)) ≡ count * u (step 0)
   in_range step same from count = rw (length-range_with_len from count) at (alike step same (range_with_len from count))
 

@@ -17,14 +17,14 @@ use Rattle.px_sched.specs.Layouts.{LayoutView, deep_part, fraction_part, number_
 use Rattle.px_sched.specs.Passes.{candidate_faces, literals, solid_of, where_fraction}
 
 -- the step of its kind for the first face of its solid, as for the first other literal
-abbrev pub first : Step → Step
-first (Candidate solid face) = Candidate solid 0
-first (Drop solid face) = Drop solid 0
-first (Front solid face) = Front solid 0
-first (Begin other) = Begin 0
-first (Turn other solid face) = Turn 0 solid 0
-first (Close other plain) = Close 0 true
-first step = step
+abbrev pub first_face_step : Step → Step
+first_face_step (Candidate solid face) = Candidate solid 0
+first_face_step (Drop solid face) = Drop solid 0
+first_face_step (Front solid face) = Front solid 0
+first_face_step (Begin other) = Begin 0
+first_face_step (Turn other solid face) = Turn 0 solid 0
+first_face_step (Close other plain) = Close 0 true
+first_face_step step = step
 
 -- the edges of the face of a step that has one
 abbrev pub edges_in : SceneView → Step → ℕ

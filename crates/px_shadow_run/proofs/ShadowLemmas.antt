@@ -94,14 +94,17 @@ performs_shades result text lent bits before after front consumed same serves ar
     (of_known (ShadesText result bits before after) before.rest text (shades_front result bits before after) front
     (subst (λ t. ShadesText result bits before after t) same (record { serves = serves; array = array })))
 
-read_performs : (stop : Stop) (bits : ℕ) (before after : Ends) (m n : ℕ) → IsReadStop stop m n → IsUntouched before after
+read_performs : (stop : Stop) (bits : ℕ) (before after : Ends) (m n : ℕ) → IsReadStop stop m n
+    → IsUntouched before after
     → ConsumesAtMost before.rest after.rest 1048577 → PerformsShadow (Err stop) bits before after
 read_performs s.ReadFault bits before after m n is idle (taken, consumed, few) =
-    performs_over (Err s.ReadFault) (λ bytes. shadowed bytes bits) (λ input. LeavesShadows (Err s.ReadFault) bits input.bytes before after)
+    performs_over (Err s.ReadFault) (λ bytes. shadowed bytes bits)
+        (λ input. LeavesShadows (Err s.ReadFault) bits input.bytes before after)
     before after taken consumed tt
     (record { wrote = idle.out; array = idle.array })
 read_performs (s.Memory lack) bits before after m n is idle (taken, consumed, few) =
-    performs_over (Err (s.Memory lack)) (λ bytes. shadowed bytes bits) (λ input. LeavesShadows (Err (s.Memory lack)) bits input.bytes before after)
+    performs_over (Err (s.Memory lack)) (λ bytes. shadowed bytes bits)
+        (λ input. LeavesShadows (Err (s.Memory lack)) bits input.bytes before after)
     before after taken consumed tt
     (record { wrote = idle.out; array = inl idle.array })
 read_performs s.Usage bits before after m n is idle consumed = absurd is
@@ -133,7 +136,8 @@ pub serves_refused : (reason : Refusal) (o : Outcome) (a : SinkState)
 serves_refused reason o a is = serves_stop (Err (s.Refused reason)) (s.Refused reason) o a refl tt (ap refusal is)
 
 -- what comes of the parts of a text within its limit comes of it
-pub parts_serve : (result : Result (Unit {0}) Stop) (text part behind : List ℕ) (n bits : ℕ) (a b : SinkState) → length text < 1048577 → n ≡ unwrap_or (part_end text) (length text) → part ≡ take n text
+pub parts_serve : (result : Result (Unit {0}) Stop) (text part behind : List ℕ) (n bits : ℕ) (a b : SinkState)
+    → length text < 1048577 → n ≡ unwrap_or (part_end text) (length text) → part ≡ take n text
     → behind ≡ drop n text
     → DoesWork result (parts_lit bits part behind) a b → DoesWork result (shadowed text bits) a b
 parts_serve result text part behind n bits a b short count front rest serves =

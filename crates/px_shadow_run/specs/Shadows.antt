@@ -1,4 +1,5 @@
--- What `shadow` answers and leaves: by which lights each pixel is lit, where the lines behind the scene part name the lights.
+-- What `shadow` answers and leaves: by which lights each pixel is lit, where the lines behind the scene part
+-- name the lights.
 -- Clauses of public calls stand on it.
 use Rattle.std.specs.Prelude.{◌≡◌, ℕ, ◌+◌, ◌==◌, pos, List, length, nat_lt, count_by, if◌then◌else◌, Option, Some}
 use Rattle.std.specs.Prelude.{None, Result}
@@ -78,7 +79,8 @@ unfoldable pub shadowed : (bytes : List ℕ) → (bits : ℕ) → Outcome
 shadowed bytes bits =
     if is_long bytes then refused too_long else parts_lit bits (scene_part bytes) (behind_part bytes)
 
--- what is left of the array, of its slots and its work too: the shadow passes were made on the drawn scene, also where the image
+-- what is left of the array, of its slots and its work too: the shadow passes were made on the drawn scene,
+-- also where the image
 -- could not be written, and else the array is as before, or closed for want of memory
 abbrev pub ShadesBy : Status → (bits : ℕ) → SceneView → List SolidSet → (before now : ArrayView) → Type 0
 ShadesBy status.Done bits scene lights before now = IsShaded bits scene lights now.device × IsRunOnce now
@@ -101,4 +103,5 @@ LeavesShadows result bits bytes before after =
 -- what the command does over an input
 abbrev pub PerformsShadow : Result (Unit {0}) Stop → (bits : ℕ) → (before after : Ends) → Type 0
 PerformsShadow result bits before after =
-    PerformsOver result (λ bytes. shadowed bytes bits) (λ input. LeavesShadows result bits input.bytes before after) before after
+    PerformsOver result (λ bytes. shadowed bytes bits) (λ input. LeavesShadows result bits input.bytes before after)
+        before after

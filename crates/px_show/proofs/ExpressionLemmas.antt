@@ -10,7 +10,8 @@ use Rattle.px_show.specs.Expressions.{with_token}
 use Rattle.px_show.specs.Expressions.{parts_of, whole, expression_of, IsExpressionOf}
 
 -- what is written becomes one side
-pub reads : (tree : Named) (before : List Part) → has_names tree ≡ true → fold with_token before (written tree) ≡ side tree
+pub reads : (tree : Named) (before : List Part) → has_names tree ≡ true → fold with_token before (written tree)
+    ≡ side tree
     ∷ before
 reads (leaf n) before names = rw names refl
 reads (join op left right) before names =
@@ -48,7 +49,8 @@ text_put parts other = refl
 
 text_all : (parts : List Part) (ts : List Token) → text (fold with_token parts ts) ≡ text parts ++ ts
 text_all parts [] = sym (append-nil (text parts))
-text_all parts (t ∷ ts) = text_all (with_token parts t) ts ∙ rw (text_put parts t) (append_assoc (text parts) (t ∷ []) ts)
+text_all parts (t ∷ ts) = text_all (with_token parts t) ts
+    ∙ rw (text_put parts t) (append_assoc (text parts) (t ∷ []) ts)
 
 -- all names in the sides are names
 abbrev all_named : List Part → Bool

@@ -4,10 +4,12 @@ use Rattle.px_show.specs.declared.fault.Cause.{Cause}
 use Rattle.px_show.specs.declared.fault.LineFault.{LineFault}
 use Rattle.px_show.specs.Judged.{judged}
 
-pub good_form : {K : Type 0} (cause : Option Cause) (limit : Option (LineFault K)) → judged cause limit ≡ None → cause ≡ None
+pub good_form : {K : Type 0} (cause : Option Cause) (limit : Option (LineFault K)) → judged cause limit ≡ None
+    → cause ≡ None
 good_form None limit e = refl
 good_form (Some cause) limit e = cc
 
-pub within_limits : {K : Type 0} (cause : Option Cause) (limit : Option (LineFault K)) → judged cause limit ≡ None → limit ≡ None
+pub within_limits : {K : Type 0} (cause : Option Cause) (limit : Option (LineFault K)) → judged cause limit ≡ None
+    → limit ≡ None
 within_limits None limit e = e
 within_limits (Some cause) limit e = cc

@@ -11,7 +11,7 @@ use Rattle.px_expr.specs.declared.node.Node.{Node}
 use Rattle.px_expr.specs.declared.node.Shape.{Shape}
 use Rattle.px_expr.specs.declared.node.Shape.TheVariants as h
 use Rattle.px_expr.specs.Tree.{Tree, leaf, join}
-use Rattle.px_expr.specs.Shapes.{shape_of, joined, put, CanPlace, IsLeafBelow}
+use Rattle.px_expr.specs.Shapes.{node_shape, joined, put, CanPlace, IsLeafBelow}
 use Rattle.px_expr.specs.Postorder.{placed, trees_after}
 use Rattle.px_text.specs.Text.{Words}
 use Rattle.px_show.specs.Printed.{printed, named_by}
@@ -109,25 +109,25 @@ is_below before after nodes node is = omega (arith, ap length is, length-append 
 -- what is known of each node, of the last one of a front
 pub leaf_here : (count : ℕ) (nodes all rest before after : List Node) (node : Node) → all ≡ nodes
     → nodes ≡ rest ++ after → rest ≡ before ++ node ∷ []
-    → All (λ n. IsLeafBelow count (shape_of n)) all → IsLeafBelow count (shape_of node)
+    → All (λ n. IsLeafBelow count (node_shape n)) all → IsLeafBelow count (node_shape node)
 leaf_here count nodes all rest before after node same is last each =
     let part = same ∙ parted before after rest nodes node is last
-    in subst (λ (m : Node). IsLeafBelow count (shape_of m))
+    in subst (λ (m : Node). IsLeafBelow count (node_shape m))
     (ap (λ ns. get_or ns (length before) node) part ∙ get_or-append_seam before node after node)
     (each (length before) node (is_below before after all node part))
 
 pub place_here : (nodes all rest before after : List Node) (node : Node) → all ≡ nodes → nodes ≡ rest ++ after
     → rest ≡ before ++ node ∷ []
     → ((i : ℕ) (any : Node) → i < length all → CanPlace (length (trees_after (take i all)))
-    (shape_of (get_or all i any)))
-    → CanPlace (length (trees_after before)) (shape_of node)
+    (node_shape (get_or all i any)))
+    → CanPlace (length (trees_after before)) (node_shape node)
 place_here nodes all rest before after node same is last each =
     let part = same ∙ parted before after rest nodes node is last
     in let here = each (length before) node (is_below before after all node part)
     in let same_node = ap (λ ns. get_or ns (length before) node) part ∙ get_or-append_seam before node after node
     in let same_front = ap (take (length before)) part ∙ take-append_seam before (node ∷ after)
-    in subst (λ (ns : List Node). CanPlace (length (trees_after ns)) (shape_of node)) same_front
-    (subst (λ (m : Node). CanPlace (length (trees_after (take (length before) all))) (shape_of m)) same_node here)
+    in subst (λ (ns : List Node). CanPlace (length (trees_after ns)) (node_shape node)) same_front
+    (subst (λ (m : Node). CanPlace (length (trees_after (take (length before) all))) (node_shape m)) same_node here)
 
 some_join : (op : Op) (trees : List Tree) → 2 ≤ length trees → 0 < length (joined join op trees)
 some_join op trees two = omega (arith, joined_count op trees two)
@@ -139,17 +139,23 @@ some_wait (h.Join op left right) trees can = some_join op trees can.0
 -- a gap is left for each node
 pub some_gap : (rest before : List Node) (node : Node) (gaps : List Gap)
     → length (reverse gaps) ≡ length (trees_after rest) → rest ≡ before ++ node ∷ []
-    → CanPlace (length (trees_after before)) (shape_of node) → 0 < length gaps
+    → CanPlace (length (trees_after before)) (node_shape node) → 0 < length gaps
 some_gap rest before node gaps count last can =
     let waiting : trees_after rest ≡ placed (trees_after before) node = ap trees_after last
     ∙ fold-append placed [] before (node ∷ [])
-    in omega (arith, length-reverse gaps, count, ap length waiting, some_wait (shape_of node) (trees_after before) can)
+    in omega (
+      arith,
+      length-reverse gaps,
+      count,
+      ap length waiting,
+      some_wait (node_shape node) (trees_after before) can,
+    )
 
 pub steps : (names : Words) (tree : Tree) (nodes rest before : List Node) (node : Node) (gaps next : List Gap)
     (back text : List ℕ)
     → IsPrintedTo names tree nodes rest gaps back → rest ≡ before ++ node ∷ [] → length before + 1 ≡ length rest
-    → CanPlace (length (trees_after before)) (shape_of node)
-    → next ≡ gaps_before (shape_of node) gaps → text ≡ text_of names (shape_of node) gaps ++ back
+    → CanPlace (length (trees_after before)) (node_shape node)
+    → next ≡ gaps_before (node_shape node) gaps → text ≡ text_of names (node_shape node) gaps ++ back
     → IsPrintedTo names tree nodes before next text
 steps names tree nodes rest before node gaps next back text is last shorter can kept more =
     let waiting : trees_after rest ≡ placed (trees_after before) node = ap trees_after last
@@ -158,8 +164,8 @@ steps names tree nodes rest before node gaps next back text is last shorter can 
     in record {
       after = node ∷ is.after;
       front = is.front ∙ ap (λ ns. ns ++ is.after) last ∙ append_assoc before (node ∷ []) is.after;
-      count = ap length kept ∙ same_count names (shape_of node) (trees_after before) gaps counted can;
-      few = rw kept (same_few (shape_of node) (length before) gaps (rw shorter is.few));
-      text = rw (kept, more) (same_text names (shape_of node) (trees_after before) gaps back counted can
+      count = ap length kept ∙ same_count names (node_shape node) (trees_after before) gaps counted can;
+      few = rw kept (same_few (node_shape node) (length before) gaps (rw shorter is.few));
+      text = rw (kept, more) (same_text names (node_shape node) (trees_after before) gaps back counted can
           ∙ ap (λ ts. spread names ts gaps ++ back) (sym waiting) ∙ is.text);
     }

@@ -1,5 +1,6 @@
 -- Lines that are judged one after another, until one is bad.
-use Rattle.std.proofs.Common.{◌≡◌, ◌≢◌, ℕ, ◌+◌, ◌<◌, ◌≤◌, List, [], ◌∷◌, ◌++◌, length, take, drop, get_or, Option, Some, None, Bool, true, false}
+use Rattle.std.proofs.Common.{◌≡◌, ◌≢◌, ℕ, ◌+◌, ◌<◌, ◌≤◌, List, [], ◌∷◌, ◌++◌, length, take, drop, get_or}
+use Rattle.std.proofs.Common.{Option, Some, None, Bool, true, false}
 use Rattle.std.proofs.Common.{refl, ap, sym, ◌∙◌, arith, length-take}
 use Rattle.std.proofs.lemmas.List.{take_more, drop_more, drop_all}
 use Rattle.px_num.specs.Want.{want}
@@ -31,7 +32,8 @@ pub good_next : {F : Type 0} (judge : List Words → Words → Option F) (lines 
     → AreGood judge lines (i + 1)
 good_next judge lines i l so lt is none =
     so ∙ here judge lines i l lt is
-    ∙ ap (λ f. at_line (length (take i lines) + 1) f (first_bad judge (take i lines ++ l ∷ []) (drop (i + 1) lines))) none
+    ∙ ap (λ f. at_line (length (take i lines) + 1) f (first_bad judge (take i lines ++ l ∷ []) (drop (i + 1) lines)))
+    none
     ∙ ap (λ b. first_bad judge b (drop (i + 1) lines)) (sym (one_more lines i l lt is))
 
 pub first_is : {F : Type 0} (judge : List Words → Words → Option F) (lines : List Words) (i : ℕ) (l : Words) (fault : F)
@@ -39,7 +41,8 @@ pub first_is : {F : Type 0} (judge : List Words → Words → Option F) (lines :
     → first_bad judge [] lines ≡ Some (i + 1, fault)
 first_is judge lines i l fault so lt is bad =
     so ∙ here judge lines i l lt is
-    ∙ ap (λ g. at_line (length (take i lines) + 1) g (first_bad judge (take i lines ++ l ∷ []) (drop (i + 1) lines))) bad
+    ∙ ap (λ g. at_line (length (take i lines) + 1) g (first_bad judge (take i lines ++ l ∷ []) (drop (i + 1) lines)))
+    bad
     ∙ ap (λ n. Some (n, fault)) (omega (arith, length-take i lines))
 
 pub all_good : {F : Type 0} (judge : List Words → Words → Option F) (lines : List Words) (i : ℕ)
@@ -53,7 +56,8 @@ none_here n None later e = (refl, e)
 none_here n (Some fault) later e = cc
 
 -- where a text is not refused, no line is bad and its end has come
-pub not_refused : {K : Type 0} (bad : Option (ℕ × LineFault K)) (ended : Bool) (count : ℕ) → refused bad ended count ≡ None
+pub not_refused : {K : Type 0} (bad : Option (ℕ × LineFault K)) (ended : Bool) (count : ℕ) → refused bad ended count
+    ≡ None
     → (bad ≡ None) × (ended ≡ true)
 not_refused (Some bad) ended count e = cc
 not_refused None true count e = (refl, refl)

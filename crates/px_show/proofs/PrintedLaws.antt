@@ -13,7 +13,7 @@ use Rattle.px_expr.specs.declared.node.Op.{Op}
 use Rattle.px_expr.specs.Tree.{Tree, leaf_count, HasLeavesBelow, IsLawfulTree}
 use Rattle.px_expr.specs.Tree as shown
 use Rattle.px_text.specs.Text.{Words, is_blank, is_some_byte, words_of, is_name, is_name_byte}
-use Rattle.px_show.specs.Expressions.{Token, name, opens, closes, sign, mark, tokens_in, tokens_of, nesting}
+use Rattle.px_show.specs.Expressions.{Token, name, opens, closes, sign, mark, tokens_in, tokens_of, named_nesting}
 use Rattle.px_show.specs.Expressions.{Named, leaf, join, written, has_names, has_signs, whole, expression_of, leaves}
 use Rattle.px_show.specs.Expressions.{is_among}
 use Rattle.px_show.specs.Judged.{judged}
@@ -229,11 +229,12 @@ printed_good version names tree are below signs within =
     let named = named_by names tree
     in let back = placed_back names tree are.different below
     in let few : leaves named ≤ 512 = omega (arith, same_leaves names named, ap leaf_count back, within.leaves)
-    in let flat : nesting named ≤ 64 = omega (arith, same_nesting names named, ap shown.nesting back, within.depth)
+    in let flat : named_nesting named ≤ 64 =
+    omega (arith, same_nesting names named, ap shown.nesting back, within.depth)
     in ap (λ read. judged (cause_in names read) (limit_in read))
     (printed_read version named (names_lawful names tree are.lawful below) signs)
     ∙ rw (all_known names named (rw back below), not_past kind.Leaves 512 (leaves named) few)
-    (not_past kind.Nesting 64 (nesting named) flat)
+    (not_past kind.Nesting 64 (named_nesting named) flat)
 
 -- a version has the signs of a tree, where it has `^` or the tree has none
 sign_of_op : (version : Version) (op : Op) → has_differ version || not (is_differ op) ≡ true

@@ -8,8 +8,9 @@ use Rattle.px_expr.specs.Tree.{Tree, leaf_count, HasLeavesBelow}
 use Rattle.px_expr.specs.Tree as shown
 use Rattle.px_expr.specs.declared.node.TheConstants.{MAX_LEAVES, MAX_NESTING}
 use Rattle.px_text.specs.Text.{Words}
-use Rattle.px_show.specs.Expressions.{is_among, tokens_of, Named, leaf, join, leaves, nesting, expression_of}
-use Rattle.px_show.specs.Expressions.{place_of, over_places, are_known, cause_in, limit_in, counts_past, Part, side, token, whole}
+use Rattle.px_show.specs.Expressions.{is_among, tokens_of, Named, leaf, join, leaves, named_nesting, expression_of}
+use Rattle.px_show.specs.Expressions.{place_of, over_places, are_known, cause_in, limit_in, counts_past, Part}
+use Rattle.px_show.specs.Expressions.{side, token, whole}
 use Rattle.px_show.specs.Expressions.{show_cause}
 use Rattle.px_show.specs.Expressions.{show_tree}
 use Rattle.px_show.specs.declared.scene_version.Version.{Version}
@@ -70,7 +71,7 @@ pub same_leaves : (names : Words) (tree : Named) → leaf_count (over_places nam
 same_leaves names (leaf name) = refl
 same_leaves names (join op left right) = omega (arith, same_leaves names left, same_leaves names right)
 
-pub same_nesting : (names : Words) (tree : Named) → shown.nesting (over_places names tree) ≡ nesting tree
+pub same_nesting : (names : Words) (tree : Named) → shown.nesting (over_places names tree) ≡ named_nesting tree
 same_nesting names (leaf name) = refl
 same_nesting names (join op left right) = ap (λ n. n + 1) (cc (same_nesting names left, same_nesting names right))
 
@@ -82,11 +83,11 @@ pub small_steps : (names : Words) (read : List Part) (steps : List Step) → ste
     → judged (cause_in names (whole read)) (limit_in (whole read)) ≡ None
     → (tree : Tree) × (steps ≡ tree_steps tree) × (leaf_count tree ≤ MAX_LEAVES) × (shown.nesting tree ≤ MAX_NESTING)
 small_steps names (side tree ∷ []) steps order e =
-    let small = within (leaves tree) (nesting tree) (by_cause (cause_in names (Some tree)) e)
+    let small = within (leaves tree) (named_nesting tree) (by_cause (cause_in names (Some tree)) e)
     in (over_places names tree, order, rw (same_leaves names tree) small.0, rw (same_nesting names tree) small.1)
   where
-    by_cause : (cause : Option Cause) → judged cause (counts_past (leaves tree) (nesting tree)) ≡ None
-        → counts_past (leaves tree) (nesting tree) ≡ None
+    by_cause : (cause : Option Cause) → judged cause (counts_past (leaves tree) (named_nesting tree)) ≡ None
+        → counts_past (leaves tree) (named_nesting tree) ≡ None
     by_cause None e = e
     by_cause (Some cause) e = cc
 small_steps names [] steps order e = absurd (cc)

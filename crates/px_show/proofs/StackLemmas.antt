@@ -15,7 +15,8 @@ use Rattle.px_num.proofs.TruthLaws.{or_false}
 use Rattle.px_expr.specs.declared.node.Op.{Op}
 use Rattle.px_text.specs.Text.{Words}
 use Rattle.px_show.specs.Expressions.{is_among, opens, sign, other}
-use Rattle.px_show.specs.Expressions.{Named, leaf, join, leaves, nesting, Part, side, token, bracket_closed, whole}
+use Rattle.px_show.specs.Expressions.{Named, leaf, join, leaves, named_nesting, Part, side, token}
+use Rattle.px_show.specs.Expressions.{bracket_closed, whole}
 use Rattle.px_show.specs.Expressions.{place_of, over_places, are_known, cause_in, limit_in, counts_past}
 use Rattle.px_show.specs.Judged.{judged}
 use Rattle.px_show.specs.Stacks.{stack_part, bracketed, closing, nesting_of, tree_steps, all_steps, is_leaf, is_unknown}
@@ -30,7 +31,7 @@ use Rattle.px_show.specs.declared.stack.Step.{Step}
 use Rattle.px_show.specs.declared.stack.Step.TheVariants as s
 
 -- a tree has more steps than it is nested deep
-nesting_below : (names : Words) (tree : Named) → nesting tree < length (tree_steps (over_places names tree))
+nesting_below : (names : Words) (tree : Named) → named_nesting tree < length (tree_steps (over_places names tree))
 nesting_below names (leaf n) = omega arith
 nesting_below names (join op left right) =
     grind (arith, length-append {A = Step}, nesting_below names left, nesting_below names right)
@@ -53,14 +54,17 @@ either : (a b : Bool) → not a || not b ≡ not (a && b)
 either true b = refl
 either false b = refl
 
-some_unknown : (names : Words) (tree : Named) → list_any (is_unknown (length names)) (tree_steps (over_places names tree))
+some_unknown : (names : Words) (tree : Named)
+    → list_any (is_unknown (length names)) (tree_steps (over_places names tree))
     ≡ not (are_known names tree)
 some_unknown names (leaf n) = or_false _ ∙ place_unknown names n
 some_unknown names (join op left right) =
-    list_any-append (is_unknown (length names)) (tree_steps (over_places names left) ++ tree_steps (over_places names right))
+    list_any-append (is_unknown (length names))
+    (tree_steps (over_places names left) ++ tree_steps (over_places names right))
     (s.Join op ∷ [])
     ∙ or_false _
-    ∙ list_any-append (is_unknown (length names)) (tree_steps (over_places names left)) (tree_steps (over_places names right))
+    ∙ list_any-append (is_unknown (length names)) (tree_steps (over_places names left))
+    (tree_steps (over_places names right))
     ∙ rw (some_unknown names left, some_unknown names right) (either (are_known names left) (are_known names right))
 
 reverse_take : {X : Type 0} (xs : List X) (k : ℕ) → k ≤ length xs → reverse (take (length xs - k) xs)
@@ -78,7 +82,7 @@ record IsClosing (read : List Part) (op : Op) (n : ℕ) : Type 0 where
   right : Named
   before : List Part
   shape : read ≡ side right ∷ token (sign op) ∷ side left ∷ token opens ∷ before
-  is : n ≡ min (max (nesting left) (nesting right) + 1) (2 ^ 64 - 1)
+  is : n ≡ min (max (named_nesting left) (named_nesting right) + 1) (2 ^ 64 - 1)
 
 bracket_shape : (a b c d : Part) (before : List Part) (op : Op) (n : ℕ) → Some (op, n) ≡ bracketed (stack_part a)
     (stack_part b) (stack_part c) (stack_part d) → IsClosing (d ∷ c ∷ b ∷ a ∷ before) op n
@@ -95,7 +99,8 @@ bracket_shape (token opens) (side left) (token (sign o)) (token other) before op
 bracket_shape (token opens) (token other) c d before op n e = absurd (cc)
 bracket_shape a b c d before op n e = absurd (cc)
 
-closing_shape : (read : List Part) (op : Op) (n : ℕ) → Some (op, n) ≡ closing (map stack_part read) → IsClosing read op n
+closing_shape : (read : List Part) (op : Op) (n : ℕ) → Some (op, n) ≡ closing (map stack_part read)
+    → IsClosing read op n
 closing_shape (d ∷ c ∷ b ∷ a ∷ before) op n e = bracket_shape a b c d before op n e
 closing_shape [] op n e = absurd (cc)
 closing_shape (d ∷ []) op n e = absurd (cc)
@@ -105,7 +110,7 @@ closing_shape (d ∷ c ∷ b ∷ []) op n e = absurd (cc)
 closed_stack : (names : Words) (parts new_parts : List Kind) (steps new_steps : List Step) (op : Op) (n : ℕ)
     (left right : Named) (before : List Part)
     → AreKept names parts steps (side right ∷ token (sign op) ∷ side left ∷ token opens ∷ before)
-    → n ≡ min (max (nesting left) (nesting right) + 1) (2 ^ 64 - 1)
+    → n ≡ min (max (named_nesting left) (named_nesting right) + 1) (2 ^ 64 - 1)
     → 4 ≤ length parts → length steps < 2 ^ 63 → new_parts ≡ take (length parts - 4) parts ++ p.Side n ∷ []
     → new_steps ≡ steps ++ s.Join op ∷ []
     → AreKept names new_parts new_steps (side (join op left right) ∷ before)
@@ -114,7 +119,7 @@ closed_stack names parts new_parts steps new_steps op n left right before is sam
     in let right_steps = tree_steps (over_places names right)
     in let size : length steps ≡ length (all_steps names before) + length left_steps + length right_steps =
     ap length is.order ∙ grind (arith, length-append {A = Step})
-    in let exact : n ≡ max (nesting left) (nesting right) + 1 =
+    in let exact : n ≡ max (named_nesting left) (named_nesting right) + 1 =
     omega (arith, nesting_below names left, nesting_below names right)
     in record {
       kinds = ap reverse put ∙ reverse-append (take (length parts - 4) parts) (p.Side n ∷ [])
@@ -139,7 +144,7 @@ closes_sides names parts new_parts steps new_steps read op n is e four few put m
 record IsWhole (names : Words) (parts : List Kind) (steps : List Step) (read : List Part) (n : ℕ) : Type 0 where
   tree : Named
   shape : read ≡ side tree ∷ []
-  nested : nesting tree ≡ n
+  nested : named_nesting tree ≡ n
   order : steps ≡ tree_steps (over_places names tree)
 
 whole_stack : (names : Words) (parts : List Kind) (steps : List Step) (read : List Part) (n : ℕ)

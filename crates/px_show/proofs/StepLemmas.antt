@@ -67,7 +67,8 @@ can_join tree steps waiting i step op is lt now here = rw now (rw here at (can_t
 -- behind the last step the tree waits alone
 pub all_built : (tree : Tree) (steps : List Step) (waiting : List Tree) (i : ℕ) → steps ≡ tree_steps tree
     → length steps ≤ i → waiting ≡ fold trees_built [] (take i steps) → waiting ≡ tree ∷ []
-all_built tree steps waiting i is past now = now ∙ ap (fold trees_built []) (take_all i steps past ∙ is) ∙ build_tree [] tree
+all_built tree steps waiting i is past now = now ∙ ap (fold trees_built []) (take_all i steps past ∙ is)
+    ∙ build_tree [] tree
 
 -- what no step makes less is at most what it is of the whole tree
 never_falls : (measure : List Tree → ℕ)
@@ -77,13 +78,16 @@ never_falls measure each trees [] = omega arith
 never_falls measure each trees (step ∷ steps) =
     omega (arith, each trees step, never_falls measure each (trees_built trees step) steps)
 
-at_most : (measure : List Tree → ℕ) → ((trees : List Tree) (step : Step) → measure trees ≤ measure (trees_built trees step))
+at_most : (measure : List Tree → ℕ)
+    → ((trees : List Tree) (step : Step) → measure trees ≤ measure (trees_built trees step))
     → (tree : Tree) (steps : List Step) (waiting : List Tree) (i : ℕ) (step : Step) → steps ≡ tree_steps tree
     → i < length steps
-    → waiting ≡ fold trees_built [] (take i steps) → measure (trees_built waiting (get_or steps i step)) ≤ measure (tree ∷ [])
+    → waiting ≡ fold trees_built [] (take i steps) → measure (trees_built waiting (get_or steps i step)) ≤ measure
+    (tree ∷ [])
 at_most measure each tree steps waiting i step is lt now =
     let after = fold trees_built [] (take (i + 1) steps)
-    in let here : trees_built waiting (get_or steps i step) ≡ after = ap (λ trees. trees_built trees (get_or steps i step)) now
+    in let here : trees_built waiting (get_or steps i step) ≡ after =
+    ap (λ trees. trees_built trees (get_or steps i step)) now
     ∙ sym (fold_more trees_built [] steps i step lt)
     in let last : fold trees_built after (drop (i + 1) steps) ≡ tree ∷ [] =
     sym (fold-append trees_built [] (take (i + 1) steps) (drop (i + 1) steps))

@@ -23,7 +23,8 @@ apart version b x ts = by_test (x == 40) (x == 41)
         by_version true = refl
         by_version false = refl
 
-    by_test : (p q : Bool) → with_name_byte b ((if p then opens else if q then closes else sign_in version (op_of x)) ∷ ts)
+    by_test : (p q : Bool)
+        → with_name_byte b ((if p then opens else if q then closes else sign_in version (op_of x)) ∷ ts)
         ≡ name (b ∷ []) ∷ (if p then opens else if q then closes else sign_in version (op_of x)) ∷ ts
     by_test true q = refl
     by_test false true = refl
@@ -39,7 +40,8 @@ begun version b (x ∷ xs) n e =
     run : ℕ
     run = prefix_len is_name_byte xs
 
-    by_test : (test : Bool) (n : ℕ) (all : List Token) → with_name_byte x (tokens_in version xs) ≡ name (x ∷ take run xs)
+    by_test : (test : Bool) (n : ℕ) (all : List Token) → with_name_byte x (tokens_in version xs)
+        ≡ name (x ∷ take run xs)
         ∷ tokens_in version (drop run xs)
         → n ≡ cond test (1 + run) 0 → all ≡ cond test (with_name_byte x (tokens_in version xs))
         (mark version x ∷ tokens_in version xs) → all ≡ tokens_in version (x ∷ xs)
@@ -54,7 +56,8 @@ first_name version [] n some is e = absurd (omega arith)
 first_name version (b ∷ bs) n some is e = by_test (is_name_byte b) n is e
   where
     by_test : (test : Bool) (n : ℕ) → test ≡ true → n ≡ cond test (1 + prefix_len is_name_byte bs) 0
-        → cond test (with_name_byte b (tokens_in version bs)) (mark version b ∷ tokens_in version bs) ≡ name (take n (b ∷ bs))
+        → cond test (with_name_byte b (tokens_in version bs)) (mark version b ∷ tokens_in version bs)
+        ≡ name (take n (b ∷ bs))
         ∷ tokens_in version (drop n (b ∷ bs))
     by_test true n is e = rw (e ∙ one-add (prefix_len is_name_byte bs)) (begun version b bs _ refl)
     by_test false n is e = cc

@@ -1,9 +1,13 @@
--- Expressions over names: their tokens, how they are written, how they are read, and why those of a `show` line are bad.
+-- Expressions over names: their tokens, how they are written, how they are read, and why those of a `show` line
+-- are bad.
 -- Clauses of public calls stand on it.
 -- Writing and reading agree: what is written is read, and what is read was written (`expression_law` in src/show.rt).
--- Clauses speak of what tokens are read to (`expression_of`), which keeps a stack of parts. It need not be believed: by that
--- law it is the one way to have an expression of which `written` is the tokens, and `written` is what is to be believed.
-use Rattle.std.specs.Prelude.{ℕ, ◌==◌, List, [], ◌∷◌, if◌then◌else◌, Option, Some, None, ◌≡◌, ◌+◌, max, ◌++◌, true, Bool, ◌&&◌, fold, pos, nat_le}
+-- Clauses speak of what tokens are read to (`expression_of`), which keeps a stack of parts. It need not be
+-- believed: by that
+-- law it is the one way to have an expression of which `written` is the tokens, and `written` is what is to be
+-- believed.
+use Rattle.std.specs.Prelude.{ℕ, ◌==◌, List, [], ◌∷◌, if◌then◌else◌, Option, Some, None, ◌≡◌, ◌+◌, max, ◌++◌}
+use Rattle.std.specs.Prelude.{true, Bool, ◌&&◌, fold, pos, nat_le}
 use Rattle.std.specs.List.{flat_map, list_any}
 use Rattle.px_expr.specs.declared.node.Op.{Op}
 use Rattle.px_text.specs.Text.{Words, is_name_byte, is_name}
@@ -82,9 +86,9 @@ leaves (leaf n) = 1
 leaves (join op left right) = leaves left + leaves right
 
 -- how many signs stand above the deepest leaf
-abbrev pub nesting : Named → ℕ
-nesting (leaf n) = 0
-nesting (join op left right) = max (nesting left) (nesting right) + 1
+abbrev pub named_nesting : Named → ℕ
+named_nesting (leaf n) = 0
+named_nesting (join op left right) = max (named_nesting left) (named_nesting right) + 1
 
 -- what tokens are read to: sides, which are whole expressions, and tokens that stand in no side yet
 pub data Part : Type 0 where
@@ -152,12 +156,13 @@ count_past kind limit found = if nat_le found limit then None else Some (f.Limit
 
 -- the leaves and then the nesting, both of the whole expression
 abbrev pub counts_past : ℕ → ℕ → Option (LineFault LimitKind)
-counts_past leaves nesting = option_or (count_past kind.Leaves MAX_LEAVES leaves) (count_past kind.Nesting MAX_NESTING nesting)
+counts_past leaves named_nesting = option_or (count_past kind.Leaves MAX_LEAVES leaves)
+    (count_past kind.Nesting MAX_NESTING named_nesting)
 
 -- the first limit that an expression passes
 abbrev pub limit_in : Option Named → Option (LineFault LimitKind)
 limit_in None = None
-limit_in (Some tree) = counts_past (leaves tree) (nesting tree)
+limit_in (Some tree) = counts_past (leaves tree) (named_nesting tree)
 
 -- why the words of a show line are bad
 abbrev pub show_cause : Version → Words → Words → Option Cause

@@ -1,4 +1,5 @@
--- The text between the sides of an expression that is printed from its last byte to its first. Only proofs and private functions stand on it.
+-- The text between the sides of an expression that is printed from its last byte to its first. Only proofs and
+-- private functions stand on it.
 use Rattle.std.specs.Prelude.{ℕ, ◌+◌, List, [], ◌∷◌, ◌++◌, Option, Some, None, replicate, slice_index_or}
 use Rattle.px_expr.specs.declared.node.Op.{Op}
 use Rattle.px_expr.specs.declared.node.Shape.{Shape}

@@ -1,6 +1,7 @@
 -- Lines that are judged one after another: why a line is bad, the first bad line of a text, and why a text is refused,
 -- whatever has a limit in it. Clauses of public calls stand on it.
-use Rattle.std.specs.Prelude.{ℕ, ℤ, pos, ◌+◌, ◌-ℤ◌, List, [], ◌∷◌, ◌++◌, length, Bool, true, false, ◌&&◌, if◌then◌else◌, Option, Some, None}
+use Rattle.std.specs.Prelude.{ℕ, ℤ, pos, ◌+◌, ◌-ℤ◌, List, [], ◌∷◌, ◌++◌, length, Bool, true, false, ◌&&◌}
+use Rattle.std.specs.Prelude.{if◌then◌else◌, Option, Some, None}
 use lib.Signed.{le_z}
 use Rattle.px_text.specs.Text.{Words}
 use Rattle.px_show.specs.declared.fault.Cause.{Cause}

@@ -1,4 +1,5 @@
--- How an expression is printed: a name, or `(X + Y)` with one space on each side of the sign. Clauses of public calls stand on it.
+-- How an expression is printed: a name, or `(X + Y)` with one space on each side of the sign. Clauses of public
+-- calls stand on it.
 use Rattle.std.specs.Prelude.{◌≢◌, ℕ, List, [], ◌∷◌, ◌++◌, slice_index_or, AllPairs}
 use Rattle.std.specs.List.{AllPass}
 use Rattle.px_expr.specs.Tree.{Tree}

@@ -1,11 +1,13 @@
--- What a stack keeps of the parts of tokens: their kinds, and the steps that build their sides. Only proofs and private functions stand on it.
-use Rattle.std.specs.Prelude.{◌≡◌, ℕ, ◌+◌, ◌-◌, ◌^◌, min, max, List, [], ◌∷◌, ◌++◌, Option, Some, None, Bool, true, false, nat_le, map, reverse}
+-- What a stack keeps of the parts of tokens: their kinds, and the steps that build their sides. Only proofs and
+-- private functions stand on it.
+use Rattle.std.specs.Prelude.{◌≡◌, ℕ, ◌+◌, ◌-◌, ◌^◌, min, max, List, [], ◌∷◌, ◌++◌, Option, Some, None, Bool}
+use Rattle.std.specs.Prelude.{true, false, nat_le, map, reverse}
 use Rattle.px_expr.specs.declared.node.Op.{Op}
 use Rattle.px_expr.specs.Tree.{Tree, leaf, join}
 use Rattle.px_expr.specs.Shapes.{joined}
 use Rattle.px_text.specs.Text.{Words}
 use Rattle.px_show.specs.Expressions as t
-use Rattle.px_show.specs.Expressions.{nesting, side, token, over_places}
+use Rattle.px_show.specs.Expressions.{named_nesting, side, token, over_places}
 use Rattle.px_show.specs.declared.token.Token.{Token}
 use Rattle.px_show.specs.declared.token.Token.TheVariants as d
 use Rattle.px_show.specs.declared.stack.Part.{Part}
@@ -24,7 +26,7 @@ token_of d.Other = t.other
 
 -- what the stack keeps of a part
 abbrev pub stack_part : t.Part → Part
-stack_part (side tree) = p.Side (nesting tree)
+stack_part (side tree) = p.Side (named_nesting tree)
 stack_part (token (t.name n)) = p.Other
 stack_part (token t.opens) = p.Opens
 stack_part (token t.closes) = p.Other

@@ -1,5 +1,6 @@
 -- Lines and words of a text, and the numbers and names among its words. Clauses of public calls stand on it.
-use Rattle.std.specs.Prelude.{ℕ, List, [], ◌∷◌, ◌==◌, ◌||◌, Bool, true, false, filter, map, length, ◌-◌, take, slice_get, if◌then◌else◌, ℤ, pos, ◌^◌, min, ◌&&◌, Option, Some, None, nat_le}
+use Rattle.std.specs.Prelude.{ℕ, List, [], ◌∷◌, ◌==◌, ◌||◌, Bool, true, false, filter, map, length, ◌-◌, take}
+use Rattle.std.specs.Prelude.{slice_get, if◌then◌else◌, ℤ, pos, ◌^◌, min, ◌&&◌, Option, Some, None, nat_le}
 use Rattle.std.specs.Option.{option_map_or}
 use Rattle.std.specs.List.{slice_split, before_first, list_all}
 use Rattle.std.specs.Int.Digits.{number_from_digits}
@@ -48,7 +49,8 @@ is_digit b = nat_le 48 b && nat_le b 57
 
 -- the value of decimal digits; a size past 10 ^ 18 stands for 10 ^ 18
 abbrev pub size_of_digits : List ℕ → Option ℕ
-size_of_digits ds = if is_some_byte ds && list_all is_digit ds then Some (min (number_from_digits 10 (map (λ b. b - 48) ds)) (10 ^ 18)) else None
+size_of_digits ds = if is_some_byte ds && list_all is_digit ds
+    then Some (min (number_from_digits 10 (map (λ b. b - 48) ds)) (10 ^ 18)) else None
 
 -- a size behind a `-`
 abbrev pub negative : Option ℕ → Option ℤ

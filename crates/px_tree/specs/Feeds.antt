@@ -1,4 +1,5 @@
--- The lines on which a linear form comes into the tree, and the tree after so many feeds of them. Clauses of public calls stand on it.
+-- The lines on which a linear form comes into the tree, and the tree after so many feeds of them. Clauses of
+-- public calls stand on it.
 use Rattle.std.specs.Prelude.{ℕ, zero, suc, ◌+◌, ◌-◌, ℤ, Bool, false, if◌then◌else◌, nat_lt}
 use Rattle.px_num.specs.Bits.{bit_of}
 use Rattle.px_num.specs.declared.linear.Linear.{Linear}

@@ -2,7 +2,8 @@
 -- Clauses of public calls stand on it.
 -- Node i of level k stands at place 2^k + i, so that its parent stands at half its place. Place 1 is the root, where
 -- line c comes in, and place 0 is free; both stay 0.
-use Rattle.std.specs.Prelude.{ℕ, ◌+◌, ◌*◌, ◌/◌, ◌%◌, ◌^◌, ◌≤◌, ◌==◌, Bool, true, false, if◌then◌else◌, nat_lt, List, get_or, replicate}
+use Rattle.std.specs.Prelude.{ℕ, ◌+◌, ◌*◌, ◌/◌, ◌%◌, ◌^◌, ◌≤◌, ◌==◌, Bool, true, false, if◌then◌else◌, nat_lt}
+use Rattle.std.specs.Prelude.{List, get_or, replicate}
 use Rattle.px_num.specs.Bits.{majority, xor}
 use Rattle.px_num.specs.Lists.{tabulate}
 use Rattle.px_tree.specs.declared.node.Node.{Node}

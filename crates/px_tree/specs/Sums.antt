@@ -1,5 +1,6 @@
 -- The sums that come together in the tree while one linear form is fed. Clauses of public calls stand on it.
-use Rattle.std.specs.Prelude.{◌≡◌, ℕ, zero, suc, ◌+◌, ◌-◌, ◌/◌, ◌%◌, ◌^◌, ◌<◌, ◌≤◌, ◌==◌, ℤ, pos, ◌+ℤ◌, ◌*ℤ◌, false, ◌&&◌, if◌then◌else◌, nat_lt}
+use Rattle.std.specs.Prelude.{◌≡◌, ℕ, zero, suc, ◌+◌, ◌-◌, ◌/◌, ◌%◌, ◌^◌, ◌<◌, ◌≤◌, ◌==◌, ℤ, pos, ◌+ℤ◌, ◌*ℤ◌}
+use Rattle.std.specs.Prelude.{false, ◌&&◌, if◌then◌else◌, nat_lt}
 use Rattle.px_num.specs.Bits.{carry_from}
 use Rattle.px_num.specs.declared.linear.Linear.{Linear}
 use Rattle.px_tree.specs.declared.node.Node.{Node}
@@ -22,7 +23,8 @@ partial_sum form nx ny (suc k) index =
 abbrev pub held_node : Linear → (nx ny s k index : ℕ) → Node
 held_node form nx ny s k index = record {
   output = delayed_bit (suc k) (partial_sum form nx ny (suc k) index) s;
-  carry = (index % 2 == 1) && carry_from false (partial_sum form nx ny k (index / 2)) (weight form nx ny (suc k)) (s - k);
+  carry = (index % 2 == 1) && carry_from false (partial_sum form nx ny k (index / 2)) (weight form nx ny (suc k))
+      (s - k);
 }
 
 -- every node of a tree holds what s feeds of a form leave there

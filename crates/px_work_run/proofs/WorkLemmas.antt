@@ -81,7 +81,8 @@ performs : (result : Result (Unit {0}) Stop) (work : Work) (taken : List ℕ) (b
     → Consumes before.rest after.rest taken → WorksOn result work (bytes_of before.rest taken) bits before after
     → PerformsWork work result bits before after
 performs result work taken bits before after consumed works =
-    performs_over result (λ bytes. worked_out work bytes bits) (λ input. LeavesWork work result bits input.bytes before after)
+    performs_over result (λ bytes. worked_out work bytes bits)
+        (λ input. LeavesWork work result bits input.bytes before after)
     before after taken consumed works.meets
     (record { wrote = works.writes; array = works.array })
 
@@ -145,7 +146,8 @@ read_works work bytes bits (s.Refused reason) before after m n read idle = absur
 read_works work bytes bits s.WriteFault before after m n read idle = absurd read
 
 -- the work stops at a read
-pub performs_read : (result : Result (Unit {0}) Stop) (work : Work) (bits : ℕ) (stop : Stop) (before after : Ends) (m n : ℕ)
+pub performs_read : (result : Result (Unit {0}) Stop) (work : Work) (bits : ℕ) (stop : Stop) (before after : Ends)
+    (m n : ℕ)
     → result ≡ Err stop → IsReadStop stop m n → IsUntouched before after → ConsumesAtMost before.rest after.rest 1048577
     → PerformsWork work result bits before after
 performs_read result work bits stop before after m n is read idle (taken, consumed, few) =
@@ -158,7 +160,8 @@ text_meets work bytes bits (s.Refused reason) is = rw is refl
 text_meets work bytes bits (s.Memory _) is = tt
 text_meets work bytes bits other is = absurd is
 
-text_writes : (stop : Stop) (bytes text : List ℕ) (before after : SinkState) → IsTextStop stop bytes → TakesNone before after
+text_writes : (stop : Stop) (bytes text : List ℕ) (before after : SinkState) → IsTextStop stop bytes
+    → TakesNone before after
     → Wrote (Err stop) text before after
 text_writes (s.Refused reason) bytes text before after is idle = idle
 text_writes (s.Memory _) bytes text before after is idle = idle
@@ -211,7 +214,8 @@ works_text result work bytes lent bits stop before after at same is idle =
 pub works_scene : (result : Result (Unit {0}) Stop) (work : Work) (bytes lent : List ℕ) (bits : ℕ) (scene : SceneView)
     (before after : Ends) → lent ≡ bytes → text_refusal lent ≡ None → scene ≡ scene_of (worded lent)
     → DoesWork result (made work scene bits) before.out after.out
-    → LeavesArray work (status_in result) bits scene before.array after.array → WorksOn result work bytes bits before after
+    → LeavesArray work (status_in result) bits scene before.array after.array
+        → WorksOn result work bytes bits before after
 works_scene result work bytes lent bits scene before after same good is serves array =
     let here : worked_out work bytes bits ≡ made work scene bits = rw (← same, good, is) refl in
     record {

@@ -1,4 +1,5 @@
--- What is made of the scene that is the whole input, and what is left of the array. Clauses of public calls stand on it.
+-- What is made of the scene that is the whole input, and what is left of the array. Clauses of public calls
+-- stand on it.
 use Rattle.std.specs.Prelude.{◌≡◌, ℕ, List, [], ◌∷◌, Result, length}
 use Rattle.px_array.specs.Slots.{ArrayView}
 use Rattle.px_scene.specs.Scenes.{names_of, SceneView}
@@ -63,7 +64,8 @@ worked_out work bytes bits = unless_refused (text_refusal bytes) (made work (sce
 abbrev pub LeavesArray : Work → Status → (bits : ℕ) → SceneView → (before now : ArrayView) → Type 0
 LeavesArray w.Render status bits scene before now = Draws status bits scene before now
 LeavesArray w.Colour status bits scene before now = Draws status bits scene before now
-LeavesArray (w.Refine fineness) status bits scene before now = Draws status bits (fine_scene (doublings fineness) scene) before now
+LeavesArray (w.Refine fineness) status bits scene before now =
+    Draws status bits (fine_scene (doublings fineness) scene) before now
 LeavesArray (w.Tile size) status bits scene before now = DrawsTiles status bits size scene before now
 LeavesArray work status bits scene before now = now ≡ before
 
@@ -76,4 +78,5 @@ LeavesWork work result bits bytes before after =
 -- what the command does over an input
 abbrev pub PerformsWork : Work → Result (Unit {0}) Stop → (bits : ℕ) → (before after : Ends) → Type 0
 PerformsWork work result bits before after =
-    PerformsOver result (λ bytes. worked_out work bytes bits) (λ input. LeavesWork work result bits input.bytes before after) before after
+    PerformsOver result (λ bytes. worked_out work bytes bits)
+        (λ input. LeavesWork work result bits input.bytes before after) before after

@@ -1,7 +1,7 @@
 use Rattle.std.proofs.Common.{◌≡◌, ◌+◌, ◌^◌, ◌<◌, arith}
 use Rattle.px_io.proofs.ToldLaws.{front_before, on_err}
 use Rattle.px_frame.specs.Picture.{header, row_of_pixels}
-use Rattle.px_frame.specs.Rows.{field_of}
+use Rattle.px_frame.specs.Rows.{field_shown}
 use Rattle.px_frame.specs.Stored.{stored_pixel}
 use Rattle.px_frame.proofs.RowLaws.{other_row, row_shown, rows_broken, rows_grown}
 use Rattle.px_frame.proofs.image.write_picture.Goals as goal
@@ -34,7 +34,7 @@ loop-y-preserved g c =
     in let next = rw (c.as_slice.ensures.value, c.row_bytes-row.ensures, shown) at c.in_ok-write_whole-2.ensures.ok
     in record {
       front = rows_grown _ _ _ above row y c.loop-y.invariant.front next;
-      strip = λ further. other_row _ (field_of c.args.layout.now c.args.plane) state c.args.scene.now.width y (y + 1)
+      strip = λ further. other_row _ (field_shown c.args.layout.now c.args.plane) state c.args.scene.now.width y (y + 1)
           (omega (arith, further)) held;
       calm = grind (arith, c.loop-y.invariant.calm, c.in_ok-write_whole-2.ensures.cause.calm);
     }

@@ -3,7 +3,7 @@ use Rattle.std.specs.List.{flat_map, range_with_len}
 use Rattle.px_io.specs.Told.{TakesAll}
 use Rattle.px_frame.specs.Picture.{header, row_of_pixels}
 use Rattle.px_frame.specs.Stored.{stored_pixel}
-use Rattle.px_frame.specs.Rows.{field_of}
+use Rattle.px_frame.specs.Rows.{field_shown}
 use Rattle.px_frame.specs.Strips.{HoldsRow}
 use Rattle.px_frame.proofs.image.write_picture.Given as goal
 
@@ -14,6 +14,6 @@ invariant-loop-y g l =
     in record {
       front : TakesAll (g.O.Sink.state l.fn.out) (g.O.Sink.state l.out)
           (header l.scene.width l.scene.height ++ flat_map row (range_with_len 0 l.y));
-      strip : l.y % 8 ≢ 0 → HoldsRow l.strip (field_of l.layout l.plane) state l.scene.width l.y;
+      strip : l.y % 8 ≢ 0 → HoldsRow l.strip (field_shown l.layout l.plane) state l.scene.width l.y;
       calm : (g.O.Sink.state l.out).faults ≡ (g.O.Sink.state l.fn.out).faults;
     }

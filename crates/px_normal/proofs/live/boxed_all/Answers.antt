@@ -18,11 +18,13 @@ products_more before boxed products i product within known same =
 boxed_more : (boxes : ℕ → Option CellBox) (before : List Boxed) (boxed : Boxed) → All (IsBoxed boxes) before
     → IsBoxed boxes boxed → All (IsBoxed boxes) (before ++ boxed ∷ [])
 boxed_more boxes before boxed known is =
-    All-append (IsBoxed boxes) before (boxed ∷ []) known (All-cons (IsBoxed boxes) boxed [] is (All-nil (IsBoxed boxes)))
+    All-append (IsBoxed boxes) before (boxed ∷ []) known
+    (All-cons (IsBoxed boxes) boxed [] is (All-nil (IsBoxed boxes)))
 
 pub loop-product-preserved : goal.loop-product-preserved
 loop-product-preserved c = rw c.in_ok-push.ensures.items (record {
-  products = products_more c.loop-product.list.items c.new.result c.args.products.now c.loop-product.product-index _ c.loop-product-test.true
+  products = products_more c.loop-product.list.items c.new.result c.args.products.now c.loop-product.product-index _
+      c.loop-product-test.true
       c.loop-product.invariant.products c.new.ensures.product;
   boxed = boxed_more _ c.loop-product.list.items c.new.result c.loop-product.invariant.boxed c.new.ensures.boxed;
 })

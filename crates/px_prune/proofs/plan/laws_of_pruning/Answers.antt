@@ -11,7 +11,8 @@ pub returns-clause-law : goal.returns-clause-law
 returns-clause-law c scene lawful products x y z left up before =
     let near_x : x < 2 ^ 32 = omega (arith, left, lawful.sizes.width_limit)
     in let near_y : y < 2 ^ 32 = omega (arith, up, lawful.sizes.height_limit)
-    in let near_z : z < 2 ^ 32 = omega (arith, before, small_far scene.depth_bits (omega (arith, lawful.sizes.depth_limit)))
+    in let near_z : z < 2 ^ 32 =
+    omega (arith, before, small_far scene.depth_bits (omega (arith, lawful.sizes.depth_limit)))
     in let at = leaf_cell scene.solids (depths_of scene) x y z
     in let fits = boxes_have_cells scene (bounding_box scene) (bounding_is scene) x y left up z
     in record {

@@ -19,7 +19,8 @@ loop-block-preserved c =
     let w = c.add_value_block.ensures in
     let s = c.step_block-lanes.ensures in
     let next : block + 1 ≡ suc block = omega arith in
-    let lane : (k j : ℕ) → 8 * block ≤ k → k < 8 * block + 8 → j < 64 → nat_bit (get_or l.lanes (k - 8 * block) 0) j ≡ value (64 * k + j) =
+    let lane : (k j : ℕ) → 8 * block ≤ k → k < 8 * block + 8 → j < 64 → nat_bit (get_or l.lanes (k - 8 * block) 0) j
+        ≡ value (64 * k + j) =
     λ k j low high small.
     let here : 64 * k + j - 512 * block < 512 = omega arith in
     let word : (64 * k + j - 512 * block) / 64 ≡ k - 8 * block = omega arith in
@@ -28,17 +29,20 @@ loop-block-preserved c =
     let place : (64 * k + j) % 512 ≡ 64 * k + j - 512 * block = omega arith in
     rw (in_block, place) (rw (word, bit) at (i.lanes (64 * k + j - 512 * block) here)) in
     record {
-      target = bits_more _ (λ p. cond (row_bit mask p) (xor (value p) (xor (row_bit target p) (row_bit second p))) (row_bit target p))
+      target = bits_more _ (λ p. cond (row_bit mask p) (xor (value p) (xor (row_bit target p) (row_bit second p)))
+          (row_bit target p))
           block l.target c.add_value_block.new.target w.added i.target
           (λ k low high h j small.
           let word : (64 * k + j) / 64 ≡ k = omega arith in
           let bit : (64 * k + j) % 64 ≡ j = omega arith in
           rw (← lane k j low high small, word, bit, ← i.rest k low, ← i.rest_second k low) (h.each j small));
-      first = bits_more _ (λ p. majority (value p) step (row_bit first p)) block l.first c.step_block-lanes.new.carry s.carried i.first
+      first = bits_more _ (λ p. majority (value p) step (row_bit first p)) block l.first c.step_block-lanes.new.carry
+          s.carried i.first
           (λ k low high h j small.
           let word : (64 * k + j) / 64 ≡ k = omega arith in
           let bit : (64 * k + j) % 64 ≡ j = omega arith in
-          rw (← lane k j low high small, word, bit, ← i.rest_first k low, ← c.all_of-word.ensures.each j small) (h.each j small));
+          rw (← lane k j low high small, word, bit, ← i.rest_first k low, ← c.all_of-word.ensures.each j small)
+              (h.each j small));
       second = bits_more _ (λ p. majority (value p) (row_bit target p) (row_bit second p)) block l.second
           c.add_value_block.new.carry w.carried i.second
           (λ k low high h j small.
@@ -54,7 +58,8 @@ loop-block-preserved c =
           let word : (512 * block + j) / 64 ≡ 8 * block + j / 64 = omega arith in
           let bit : (512 * block + j) % 64 ≡ j % 64 = omega arith in
           let past : 8 * block ≤ 8 * block + j / 64 = omega arith in
-          rw (next, ← i.lanes j small, word, bit, ← i.rest_first (8 * block + j / 64) past, ← c.all_of-word.ensures.each (j % 64) in_word)
+          rw (next, ← i.lanes j small, word, bit, ← i.rest_first (8 * block + j / 64) past,
+              ← c.all_of-word.ensures.each (j % 64) in_word)
           ((s.stepped (j / 64) in_block).each (j % 64) in_word);
     }
 
