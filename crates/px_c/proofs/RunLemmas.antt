@@ -43,7 +43,7 @@ debugged_whole bits text bytes is =
     let scene = scene_written (scene_part_of text) in
     let need = need_of (layout_of scene) in
     sitting_whole (is_long text && not (has_part text)) (is_long text && not (has_quit (whole_commands text)))
-        (nat_lt bits need)
+    (nat_lt bits need)
     (text_refusal (scene_part_of text)) need (crowd_of scene) (answers bits (session_of text) (whole_commands text))
     (answers bits (session_of text) (until_quit (all_commands text))) bytes is
 
@@ -73,7 +73,7 @@ comes_whole command bits u before after text bytes performs rest empty now =
 -- and where it does not come, that is for the reason of the text, or a fault
 pub comes_not : (command : Option Command) (bits : ℕ) (stop : Stop) (before after : Ends) (text : List ℕ)
     → Performs (Err stop) command bits before after → before.rest ≡ Some text
-        → Meets (Err stop) (commanded command text bits)
+    → Meets (Err stop) (commanded command text bits)
 comes_not command bits stop before after text performs rest =
     let is : performs.input.bytes ≡ text = rw rest at performs.known in
     subst (λ t. Meets (Err stop) (commanded command t bits)) is performs.meets

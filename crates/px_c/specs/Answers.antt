@@ -71,7 +71,7 @@ unless_refused None answer = answer
 abbrev pub within_room : (room due : ℕ) → Found → Answer
 within_room room due found =
     if nat_lt room due then record { status = NO_ROOM; found = record found { room = due } }
-        else record { status = OK; found = found }
+    else record { status = OK; found = found }
 
 -- how many pixels the picture has
 abbrev pub pixels_of : SceneView → ℕ

@@ -20,7 +20,7 @@ kind_names =
     [] ∷ scene_word k.Text ∷ scene_word k.Picture ∷ scene_word k.Depth ∷ scene_word k.Colour ∷ scene_word k.Coefficient
     ∷ scene_word k.Solids ∷ scene_word k.Fronts ∷ scene_word k.Backs ∷ scene_word k.Sides ∷ scene_word k.Faces
     ∷ scene_word k.Leaves ∷ scene_word k.Nesting ∷ scene_word k.Fraction ∷ scene_word k.PixelMemory
-        ∷ scene_word k.Products
+    ∷ scene_word k.Products
     ∷ list_word l.Grid ∷ list_word l.Coefficient ∷ list_word l.Length ∷ list_word l.Place ∷ list_word l.Value
     ∷ list_word l.Overlap ∷ kind_word any.Lights ∷ kind_word any.Tiles ∷ []
 

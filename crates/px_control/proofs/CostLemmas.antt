@@ -109,15 +109,15 @@ module _ (count : EdgesAreCounted) (scene : SceneView) (measure : Measure) where
         → sum_by (worth scene measure) (operations scene l step) ≡ rated rates scene (first_face_step step)
     rated_is (Candidate solid face) there =
         rw (are.faces.candidate, are.faces.edge)
-            (weighed count scene l (worth scene measure) blind (Candidate solid face) there)
+        (weighed count scene l (worth scene measure) blind (Candidate solid face) there)
     rated_is (Drop solid face) there =
         rw (are.faces.drop, are.faces.edge) (weighed count scene l (worth scene measure) blind (Drop solid face) there)
     rated_is (Front solid face) there =
         rw (are.faces.front, are.faces.edge)
-            (weighed count scene l (worth scene measure) blind (Front solid face) there)
+        (weighed count scene l (worth scene measure) blind (Front solid face) there)
     rated_is (Turn other solid face) there =
         rw (are.faces.turn, are.faces.edge)
-            (weighed count scene l (worth scene measure) blind (Turn other solid face) there)
+        (weighed count scene l (worth scene measure) blind (Turn other solid face) there)
     rated_is step there = omega (arith, are, weighed count scene l (worth scene measure) blind step there)
 
     -- what is told of the products that are kept

@@ -91,13 +91,13 @@ module _ (f : Literal → ℕ) (p : Product) where
     never_both : (q : ℕ) → q < 256 → has p.plain q ≡ true → has p.barred q ≡ true → ⊥
     never_both q low plain barred =
         let void : is_void p ≡ true = any_in (has p.barred) (solids p.plain) q (in_solids_of p.plain q low plain)
-            barred in
+        barred in
         cc
 
     -- what holds of nothing, of what is plain and of what is barred
     held_each : (q : ℕ) → q < 256 → (P : ℕ → Type 0) → (has p.plain q ≡ false → has p.barred q ≡ false → P 0)
         → (has p.plain q ≡ true → P (f (literal true q))) → (has p.barred q ≡ true → P (f (literal false q)))
-            → P (held q)
+        → P (held q)
     held_each q low P none plain barred = by_kind (has p.plain q) (has p.barred q) refl refl where
       by_kind : (a b : Bool) → has p.plain q ≡ a → has p.barred q ≡ b
           → P (cond a (f (literal true q)) 0 + cond b (f (literal false q)) 0)
@@ -172,7 +172,7 @@ all_shares own others f (x ∷ xs) each =
     let whole : sum_by (λ y. own y + others y) (x ∷ xs) + (all + n * all)
     ≡ sum_by (λ y. own y + n * f y) (x ∷ xs) + suc n * all = spread own others f n all (x ∷ xs) each in
     let same : sum_by (λ y. own y + others y) (x ∷ xs) ≡ sum_by (λ y. own y + n * f y) (x ∷ xs) =
-        omega (arith, whole) in
+    omega (arith, whole) in
     same ∙ ap (λ k. sum_by (λ y. own y + k * f y) (x ∷ xs)) less
 
 -- the steps of a product, and of products, where each is worth what the first of its kind is
@@ -225,7 +225,7 @@ module _ (w : SolidView → ℕ) (ss : List SolidView) where
 
   pub literals_few : (f : Literal → ℕ) (p : Product) → HasSolidsBelow (length ss) p → is_void p ≡ false
       → ((q : Literal) → q.solid < length ss → f q ≤ w (get_or ss q.solid no_solid))
-          → sum_by f (literals p) ≤ sum_by w ss
+      → sum_by f (literals p) ≤ sum_by w ss
   literals_few f p known apart few = in_all 256 refl where
     in_all : (n : ℕ) → n ≡ 256 → sum_by f (literals p) ≤ sum_by w ss
     in_all n all =
@@ -234,7 +234,7 @@ module _ (w : SolidView → ℕ) (ss : List SolidView) where
           by_solids f p n all,
           solids_above (held f p) n
               (λ q low there. held_each f p apart q (omega arith) (λ k. k ≤ w (get_or ss q no_solid))
-                  (λ _ _. omega arith)
+              (λ _ _. omega arith)
               (λ is. few (literal true q) there) (λ is. few (literal false q) there))
               (λ q low past. held_each f p apart q (omega arith) (λ k. k ≡ 0) (λ _ _. refl)
               (λ is. absurd (omega (arith, known.0 q (omega arith) is)))

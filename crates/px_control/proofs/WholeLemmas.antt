@@ -75,7 +75,7 @@ pub near_more : StayInAgreement → (bits : ℕ) (scene : SceneView) (p : Place)
     → end ≡ p.clock + (cycles_in scene m - p.micro) → IsNear bits scene end now
 near_more law bits scene p m before now end grid lawful stands e first places near operated end_is =
     let agree = law bits (columns_of scene) (rows_of scene) grid m places before now
-        (array_after bits scene p.clock).state
+    (array_after bits scene p.clock).state
     near.agree operated in
     let state = state_more bits scene p m lawful stands e first near.enough in
     let count = cycles_here scene m before near.agree.first.columns near.agree.first.rows in
@@ -155,7 +155,7 @@ pub near_end : BecomeTheSame → (bits : ℕ) (scene : SceneView) (p : Place) (b
     → HaveLawfulPasses scene
     → (more : (m : Macro) → IsLawful m (need_of (layout_of scene)) → IsLawful m bits)
     → StandsFor scene p → p.micro ≡ 0 → p.operation ≤ j → AllRenewed scene p.operation j
-        → IsNear bits scene p.clock before
+    → IsNear bits scene p.clock before
     → after_left scene j j now ≡ after_left scene p.operation j before → IsAt bits scene (start_of scene j) now
 unfolding array_after
 near_end law bits scene p before now j lawful more stands first low anew near left =
@@ -191,7 +191,7 @@ near_end law bits scene p before now j lawful more stands first low anew near le
       reached = done
           ∙ (ap (λ (s : State). record { state = s; clocks = before.clocks + length (all_micros ops nx ny) }) state
           ∙ ap (λ n. record { state = after_clocks (take (start_of scene j) (program scene)) zeros; clocks = n })
-              count);
+          count);
     }
   where
     now_is : (d : Device) → d ≡ all_clocked [] d
@@ -218,7 +218,7 @@ clock_there scene p j stands first at =
 pub renewed_there : BecomeTheSame → (bits : ℕ) (scene : SceneView) (p q : Place) (before now : Device) (j : ℕ)
     → HaveLawfulPasses scene → (more : (m : Macro) → IsLawful m (need_of (layout_of scene)) → IsLawful m bits)
     → StandsFor scene p → p.micro ≡ 0 → p.operation ≤ j → AllRenewed scene p.operation j
-        → IsNear bits scene p.clock before
+    → IsNear bits scene p.clock before
     → StandsFor scene q → q.micro ≡ 0 → q.operation ≡ j
     → after_left scene q.operation j now ≡ after_left scene p.operation j before → IsAt bits scene q.clock now
 renewed_there law bits scene p q before now j lawful more from first low anew near there again at left =
@@ -242,8 +242,12 @@ sized_more scene n end m before now sized is end_is =
     record {
       columns = ap (λ (d : Device). d.state.tree.nx) is ∙ (nx-after_clocks ms before.state ∙ sized.columns);
       rows = ap (λ (d : Device). d.state.tree.ny) is ∙ (ny-after_clocks ms before.state ∙ sized.rows);
-      clocks = omega (arith, ap (λ (d : Device). d.clocks) is, count_of_them m (columns_of scene) (rows_of scene),
-          sized.clocks);
+      clocks = omega (
+        arith,
+        ap (λ (d : Device). d.clocks) is,
+        count_of_them m (columns_of scene) (rows_of scene),
+        sized.clocks,
+      );
     }
 
 -- ---- where each part is begun anew

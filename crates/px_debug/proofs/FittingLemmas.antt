@@ -28,7 +28,7 @@ fits_session bits c v device slots scene now quarter few course = record {
       let q : quarter_of v.scene ≡ c.quarter = ap quarter_of scene ∙ sym quarter in
       let p : k * c.quarter ≤ c.job.place.clock = rw (q, now) at passed in
       rw (q, scene) (course.keeps.kept k
-          (was_passed c.quarter c.passed c.job.place.clock k course.marked course.marks.few
+      (was_passed c.quarter c.passed c.job.place.clock k course.marked course.marks.few
       low p));
   only = λ k. rw (ap quarter_of scene ∙ sym quarter, scene) (course.keeps.only k);
 }

@@ -16,7 +16,7 @@ abbrev pub place_line : SceneView → (now : ℕ) → List ℕ
 place_line scene now =
     if nat_lt now (total scene)
     then codes "at " ++ decimal now ++ codes " of " ++ decimal (total scene) ++ codes " macro "
-        ++ decimal (operation_at scene now)
+    ++ decimal (operation_at scene now)
     ++ codes " micro " ++ decimal (micro_at_clock scene now) ++ codes "\n"
     else codes "at " ++ decimal now ++ codes " of " ++ decimal (total scene) ++ codes " done\n"
 

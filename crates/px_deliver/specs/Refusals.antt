@@ -17,4 +17,4 @@ too_many_of (Some count) = Some (f.Products count)
 abbrev pub job_refusal : (bits : ℕ) → SceneView → Option JobFault
 job_refusal bits scene =
     if nat_lt bits (need_of (layout_of scene)) then Some (f.PixelMemory (need_of (layout_of scene)))
-        else too_many_of (crowd_of scene)
+    else too_many_of (crowd_of scene)

@@ -30,12 +30,12 @@ drawn : (bits : ℕ) (scene : SceneView) (whole : Outcome) → job_refusal bits 
     ≡ whole
 drawn bits scene whole = by_bits (nat_lt bits (need_of (layout_of scene))) (need_of (layout_of scene))
     (crowd_of scene) whole where
-  by_bits : (short : Bool) (need : ℕ) (crowd : Option ℕ) (whole : Outcome)
-      → (if short then Some (f.PixelMemory need) else too_many_of crowd) ≡ None
-      → (if short then out.refused (short_of_bits need) else refused_past crowd whole) ≡ whole
-  by_bits true need crowd whole e = absurd cc
-  by_bits false need None whole e = refl
-  by_bits false need (Some n) whole e = absurd cc
+      by_bits : (short : Bool) (need : ℕ) (crowd : Option ℕ) (whole : Outcome)
+          → (if short then Some (f.PixelMemory need) else too_many_of crowd) ≡ None
+          → (if short then out.refused (short_of_bits need) else refused_past crowd whole) ≡ whole
+      by_bits true need crowd whole e = absurd cc
+      by_bits false need None whole e = refl
+      by_bits false need (Some n) whole e = absurd cc
 
 -- and where it comes whole, the array can
 drawn_back : (bits : ℕ) (scene : SceneView) (maps rest : List ℕ) → drawable bits scene (done maps) ≡ done rest
@@ -63,12 +63,12 @@ never_memory text = by_length (nat_lt MAX_TEXT_BYTES (length text)) where
   by_length : (long : Bool)
       → (if long then Some (s.Limit 0 kind.Text (pos (MAX_TEXT_BYTES + 1)))
       else refused (first_bad fault_behind [] (worded text)) (is_nothing (draft_of (worded text)).due)
-          (length (lines_of text)))
+      (length (lines_of text)))
       ≡ Some (s.Memory want) → ⊥
   by_length true e = absurd cc
   by_length false e =
       not_memory (first_bad fault_behind [] (worded text)) (is_nothing (draft_of (worded text)).due)
-          (length (lines_of text)) e
+      (length (lines_of text)) e
 
 pub rendered_is_accepted : RenderedIsAccepted
 rendered_is_accepted text bits maps e = by_refusal (refusal_of text) refl e where

@@ -34,8 +34,14 @@ pub run_stopped : (words : List (List ℕ)) (bits : ℕ) (stop : Stop) (found : 
     → found ≡ status_of stop → line ≡ note_of stop → IsTold line notes noted
     → IsRunOf words bits found (with_notes before notes) (with_notes after noted)
 run_stopped words bits stop found line before after notes noted performs causes is same told =
-    record { result = Err stop; status = is; performs = performs; causes = causes; noted =
-        subst (λ l. IsTold l notes noted) same told }
+    record {
+      result = Err stop;
+      status = is;
+      performs = performs;
+      causes = causes;
+      noted =
+          subst (λ l. IsTold l notes noted) same told;
+    }
 
 -- words that name no command
 pub performs_usage : (command : Option Command) (bits : ℕ) (ends : Ends) → command ≡ None
@@ -44,16 +50,16 @@ performs_usage (Some command) bits ends none = cc
 performs_usage None bits ends none =
     performs_over (Err s.Usage) (λ bytes. commanded None bytes bits)
     (λ input. Leaves None (Err s.Usage) bits input ends ends) ends ends [] (consumes_none ends.rest) refl
-        (still ends ends refl refl)
+    (still ends ends refl refl)
 
 -- what is done for the outcome of the sample is what the command does
 pub performs_sample : (result : Result (Unit {0}) Stop) (command : Option Command) (n bits : ℕ) (before after : Ends)
     → command ≡ Some (c.Sample n) → after.rest ≡ before.rest → DoesWork result (sampled n bits) before.out after.out
     → Draws (status_in result) bits (sample_scene n) before.array after.array
-        → Performs result command bits before after
+    → Performs result command bits before after
 performs_sample result command n bits before after is same serves array =
     subst (λ x. Performs result x bits before after) (sym is)
     (performs_over result (λ bytes. commanded (Some (c.Sample n)) bytes bits)
     (λ input. Leaves (Some (c.Sample n)) result bits input before after) before after []
-        (rw same (consumes_none before.rest)) serves.meets
+    (rw same (consumes_none before.rest)) serves.meets
     (record { wrote = serves.writes; array = (serves.reads, array) }))

@@ -52,7 +52,7 @@ Leaves (Some c.Play) result bits input before after = LeavesPlayed result bits i
 abbrev pub Performs : Result (Unit {0}) Stop → Option Command → (bits : ℕ) → (before after : Ends) → Type 0
 Performs result command bits before after =
     PerformsOver result (λ bytes. commanded command bytes bits)
-        (λ input. Leaves command result bits input before after) before after
+    (λ input. Leaves command result bits input before after) before after
 
 -- a run of these words, on an array with pixels of so many bits, comes to a result of this status
 pub record IsRunOf (words : List (List ℕ)) (bits : ℕ) (found : Status) (before after : AllEnds) : Type 0 where

@@ -49,7 +49,7 @@ performs_over result answer Leaves before after taken consumed meets leaves = re
 -- what is so of a text that was read is so of the input, where it is so of a text whose front it is so of
 pub of_known : (P : List ℕ → Type 0) (known : Option (List ℕ)) (text : List ℕ)
     → ((bytes : List ℕ) → P (take 1048577 bytes) → P bytes) → IsFrontOf known 1048577 text → P text
-        → P (bytes_of known text)
+    → P (bytes_of known text)
 of_known P None text grows front p = p
 of_known P (Some bytes) text grows front p = grows bytes (subst P front p)
 

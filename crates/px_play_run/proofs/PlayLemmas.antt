@@ -131,11 +131,19 @@ performs_unread result bits stop before after m n is read idle (taken, consumed,
 text_plays : (bytes : List ℕ) (bits : ℕ) (stop : Stop) (before after : Ends)
     → IsListStop stop bits bytes → IsUntouched before after → PlaysOn (Err stop) bytes bits before after
 text_plays bytes bits (s.Refused (r.Malformed line cause)) before after is idle =
-    record { meets = ap refusal (refused_out bits bytes (r.Malformed line cause) is); writes = idle.out; array =
-        idle.array }
+    record {
+      meets = ap refusal (refused_out bits bytes (r.Malformed line cause) is);
+      writes = idle.out;
+      array =
+          idle.array;
+    }
 text_plays bytes bits (s.Refused (r.Limit line kind found)) before after is idle =
-    record { meets = ap refusal (refused_out bits bytes (r.Limit line kind found) is); writes = idle.out; array =
-        idle.array }
+    record {
+      meets = ap refusal (refused_out bits bytes (r.Limit line kind found) is);
+      writes = idle.out;
+      array =
+          idle.array;
+    }
 text_plays bytes bits (s.Memory _) before after is idle =
     record { meets = tt; writes = idle.out; array = inl idle.array }
 text_plays bytes bits s.Usage before after is idle = absurd is

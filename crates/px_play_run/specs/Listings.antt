@@ -59,10 +59,10 @@ Plays status bits l before now = now ≡ before
 abbrev pub LeavesPlayed : Result (Unit {0}) Stop → (bits : ℕ) → (bytes : List ℕ) → (before after : Ends) → Type 0
 LeavesPlayed result bits bytes before after =
     WritesAndLeaves result (played_out bytes bits)
-        (λ old new. Plays (status_in result) bits (listing_written bytes) old new) before after
+    (λ old new. Plays (status_in result) bits (listing_written bytes) old new) before after
 
 -- what the command does over an input
 abbrev pub PerformsPlay : Result (Unit {0}) Stop → (bits : ℕ) → (before after : Ends) → Type 0
 PerformsPlay result bits before after =
     PerformsOver result (λ bytes. played_out bytes bits) (λ input. LeavesPlayed result bits input.bytes before after)
-        before after
+    before after

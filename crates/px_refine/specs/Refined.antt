@@ -14,7 +14,7 @@ use Rattle.px_refine.specs.Finer.{fine_scene}
 abbrev pub block_sum : (s : ℕ) → (sample : (x y : ℕ) → ℕ) → (x y : ℕ) → ℕ
 block_sum s sample x y =
     sum_by (λ j. sum_by (λ i. sample (2 ^ s * x + i) (2 ^ s * y + j)) (range_with_len 0 (2 ^ s)))
-        (range_with_len 0 (2 ^ s))
+    (range_with_len 0 (2 ^ s))
 
 abbrev pub mean : (s : ℕ) → (sample : (x y : ℕ) → ℕ) → (x y : ℕ) → ℕ
 mean s sample x y = block_sum s sample x y / (2 ^ s * 2 ^ s)

@@ -36,7 +36,7 @@ blocks_rest P block start old new w rest k high = w.after k (omega arith) ∙ re
 pub bits_more : (P : ℕ → ℕ → Type 0) (F : ℕ → Bool) (block : ℕ) (old new : List ℕ) → IsWritten P (8 * block) old new
     → ((p : ℕ) → p < 512 * block → row_bit old p ≡ F p)
     → ((k : ℕ) → 8 * block ≤ k → k < 8 * block + 8 → P k (get_or new k 0) → (j : ℕ) → j < 64
-        → nat_bit (get_or new k 0) j ≡ F (64 * k + j))
+    → nat_bit (get_or new k 0) j ≡ F (64 * k + j))
     → (p : ℕ) → p < 512 * (block + 1) → row_bit new p ≡ F p
 bits_more P F block old new w done now p low = elim (cases_lt p (512 * block)) [
   | inl before ↦

@@ -16,7 +16,7 @@ pub record IsMajority (result carry other value turn : ℕ) : Type 0 where
 pub record IsAdded (result target carry value mask : ℕ) : Type 0 where
   pub each : (i : ℕ) → i < 64
       → nat_bit result i ≡ cond (nat_bit mask i) (xor (nat_bit value i) (xor (nat_bit target i) (nat_bit carry i)))
-          (nat_bit target i)
+      (nat_bit target i)
 
 pub record IsCarried (result target carry value : ℕ) : Type 0 where
   pub each : (i : ℕ) → i < 64 → nat_bit result i ≡ majority (nat_bit value i) (nat_bit target i) (nat_bit carry i)

@@ -124,7 +124,7 @@ module _ {A : Type 0} (bits : ℕ) (device : A → Device) (slots : A → List (
       → IsRestOf bits (view_by device slots work) whole (xs ++ ys)
       start before →
       CarriesOut (view_by device slots work) xs before now → IsRestOf bits (view_by device slots work) whole ys start
-          now
+      now
   left_next whole xs ys start before now left made = record {
     can = can_second bits xs ys (device before) (device now) left.can made.device;
     same = rest_of xs ys (device before) (device now) made.device ∙ left.same;
@@ -198,4 +198,4 @@ module _ {A : Type 0} (bits : ℕ) (device : A → Device) (slots : A → List (
       → IsRestOf bits (view_by device slots work) whole tail start now
   each_done f xs i whole tail start now past left =
       subst (λ ys. IsRestOf bits (view_by device slots work) whole (flat_map f ys ++ tail) start now)
-          (drop_all i xs past) left
+      (drop_all i xs past) left

@@ -118,7 +118,7 @@ pub step_good : (ss : List SolidView) (first : ℕ) (lines : List Words) (k line
     line_fault line (length old) (light_of ss ws) ≡ None → AreGood (fault_behind ss first) lines (k + 1)
 step_good ss first lines k line old ws low is number each before here =
     good_next (fault_behind ss first) lines k ws before low is (judged ss first lines k line old ws low number each
-        ∙ here)
+    ∙ here)
 
 -- a line that is bad
 pub step_bad : (ss : List SolidView) (first : ℕ) (lines : List Words) (k line : ℕ) (old : List SolidSet) (ws : Words)

@@ -58,7 +58,7 @@ nothing_more ss (v ∷ vs) w e = absurd (by_first (bytes_eq v (codes "light")) e
 pub light_more : (ss : List SolidView) (ws : Words) (w : List ℕ) (a n k : Bool) (set : SolidSet) → s.Light a n k set
     ≡ said_of ss ws →
     s.Light true (n && is_name w) (k && is_solid_name ss w) (with_solid set (solid_named ss w))
-        ≡ said_of ss (ws ++ w ∷ [])
+    ≡ said_of ss (ws ++ w ∷ [])
 light_more ss [] w a n k set e = absurd (cc)
 light_more ss (v ∷ vs) w a n k set e = by_first (bytes_eq v (codes "light")) e
   where

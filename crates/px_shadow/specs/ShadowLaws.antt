@@ -24,7 +24,7 @@ ShadowLaw = (scene : SceneView) → IsLawfulScene scene → All IsLawfulSolid sc
     HasSight (layout_of scene) p.memory (picture scene x y) →
     (place : ℕ) → place < length lights →
     bit_at (after_macros (shadow_passes scene (layout_of scene) lights) x y p).memory
-        (light_bit (layout_of scene) (place + 1))
+    (light_bit (layout_of scene) (place + 1))
     ≡ is_lit scene (light_at lights place) x y
 
 -- pixels of as many bits as are needed can carry the shadow passes out

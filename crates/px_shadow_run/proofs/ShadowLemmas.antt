@@ -99,12 +99,12 @@ read_performs : (stop : Stop) (bits : ℕ) (before after : Ends) (m n : ℕ) →
     → ConsumesAtMost before.rest after.rest 1048577 → PerformsShadow (Err stop) bits before after
 read_performs s.ReadFault bits before after m n is idle (taken, consumed, few) =
     performs_over (Err s.ReadFault) (λ bytes. shadowed bytes bits)
-        (λ input. LeavesShadows (Err s.ReadFault) bits input.bytes before after)
+    (λ input. LeavesShadows (Err s.ReadFault) bits input.bytes before after)
     before after taken consumed tt
     (record { wrote = idle.out; array = idle.array })
 read_performs (s.Memory lack) bits before after m n is idle (taken, consumed, few) =
     performs_over (Err (s.Memory lack)) (λ bytes. shadowed bytes bits)
-        (λ input. LeavesShadows (Err (s.Memory lack)) bits input.bytes before after)
+    (λ input. LeavesShadows (Err (s.Memory lack)) bits input.bytes before after)
     before after taken consumed tt
     (record { wrote = idle.out; array = inl idle.array })
 read_performs s.Usage bits before after m n is idle consumed = absurd is

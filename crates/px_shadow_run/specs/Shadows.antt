@@ -104,4 +104,4 @@ LeavesShadows result bits bytes before after =
 abbrev pub PerformsShadow : Result (Unit {0}) Stop → (bits : ℕ) → (before after : Ends) → Type 0
 PerformsShadow result bits before after =
     PerformsOver result (λ bytes. shadowed bytes bits) (λ input. LeavesShadows result bits input.bytes before after)
-        before after
+    before after

@@ -73,7 +73,7 @@ abbrev pub leaf_over : Shape → List ℕ → (k i : ℕ) → Bool
 leaf_over shape words k i =
     let x = 64 * (k % row_words shape.nx) + i in
     nat_lt x (2 ^ shape.nx)
-        && output_in shape words (2 ^ (shape.nx + shape.ny) + (x * 2 ^ shape.ny + k / row_words shape.nx))
+    && output_in shape words (2 ^ (shape.nx + shape.ny) + (x * 2 ^ shape.ny + k / row_words shape.nx))
 
 -- the pixel, and its leaf, that stand at bit i of word k of each plane; past the last column there is none
 abbrev pub pixel_here : Shape → State → (k i : ℕ) → PixelState

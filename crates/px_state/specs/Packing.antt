@@ -98,9 +98,9 @@ FieldsTellTheMicro = (word : ℕ) (m n : Micro) → HasFields word m → HasFiel
 abbrev pub act_with : (number : ℕ) → (v : Bool) → (at : ℕ) → Act
 act_with number v at =
     if number == 2 then act.EnableAll else if number == 3 then act.EnableCarry v else if number ==
-        4 then act.EnableTree v else
+    4 then act.EnableTree v else
     if number == 5 then act.EnableBit at v else if number == 6 then act.SetCarry v else if number ==
-        7 then act.Fetch at else
+    7 then act.Fetch at else
     if number == 8 then act.StoreTree at else if number == 9 then act.StoreLatch at else
     if number == 10 then act.StoreConst at v else if number == 11 then act.Toggle at else
     if number == 12 then act.CarryTree at else if number == 13 then act.CarryLatch at else

@@ -52,7 +52,7 @@ starts_listing (w ∷ ws) = Some (bytes_eq w (codes "pxlist"))
 unfoldable pub is_listing : List ℕ → Bool
 is_listing text =
     unwrap_or (slice_get (filter_map (λ line. starts_listing (words_of line)) (slice_split (λ b. b == 10) text)) 0)
-        false
+    false
 
 -- more bytes than a text may have
 abbrev pub too_long : StateFault

@@ -23,7 +23,7 @@ pub record HasTiles (scene : SceneView) (width height count : ℕ) (found : List
 abbrev pub IsLeft : (bits : ℕ) → SceneView → (width height count : ℕ) → (before now : ArrayView) → Type 0
 IsLeft bits scene width height count before now = ((count ≡ 0) × (now ≡ before))
     ⊎ ((last : ℕ) × (count ≡ last + 1) × (last < tile_count scene width height)
-        × IsTileDrawn bits scene width height last now)
+    × IsTileDrawn bits scene width height last now)
 
 -- the length of the first wanted list past the limit of a tile
 abbrev pub crowd_of_tile : SceneView → (width height tile : ℕ) → Option ℕ

@@ -12,7 +12,7 @@ use Rattle.px_tile.specs.Tilings.{scene_of_tile, tile_count}
 abbrev pub IsTileDrawn : (bits : ℕ) → SceneView → (width height tile : ℕ) → ArrayView → Type 0
 IsTileDrawn bits scene width height tile now =
     IsAt bits (scene_of_tile scene width height tile) (total (scene_of_tile scene width height tile)) now.device
-        × IsRunOnce now
+    × IsRunOnce now
 
 -- the array after the last tile
 abbrev pub IsLastDrawn : (bits : ℕ) → SceneView → (width height : ℕ) → ArrayView → Type 0

@@ -24,7 +24,7 @@ first_some (answer ∷ answers) = option_or answer (first_some answers)
 abbrev pub first_of_tiles : {X : Type 0} → (SceneView → Option X) → SceneView → (width height : ℕ) → Option X
 first_of_tiles found scene width height =
     first_some (map (λ tile. found (scene_of_tile scene width height tile))
-        (range_with_len 0 (tile_count scene width height)))
+    (range_with_len 0 (tile_count scene width height)))
 
 -- the first coefficient past the limit of the first tile that has one
 abbrev pub first_coefficient : SceneView → (width height : ℕ) → Option ℤ

@@ -82,7 +82,7 @@ performs : (result : Result (Unit {0}) Stop) (work : Work) (taken : List ℕ) (b
     → PerformsWork work result bits before after
 performs result work taken bits before after consumed works =
     performs_over result (λ bytes. worked_out work bytes bits)
-        (λ input. LeavesWork work result bits input.bytes before after)
+    (λ input. LeavesWork work result bits input.bytes before after)
     before after taken consumed works.meets
     (record { wrote = works.writes; array = works.array })
 
@@ -215,7 +215,7 @@ pub works_scene : (result : Result (Unit {0}) Stop) (work : Work) (bytes lent : 
     (before after : Ends) → lent ≡ bytes → text_refusal lent ≡ None → scene ≡ scene_of (worded lent)
     → DoesWork result (made work scene bits) before.out after.out
     → LeavesArray work (status_in result) bits scene before.array after.array
-        → WorksOn result work bytes bits before after
+    → WorksOn result work bytes bits before after
 works_scene result work bytes lent bits scene before after same good is serves array =
     let here : worked_out work bytes bits ≡ made work scene bits = rw (← same, good, is) refl in
     record {

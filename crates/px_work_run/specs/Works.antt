@@ -79,4 +79,4 @@ LeavesWork work result bits bytes before after =
 abbrev pub PerformsWork : Work → Result (Unit {0}) Stop → (bits : ℕ) → (before after : Ends) → Type 0
 PerformsWork work result bits before after =
     PerformsOver result (λ bytes. worked_out work bytes bits)
-        (λ input. LeavesWork work result bits input.bytes before after) before after
+    (λ input. LeavesWork work result bits input.bytes before after) before after

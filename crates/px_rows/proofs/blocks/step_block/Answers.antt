@@ -6,7 +6,7 @@ use Rattle.px_rows.proofs.blocks.step_block.Goals as goal
 pub returns-clause-stepped : goal.returns-clause-stepped
 returns-clause-stepped c = λ i small.
     rw (← c.read-held.ensures.each i small)
-        (rw (get_or-replicate 8 i c.args.step 0 small) at (c.summed_lanes.ensures i small))
+    (rw (get_or-replicate 8 i c.args.step 0 small) at (c.summed_lanes.ensures i small))
 
 pub returns-clause-carried : goal.returns-clause-carried
 returns-clause-carried c = record {

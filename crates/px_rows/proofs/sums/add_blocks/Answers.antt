@@ -20,7 +20,7 @@ loop-block-preserved c =
     let s = c.step_block-lanes.ensures in
     let next : block + 1 ≡ suc block = omega arith in
     let lane : (k j : ℕ) → 8 * block ≤ k → k < 8 * block + 8 → j < 64 → nat_bit (get_or l.lanes (k - 8 * block) 0) j
-        ≡ value (64 * k + j) =
+    ≡ value (64 * k + j) =
     λ k j low high small.
     let here : 64 * k + j - 512 * block < 512 = omega arith in
     let word : (64 * k + j - 512 * block) / 64 ≡ k - 8 * block = omega arith in
@@ -42,7 +42,7 @@ loop-block-preserved c =
           let word : (64 * k + j) / 64 ≡ k = omega arith in
           let bit : (64 * k + j) % 64 ≡ j = omega arith in
           rw (← lane k j low high small, word, bit, ← i.rest_first k low, ← c.all_of-word.ensures.each j small)
-              (h.each j small));
+          (h.each j small));
       second = bits_more _ (λ p. majority (value p) (row_bit target p) (row_bit second p)) block l.second
           c.add_value_block.new.carry w.carried i.second
           (λ k low high h j small.
@@ -58,8 +58,14 @@ loop-block-preserved c =
           let word : (512 * block + j) / 64 ≡ 8 * block + j / 64 = omega arith in
           let bit : (512 * block + j) % 64 ≡ j % 64 = omega arith in
           let past : 8 * block ≤ 8 * block + j / 64 = omega arith in
-          rw (next, ← i.lanes j small, word, bit, ← i.rest_first (8 * block + j / 64) past,
-              ← c.all_of-word.ensures.each (j % 64) in_word)
+          rw (
+            next,
+            ← i.lanes j small,
+            word,
+            bit,
+            ← i.rest_first (8 * block + j / 64) past,
+            ← c.all_of-word.ensures.each (j % 64) in_word,
+          )
           ((s.stepped (j / 64) in_block).each (j % 64) in_word);
     }
 

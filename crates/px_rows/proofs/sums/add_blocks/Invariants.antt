@@ -10,7 +10,7 @@ invariant-loop-block l =
     in record {
       target : (p : ℕ) → p < 512 * l.block → row_bit l.target p
           ≡ cond (row_bit l.mask p) (xor (value p) (xor (row_bit l.fn.target p) (row_bit l.fn.second p)))
-              (row_bit l.fn.target p);
+          (row_bit l.fn.target p);
       first : (p : ℕ) → p < 512 * l.block → row_bit l.first p ≡ majority (value p) l.step (row_bit l.fn.first p);
       second : (p : ℕ) → p < 512 * l.block → row_bit l.second p
           ≡ majority (value p) (row_bit l.fn.target p) (row_bit l.fn.second p);

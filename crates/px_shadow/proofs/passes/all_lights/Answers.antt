@@ -16,7 +16,7 @@ one_light-requires-clause-can g c =
     left_first _ _ _ _ (shadow_passes scene l lights) (light_passes scene l (i + 1) (get_or lights i no_light))
     (passes_from scene l (i + 1 + 1) (drop (i + 1) lights)) _ _
     (subst (λ ms. IsRestOf g.A.Array.BITS (view_by g.A.Array.device g.A.Array.slots g.A.Array.work)
-        (shadow_passes scene l lights)
+    (shadow_passes scene l lights)
     ms c.args.array.now c.loop-i.array) next c.loop-i.invariant)
 
 pub loop-i-preserved : goal.loop-i-preserved
@@ -29,7 +29,7 @@ loop-i-preserved g c =
     left_next _ _ _ _ (shadow_passes scene l lights) (light_passes scene l (i + 1) (get_or lights i no_light))
     (passes_from scene l (i + 1 + 1) (drop (i + 1) lights)) _ _ _
     (subst (λ ms. IsRestOf g.A.Array.BITS (view_by g.A.Array.device g.A.Array.slots g.A.Array.work)
-        (shadow_passes scene l lights)
+    (shadow_passes scene l lights)
     ms c.args.array.now c.loop-i.array) next c.loop-i.invariant)
     c.one_light.ensures
 
@@ -39,6 +39,6 @@ returns g c =
     let l = c.args.layout.now in
     none_left _ _ _ _ _ _ _
     (subst (λ sets. IsRestOf g.A.Array.BITS (view_by g.A.Array.device g.A.Array.slots g.A.Array.work)
-        (shadow_passes scene l
+    (shadow_passes scene l
     c.args.lights.now) (passes_from scene l (c.loop-i.i + 1) sets) c.args.array.now c.loop-i.array)
     (drop_all c.loop-i.i c.args.lights.now c.loop-i-test.false) c.loop-i.invariant)

@@ -7,6 +7,6 @@ use Rattle.px_shadow.proofs.passes.all_lights.Given as goal
 abbrev pub invariant-loop-i : goal.invariant-loop-i
 invariant-loop-i g l =
     IsRestOf g.A.Array.BITS (view_by g.A.Array.device g.A.Array.slots g.A.Array.work)
-        (shadow_passes l.scene l.layout l.lights)
+    (shadow_passes l.scene l.layout l.lights)
     (passes_from l.scene l.layout (l.i + 1) (drop l.i l.lights))
     l.fn.array l.array

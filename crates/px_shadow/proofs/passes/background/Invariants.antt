@@ -10,7 +10,7 @@ use Rattle.px_shadow.proofs.passes.background.Given as goal
 abbrev pub invariant-loop-t : goal.invariant-loop-t
 invariant-loop-t g l =
     IsRestOf g.A.Array.BITS (view_by g.A.Array.device g.A.Array.slots g.A.Array.work)
-        (background_passes l.layout l.light)
+    (background_passes l.layout l.light)
     (flat_map (bit_test l.layout) (drop l.t (range_with_len 0 l.layout.number_bits))
     ++ m.SetBit (light_bit l.layout l.light) false ∷ [])
     l.fn.array l.array

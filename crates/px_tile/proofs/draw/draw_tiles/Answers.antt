@@ -23,7 +23,7 @@ loop-tile-preserved g c =
     let numbers = c.as_mut_slice-numbers.ensures in
     let put = rw numbers.value at c.in_default.ensures.ok in
     let more = tiles_more c.args.scene.now c.args.width c.args.height law.sizes.some_width law.sizes.some_height
-        c.requires.size
+    c.requires.size
     c.laws_of_tiles.ensures c.loop-tile.tile _ _ c.loop-tile.invariant.tiles put in
     let old = c.loop-tile.found.items in
     let new = c.draw_tile.new.found in
@@ -49,5 +49,5 @@ returns-clause-drawn g c =
     let done : c.loop-tile.tile ≡ tile_count c.args.scene.now c.args.width c.args.height =
     omega (arith, c.tile_count-tile-end.ensures, c.loop-tile.auto.tile-end) in
     last_left c.args.scene.now c.args.width c.args.height law.sizes.some_width law.sizes.some_height c.requires.size _
-        _ _
+    _ _
     (rw done at c.loop-tile.invariant.left)

@@ -11,8 +11,14 @@ returns-clause-picture g c =
     let device = g.A.Array.device c.advance.new.array in
     let can : CanRun scene = subst CanRun (sym made.scene) c.left-left.ensures.can_run in
     let end : c.advance.new.self.place.clock ≡ total scene =
-    omega (arith, made.clock, made.made, c.left-left.ensures.left, c.left-left.ensures.within,
-        ap (λ s. total s) made.scene) in
+    omega (
+      arith,
+      made.clock,
+      made.made,
+      c.left-left.ensures.left,
+      c.left-left.ensures.within,
+      ap (λ s. total s) made.scene,
+    ) in
     c.law_of_pictures.ensures g.A.Array.BITS scene device can.lawful can.solids
     (subst (λ n. IsAt g.A.Array.BITS scene n device) end made.at)
 

@@ -6,7 +6,7 @@ use Rattle.px_control.proofs.program.Program.make_one.Goals as goal
 pub cycles-cycles-requires : goal.cycles-cycles-requires
 cycles-cycles-requires g c =
     (here_of c.args.self.now c.args.place.now c.in-Some.m c.laws.ensures.good.lawful c.requires.stands
-        c.in-Some.is).lawful
+    c.in-Some.is).lawful
 
 pub make_micros-requires-clause-lawful : goal.make_micros-requires-clause-lawful
 make_micros-requires-clause-lawful g c =

@@ -26,7 +26,7 @@ returns-clause-fits g c =
     rw c.save.ensures.slots (slots_more g.A.Array.BITS course.job.scene course.quarter 0 before
     (g.A.Array.slots c.args.array.now)
     (rw c.requires.fresh (slots_none g.A.Array.BITS course.job.scene course.quarter))
-        (omega (arith, c.save.ensures.four))
+    (omega (arith, c.save.ensures.four))
     here) in
     fits_session g.A.Array.BITS course _ after (g.A.Array.slots c.save.new.self) refl refl kept.quarter c.requires.few
     record {
