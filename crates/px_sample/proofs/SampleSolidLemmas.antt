@@ -69,13 +69,13 @@ side_words ps = map (λ p. codes "side" ∷ plane_words p) ps
 -- the words of the lines of a block, and of the cut
 abbrev pub block_words : ℕ → List Words
 block_words i =
-    ((codes "solid" ∷ block_name i ∷ colour_words (blue i)) ∷ []) ++ (side_words (block_sides_of i)
+    (codes "solid" ∷ block_name i ∷ colour_words (blue i)) ∷ (side_words (block_sides_of i)
     ++ ((codes "front" ∷ plane_words (front_of i)) ∷ (codes "back" ∷ plane_words back_of) ∷ []))
 
 abbrev pub cut_words : List Words
 cut_words =
-    ((codes "solid" ∷ codes "cut" ∷ colour_words yellow) ∷ []) ++ (side_words (cut_side ∷ [])
-    ++ ((codes "back" ∷ plane_words cut_back) ∷ []))
+    (codes "solid" ∷ codes "cut" ∷ colour_words yellow) ∷ (codes "side" ∷ plane_words cut_side)
+    ∷ (codes "back" ∷ plane_words cut_back) ∷ []
 
 -- a face in the colour of its solid
 abbrev pub face_at : ℕ → Linear → Colour → Face

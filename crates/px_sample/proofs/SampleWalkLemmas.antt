@@ -5,16 +5,17 @@ use Prim.Native.Nat.{zero, suc}
 use Rattle.std.specs.List.{flat_map, range_with_len}
 use Rattle.std.proofs.lemmas.List.FromFn.{length-map-range_with_len}
 use Rattle.px_expr.specs.Tree.{HasLeavesBelow}
-use Rattle.px_text.specs.Text.{Words, words_of}
+use Rattle.px_text.specs.Text.{Words}
 use Rattle.px_show.specs.Printed.{named_by, printed}
 use Rattle.px_show.specs.declared.scene_version.Version.TheVariants as v
 use Rattle.px_model.specs.Scenes.{SolidView, names_of}
 use Rattle.px_scene.specs.declared.line.Due.TheVariants as d
 use Rattle.px_canonical.specs.Canonical.{colour_words, plane_words}
-use Rattle.px_scene.specs.Drafts.{DraftView, fresh_solid, blank}
+use Rattle.px_scene.specs.Drafts.{DraftView, blank, fresh_solid, with_front}
+use Rattle.px_scene.specs.Lines.{uncoloured}
 use Rattle.px_sample.specs.Sample.{block_name, block_rows}
-use Rattle.px_canonical.proofs.RoundLaws.{sides_walk, first_walk, last_walk, next_face, open_solid, opened}
-use Rattle.px_canonical.proofs.RoundLaws.{plain_back_walk, plain_front_walk, shown_draft, solid_walk, standing, stands}
+use Rattle.px_canonical.proofs.RoundLaws.{back_walk, begin_walk, begin_words, end_walk, front_walk, open_solid, opened}
+use Rattle.px_canonical.proofs.RoundLaws.{plane_written, show_walk, shown_draft, sides_walk, solid_walk, standing, stands}
 use Rattle.px_sample.proofs.SampleSolidLemmas.{back_of, back_plane, block, block_named, block_planes, block_sides_of}
 use Rattle.px_sample.proofs.SampleSolidLemmas.{block_words, blocks, blocks_more, blue, blue_is, cut_back}
 use Rattle.px_sample.proofs.SampleSolidLemmas.{cut_back_plane, cut_planes, cut_side, cut_solid, cut_words, fresh_block}
@@ -32,14 +33,15 @@ block_walk start i low =
     let few : length done ≡ i = length-map-range_with_len block 0 i in
     let fresh = fresh_solid (block_name i) (n + 1) (blue i) in
     let sided : SolidView = record fresh { sides = block_sides_of i } in
-    let fronted : SolidView = record sided { fronts = next_face (n + 1) (front_of i) sided ∷ [] } in
+    let fronted = with_front (n + 1 + 1) (uncoloured (front_of i)) sided in
     let open_at = λ (s : SolidView) (m : ℕ). open_solid start done s m in
     let head = solid_walk start done n (block_name i) (blue i) (blue_is i low) (block_named i (omega arith))
     (fresh_block i i (omega arith) (omega arith)) (omega arith) (omega arith) in
     let sides = sides_walk start done fresh (n + 1) (block_sides_of i) [] (block_planes i low) (omega arith) in
-    let front = plain_front_walk start done sided (n + 1) (front_of i) (front_plane i low) (omega arith)
+    let front = front_walk start done sided (n + 1) _ _ (plane_written (front_of i) (front_plane i low)) (omega arith)
     (omega arith) in
-    let back = plain_back_walk start done fronted (n + 1 + 1) back_of back_plane (omega arith) (omega arith) in
+    let back = back_walk start done fronted (n + 1 + 1) _ _ (plane_written back_of back_plane) (omega arith)
+    (omega arith) in
     let last : n + 1 + 1 + 1 ≡ 3 * (i + 1) = omega arith in
     let end : open_at (block i) (n + 1 + 1 + 1) ≡ standing start (blocks (i + 1)) (3 * (i + 1)) =
     stands start done (block i) (n + 1 + 1 + 1) ∙ ap (standing start (done ++ block i ∷ [])) last
@@ -78,7 +80,8 @@ cut_walk start n le =
     let sided : SolidView = record fresh { sides = cut_side ∷ [] } in
     let head = solid_walk start done m (codes "cut") yellow yellow_is refl (fresh_cut n) (omega arith) (omega arith) in
     let sides = sides_walk start done fresh (m + 1) (cut_side ∷ []) [] cut_planes (omega arith) in
-    let back = plain_back_walk start done sided (m + 1) cut_back cut_back_plane (omega arith) (omega arith) in
+    let back = back_walk start done sided (m + 1) _ _ (plane_written cut_back cut_back_plane) (omega arith)
+    (omega arith) in
     let back_words : List Words = (codes "back" ∷ plane_words cut_back) ∷ [] in
     subst (λ (after : DraftView). Walk (standing start done m) cut_words after)
     (stands start done (cut_solid m) (m + 1 + 1))
@@ -89,18 +92,20 @@ cut_walk start n le =
     (open_solid start done (cut_solid m) (m + 1 + 1)) (side_words (cut_side ∷ [])) back_words sides back))
 
 abbrev pub sample_first : ℕ → List Words
-sample_first n =
-    (codes "pxscene" ∷ codes "1" ∷ []) ∷ (codes "picture" ∷ decimal 64 ∷ decimal (4 * block_rows n) ∷ [])
-    ∷ (codes "depth" ∷ decimal 16 ∷ []) ∷ []
+sample_first n = begin_words v.One 64 (4 * block_rows n) 16 0
 
 abbrev pub sample_shown : ℕ → List ℕ
 sample_shown n = printed (named_by (names_of (sample_solids n)) (sample_tree n))
 
+-- the lines of the sample up to its expression, and all of them, by what stands between their spaces
 abbrev pub sample_middle : ℕ → List Words
-sample_middle n = flat_map block_words (range_with_len 0 n) ++ cut_words
+sample_middle n = (sample_first n ++ flat_map block_words (range_with_len 0 n)) ++ cut_words
 
-abbrev pub sample_last : ℕ → List Words
-sample_last n = (codes "show" ∷ words_of (sample_shown n)) ∷ (codes "end" ∷ []) ∷ []
+abbrev pub sample_show : ℕ → List Words
+sample_show n = (codes "show" ∷ sample_shown n ∷ []) ∷ []
+
+abbrev pub sample_words : ℕ → List Words
+sample_words n = (sample_middle n ++ sample_show n) ++ (codes "end" ∷ []) ∷ []
 
 abbrev start_of : ℕ → DraftView
 start_of n = opened v.One 64 (4 * block_rows n) 16 0
@@ -114,22 +119,26 @@ sample_is n some le =
     sample_tree_is n (names_of (sample_solids n)) some le are.blocks_first are.cut_last
 
 pub sample_walk : (n : ℕ) → 1 ≤ n → n ≤ 200
-    → Walk blank (sample_first n ++ (sample_middle n ++ sample_last n)) (sample_draft n)
+    → Walk blank (sample_words n) (sample_draft n)
 sample_walk n some le =
     let start = start_of n in
     let are = sample_names n le in
     let tree = sample_is n some le in
     let below = subst (λ k. HasLeavesBelow k (sample_tree n)) (sym are.count) tree.below in
-    let first = first_walk v.One 64 (4 * block_rows n) 16 0 refl (omega arith) (omega arith) (omega arith) (omega arith)
+    let first = begin_walk v.One 64 (4 * block_rows n) 16 0 refl (omega arith) (omega arith) (omega arith) (omega arith)
     (omega arith) (omega arith) (omega arith) in
     let same : 0 + n ≡ n = omega arith in
     let solids = subst (λ m. Walk (standing start (blocks 0) (3 * 0)) (flat_map block_words (range_with_len 0 n))
     (standing start (blocks m) (3 * m))) same (blocks_walk start n 0 (omega arith)) in
-    let long : 0 < length (sample_solids n) = omega (arith, length-append (blocks n) (cut_solid (3 * n) ∷ [])) in
-    let last = last_walk start (sample_solids n) (3 * n + 1 + 1) (sample_tree n) are.distinct below tree.signs
-    tree.lawful long in
-    walk_both blank start (sample_draft n) (sample_first n) (sample_middle n ++ sample_last n) first
-    (walk_both start (standing start (sample_solids n) (3 * n + 1 + 1)) (sample_draft n) (sample_middle n)
-    (sample_last n)
-    (walk_both start (standing start (blocks n) (3 * n)) (standing start (sample_solids n) (3 * n + 1 + 1))
-    (flat_map block_words (range_with_len 0 n)) cut_words solids (cut_walk start n le)) last)
+    let numbered = 3 * n + 1 + 1 in
+    let all = sample_solids n in
+    let show = show_walk start all numbered (sample_tree n) are.distinct below tree.signs tree.lawful in
+    let shown = shown_draft start all numbered d.End (Some (sample_tree n)) in
+    walk_both blank shown (sample_draft n) (sample_middle n ++ sample_show n) ((codes "end" ∷ []) ∷ [])
+    (walk_both blank (standing start all numbered) shown (sample_middle n) (sample_show n)
+    (walk_both blank (standing start (blocks n) (3 * n)) (standing start all numbered)
+    (sample_first n ++ flat_map block_words (range_with_len 0 n)) cut_words
+    (walk_both blank start (standing start (blocks n) (3 * n)) (sample_first n)
+    (flat_map block_words (range_with_len 0 n)) first solids)
+    (cut_walk start n le)) show)
+    (end_walk start all numbered (Some (sample_tree n)))
