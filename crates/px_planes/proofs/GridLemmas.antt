@@ -16,8 +16,8 @@ use Rattle.px_num.proofs.TruthLaws.{and_false, and_true, power_grows}
 use Rattle.px_pixel.specs.Acts.{after_act}
 use Rattle.px_pixel.specs.Pixels.{PixelState, zero_pixel}
 use Rattle.px_pixel.specs.declared.act.Act.{Act}
-use Rattle.px_pixel.specs.declared.act.Act.TheVariants.{Nop, EnableAll, EnableCarry, EnableTree, EnableBit, SetCarry}
-use Rattle.px_pixel.specs.declared.act.Act.TheVariants.{Fetch, StoreTree, StoreLatch, StoreConst, Toggle, CarryTree}
+use Rattle.px_pixel.specs.declared.act.Act.TheVariants.{SetCarry}
+use Rattle.px_pixel.specs.declared.act.Act.TheVariants.{Fetch, CarryTree}
 use Rattle.px_pixel.specs.declared.act.Act.TheVariants.{CarryLatch, AddTree}
 use Rattle.px_planes.specs.Pixels.{HasPixels, IsActed, IsZero, acted_at, pixel_in, pixels_in}
 use Rattle.px_rows.specs.Rows.{words_for}
@@ -30,20 +30,8 @@ use Rattle.px_plane_tree.proofs.TreeLemmas.{zero_bit}
 
 -- inside the grid an act is that of the table
 pub acted_inside : (act : Act) (t : Bool) (p : PixelState) → acted_at true act t p ≡ after_act act t p
-acted_inside Nop t p = refl
-acted_inside EnableAll t p = refl
-acted_inside (EnableCarry v) t p = refl
-acted_inside (EnableTree v) t p = refl
-acted_inside (EnableBit at v) t p = refl
 acted_inside (SetCarry v) t p = ap (λ (b : Bool). record p { carry = b }) (and_true v)
-acted_inside (Fetch at) t p = refl
-acted_inside (StoreTree at) t p = refl
-acted_inside (StoreLatch at) t p = refl
-acted_inside (StoreConst at v) t p = refl
-acted_inside (Toggle at) t p = refl
-acted_inside (CarryTree at) t p = refl
-acted_inside (CarryLatch at) t p = refl
-acted_inside (AddTree at) t p = refl
+acted_inside act t p = refl
 
 no_bit : (bits at : ℕ) → get_or (replicate bits false) at false ≡ false
 no_bit bits at = elim (cases_lt at bits) [
@@ -53,17 +41,8 @@ no_bit bits at = elim (cases_lt at bits) [
 
 -- and in the padding nothing is set
 pub acted_outside : (bits : ℕ) (act : Act) → acted_at false act false (zero_pixel bits) ≡ zero_pixel bits
-acted_outside bits Nop = refl
-acted_outside bits EnableAll = refl
-acted_outside bits (EnableCarry v) = refl
-acted_outside bits (EnableTree v) = refl
-acted_outside bits (EnableBit at v) = refl
 acted_outside bits (SetCarry v) = ap (λ (b : Bool). record (zero_pixel bits) { carry = b }) (and_false v)
 acted_outside bits (Fetch at) = ap (λ (b : Bool). record (zero_pixel bits) { latch = b }) (no_bit bits at)
-acted_outside bits (StoreTree at) = refl
-acted_outside bits (StoreLatch at) = refl
-acted_outside bits (StoreConst at v) = refl
-acted_outside bits (Toggle at) = refl
 acted_outside bits (CarryTree at) =
     ap (λ (b : Bool). record (zero_pixel bits) { carry = (true && b) || ((true && false) || (b && false)) })
     (no_bit bits at)
@@ -73,6 +52,7 @@ acted_outside bits (CarryLatch at) =
 acted_outside bits (AddTree at) =
     ap (λ (b : Bool). record (zero_pixel bits) { carry = (false && b) || ((false && false) || (b && false)) })
     (no_bit bits at)
+acted_outside bits act = refl
 
 module _ (bits : ℕ) (act : Act) (tree : TreeState) (leaves : List ℕ) (old new : Planes) (long : length leaves
     ≡ words_for (2 ^ (tree.nx + tree.ny)))

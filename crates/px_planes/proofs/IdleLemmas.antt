@@ -1,14 +1,14 @@
 -- Operations where no pixel is enabled, and grids after an operation.
-use Rattle.std.proofs.Common.{◌≡◌, ◌≢◌, ℕ, ◌+◌, ◌*◌, ◌/◌, ◌^◌, ◌<◌, ◌≤◌, ◌%◌, Bool, true, false, ◌&&◌, List, length}
+use Rattle.std.proofs.Common.{◌≡◌, ℕ, ◌+◌, ◌*◌, ◌/◌, ◌^◌, ◌<◌, ◌≤◌, ◌%◌, Bool, true, false, List, length}
 use Rattle.std.proofs.Common.{refl, ap, ◌∙◌, arith}
 use Rattle.std.proofs.Common.{inl, inr}
 use Rattle.std.proofs.Math.Nat.{one-le-pow, pow-le-pow_right}
 use Rattle.std.proofs.lemmas.Bool.{cases_lt, le-ltb, lt-ltb}
 use Rattle.std.proofs.lemmas.Nat.{pow-add}
 use Rattle.px_planes.proofs.GridLemmas.{whole_words}
+use Rattle.px_asm.proofs.AlikeLemmas.{same_pixel}
 use Rattle.px_asm.specs.Microprograms.{bits_of}
-use Rattle.px_macro.specs.Macros.{PixelBits, after_macro, keep, put_bit, with_field}
-use Rattle.px_macro.specs.declared.field.Field.{Field}
+use Rattle.px_macro.specs.Macros.{PixelBits, after_macro}
 use Rattle.px_macro.specs.declared.operation.Macro.{Macro}
 use Rattle.px_macro.specs.declared.operation.Macro.TheVariants as m
 use Rattle.px_num.specs.Bits.{nat_bit}
@@ -18,35 +18,17 @@ use Rattle.px_planes.specs.Operations.{IsDone, IsEnabled, IsLike, IsPartial}
 use Rattle.px_planes.specs.Pixels.{HasPixels, pixel_in}
 use Rattle.px_planes.specs.declared.planes.Planes.{Planes}
 
-idle_keep : (test : Bool) (p : PixelBits) → p.enable ≡ false → keep test p ≡ p
-idle_keep test p off =
-    let e : (p.enable && test) ≡ p.enable = rw off refl in
-    ap (λ (b : Bool). record { memory = p.memory; enable = b }) e
-
-idle_field : (f : Field) (n : ℕ) (p : PixelBits) → p.enable ≡ false → with_field f n p ≡ p
-idle_field f n p off = rw off refl
-
-idle_put : (at : ℕ) (v : Bool) (p : PixelBits) → p.enable ≡ false → put_bit at v p ≡ p
-idle_put at v p off = rw off refl
+-- an operation on what is enabled changes nothing where nothing is
+not_enabled : (op : Macro) → IsPartial op → (x y : ℕ) (memory : List Bool)
+    → after_macro op x y (record { memory = memory; enable = false }) ≡ record { memory = memory; enable = false }
+not_enabled m.All part x y memory = absurd (part refl)
+not_enabled op part x y memory = refl
 
 pub idle : (op : Macro) → IsPartial op → (x y : ℕ) (p : PixelBits) → p.enable ≡ false → after_macro op x y p ≡ p
-idle m.All part x y p off = absurd part
-idle (m.KeepSign form) part x y p off = idle_keep _ p off
-idle (m.KeepBit at v) part x y p off = idle_keep _ p off
-idle (m.LoadLinear form f) part x y p off = idle_field f _ p off
-idle (m.KeepAtMost form f) part x y p off = idle_keep _ p off
-idle (m.AddLinear form f) part x y p off = idle_field f _ p off
-idle (m.LoadConst f c) part x y p off = idle_field f c p off
-idle (m.SetBit at v) part x y p off = idle_put at v p off
-idle (m.Toggle at) part x y p off = idle_put at _ p off
-idle (m.Copy f g) part x y p off = idle_field g _ p off
-idle (m.KeepLess f g) part x y p off = idle_keep _ p off
-
-same_pixel : (p q : PixelState) → bits_of p ≡ bits_of q → p.carry ≡ q.carry → p.latch ≡ q.latch → p ≡ q
-same_pixel p q bits carry latch =
-    ap (λ (b : PixelBits). record { memory = b.memory; enable = b.enable; carry = p.carry; latch = p.latch }) bits
-    ∙ (ap (λ (x : Bool). record { memory = q.memory; enable = q.enable; carry = x; latch = p.latch }) carry
-    ∙ ap (λ (x : Bool). record { memory = q.memory; enable = q.enable; carry = q.carry; latch = x }) latch)
+idle op part x y p off =
+    let same : p ≡ record { memory = p.memory; enable = false } =
+    ap (λ (b : Bool). record { memory = p.memory; enable = b }) off in
+    rw same (not_enabled op part x y p.memory)
 
 module _ (bits n : ℕ) (old new : Planes) (pixels : HasPixels bits n old) where
   padded : (like : IsLike (words_for n) old new)
@@ -58,7 +40,9 @@ module _ (bits n : ℕ) (old new : Planes) (pixels : HasPixels bits n old) where
     full = λ p within. ap (λ (w : ℕ). nat_bit w (p % 64)) like.full ∙ pixels.full p within;
     padding = λ p past within.
         let before = pixels.padding p past within in
-        same_pixel (pixel_in new p) (zero_pixel bits) (empty p past within)
+        let now = empty p past within in
+        same_pixel (pixel_in new p) (zero_pixel bits) (ap (λ (b : PixelBits). b.memory) now)
+        (ap (λ (b : PixelBits). b.enable) now)
         (ap (λ (row : List ℕ). row_bit row p) like.carry ∙ ap (λ (x : PixelState). x.carry) before)
         (ap (λ (row : List ℕ). row_bit row p) like.latch ∙ ap (λ (x : PixelState). x.latch) before);
   }
@@ -90,19 +74,6 @@ module _ (bits n : ℕ) (old new : Planes) (pixels : HasPixels bits n old) where
       let inside_full : nat_bit old.full (p % 64) ≡ true = pixels.full p (omega arith) ∙ lt-ltb p n inside in
       done.each p (omega (arith, pixels.words.enable))
       ∙ ap (λ (b : Bool). record { memory = (pixel_in old p).memory; enable = b }) inside_full
-
-pub part_of : (op : Macro) → op ≢ m.All → IsPartial op
-part_of m.All other = absurd (other refl)
-part_of (m.KeepSign form) other = tt
-part_of (m.KeepBit at v) other = tt
-part_of (m.LoadLinear form f) other = tt
-part_of (m.KeepAtMost form f) other = tt
-part_of (m.AddLinear form f) other = tt
-part_of (m.LoadConst f c) other = tt
-part_of (m.SetBit at v) other = tt
-part_of (m.Toggle at) other = tt
-part_of (m.Copy f g) other = tt
-part_of (m.KeepLess f g) other = tt
 
 -- the words of a grid
 pub words_below : (nx ny : ℕ) → nx ≤ 9 → 64 * words_for (2 ^ (nx + ny)) ≤ 2 ^ (9 + ny)

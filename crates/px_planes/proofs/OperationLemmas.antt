@@ -1,6 +1,6 @@
 -- Operations made at once in one word.
 use Rattle.std.proofs.Common.{◌≡◌, ℕ, zero, suc, ◌+◌, ◌*◌, ◌/◌, ◌^◌, ◌<◌, ◌≤◌, ◌%◌, ℤ, pos, Bool, true, false, not, cond}
-use Rattle.std.proofs.Common.{List, [], length, get_or, refl, sym, ap, ◌∙◌, arith, length-set}
+use Rattle.std.proofs.Common.{List, [], length, get_or, refl, sym, ap, ◌∙◌, arith}
 use Rattle.std.specs.Vec.{with_item}
 use Rattle.std.proofs.lemmas.List.{length-map}
 use Rattle.px_asm.proofs.ActingLemmas.{after_acts}
@@ -29,7 +29,8 @@ use Rattle.px_rows.specs.Rows.{row_bit}
 use Rattle.px_planes.specs.Operations.{IsDone, IsWordDone, IsWorked, stored_bits}
 use Rattle.px_planes.specs.Pixels.{HasWords, pixel_in}
 use Rattle.px_planes.specs.declared.planes.Planes.{Planes}
-use Rattle.px_planes.proofs.StoredLemmas.{bit_of_rows, stored_row, words_stored}
+use Rattle.px_planes.proofs.StoredLemmas.{bit_of_rows, stored_row}
+use Rattle.px_planes.proofs.WorkLemmas.{like_stored}
 
 pub done_by_work : (op : Macro) (ny w n : ℕ) (f : ℕ → PixelState → PixelState) (old new : Planes) → IsWorked w n f old new
     → ((p : ℕ) → p < 64 * n → p / 64 ≡ w → bits_of (f p (pixel_in old p))
@@ -142,16 +143,5 @@ stored_in_rows op ny old at row v words place long each means = record {
       ap (λ (memory : List Bool). record { memory = memory; enable = row_bit old.enable p })
       (stored_row old.memory.items at p row (row_bit old.enable p) (v p) place (each p (omega (arith, long))))
       ∙ means p;
-  like = record {
-    words = record {
-      memory = words_stored old.enable old at row place words long;
-      enable = words.enable;
-      carry = words.carry;
-      latch = words.latch;
-    };
-    memory = length-set old.memory.items at row;
-    carry = refl;
-    latch = refl;
-    full = refl;
-  };
+  like = like_stored old at row words place long;
 }

@@ -53,12 +53,7 @@ module _ (leaves : List ℕ) (old : Planes) (at : ℕ) (row : List ℕ) (place :
       → IsActed act leaves old (record old { memory = with_item old.memory at row })
   store_law act v each act_is = record {
     each = λ p within.
-        ap (λ (memory : List Bool). record {
-          memory = memory;
-          enable = row_bit old.enable p;
-          carry = row_bit old.carry p;
-          latch = row_bit old.latch p;
-        })
+        ap (λ (memory : List Bool). record (pixel_in old p) { memory = memory })
         (stored_row old.memory.items at p row (row_bit old.enable p) (v p) place (each p (omega (arith, long))))
         ∙ act_is p;
     words = record { memory = words_stored; enable = words.enable; carry = words.carry; latch = words.latch };

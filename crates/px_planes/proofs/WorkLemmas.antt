@@ -1,8 +1,9 @@
 -- What is done to the pixels of one word.
-use Rattle.std.proofs.Common.{◌≡◌, ◌≢◌, ℕ, zero, suc, ◌+◌, ◌*◌, ◌/◌, ◌<◌, ◌%◌, ◌≤◌, Bool, true, false, cond, List, [], length, length-set}
-use Rattle.std.proofs.Common.{get_or, get_or-set_other, get_or-set_same, set, map, refl, sym, ap, ◌∙◌, arith, bit_and}
+use Rattle.std.proofs.Common.{◌≡◌, ◌≢◌, ℕ, zero, suc, ◌+◌, ◌*◌, ◌/◌, ◌<◌, ◌%◌, ◌≤◌, Bool, false, cond, List, [], length, length-set}
+use Rattle.std.proofs.Common.{get_or, get_or-set_other, get_or-set_same, set, refl, sym, ap, ◌∙◌, arith, bit_and}
 use Rattle.std.specs.Vec.{with_item}
 use Rattle.px_num.specs.Bits.{bit_at, nat_bit}
+use Rattle.px_asm.proofs.WrittenLemmas.{other_bit}
 use Rattle.px_pixel.specs.Acts.{kept, stored}
 use Rattle.px_pixel.specs.Pixels.{PixelState}
 use Rattle.px_rows.specs.Rows.{row_bit}
@@ -22,12 +23,20 @@ bit_beside row w word p other = ap (λ (n : ℕ). nat_bit n (p % 64)) (get_or-se
 like_self : (n : ℕ) (planes : Planes) → HasWords n planes → IsLike n planes planes
 like_self n planes words = record { words = words; memory = refl; carry = refl; latch = refl; full = refl }
 
-abbrev with_memory : Planes → ℕ → List Bool → PixelState
-with_memory planes p memory = record {
-  memory = memory;
-  enable = row_bit planes.enable p;
-  carry = row_bit planes.carry p;
-  latch = row_bit planes.latch p;
+-- planes of which one row of memory is another
+pub like_stored : (old : Planes) (at : ℕ) (row : List ℕ) → HasWords (length old.enable) old → at < length old.memory.items
+    → length row ≡ length old.enable → IsLike (length old.enable) old (record old { memory = with_item old.memory at row })
+like_stored old at row words place long = record {
+  words = record {
+    memory = words_stored old.enable old at row place words long;
+    enable = words.enable;
+    carry = words.carry;
+    latch = words.latch;
+  };
+  memory = length-set old.memory.items at row;
+  carry = refl;
+  latch = refl;
+  full = refl;
 }
 
 -- a row of which a part is stored where the pixels are enabled
@@ -41,21 +50,12 @@ pub put_row_law : (size w at : ℕ) (old : Planes) (row : List ℕ) (v : ℕ →
 put_row_law size w at old row v words place long here beside =
     record {
       each = λ p within is.
-          ap (with_memory old p) (stored_row old.memory.items at p row (row_bit old.enable p) (v p) place (here p within is));
+          ap (λ (memory : List Bool). record (pixel_in old p) { memory = memory })
+          (stored_row old.memory.items at p row (row_bit old.enable p) (v p) place (here p within is));
       others = λ p within other.
-          ap (with_memory old p) (stored_row old.memory.items at p row false false place (beside p within other));
-      like = record {
-        words = record {
-          memory = words_stored old.enable old at row place words long;
-          enable = words.enable;
-          carry = words.carry;
-          latch = words.latch;
-        };
-        memory = length-set old.memory.items at row;
-        carry = refl;
-        latch = refl;
-        full = refl;
-      };
+          ap (λ (memory : List Bool). record (pixel_in old p) { memory = memory })
+          (stored_row old.memory.items at p row false false place (beside p within other));
+      like = like_stored old at row words place long;
     }
 
 pub put_law : (old : Planes) (at w value word : ℕ) → HasWords (length old.enable) old → at < length old.memory.items
@@ -81,19 +81,10 @@ keep_law old w mask words inside =
     let word = bit_and (get_or old.enable w 0) mask in
     record {
       each = λ p within here.
-          ap (λ (e : Bool). record {
-            memory = map (λ (row : List ℕ). row_bit row p) old.memory.items;
-            enable = e;
-            carry = row_bit old.carry p;
-            latch = row_bit old.latch p;
-          }) (bit_set old.enable w word p inside here ∙ (bit-and (get_or old.enable w 0) mask (p % 64) ∙ rw (← here) refl));
+          ap (λ (e : Bool). record (pixel_in old p) { enable = e })
+          (bit_set old.enable w word p inside here ∙ (bit-and (get_or old.enable w 0) mask (p % 64) ∙ rw (← here) refl));
       others = λ p within other.
-          ap (λ (e : Bool). record {
-            memory = map (λ (row : List ℕ). row_bit row p) old.memory.items;
-            enable = e;
-            carry = row_bit old.carry p;
-            latch = row_bit old.latch p;
-          }) (bit_beside old.enable w word p other);
+          ap (λ (e : Bool). record (pixel_in old p) { enable = e }) (bit_beside old.enable w word p other);
       like = record {
         words = record {
           memory = words.memory;
@@ -133,11 +124,7 @@ none_worked size w n planes words = record {
 }
 
 stored_beside : (at k : ℕ) (b : Bool) (x : PixelState) → at ≢ k → bit_at (stored at b x).memory k ≡ bit_at x.memory k
-stored_beside at k b x other = by_enable x.enable refl
-  where
-    by_enable : (e : Bool) → x.enable ≡ e → bit_at (stored at b x).memory k ≡ bit_at x.memory k
-    by_enable false off = rw off refl
-    by_enable true on = rw on (get_or-set_other x.memory at k b false (λ e. other (sym e)))
+stored_beside at k b x other = other_bit x.enable b x.memory at k (λ e. other (sym e))
 
 -- what is stored from a place on leaves the bits above it
 pub bit_above : (at : ℕ) (v : ℕ → Bool) (n k : ℕ) (x : PixelState) → at + n ≤ k

@@ -67,17 +67,7 @@ IsCrowd planes = max (length planes.enable / 3) FEW < count_by has_some planes.e
 
 -- an operation that changes only what is enabled
 abbrev pub IsPartial : Macro → Type 0
-IsPartial m.All = ⊥
-IsPartial (m.KeepSign form) = ⊤
-IsPartial (m.KeepBit at v) = ⊤
-IsPartial (m.LoadLinear form f) = ⊤
-IsPartial (m.KeepAtMost form f) = ⊤
-IsPartial (m.AddLinear form f) = ⊤
-IsPartial (m.LoadConst f c) = ⊤
-IsPartial (m.SetBit at v) = ⊤
-IsPartial (m.Toggle at) = ⊤
-IsPartial (m.Copy f g) = ⊤
-IsPartial (m.KeepLess f g) = ⊤
+IsPartial op = op ≢ m.All
 
 -- what is added in each lane to the value at the first pixel of its word
 abbrev pub AreOffsets : Linear → (ny : ℕ) → List ℕ → Type 0
@@ -92,17 +82,10 @@ pub record IsSpan (form : Linear) (ny : ℕ) (low high : ℤ) : Type 0 where
 
 -- the offsets are those of the operation's form, if it has one
 abbrev pub HaveOffsets : Macro → (ny : ℕ) → List ℕ → Type 0
-HaveOffsets m.All ny offsets = ⊤
-HaveOffsets (m.KeepSign form) ny offsets = ⊤
-HaveOffsets (m.KeepBit at v) ny offsets = ⊤
 HaveOffsets (m.LoadLinear form f) ny offsets = AreOffsets form ny offsets
 HaveOffsets (m.KeepAtMost form f) ny offsets = AreOffsets form ny offsets
 HaveOffsets (m.AddLinear form f) ny offsets = AreOffsets form ny offsets
-HaveOffsets (m.LoadConst f c) ny offsets = ⊤
-HaveOffsets (m.SetBit at v) ny offsets = ⊤
-HaveOffsets (m.Toggle at) ny offsets = ⊤
-HaveOffsets (m.Copy f g) ny offsets = ⊤
-HaveOffsets (m.KeepLess f g) ny offsets = ⊤
+HaveOffsets op ny offsets = ⊤
 
 -- every pixel is enabled
 pub record IsEnabled (n : ℕ) (old new : Planes) : Type 0 where
@@ -111,31 +94,20 @@ pub record IsEnabled (n : ℕ) (old new : Planes) : Type 0 where
 
 -- an operation that is made word by word and is no edge
 abbrev pub IsWordwise : Macro → Type 0
-IsWordwise m.All = ⊥
-IsWordwise (m.KeepSign form) = ⊥
-IsWordwise (m.KeepBit at v) = ⊥
 IsWordwise (m.LoadLinear form f) = ⊤
 IsWordwise (m.KeepAtMost form f) = ⊤
 IsWordwise (m.AddLinear form f) = ⊤
 IsWordwise (m.LoadConst f c) = ⊤
-IsWordwise (m.SetBit at v) = ⊥
-IsWordwise (m.Toggle at) = ⊥
 IsWordwise (m.Copy f g) = ⊤
 IsWordwise (m.KeepLess f g) = ⊤
+IsWordwise op = ⊥
 
 -- how many bits of its offsets such an operation needs
 abbrev pub bits_needed : Macro → ℕ
-bits_needed m.All = 0
-bits_needed (m.KeepSign form) = 0
-bits_needed (m.KeepBit at v) = 0
 bits_needed (m.LoadLinear form f) = f.len
 bits_needed (m.KeepAtMost form f) = f.len
 bits_needed (m.AddLinear form f) = f.len
-bits_needed (m.LoadConst f c) = 0
-bits_needed (m.SetBit at v) = 0
-bits_needed (m.Toggle at) = 0
-bits_needed (m.Copy f g) = 0
-bits_needed (m.KeepLess f g) = 0
+bits_needed op = 0
 
 -- no pixel is enabled outside the words of a reach
 pub record IsReach (reach : Reach) (planes : Planes) : Type 0 where

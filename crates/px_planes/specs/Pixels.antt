@@ -5,7 +5,7 @@ use Rattle.px_num.specs.Lists.{tabulate}
 use Rattle.px_pixel.specs.Acts.{after_act}
 use Rattle.px_pixel.specs.Pixels.{PixelState, zero_pixel}
 use Rattle.px_pixel.specs.declared.act.Act.{Act}
-use Rattle.px_pixel.specs.declared.act.Act.TheVariants.{Nop, EnableAll, EnableCarry, EnableTree, EnableBit, SetCarry, Fetch, StoreTree, StoreLatch, StoreConst, Toggle, CarryTree, CarryLatch, AddTree}
+use Rattle.px_pixel.specs.declared.act.Act.TheVariants.{EnableAll, SetCarry}
 use Rattle.px_rows.specs.Rows.{row_bit, words_for}
 use Rattle.px_planes.specs.declared.planes.Planes.{Planes}
 
@@ -41,18 +41,7 @@ pub record IsZero (bits words mask : ℕ) (planes : Planes) : Type 0 where
 abbrev pub acted_at : (inside : Bool) → Act → Bool → PixelState → PixelState
 acted_at inside EnableAll t p = record p { enable = inside }
 acted_at inside (SetCarry v) t p = record p { carry = v && inside }
-acted_at inside Nop t p = after_act Nop t p
-acted_at inside (EnableCarry v) t p = after_act (EnableCarry v) t p
-acted_at inside (EnableTree v) t p = after_act (EnableTree v) t p
-acted_at inside (EnableBit at v) t p = after_act (EnableBit at v) t p
-acted_at inside (Fetch at) t p = after_act (Fetch at) t p
-acted_at inside (StoreTree at) t p = after_act (StoreTree at) t p
-acted_at inside (StoreLatch at) t p = after_act (StoreLatch at) t p
-acted_at inside (StoreConst at v) t p = after_act (StoreConst at v) t p
-acted_at inside (Toggle at) t p = after_act (Toggle at) t p
-acted_at inside (CarryTree at) t p = after_act (CarryTree at) t p
-acted_at inside (CarryLatch at) t p = after_act (CarryLatch at) t p
-acted_at inside (AddTree at) t p = after_act (AddTree at) t p
+acted_at inside act t p = after_act act t p
 
 -- what an act leaves of the bit of every row, at each place by its leaf's
 pub record IsActed (act : Act) (leaves : List ℕ) (old new : Planes) : Type 0 where

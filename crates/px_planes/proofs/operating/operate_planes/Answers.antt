@@ -1,5 +1,5 @@
 use Rattle.std.proofs.Common.{arith}
-use Rattle.px_planes.proofs.IdleLemmas.{part_of, words_below}
+use Rattle.px_planes.proofs.IdleLemmas.{words_below}
 use Rattle.px_planes.proofs.operating.operate_planes.Goals as goal
 
 pub operate_part-requires : goal.operate_part-requires
@@ -12,5 +12,5 @@ operate_part-requires g c =
       rows = omega (arith, c.requires.grid);
       grid = rw (pixels.words.enable) (words_below c.args.nx c.args.ny (omega (arith, c.requires.grid)));
       lawful = rw (pixels.memory) c.requires.places;
-      part = part_of c.args.m.now c.in_default.not-All;
+      part = c.in_default.not-All;
     }
