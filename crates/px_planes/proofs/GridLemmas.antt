@@ -1,11 +1,10 @@
 -- Grids of rows: their pixels after an act, and their padding.
-use Rattle.std.proofs.Common.{◌≡◌, ℕ, zero, suc, ◌+◌, ◌-◌, ◌*◌, ◌==◌, ◌%◌, ◌^◌, ◌<◌, ◌≤◌, ◌&&◌, ◌||◌, Bool, true}
+use Rattle.std.proofs.Common.{◌≡◌, ℕ, zero, suc, ◌+◌, ◌-◌, ◌*◌, ◌%◌, ◌^◌, ◌<◌, ◌≤◌, ◌&&◌, ◌||◌, Bool, true}
 use Rattle.std.proofs.Common.{false, cond, nat_lt, List, [], ◌∷◌, length, get_or, map, replicate, refl, sym, ap, ◌∙◌}
 use Rattle.std.proofs.Common.{arith, inl, inr}
 use Rattle.std.proofs.lemmas.Bool.{cases_lt, le-ltb, lt-ltb}
 use Rattle.std.proofs.lemmas.List.{get_or_past}
 use Rattle.std.proofs.lemmas.Nat.{pow-add}
-use Rattle.std.proofs.lemmas.Nat.Bits.{bit_at_ones, bit_at_ones_above}
 use Rattle.std.proofs.lemmas.Simd.{get_or-replicate, length-replicate}
 use Rattle.px_array.specs.Arrays.{no_pixel, registers_of}
 use Rattle.px_array.specs.Clocks.{acted}
@@ -24,7 +23,6 @@ use Rattle.px_rows.specs.Rows.{words_for}
 use Rattle.px_rows.specs.Rows.{row_bit}
 use Rattle.px_planes.specs.declared.planes.Planes.{Planes}
 use Rattle.px_tree.specs.Nodes.{TreeState, leaf_output}
-use Rattle.px_plane_tree.proofs.LevelLemmas.{power_of, power_some}
 use Rattle.px_planes.proofs.StoredLemmas.{bit_of_rows}
 use Rattle.px_plane_tree.proofs.TreeLemmas.{zero_bit}
 
@@ -161,21 +159,6 @@ pub registers_law : (n : ℕ) (planes : Planes) (p : ℕ) (enable carry latch : 
     (registers_of (get_or (pixels_in n planes) p no_pixel))
 registers_law n planes p enable carry latch within e k l =
     rw (e, k, l) (ap registers_of (sym (get_or-tabulate n (pixel_in planes) p no_pixel within)))
-
--- ---- the word of a row that is full
-
-pub full_below : (n i : ℕ) → n < 64 → i < 64 → nat_bit (1 * 2 ^ n % 2 ^ 64 - 1) i ≡ nat_lt i n
-full_below n i small in_word =
-    let fits : 2 ^ n < 2 ^ 64 =
-    omega (arith, power_grows (n + 1) 64 (omega arith), power_of (n + 1) n (omega arith), power_some n) in
-    let e : 1 * 2 ^ n % 2 ^ 64 ≡ 2 ^ n = omega arith in
-    ap (λ m. nat_bit (m - 1) i) e ∙ elim (cases_lt i n) [
-      | inl l ↦ ap (λ b. b == 1) (bit_at_ones n i l) ∙ sym (lt-ltb i n l)
-      | inr g ↦ ap (λ b. b == 1) (bit_at_ones_above n i g) ∙ sym (le-ltb i n g)
-    ]
-
-pub full_above : (n i : ℕ) → 64 ≤ n → i < 64 → nat_bit (2 ^ 64 - 1) i ≡ nat_lt i n
-full_above n i large in_word = ap (λ b. b == 1) (bit_at_ones 64 i in_word) ∙ sym (lt-ltb i n (omega arith))
 
 -- the pixels of a grid fill whole words, or less than one
 pub whole_words : (levels : ℕ) → 64 < 2 ^ levels → 2 ^ levels % 64 ≡ 0

@@ -9,13 +9,10 @@ use Rattle.px_asm.specs.Microprograms.{bits_of}
 use Rattle.px_macro.specs.Macros.{after_macro, with_field}
 use Rattle.px_macro.specs.declared.field.Field.{Field}
 use Rattle.px_macro.specs.declared.operation.Macro.{Macro}
-use Rattle.px_num.specs.Bits.{bit_at, bit_of, nat_bit}
-use Rattle.px_num.specs.Forms.{IsInTreeRange, value_at}
+use Rattle.px_num.specs.Bits.{bit_at, nat_bit}
+use Rattle.px_num.specs.Forms.{value_at}
 use Rattle.px_num.specs.declared.linear.Linear.{Linear}
-use Rattle.px_tree.specs.TreeBit.{LeafGivesSign, LeafGivesValue}
 use Rattle.std.specs.Int.{is_negative}
-use Rattle.std.proofs.Math.Nat.{one-le-pow}
-use Rattle.std.proofs.lemmas.Nat.{pow-add}
 use Rattle.px_pixel.specs.Acts.{kept, stored}
 use Rattle.px_pixel.specs.Pixels.{PixelState}
 use Rattle.px_pixel.specs.declared.act.Act.TheVariants.{StoreConst}
@@ -62,23 +59,6 @@ stored_law f number v n planes p long room bits =
 
 pub place_in_word : (p w : ℕ) → p / 64 ≡ w → 64 * w + p % 64 ≡ p
 place_in_word p w here = omega arith
-
-column_of : (place m n : ℕ) → place < m * n → place / n < m
-column_of place m n inside = grind arith
-
--- bit 39 of a value is its sign
-pub sign_at : LeafGivesValue → LeafGivesSign → (form : Linear) (ny p : ℕ) → IsInTreeRange form → 1 ≤ ny → ny ≤ 9
-    → p < 2 ^ (9 + ny)
-    → bit_of (value_at form (p / 2 ^ ny) (p % 2 ^ ny)) 39 ≡ is_negative (value_at form (p / 2 ^ ny) (p % 2 ^ ny))
-sign_at leaf sign form ny p range some rows within =
-    let split : 2 ^ (9 + ny) ≡ 512 * 2 ^ ny = pow-add 2 9 ny in
-    let column : p / 2 ^ ny < 2 ^ 9 = column_of p 512 (2 ^ ny) (rw split at within) in
-    let positive : 1 ≤ 2 ^ ny = one-le-pow ny 2 (omega arith) in
-    let row : p % 2 ^ ny < 2 ^ ny = omega arith in
-    let nine : 9 ≤ 9 = omega arith in
-    let one : 1 ≤ 9 = omega arith in
-    sym (leaf form 9 ny (p / 2 ^ ny) (p % 2 ^ ny) 39 one some column row)
-    ∙ sign form 9 ny (p / 2 ^ ny) (p % 2 ^ ny) range ((one, nine), (some, rows)) column row
 
 -- a word that lies on one side of an edge whole
 is_positive_value : (v o base low : ℤ) → v ≡ o +ℤ base → low ≤ℤ o → pos 0 ≤ℤ (base +ℤ low) → is_negative v ≡ false

@@ -1,5 +1,5 @@
 -- Operations that are made at once, word by word. Only proofs and private functions stand on it.
-use Rattle.std.specs.Prelude.{◌≡◌, ◌≢◌, ℕ, zero, suc, ◌+◌, ◌*◌, ◌/◌, ◌%◌, ◌^◌, ◌<◌, ◌≤◌, ◌⊎◌, ⊤, ℤ, ◌≤ℤ◌, Bool, true, false, not, ◌==◌, max, count_by, List, length}
+use Rattle.std.specs.Prelude.{◌≡◌, ◌≢◌, ℕ, zero, suc, ◌+◌, ◌*◌, ◌/◌, ◌%◌, ◌^◌, ◌<◌, ◌≤◌, ◌⊎◌, ⊤, ◌≤ℤ◌, Bool, false, not, ◌==◌, max, count_by, List, length}
 use Rattle.px_num.specs.Forms.{IsWithin}
 use Rattle.px_lanes.specs.Lanes.{HasValue, offset}
 use Rattle.px_macro.specs.declared.operation.Macro.TheVariants as m
@@ -73,12 +73,12 @@ IsPartial op = op ≢ m.All
 abbrev pub AreOffsets : Linear → (ny : ℕ) → List ℕ → Type 0
 AreOffsets form ny offsets = (j : ℕ) → j < 64 → HasValue offsets j (offset form ny j)
 
--- no offset is less than the first or greater than the second
-pub record IsSpan (form : Linear) (ny : ℕ) (low high : ℤ) : Type 0 where
-  pub least : (j : ℕ) → j < 64 → low ≤ℤ offset form ny j
-  pub most : (j : ℕ) → j < 64 → offset form ny j ≤ℤ high
-  pub first : IsWithin (2 ^ 42) low
-  pub second : IsWithin (2 ^ 42) high
+-- no offset is less than the low one or greater than the high one
+pub record IsEdge (form : Linear) (ny : ℕ) (edge : Edge) : Type 0 where
+  pub least : (j : ℕ) → j < 64 → edge.low ≤ℤ offset form ny j
+  pub most : (j : ℕ) → j < 64 → offset form ny j ≤ℤ edge.high
+  pub first : IsWithin (2 ^ 42) edge.low
+  pub second : IsWithin (2 ^ 42) edge.high
 
 -- the offsets are those of the operation's form, if it has one
 abbrev pub HaveOffsets : Macro → (ny : ℕ) → List ℕ → Type 0
@@ -113,8 +113,3 @@ bits_needed op = 0
 pub record IsReach (reach : Reach) (planes : Planes) : Type 0 where
   pub within : reach.to ≤ length planes.enable
   pub outside : (p : ℕ) → p < 64 * length planes.enable → (p / 64 < reach.from) ⊎ (reach.to ≤ p / 64) → row_bit planes.enable p ≡ false
-
--- what is known of an edge: where its values lie, and its offsets once they are made
-pub record IsEdge (form : Linear) (ny : ℕ) (edge : Edge) : Type 0 where
-  pub span : IsSpan form ny edge.low edge.high
-  pub offsets : edge.has_offsets ≡ true → AreOffsets form ny edge.offsets

@@ -1,25 +1,22 @@
 //! `KeepSign`, made at once: most words lie on one side of an edge whole.
-ghost use Rattle.std.specs.Prelude.{◌≡◌, ◌<◌, ◌≤◌, ◌+◌, ◌*◌, ◌^◌, true, length};
+ghost use Rattle.std.specs.Prelude.{◌≡◌, ◌<◌, ◌≤◌, ◌+◌, ◌*◌, ◌/◌, ◌%◌, ◌^◌, ◌+ℤ◌, ℕ, length};
+ghost use Rattle.px_lanes.specs.Lanes.{offset};
 ghost use Rattle.px_macro.specs.declared.operation.Macro.TheVariants.{KeepSign};
-ghost use Rattle.px_num.specs.Forms.{IsInTreeRange};
+ghost use Rattle.px_num.specs.Forms.{IsInTreeRange, IsWithin, value_at};
 ghost use Rattle.px_planes.specs.Operations.{IsDone, IsEdge, IsReach, IsWordDone};
 ghost use Rattle.px_planes.specs.Pixels.{HasWords};
 
 use crate::planes::Planes;
 use crate::reach::Reach;
 use crate::word_acts::keep_word;
-use px_lanes::{base_of, offsets, signs, span, turned};
+use px_lanes::{base_of, signs, span, turned};
 use px_num::Linear;
-use px_tree::laws_of_feeds;
 
-/// What the values of a form are from the first pixel of a word on: the least and the greatest of
-/// the offsets, and the offsets themselves, which are made for the first word that the edge cuts.
-#[derive(Drop)]
+/// The least and the greatest by which the values of a form differ from the one at the first pixel of a word.
+#[derive(Clone, Copy)]
 pub struct Edge {
     pub low: i64,
     pub high: i64,
-    pub offsets: [u64; 40],
-    pub has_offsets: bool,
 }
 
 /// `enable = enable and v >= 0`
@@ -27,14 +24,13 @@ pub(crate) fn keep_sign(planes: &mut Planes, reach: Reach, form: &Linear, ny: u3
     requires words { HasWords (length planes.old.enable) planes.old }
     requires reach { IsReach reach planes.old }
     requires range { IsInTreeRange form.now }
-    requires some { 1 ≤ ny }
     requires rows { ny ≤ 9 }
     requires grid { 64 * length planes.old.enable ≤ 2 ^ (9 + ny) }
     ensures { IsDone (KeepSign form.now) ny (length planes.old.enable) planes.old planes.new }
 {
-    let mut edge = edge_of(form, ny);
+    let edge = edge_of(form, ny);
     for w in reach.from..reach.to {
-        cut_word(planes, &mut edge, form, w, ny);
+        cut_word(planes, edge, form, w, ny);
     }
 }
 
@@ -44,26 +40,19 @@ fn edge_of(form: &Linear, ny: u32) -> Edge
     ensures { IsEdge form.now ny result }
 {
     let (low, high) = span(form, ny);
-    Edge {
-        low,
-        high,
-        offsets: [0; 40],
-        has_offsets: false,
-    }
+    Edge { low, high }
 }
 
 /// Makes the operation in the pixels of a word, if one of them is enabled.
 #[inline(always)]
-fn cut_word(planes: &mut Planes, edge: &mut Edge, form: &Linear, w: usize, ny: u32)
+fn cut_word(planes: &mut Planes, edge: Edge, form: &Linear, w: usize, ny: u32)
     requires words { HasWords (length planes.old.enable) planes.old }
-    requires edge { IsEdge form.now ny edge.old }
+    requires edge { IsEdge form.now ny edge }
     requires range { IsInTreeRange form.now }
-    requires some { 1 ≤ ny }
     requires rows { ny ≤ 9 }
     requires grid { 64 * length planes.old.enable ≤ 2 ^ (9 + ny) }
     requires word { w < length planes.old.enable }
-    ensures edge { IsEdge form.now ny edge.new }
-    ensures done { IsWordDone (KeepSign form.now) ny w (length planes.old.enable) planes.old planes.new }
+    ensures { IsWordDone (KeepSign form.now) ny w (length planes.old.enable) planes.old planes.new }
 {
     if planes.enable.word(w) != 0 {
         cut_enabled_word(planes, edge, form, w, ny);
@@ -71,16 +60,14 @@ fn cut_word(planes: &mut Planes, edge: &mut Edge, form: &Linear, w: usize, ny: u
 }
 
 #[inline(always)]
-fn cut_enabled_word(planes: &mut Planes, edge: &mut Edge, form: &Linear, w: usize, ny: u32)
+fn cut_enabled_word(planes: &mut Planes, edge: Edge, form: &Linear, w: usize, ny: u32)
     requires words { HasWords (length planes.old.enable) planes.old }
-    requires edge { IsEdge form.now ny edge.old }
+    requires edge { IsEdge form.now ny edge }
     requires range { IsInTreeRange form.now }
-    requires some { 1 ≤ ny }
     requires rows { ny ≤ 9 }
     requires grid { 64 * length planes.old.enable ≤ 2 ^ (9 + ny) }
     requires word { w < length planes.old.enable }
-    ensures edge { IsEdge form.now ny edge.new }
-    ensures done { IsWordDone (KeepSign form.now) ny w (length planes.old.enable) planes.old planes.new }
+    ensures { IsWordDone (KeepSign form.now) ny w (length planes.old.enable) planes.old planes.new }
 {
     let base = base_of(form, ny, w);
     if base + edge.low >= 0 {
@@ -89,36 +76,20 @@ fn cut_enabled_word(planes: &mut Planes, edge: &mut Edge, form: &Linear, w: usiz
     if base + edge.high < 0 {
         keep_word(planes, w, 0);
     } else {
-        cut_mixed_word(planes, edge, form, w, ny);
+        cut_mixed_word(planes, form, base, w, ny);
     }
 }
 
-fn cut_mixed_word(planes: &mut Planes, edge: &mut Edge, form: &Linear, w: usize, ny: u32)
+/// Makes the operation in the pixels of a word at whose first the form has the value `base`.
+fn cut_mixed_word(planes: &mut Planes, form: &Linear, base: i64, w: usize, ny: u32)
     requires words { HasWords (length planes.old.enable) planes.old }
-    requires edge { IsEdge form.now ny edge.old }
     requires range { IsInTreeRange form.now }
-    requires some { 1 ≤ ny }
     requires rows { ny ≤ 9 }
-    requires grid { 64 * length planes.old.enable ≤ 2 ^ (9 + ny) }
+    requires base { IsWithin (2 ^ 39) base }
+    requires values { (j : ℕ) → j < 64 → value_at form.now ((64 * w + j) / 2 ^ ny) ((64 * w + j) % 2 ^ ny)
+        ≡ offset form.now ny j +ℤ base }
     requires word { w < length planes.old.enable }
-    ensures edge { IsEdge form.now ny edge.new }
-    ensures done { IsWordDone (KeepSign form.now) ny w (length planes.old.enable) planes.old planes.new }
+    ensures { IsWordDone (KeepSign form.now) ny w (length planes.old.enable) planes.old planes.new }
 {
-    laws_of_feeds();
-    make_offsets(edge, form, ny);
-    let negative = signs(&edge.offsets, base_of(form, ny, w));
-    keep_word(planes, w, turned(negative));
-}
-
-fn make_offsets(edge: &mut Edge, form: &Linear, ny: u32)
-    requires edge { IsEdge form.now ny edge.old }
-    requires range { IsInTreeRange form.now }
-    requires rows { ny ≤ 9 }
-    ensures edge { IsEdge form.now ny edge.new }
-    ensures made { edge.new.has_offsets ≡ true }
-{
-    if !edge.has_offsets {
-        offsets(form, ny, &mut edge.offsets);
-        edge.has_offsets = true;
-    }
+    keep_word(planes, w, turned(signs(form, ny, base)));
 }

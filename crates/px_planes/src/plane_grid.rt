@@ -17,6 +17,7 @@ use crate::shelf::Shelf;
 use crate::slot::{Slot, keep_planes, take_planes};
 use px_array::{ArrayOf, Grid, Micro, Registers, RowGrid, move_tree};
 use px_asm::{OperatingGrid, cycles};
+use px_lanes::full_word;
 use px_macro::Macro;
 use px_num::{Memory, power};
 use px_pixel::Act;
@@ -189,13 +190,6 @@ fn zero_planes<const N: usize>(alloc: Global, nx: u32, ny: u32) -> Result<Planes
     let pixels = power(nx + ny);
     let planes = Planes::zero(alloc, N, (pixels + 63) / 64, full_word(pixels))?;
     Ok(planes)
-}
-
-/// A word whose first so many bits are 1.
-pub fn full_word(pixels: usize) -> u64
-    ensures { (i : ℕ) → i < 64 → nat_bit result i ≡ nat_lt i pixels }
-{
-    if pixels < 64 { (1 << pixels) - 1 } else { !0 }
 }
 
 /// Makes every pixel do the act, by its leaf's bit.

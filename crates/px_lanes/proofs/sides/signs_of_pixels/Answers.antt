@@ -1,4 +1,4 @@
-use Rattle.std.proofs.Common.{◌≡◌, ◌≢◌, ◌+ℤ◌, ◌||◌, ℤ, pos, ap, sym, ◌∙◌, arith, inl, inr, w64, to_z, of_z}
+use Rattle.std.proofs.Common.{◌≡◌, ◌≢◌, ◌+ℤ◌, ◌||◌, ℤ, pos, ap, ◌∙◌, arith, inl, inr, w64, to_z, of_z}
 use Rattle.std.specs.Int.{is_negative}
 use Rattle.std.specs.Int.Signed.{lt_z}
 use Rattle.std.proofs.lemmas.Bool.{cases_eq}

@@ -2,7 +2,7 @@ use Rattle.std.proofs.Common.{◌≡◌, ℕ, ◌*◌, ◌/◌, ◌%◌, ◌^◌
 use Rattle.px_asm.specs.Microprograms.{bits_of}
 use Rattle.px_macro.specs.Macros.{after_macro}
 use Rattle.px_macro.specs.declared.operation.Macro.TheVariants.{KeepSign}
-use Rattle.px_planes.specs.Operations.{IsEdge, IsLike}
+use Rattle.px_planes.specs.Operations.{IsLike}
 use Rattle.px_planes.specs.Pixels.{pixel_in}
 use Rattle.px_planes.proofs.edges.keep_sign.Given as goal
 
@@ -14,5 +14,4 @@ invariant-loop-w l =
           → bits_of (pixel_in l.planes p) ≡ after_macro (KeepSign l.form) (p / 2 ^ l.ny) (p % 2 ^ l.ny) (bits_of (pixel_in l.fn.planes p));
       rest : (p : ℕ) → p < 64 * n → l.w ≤ p / 64 → pixel_in l.planes p ≡ pixel_in l.fn.planes p;
       like : IsLike n l.fn.planes l.planes;
-      edge : IsEdge l.form l.ny l.edge;
     }
