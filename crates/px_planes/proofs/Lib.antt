@@ -7,4 +7,3 @@ pub mod WorkLemmas
 pub mod OperatedLemmas
 pub mod OperationLemmas
 pub mod IdleLemmas
-pub mod ReachLemmas

@@ -200,18 +200,6 @@ broke_until_more bits s t ls ms broke =
     rw (until-append ls ms) (broke_more bits s t (until_quit ls)
     (if has_quit ls then [] else until_quit ms) broke)
 
--- what is so of a write that failed in an answer is so of one in an answer or in finishing
-pub broke_ending : (bits : ℕ) (s t : Stand) (ls : List (List ℕ)) → Broken false bits s t ls → Broken true bits s t ls
-broke_ending bits s t ls broke = record {
-  count = broke.count;
-  within = broke.within;
-  some = λ none. absurd (omega (arith, some_line broke.count ls broke.some, none));
-  state = broke.state;
-  gained = broke.gained;
-  before = broke.before;
-  wrote = broke.wrote;
-}
-
 -- one line, answered or not
 pub answered_line : (bits : ℕ) (s t : Stand) (l : List ℕ)
     → t.session ≡ after_line s.session l → t.work ≤ s.work + line_clocks s.session l
