@@ -16,13 +16,13 @@ use Rattle.px_show.specs.Judged.{first_bad, past, size_past}
 use Rattle.px_text.specs.Text.{Words, worded}
 use Rattle.px_show.proofs.FaultLaws.{within_limits}
 use Rattle.px_show.proofs.JudgedLaws.{none_here, not_memory, not_refused}
-use Rattle.px_scene.specs.Lines.{numbers_of, plane_of, size_of}
+use Rattle.px_scene.specs.Lines.{plane_of, size_of}
+use Rattle.px_listing.specs.Lines.{cause_of, numbers_of}
 use Rattle.px_listing.specs.AcceptedLaw.{AcceptedIsLawful, MemoryIsNoRefusal}
 use Rattle.px_listing.specs.Keywords.{keyword_of}
 use Rattle.px_listing.specs.Kinds.{field_of, operation_of, operation_with, shape_of}
 use Rattle.px_listing.specs.Limits.{end_past, field_past, fields_past, form_past, limit_of, overlap, shape_past}
 use Rattle.px_listing.specs.Limits.{value_past}
-use Rattle.px_listing.specs.Lines.{cause_of}
 use Rattle.px_listing.specs.Reading.{ListFault, due_behind, fault_behind, fault_of, listing_of, operation_in, refusal_of}
 use Rattle.px_listing.specs.Listings.{ListingView}
 use Rattle.px_listing.specs.declared.keyword.Due.{Due}

@@ -16,12 +16,12 @@ use Rattle.px_show.specs.Judged.{past}
 use Rattle.px_text.specs.Text.{Words}
 use Rattle.px_tree.specs.Nodes.{IsGrid}
 use Rattle.px_listing.specs.Listings.{ListingView}
-use Rattle.px_scene.specs.Lines.{numbers_of, size_of}
+use Rattle.px_scene.specs.Lines.{size_of}
+use Rattle.px_listing.specs.Lines.{cause_of, numbers_of}
 use Rattle.px_listing.specs.Drafts.{DraftView, IsDraft, IsDraftOf, draft_of, head_of, or_else, taken}
 use Rattle.px_listing.specs.Drafts.{with_line, with_operation}
 use Rattle.px_listing.specs.Keywords.{due_after, is_header, is_one, keyword_of}
 use Rattle.px_listing.specs.Limits.{grid_past, limit_of}
-use Rattle.px_listing.specs.Lines.{cause_of}
 use Rattle.px_listing.specs.Kinds.{operation_of}
 use Rattle.px_listing.specs.Reading.{Exponents, due_behind, due_behind_line, exponents_of, fault_behind, fault_of}
 use Rattle.px_listing.specs.Reading.{grid_in, last_or, least_grid, listing_of}

@@ -14,7 +14,7 @@ use Rattle.px_macro.specs.declared.operation.Macro.TheVariants as m
 use Rattle.px_num.specs.Forms.{IsInTreeRange, IsWithin}
 use Rattle.px_num.specs.declared.linear.Linear.{Linear}
 use Rattle.px_num.proofs.TruthLaws.{same_true}
-use Rattle.px_scene.specs.Lines.{are_numbers, numbers_of}
+use Rattle.px_listing.specs.Lines.{are_numbers, form_of, numbers_of}
 use Rattle.px_show.specs.Judged.{judged, past}
 use Rattle.px_show.specs.declared.fault.Cause.TheVariants as c
 use Rattle.px_text.specs.Text.{Words, number_of}
@@ -23,7 +23,6 @@ use Rattle.px_text.proofs.LineLaws.{small_size}
 use Rattle.px_listing.specs.Keywords.{due_after, is_due, keyword_of}
 use Rattle.px_listing.specs.Kinds.{bit_number, is_set, kind_of, number_count, operands_of, operation_of, operation_with, shape_of, word_of}
 use Rattle.px_listing.specs.Limits.{end_past, field_past, form_past, limit_of, overlap, shape_past}
-use Rattle.px_listing.specs.Lines.{form_of}
 use Rattle.px_listing.specs.Reading.{due_behind_line, exponents_of, fault_of, grid_in, operation_in}
 use Rattle.px_listing.specs.declared.keyword.Keyword.{Keyword}
 use Rattle.px_listing.specs.declared.keyword.Keyword.TheVariants as k

@@ -11,7 +11,7 @@ use Rattle.std.proofs.lemmas.List.{get_or-map, length-map, take_all, take_more}
 use Rattle.px_num.specs.Forms.{IsWithin}
 use Rattle.px_text.specs.Text.{Words, is_some_byte, is_digit, negative, number_of, positive, size_of_digits}
 use Rattle.px_text.specs.LentWords.{now_of}
-use Rattle.px_scene.specs.Lines.{are_numbers, numbers_of}
+use Rattle.px_listing.specs.Lines.{are_numbers, cause_of, form_of, numbers_of}
 use Rattle.px_num.proofs.TruthLaws.{and_left, and_right}
 use Rattle.std.proofs.lemmas.Slice.Eq.{bytes_eq-Decides}
 use Rattle.std.specs.Option.{option_or}
@@ -19,7 +19,6 @@ use Rattle.std.specs.Str.{bytes_eq}
 use Rattle.px_show.specs.declared.fault.Cause.{Cause}
 use Rattle.px_show.specs.declared.fault.Cause.TheVariants as c
 use Rattle.px_listing.specs.Keywords.{is_due, is_header, is_one, keyword_of}
-use Rattle.px_listing.specs.Lines.{cause_of, form_of}
 use Rattle.px_listing.specs.Untimely.{untimely}
 use Rattle.px_listing.specs.declared.keyword.Due.{Due}
 use Rattle.px_listing.specs.declared.keyword.Due.TheVariants as d

@@ -5,7 +5,7 @@ use Rattle.px_macro.specs.declared.operation.Macro.{Macro}
 use Rattle.px_text.specs.Text.{Words}
 use Rattle.px_tree.specs.Nodes.{IsGrid}
 use Rattle.px_listing.specs.Keywords.{due_after, keyword_of}
-use Rattle.px_scene.specs.Lines.{numbers_of}
+use Rattle.px_listing.specs.Lines.{numbers_of}
 use Rattle.px_listing.specs.Kinds.{operation_of}
 use Rattle.px_listing.specs.Reading.{Exponents, due_behind, exponents_of, grid_of, operation_in}
 use Rattle.px_listing.specs.declared.keyword.Keyword.{Keyword}

@@ -6,9 +6,9 @@ use Rattle.px_macro.specs.declared.operation.Macro.{Macro}
 use Rattle.px_show.specs.Judged.{first_bad, judged, refused}
 use Rattle.px_text.specs.Text.{Words, lines_of, worded}
 use Rattle.px_listing.specs.Keywords.{due_after, keyword_of}
-use Rattle.px_scene.specs.Lines.{numbers_of, size_of}
+use Rattle.px_scene.specs.Lines.{size_of}
+use Rattle.px_listing.specs.Lines.{cause_of, numbers_of}
 use Rattle.px_listing.specs.Limits.{limit_of}
-use Rattle.px_listing.specs.Lines.{cause_of}
 use Rattle.px_listing.specs.Listings.{ListingView}
 use Rattle.px_listing.specs.Kinds.{operation_of}
 use Rattle.px_listing.specs.declared.keyword.Keyword.{Keyword}

@@ -4,8 +4,7 @@ ghost use Rattle.px_num.specs.Forms.{IsWithin};
 ghost use Rattle.px_text.specs.LentWords.{now_of};
 ghost use Rattle.px_listing.specs.Keywords.{keyword_of};
 ghost use Rattle.px_listing.specs.Untimely.{untimely};
-ghost use Rattle.px_scene.specs.Lines.{are_numbers, numbers_of};
-ghost use Rattle.px_listing.specs.Lines.{cause_of, form_of};
+ghost use Rattle.px_listing.specs.Lines.{are_numbers, cause_of, form_of, numbers_of};
 
 use crate::keyword::{Due, Keyword, count_of, is_due, is_header};
 use crate::numbers::Numbers;

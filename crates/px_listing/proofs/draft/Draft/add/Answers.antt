@@ -1,7 +1,7 @@
 use Rattle.std.proofs.Common.{◌≡◌, ◌∙◌, None, sym}
 use Rattle.px_text.specs.LentWords.{now_of}
 use Rattle.px_listing.specs.Drafts.{view_of}
-use Rattle.px_scene.specs.Lines.{numbers_of}
+use Rattle.px_listing.specs.Lines.{numbers_of}
 use Rattle.px_listing.specs.Limits.{limit_of}
 use Rattle.px_listing.proofs.ReadLemmas.{kept_more}
 use Rattle.px_listing.proofs.draft.Draft.add.Goals as goal
