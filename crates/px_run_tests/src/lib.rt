@@ -1,8 +1,10 @@
-//! Whole runs whose calls fail or are watched, and the texts of errors: what no text alone can show.
+//! Ends and whole runs whose calls fail or are watched, and the texts of errors: what no text alone can show.
 #![tactic(auto)]
 
 #[cfg(test)]
 mod arrays;
+#[cfg(test)]
+mod ends;
 #[cfg(test)]
 mod faults;
 #[cfg(test)]
@@ -10,4 +12,8 @@ mod runs;
 #[cfg(test)]
 mod sessions;
 #[cfg(test)]
+mod streams;
+#[cfg(test)]
 mod texts;
+#[cfg(test)]
+mod watched;

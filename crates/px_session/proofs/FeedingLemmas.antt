@@ -1,39 +1,43 @@
 -- Bytes in pieces, and lines one after another.
 use Rattle.std.proofs.Common.{◌≡◌, ℕ, ◌+◌, ◌-◌, ◌<◌, ◌≤◌, Bool, true, false, ◌||◌, ◌==◌, List, [], ◌∷◌, ◌++◌}
-use Rattle.std.proofs.Common.{length, take, drop, get_or, Result, Ok, Err, IfOk, OnErr, OnOk}
-use Rattle.std.proofs.Common.{refl, sym, ap, ◌∙◌, append_assoc, append-nil, length-append, arith}
+use Rattle.std.proofs.Common.{length, take, drop, get_or, Result, Ok, Err, IfOk, OnOk}
+use Rattle.std.proofs.Common.{refl, sym, ap, ◌∙◌, append_assoc, append-nil, length-append, arith, inl, inr, subst}
 use Rattle.std.proofs.Common.{if◌then◌else◌}
 use Prim.Native.Nat.{zero, suc}
 use Rattle.std.proofs.Math.Seq.{take-append-add}
-use Rattle.std.proofs.lemmas.List.{take_more, take-append-drop, take-append-le as take_within}
-use Rattle.px_num.proofs.TruthLaws.{neither_left, neither_right}
+use Rattle.std.proofs.lemmas.Bool.{cases_lt}
+use Rattle.std.proofs.lemmas.List.{length-take, take_all, take_more, take-append-drop, take-append-le as take_within}
+use Rattle.px_num.proofs.TruthLaws.{lt_true, neither_left, neither_right}
 use Rattle.px_io.specs.Told.{SinkState, TakesAll, TakesFirst, TakesFront}
 use Rattle.px_io.proofs.ToldLaws.{appends_both, takes_both, takes_none, reopens_both}
 use Rattle.px_debug.specs.Answers.{answer}
 use Rattle.px_debug_text.specs.Commands.{line_command}
+use Rattle.px_debug_text.specs.declared.command.Command.{Command}
 use Rattle.px_debug.specs.Moves.{SessionView, going, most_clocks, moved}
 use Rattle.px_debug.specs.declared.session.Going.{Going}
 use Rattle.px_debug.specs.declared.session.Going.TheVariants as g
-use Rattle.px_session.specs.Buffers.{held_with, short_ended, short_left}
+use Rattle.px_lines.specs.Lines.{ended, left}
+use Rattle.px_session.specs.Buffers.{short}
 use Rattle.px_session.specs.Servings.{Answered, Broken}
 use Rattle.px_session.specs.Sessions.{Obeyed, Stand, after, after_line, answer_line, answers, clocks_over, has_quit}
 use Rattle.px_session.specs.Sessions.{is_last, is_quit, line_clocks, stand, until_quit}
+use Rattle.px_session.specs.Turns.{Fed}
 
-pub ended-append : (held bs cs : List ℕ) → short_ended held (bs ++ cs) ≡ short_ended held bs
-    ++ short_ended (short_left held bs) cs
-ended-append held [] cs = refl
-ended-append held (b ∷ bs) cs =
-    elim (b == 10) as (λ t. (if t then held ∷ short_ended [] (bs ++ cs) else short_ended (held_with held b) (bs ++ cs))
-    ≡ (if t then held ∷ short_ended [] bs else short_ended (held_with held b) bs)
-    ++ short_ended (if t then short_left [] bs else short_left (held_with held b) bs) cs)
-    [ true ↦ ap (λ ls. held ∷ ls) (ended-append [] bs cs) | false ↦ ended-append (held_with held b) bs cs ]
+-- the lines of bytes and of more
+pub ended-append : (line xs ys : List ℕ) → ended line (xs ++ ys) ≡ ended line xs ++ ended (left line xs) ys
+ended-append line [] ys = refl
+ended-append line (b ∷ xs) ys =
+    elim (b == 10) as (λ t. (if t then line ∷ ended [] (xs ++ ys) else ended (line ++ b ∷ []) (xs ++ ys))
+    ≡ (if t then line ∷ ended [] xs else ended (line ++ b ∷ []) xs)
+    ++ ended (if t then left [] xs else left (line ++ b ∷ []) xs) ys)
+    [ true ↦ ap (λ ls. line ∷ ls) (ended-append [] xs ys) | false ↦ ended-append (line ++ b ∷ []) xs ys ]
 
-pub left-append : (held bs cs : List ℕ) → short_left held (bs ++ cs) ≡ short_left (short_left held bs) cs
-left-append held [] cs = refl
-left-append held (b ∷ bs) cs =
-    elim (b == 10) as (λ t. (if t then short_left [] (bs ++ cs) else short_left (held_with held b) (bs ++ cs))
-    ≡ short_left (if t then short_left [] bs else short_left (held_with held b) bs) cs)
-    [ true ↦ left-append [] bs cs | false ↦ left-append (held_with held b) bs cs ]
+pub left-append : (line xs ys : List ℕ) → left line (xs ++ ys) ≡ left (left line xs) ys
+left-append line [] ys = refl
+left-append line (b ∷ xs) ys =
+    elim (b == 10) as (λ t. (if t then left [] (xs ++ ys) else left (line ++ b ∷ []) (xs ++ ys))
+    ≡ left (if t then left [] xs else left (line ++ b ∷ []) xs) ys)
+    [ true ↦ left-append [] xs ys | false ↦ left-append (line ++ b ∷ []) xs ys ]
 
 pub quit-append : (ls ms : List (List ℕ)) → has_quit (ls ++ ms) ≡ has_quit ls || has_quit ms
 quit-append [] ms = refl
@@ -110,10 +114,6 @@ clocks-append s (l ∷ ls) ms =
 obeyed_none : (s : Stand) → Obeyed s s []
 obeyed_none s = record { session = refl; work = omega arith }
 
-obeyed_one : (s t : Stand) (l : List ℕ) → t.session ≡ after_line s.session l
-    → t.work ≤ s.work + line_clocks s.session l → Obeyed s t (l ∷ [])
-obeyed_one s t l is few = record { session = is; work = omega (arith, few) }
-
 obeyed_both : (s t u : Stand) (ls ms : List (List ℕ)) → Obeyed s t ls → Obeyed t u ms → Obeyed s u (ls ++ ms)
 obeyed_both s t u ls ms first second = record {
   session = second.session ∙ ap (λ x. after x ms) first.session ∙ sym (after-append s.session ls ms);
@@ -166,7 +166,11 @@ broke_both bits s t u ls ms first second =
       state = rw t1 (obeyed_both s t u ls (take n ms) first.state second.state);
       gained = length (answers bits s.session ls) + second.gained;
       before = rw (t0, e0, ← first.state.session)
-          (omega (arith, length-append (answers bits s.session ls) (answers bits t.session (take (n - 1) ms)), second.before));
+          (omega (
+            arith,
+            length-append (answers bits s.session ls) (answers bits t.session (take (n - 1) ms)),
+            second.before,
+          ));
       wrote = rw (t1, e1, ← first.state.session)
           (first_after s.out t.out u.out (answers bits s.session ls) (answers bits t.session (take n ms)) second.gained
           first.wrote second.wrote);
@@ -200,104 +204,74 @@ broke_until_more bits s t ls ms broke =
     rw (until-append ls ms) (broke_more bits s t (until_quit ls)
     (if has_quit ls then [] else until_quit ms) broke)
 
--- one line, answered or not
-pub answered_line : (bits : ℕ) (s t : Stand) (l : List ℕ)
-    → t.session ≡ after_line s.session l → t.work ≤ s.work + line_clocks s.session l
-    → TakesAll s.out t.out (answer_line bits s.session l) → Answered false bits s t (until_quit (l ∷ []))
-answered_line bits s t l is few wrote =
-    rw (until_one l) (record {
-      state = obeyed_one s t l is few;
-      wrote = rw (append-nil (answer_line bits s.session l)) wrote;
-    })
+-- the first bytes of a line say what the line says
+command_short : (l : List ℕ) → line_command (short l) ≡ line_command l
+command_short l = elim (cases_lt (length l) 257) [
+  | inl less ↦ ap (λ line. line_command line) (take_all 256 l (omega arith))
+  | inr more ↦ rw (
+    lt_true 255 (length (take 256 l)) (omega (arith, length-take 256 l)),
+    lt_true 255 (length l) (omega arith),
+  ) refl
+]
 
-pub broke_line : (bits : ℕ) (s t : Stand) (l : List ℕ)
-    → t.session ≡ after_line s.session l → t.work ≤ s.work + line_clocks s.session l
-    → TakesFront s.out t.out (answer_line bits s.session l) → Broken false bits s t (until_quit (l ∷ []))
-broke_line bits s t l is few (n, wrote) = rw (until_one l) (record {
-  count = 1;
-  within = omega arith;
-  some = λ none. absurd (omega (arith, none));
-  state = obeyed_one s t l is few;
-  gained = n;
-  before = omega arith;
-  wrote = rw (append-nil (answer_line bits s.session l)) wrote;
-})
+pub same_command : (first l : List ℕ) → first ≡ short l → line_command first ≡ line_command l
+same_command first l kept = ap (λ line. line_command line) kept ∙ command_short l
 
-pub on_err : {T E : Type 0} (r : Result T E) (P : Type 0) → P → OnErr r P
-on_err (Ok x) P p = tt
-on_err (Err e) P p = p
+obeyed_line : (s t : SessionView) (m n : ℕ) (a b : SinkState) (l : List ℕ)
+    → t ≡ record { scene = s.scene; now = moved s.scene s.now (line_command l); lines = s.lines + 1 }
+    → n ≤ m + most_clocks s.scene s.now (line_command l) → Obeyed (stand s m a) (stand t n b) (l ∷ [])
+unfolding after_line line_clocks
+obeyed_line s t m n a b l is few = record { session = is; work = omega (arith, few) }
 
-pub ended_more : (h bs m : List ℕ) (i : ℕ) → i < length bs → m ≡ short_left h (take i bs)
-    → short_ended h (take (i + 1) bs) ≡ short_ended h (take i bs) ++ short_ended m (get_or bs i 0 ∷ [])
-ended_more h bs m i l e = rw (take_more bs i 0 l, ended-append, e) refl
-
-pub left_more : (h bs m : List ℕ) (i : ℕ) → i < length bs → m ≡ short_left h (take i bs)
-    → short_left h (take (i + 1) bs) ≡ short_left m (get_or bs i 0 ∷ [])
-left_more h bs m i l e = rw (take_more bs i 0 l, left-append, e) refl
-
-pub ended_rest : (h bs : List ℕ) (i : ℕ) → short_ended h bs ≡ short_ended h (take i bs)
-    ++ short_ended (short_left h (take i bs)) (drop i bs)
-ended_rest h bs i = rw (← ended-append h (take i bs) (drop i bs), take-append-drop i bs) refl
-
--- what is said of a line by the session that was given it
-pub state_is : (s t : SessionView) (l : List ℕ)
-    → t ≡ record { scene = s.scene; now = moved s.scene s.now (line_command l); lines = s.lines + 1 } → t ≡ after_line s l
-unfolding after_line
-state_is s t l is = is
-
-pub answer_is : (bits : ℕ) (s t : SessionView) (l : List ℕ)
+answer_is : (bits : ℕ) (s t : SessionView) (l : List ℕ)
     → t ≡ record { scene = s.scene; now = moved s.scene s.now (line_command l); lines = s.lines + 1 }
     → answer bits t.scene t.now t.lines (line_command l) ≡ answer_line bits s l
 unfolding answer_line
 answer_is bits s t l is = rw is refl
 
-clocks_are : (s : SessionView) (l : List ℕ) (m n : ℕ) → n ≤ m + most_clocks s.scene s.now (line_command l)
-    → n ≤ m + line_clocks s l
-unfolding line_clocks
-clocks_are s l m n few = few
-
 quit_of : (l : List ℕ) → is_quit l ≡ is_last (going (line_command l))
 unfolding is_quit
 quit_of l = refl
 
-pub quit_is : (on : Going) (l : List ℕ) → on ≡ going (line_command l) → is_last on ≡ has_quit (l ∷ [])
-quit_is on l is = rw is (sym (quit_one l ∙ quit_of l))
-
--- a line given, whose answer was written or not
-pub given_answered : (bits : ℕ) (s t : SessionView) (m n : ℕ) (a b : SinkState) (l : List ℕ)
-    → t ≡ record { scene = s.scene; now = moved s.scene s.now (line_command l); lines = s.lines + 1 }
-    → n ≤ m + most_clocks s.scene s.now (line_command l)
-    → TakesAll a b (answer bits t.scene t.now t.lines (line_command l))
+-- a line given as a command, whose answer was written or not
+pub given_answered : (bits : ℕ) (s t : SessionView) (m n : ℕ) (a b : SinkState) (k : Command) (l : List ℕ)
+    → k ≡ line_command l
+    → t ≡ record { scene = s.scene; now = moved s.scene s.now k; lines = s.lines + 1 }
+    → n ≤ m + most_clocks s.scene s.now k → TakesAll a b (answer bits t.scene t.now t.lines k)
     → Answered false bits (stand s m a) (stand t n b) (until_quit (l ∷ []))
-given_answered bits s t m n a b l is few wrote =
-    answered_line bits (stand s m a) (stand t n b) l (state_is s t l is) (clocks_are s l m n few)
-    (rw (answer_is bits s t l is) at wrote)
+given_answered bits s t m n a b k l same is few wrote =
+    let led = rw same at is in
+    rw (until_one l) (record {
+      state = obeyed_line s t m n a b l led (rw same at few);
+      wrote = rw (append-nil (answer_line bits s l), ← answer_is bits s t l led) (rw same at wrote);
+    })
 
-pub given_broke : (bits : ℕ) (s t : SessionView) (m n : ℕ) (a b : SinkState) (l : List ℕ)
-    → t ≡ record { scene = s.scene; now = moved s.scene s.now (line_command l); lines = s.lines + 1 }
-    → n ≤ m + most_clocks s.scene s.now (line_command l)
-    → TakesFront a b (answer bits t.scene t.now t.lines (line_command l))
+pub given_broke : (bits : ℕ) (s t : SessionView) (m n : ℕ) (a b : SinkState) (k : Command) (l : List ℕ)
+    → k ≡ line_command l
+    → t ≡ record { scene = s.scene; now = moved s.scene s.now k; lines = s.lines + 1 }
+    → n ≤ m + most_clocks s.scene s.now k → TakesFront a b (answer bits t.scene t.now t.lines k)
     → Broken false bits (stand s m a) (stand t n b) (until_quit (l ∷ []))
-given_broke bits s t m n a b l is few wrote =
-    broke_line bits (stand s m a) (stand t n b) l (state_is s t l is) (clocks_are s l m n few)
-    (rw (answer_is bits s t l is) at wrote)
+given_broke bits s t m n a b k l same is few (count, wrote) =
+    let led = rw same at is in
+    rw (until_one l) (record {
+      count = 1;
+      within = omega arith;
+      some = λ none. absurd (omega (arith, none));
+      state = obeyed_line s t m n a b l led (rw same at few);
+      gained = count;
+      before = omega arith;
+      wrote = rw (append-nil (answer_line bits s l), ← answer_is bits s t l led) (rw same at wrote);
+    })
 
 -- what follows from what holds of an answer
 pub on_ok_by : {T E : Type 0} {P Q : Type 0} (r : Result T E) → OnOk r P → (P → Q) → OnOk r Q
 on_ok_by (Ok x) p f = f p
 on_ok_by (Err e) p f = tt
 
-pub going_is : {E : Type 0} (r : Result Going E) (l : List ℕ) → IfOk r (λ on. on ≡ going (line_command l))
-    → IfOk r (λ on. is_last on ≡ has_quit (l ∷ []))
-going_is (Ok on) l is = quit_is on l is
-going_is (Err e) l is = tt
-
--- a line that ends the session is a quit, and one that does not is none
-pub last_quit : (on : Going) (ls : List (List ℕ)) → on ≡ g.Quit → is_last on ≡ has_quit ls → has_quit ls ≡ true
-last_quit on ls is last = sym last ∙ rw is refl
-
-pub last_more : (on : Going) (ls : List (List ℕ)) → on ≡ g.More → is_last on ≡ has_quit ls → has_quit ls ≡ false
-last_more on ls is last = sym last ∙ rw is refl
+pub going_is : {E : Type 0} (r : Result Going E) (k : Command) (l : List ℕ) → k ≡ line_command l
+    → IfOk r (λ on. on ≡ going k) → IfOk r (λ on. is_last on ≡ has_quit (l ∷ []))
+going_is (Ok on) k l same is = rw (is, same) (sym (quit_one l ∙ quit_of l))
+going_is (Err e) k l same is = tt
 
 -- no line after no line
 pub answers_grow : (bits : ℕ) (s : SessionView) (ls : List (List ℕ)) (n : ℕ) → length (answers bits s (take n ls))
@@ -311,3 +285,87 @@ answers_grow bits s ls n =
       length-append (answers bits s (take n ls))
           (answers bits (after s (take n ls)) (drop n ls)),
     )
+
+-- bytes were fed, none of whose lines is a quit
+pub fed_answered : {bits : ℕ} {line xs : List ℕ} {s t : Stand} {held : List ℕ} → Fed g.More bits line xs s t held
+    → Answered false bits s t (ended line xs)
+fed_answered fed = rw (until_quiet _ (sym fed.going)) at fed.answered
+
+pub fed_none : (bits : ℕ) (line : List ℕ) (s : Stand) (held : List ℕ) → held ≡ short line
+    → Fed g.More bits line [] s s held
+fed_none bits line s held is = record { answered = answered_none bits s; going = refl; held = λ more. is }
+
+-- and then others behind them
+pub fed_both : (on : Going) (bits : ℕ) (line xs ys : List ℕ) (s t u : Stand) (held kept : List ℕ)
+    → Fed g.More bits line xs s t held
+    → Fed on bits (left line xs) ys t u kept → Fed on bits line (xs ++ ys) s u kept
+fed_both on bits line xs ys s t u held kept first second = record {
+  answered = rw (ended-append line xs ys)
+      (answered_until bits s t u (ended line xs) (ended (left line xs) ys) (fed_answered first) (sym first.going)
+      second.answered);
+  going = rw (ended-append line xs ys)
+      (sym (quits_then (ended line xs) (ended (left line xs) ys) (is_last on) (sym first.going)
+      (sym second.going)));
+  held = λ more. second.held more ∙ ap short (sym (left-append line xs ys));
+}
+
+-- the bytes behind a quit count for nothing
+pub fed_quit : (bits : ℕ) (line xs ys : List ℕ) (s t : Stand) (held : List ℕ) → Fed g.Quit bits line xs s t held
+    → Fed g.Quit bits line (xs ++ ys) s t held
+fed_quit bits line xs ys s t held fed = record {
+  answered = rw (ended-append line xs ys, until_more (ended line xs) (ended (left line xs) ys) (sym fed.going))
+      fed.answered;
+  going = rw (ended-append line xs ys) (sym (quits_more (ended line xs) (ended (left line xs) ys) (sym fed.going)));
+  held = λ more. absurd cc;
+}
+
+-- a write failed in the answer to a line behind bytes that were fed, or before others
+pub broke_fed : (bits : ℕ) (line xs ys : List ℕ) (s t u : Stand) (held : List ℕ) → Fed g.More bits line xs s t held
+    → Broken false bits t u (until_quit (ended (left line xs) ys))
+    → Broken false bits s u (until_quit (ended line (xs ++ ys)))
+broke_fed bits line xs ys s t u held first broke =
+    rw (ended-append line xs ys)
+    (broke_until bits s t u (ended line xs) (ended (left line xs) ys) (fed_answered first) (sym first.going) broke)
+
+pub broke_before : (bits : ℕ) (line xs ys : List ℕ) (s t : Stand) → Broken false bits s t (until_quit (ended line xs))
+    → Broken false bits s t (until_quit (ended line (xs ++ ys)))
+broke_before bits line xs ys s t broke =
+    rw (ended-append line xs ys) (broke_until_more bits s t (ended line xs) (ended (left line xs) ys) broke)
+
+-- one byte more of a line, which a buffer keeps or has no room for
+pub kept_more : (held line : List ℕ) (b : ℕ) → held ≡ short line → length held < 256
+    → held ++ b ∷ [] ≡ short (line ++ b ∷ [])
+kept_more held line b is room =
+    let few : length line < 256 = omega (arith, length-take 256 line, ap length is) in
+    rw (is, take_all 256 line (omega arith))
+    (sym (take_all 256 (line ++ b ∷ []) (omega (arith, length-append line (b ∷ [])))))
+
+pub kept_full : (held line : List ℕ) (b : ℕ) → held ≡ short line → 256 ≤ length held → held ≡ short (line ++ b ∷ [])
+kept_full held line b is full =
+    is ∙ sym (take_within 256 line (b ∷ []) (omega (arith, length-take 256 line, ap length is)))
+
+-- byte after byte
+pub fed_more : (on : Going) (bits : ℕ) (line bytes : List ℕ) (i : ℕ) (s t u : Stand) (held kept : List ℕ)
+    → i < length bytes
+    → Fed g.More bits line (take i bytes) s t held → Fed on bits (left line (take i bytes)) (get_or bytes i 0 ∷ []) t
+    u kept
+    → Fed on bits line (take (i + 1) bytes) s u kept
+fed_more on bits line bytes i s t u held kept less first second =
+    rw (take_more bytes i 0 less) (fed_both on bits line (take i bytes) (get_or bytes i 0 ∷ []) s t u held kept first
+    second)
+
+pub fed_quit_in : (bits : ℕ) (line bytes : List ℕ) (i : ℕ) (s t : Stand) (held : List ℕ)
+    → Fed g.Quit bits line (take i bytes) s t held
+    → Fed g.Quit bits line bytes s t held
+fed_quit_in bits line bytes i s t held fed =
+    subst (λ k. Fed g.Quit bits line k s t held) (take-append-drop i bytes)
+    (fed_quit bits line (take i bytes) (drop i bytes) s t held fed)
+
+pub broke_in : (bits : ℕ) (line bytes : List ℕ) (i : ℕ) (s t u : Stand) (held : List ℕ) → i < length bytes
+    → Fed g.More bits line (take i bytes) s t held
+    → Broken false bits t u (until_quit (ended (left line (take i bytes)) (get_or bytes i 0 ∷ [])))
+    → Broken false bits s u (until_quit (ended line bytes))
+broke_in bits line bytes i s t u held less fed broke =
+    let first = broke_fed bits line (take i bytes) (get_or bytes i 0 ∷ []) s t u held fed broke in
+    subst (λ k. Broken false bits s u (until_quit (ended line k))) (take-append-drop (i + 1) bytes)
+    (broke_before bits line (take (i + 1) bytes) (drop (i + 1) bytes) s u (rw (take_more bytes i 0 less) first))

@@ -1,123 +1,24 @@
--- One turn after another.
-use Rattle.std.proofs.Common.{◌≡◌, ℕ, ◌+◌, ◌-◌, ◌<◌, ◌≤◌, true, false, List, [], ◌++◌, length, take, Option}
-use Rattle.std.proofs.Common.{refl, sym, subst, ◌∙◌, min, append_assoc, length-append, arith}
-use Rattle.std.specs.Io.KnownBytes.{Consumes, Keeps}
+-- One read after another, behind bytes that were read and answered.
+use Rattle.std.proofs.Common.{◌≡◌, ℕ, ◌+◌, ◌-◌, ◌<◌, ◌≤◌, false, List, [], ◌∷◌, ◌++◌, length, take}
+use Rattle.std.proofs.Common.{refl, sym, ap, ◌∙◌, min, append_assoc, append-nil, length-append, arith}
+use Rattle.std.specs.Io.KnownBytes.{Appends, Consumes, IsAtEnd, Keeps}
 use Rattle.std.proofs.Math.Seq.{take-append-add}
 use Rattle.std.proofs.lemmas.List.{take_all, take_min, length-take, take-take, take-append-le as take_within}
+use Rattle.px_io.specs.Counts.{Rose}
 use Rattle.px_io.proofs.ToldLaws.{consumes_both, consumes_kept, consumes_none}
-use Rattle.px_lines.specs.Lines.{last_of}
-use Rattle.px_session.specs.Buffers.{short_ended, short_left}
-use Rattle.px_session.specs.Prompts.{Moment}
-use Rattle.px_session.specs.Servings.{Answered, Broken, HasRead, HasServed, Lines, seen}
-use Rattle.px_session.specs.Sessions.{Stand, has_quit, until_quit}
-use Rattle.px_session.specs.Turns.{Ended, Place, Went, lines_seen, seen_left, seen_lines}
+use Rattle.px_asked.specs.Asks.{Ask, Notes, all_given}
+use Rattle.px_asked.proofs.AskLaws.{asked_both, asked_none, given-one}
+use Rattle.px_debug.specs.declared.session.Going.TheVariants as g
+use Rattle.px_lines.specs.Lines.{ended, last_of, left, whole_lines}
+use Rattle.px_session.specs.Prompts.{Moment, Prompt, Prompts}
+use Rattle.px_session.specs.Servings.{Answered, Broken, HasCauses, HasRead, HasServed, lines_in, seen}
+use Rattle.px_session.specs.Sessions.{Stand, answers, has_quit, until_quit}
+use Rattle.px_session.specs.Turns.{Fed}
+use Rattle.px_session.specs.Catching.{Begun, Caught, Stopped, begun}
 use Rattle.px_session.specs.declared.serving.Ending.{Ending}
 use Rattle.px_session.specs.declared.serving.Ending.TheVariants as e
-use Rattle.px_session.proofs.FeedingLemmas.{answered_both, answered_none, answered_until, broke_until, broke_until_more}
-use Rattle.px_session.proofs.FeedingLemmas.{ended-append, left-append, quits_then, until_quiet}
-
-seen_both : (limit : ℕ) (xs ys : List ℕ) → length xs < limit → seen limit (xs ++ ys) ≡ xs ++ seen (limit - length xs) ys
-seen_both limit xs ys some =
-    let n : limit - 1 ≡ length xs + (limit - length xs - 1) = omega arith in
-    rw (n, take-append-add) refl
-
-pub seen_all : (limit : ℕ) (xs : List ℕ) → length xs < limit → seen limit xs ≡ xs
-seen_all limit xs some = take_all (limit - 1) xs (omega arith)
-
-pub seen_none : (limit : ℕ) → seen limit [] ≡ []
-seen_none limit = take_all (limit - 1) [] (omega arith)
-
-pub went_none : (limit bits : ℕ) (p : Place) → Went limit 0 bits p p
-went_none limit bits p =
-    let none = seen_none limit in
-    record {
-      bytes = [];
-      size = refl;
-      taken = consumes_none p.moment.rest;
-      answered = rw none (answered_none bits p.moment.at);
-      quiet = rw none refl;
-      kept = rw none refl;
-    }
-
--- the lines of some bytes and of more
-lines_both : (limit m : ℕ) (held held' xs ys : List ℕ) → length xs < limit → m ≡ limit - length xs
-    → held' ≡ seen_left limit held xs
-    → seen_lines limit held (xs ++ ys) ≡ seen_lines limit held xs ++ seen_lines m held' ys
-lines_both limit m held held' xs ys some left kept =
-    rw (seen_both limit xs ys some, ended-append, kept, seen_all limit xs some, left) refl
-
-left_both : (limit m : ℕ) (held held' xs ys : List ℕ) → length xs < limit → m ≡ limit - length xs
-    → held' ≡ seen_left limit held xs
-    → seen_left limit held (xs ++ ys) ≡ seen_left m held' ys
-left_both limit m held held' xs ys some left kept =
-    rw (seen_both limit xs ys some, left-append, kept, seen_all limit xs some, left) refl
-
-pub went_both : (limit n k c m bits : ℕ) (p q r : Place) → n < limit → c ≡ n + k → m ≡ limit - n
-    → Went limit n bits p q → Went m k bits q r → Went limit c bits p r
-went_both limit n k c m bits p q r less is left first second =
-    let some : length first.bytes < limit = omega (arith, first.size) in
-    let behind : m ≡ limit - length first.bytes = omega (arith, first.size) in
-    let lines = lines_both limit m p.held q.held first.bytes second.bytes some behind first.kept in
-    let kept = left_both limit m p.held q.held first.bytes second.bytes some behind first.kept in
-    record {
-      bytes = first.bytes ++ second.bytes;
-      size = omega (arith, length-append first.bytes second.bytes, first.size, second.size);
-      taken = consumes_both p.moment.rest q.moment.rest r.moment.rest first.bytes second.bytes first.taken second.taken;
-      answered = rw lines (answered_both bits p.moment.at q.moment.at r.moment.at _ _ first.answered second.answered);
-      quiet = rw lines (quits_then _ _ false first.quiet second.quiet);
-      kept = rw kept second.kept;
-    }
-
--- lines behind others
-abbrev pub behind : List (List ℕ) → Lines → Lines
-behind front lines = record { whole = front ++ lines.whole; all = front ++ lines.all }
-
--- what came of lines comes of them behind others, none of which is a quit
-pub served_behind : (ending : Ending) (bits : ℕ) (s t u : Stand) (front : List (List ℕ)) (lines : Lines)
-    → Answered false bits s t front → has_quit front ≡ false → HasServed ending false bits t u lines
-    → HasServed ending false bits s u (behind front lines)
-served_behind e.Quit bits s t u front lines first quiet second =
-    (answered_until bits s t u front lines.whole first quiet second.0, quits_then front lines.whole true quiet second.1)
-served_behind e.End bits s t u front lines first quiet second =
-    (answered_until bits s t u front lines.all first quiet second.0, quits_then front lines.whole false quiet second.1)
-served_behind e.Long bits s t u front lines first quiet second =
-    (answered_both bits s t u front lines.whole first second.0, quits_then front lines.whole false quiet second.1)
-served_behind e.ReadFault bits s t u front lines first quiet second =
-    (answered_both bits s t u front lines.whole first second.0, quits_then front lines.whole false quiet second.1)
-served_behind e.WriteFault bits s t u front lines first quiet second =
-    broke_until bits s t u front lines.all first quiet second
-
--- the lines of bytes that were read and of those of a last turn
-lines_of : (limit m : ℕ) (h h' xs ys : List ℕ) → length xs < limit → m ≡ limit - length xs → h' ≡ seen_left limit h xs
-    → behind (seen_lines limit h xs) (lines_seen m h' ys) ≡ lines_seen limit h (xs ++ ys)
-lines_of limit m h h' xs ys some left kept =
-    let whole = lines_both limit m h h' xs ys some left kept in
-    let last = left_both limit m h h' xs ys some left kept in
-    rw (whole, last, append_assoc (seen_lines limit h xs) (seen_lines m h' ys) (last_of (seen_left m h' ys))) refl
-
-read_both : (ending : Ending) (limit m : ℕ) (xs ys : List ℕ) (rest : Option (List ℕ)) → length xs < limit
-    → m ≡ limit - length xs → HasRead ending ys m rest → HasRead ending (xs ++ ys) limit rest
-read_both e.Quit limit m xs ys rest some left read = tt
-read_both e.End limit m xs ys rest some left read = (omega (arith, length-append xs ys, read.0), read.1)
-read_both e.Long limit m xs ys rest some left read = omega (arith, length-append xs ys, read)
-read_both e.ReadFault limit m xs ys rest some left read = tt
-read_both e.WriteFault limit m xs ys rest some left read = tt
-
-pub ended_both : (ending : Ending) (limit n m bits : ℕ) (p q : Place) (r : Moment) → n < limit → m ≡ limit - n
-    → Went limit n bits p q → Ended ending m bits q r → Ended ending limit bits p r
-ended_both ending limit n m bits p q r less left first last =
-    let some : length first.bytes < limit = omega (arith, first.size) in
-    let rest : m ≡ limit - length first.bytes = omega (arith, first.size) in
-    record {
-      bytes = first.bytes ++ last.bytes;
-      few = omega (arith, length-append first.bytes last.bytes, first.size, last.few);
-      taken = consumes_both p.moment.rest q.moment.rest r.rest first.bytes last.bytes first.taken last.taken;
-      ended = read_both ending limit m first.bytes last.bytes r.rest some rest last.ended;
-      served = subst (λ lines. HasServed ending false bits p.moment.at r.at lines)
-          (lines_of limit m p.held q.held first.bytes last.bytes some rest first.kept)
-          (served_behind ending bits p.moment.at q.moment.at r.at (seen_lines limit p.held first.bytes)
-          (lines_seen m q.held last.bytes) first.answered first.quiet last.served);
-    }
+use Rattle.px_session.proofs.FeedingLemmas.{answered_until, broke_fed, broke_until, broke_until_more}
+use Rattle.px_session.proofs.FeedingLemmas.{fed_answered, fed_both}
 
 -- what a read gave, of which the last byte that may be read is not seen
 pub seen_read : (limit n k : ℕ) (buf ys : List ℕ) → n ≤ length buf → k ≡ min n (limit - 1) → take k (buf ++ ys)
@@ -129,61 +30,238 @@ seen_read limit n k buf ys within is =
     let whole : take k t ≡ take (limit - 1) t = rw m at (take_min (limit - 1) t) in
     take_within k buf ys (omega arith) ∙ sym (take-take k n buf (omega arith)) ∙ whole
 
-pub ended_broke : (limit bits : ℕ) (bytes fed : List ℕ) (p : Place) (q : Moment) → length bytes ≤ limit
-    → Consumes p.moment.rest q.rest bytes → fed ≡ seen limit bytes
-    → Broken false bits p.moment.at q.at (until_quit (short_ended p.held fed)) → Ended e.WriteFault limit bits p q
-ended_broke limit bits bytes fed p q few taken is broke = record {
-  bytes = bytes;
-  few = few;
-  taken = taken;
-  ended = tt;
-  served = broke_until_more bits p.moment.at q.at (seen_lines limit p.held bytes) (last_of (seen_left limit p.held bytes))
-      (rw is at broke);
+-- what was read, and of it the line that is not whole
+abbrev pub text_of : {bits n : ℕ} {b : Begun} {p : Moment} {held : List ℕ} → Caught bits b n p held → List ℕ
+text_of {b = b} caught = b.read ++ all_given caught.asks
+
+abbrev pub line_of : {bits n : ℕ} {b : Begun} {p : Moment} {held : List ℕ} → Caught bits b n p held → List ℕ
+line_of caught = left [] (text_of caught)
+
+-- no more had been asked for
+pub caught_begun : (bits : ℕ) (read : List ℕ) (n : ℕ) (was p : Moment) (held : List ℕ) → p.asks ≡ was.asks
+    → p.rest ≡ was.rest
+    → p.faults ≡ was.faults → p.at.out.faults ≡ was.at.out.faults
+    → Fed g.More bits [] read was.at p.at held → Caught bits (begun was read n) n p held
+caught_begun bits read n was p held asks rest calm_in calm_out fed = record {
+  asks = [];
+  asked = rw asks (asked_none was.asks);
+  taken = rw rest (consumes_none was.rest);
+  left = omega arith;
+  seen = take_all (n - 1) [] (omega arith);
+  prompt = tt;
+  fed = rw (append-nil read) fed;
+  calm_in = calm_in;
+  calm_out = calm_out;
 }
 
--- a read failed
-pub ended_fault : (limit bits : ℕ) (p : Place) (q : Moment) → q.at ≡ p.moment.at → Keeps p.moment.rest q.rest
-    → Ended e.ReadFault limit bits p q
-ended_fault limit bits p q same kept =
-    let none = seen_none limit in
+prompt_more : (bits : ℕ) (s : Stand) (n : ℕ) (text : List ℕ) (xs : List Ask) (a : Ask) → Prompt bits s n text xs
+    → Appends s.out.written a.told (answers bits s.session (whole_lines (text ++ all_given xs)))
+    → has_quit (whole_lines (text ++ all_given xs)) ≡ false → length (all_given xs) < n
+    → Prompt bits s n text (xs ++ a ∷ [])
+prompt_more bits s n text [] a p q quiet some = (rw (append-nil text) at q, rw (append-nil text) at quiet, some, tt)
+prompt_more bits s n text (x ∷ xs) a p q quiet some = (
+  p.0,
+  p.1,
+  p.2,
+  prompt_more bits s (n - length x.bytes) (text ++ x.bytes) xs a p.3 (rw (append_assoc text x.bytes (all_given xs)) q)
+      (rw (append_assoc text x.bytes (all_given xs)) quiet) (omega (arith, some, length-append x.bytes (all_given xs))),
+)
+
+-- and one ask more
+pub prompts_ask : (bits : ℕ) (b : Begun) (n : ℕ) (p : Moment) (held : List ℕ) (now : Moment) (bytes : List ℕ)
+    → Caught bits b n p held
+    → 0 < n → Notes p.asks now.asks p.at.out.written bytes → Consumes p.rest now.rest bytes
+    → Prompts bits b.read b.more b.was now
+prompts_ask bits b n p held now bytes caught some noted took =
+    let one : Ask = record { told = p.at.out.written; bytes = bytes } in
     record {
-      bytes = [];
-      few = omega arith;
-      taken = consumes_kept p.moment.rest p.moment.rest q.rest [] (consumes_none p.moment.rest) kept;
-      ended = tt;
-      served = rw same (rw none (answered_none bits p.moment.at), rw none refl);
+      asks = caught.asks ++ one ∷ [];
+      asked = asked_both b.was.asks p.asks now.asks caught.asks (one ∷ []) caught.asked noted;
+      taken = rw (given-one caught.asks one)
+          (consumes_both b.was.rest p.rest now.rest (all_given caught.asks) bytes caught.taken took);
+      prompt = prompt_more bits b.was.at b.more b.read caught.asks one caught.prompt (fed_answered caught.fed).wrote.all
+          (sym caught.fed.going) (omega (arith, caught.left, some));
     }
 
--- bytes were read and fed
-pub went_fed : (limit n bits : ℕ) (buf fed : List ℕ) (p q : Place) → n ≤ length buf
-    → Consumes p.moment.rest q.moment.rest (take n buf) → fed ≡ seen limit (take n buf)
-    → Answered false bits p.moment.at q.moment.at (until_quit (short_ended p.held fed))
-    → has_quit (short_ended p.held fed) ≡ false → q.held ≡ short_left p.held fed → Went limit n bits p q
-went_fed limit n bits buf fed p q within taken is answered quiet kept = record {
-  bytes = take n buf;
-  size = omega (arith, length-take n buf);
-  taken = taken;
-  answered = rw (← is) (rw (until_quiet (short_ended p.held fed) quiet) at answered);
-  quiet = rw (← is) quiet;
-  kept = rw (← is) kept;
+-- whose bytes are answered
+pub caught_fed : (bits : ℕ) (b : Begun) (n m : ℕ) (p q : Moment) (held kept bytes fed : List ℕ)
+    → (caught : Caught bits b n p held)
+    → 0 < m → n ≡ length bytes + m → Notes p.asks q.asks p.at.out.written bytes → Consumes p.rest q.rest bytes
+    → fed ≡ seen n bytes → Fed g.More bits (line_of caught) fed p.at q.at kept
+    → q.faults ≡ p.faults → q.at.out.faults ≡ p.at.out.faults → Caught bits b m q kept
+unfolding prompts_ask
+caught_fed bits b n m p q held kept bytes fed caught some count noted took is more calm_in calm_out =
+    let one : Ask = record { told = p.at.out.written; bytes = bytes } in
+    let prompts = prompts_ask bits b n p held q bytes caught (omega (arith, count, some)) noted took in
+    let given = given-one caught.asks one in
+    let all : fed ≡ bytes = is ∙ take_all (n - 1) bytes (omega (arith, count, some)) in
+    record {
+      asks = caught.asks ++ one ∷ [];
+      asked = prompts.asked;
+      taken = prompts.taken;
+      left = omega (arith, caught.left, count, ap length given, length-append (all_given caught.asks) bytes);
+      seen = take_all (b.more - 1) (all_given (caught.asks ++ one ∷ []))
+          (omega (arith, caught.left, count, some, ap length given, length-append (all_given caught.asks) bytes));
+      prompt = prompts.prompt;
+      fed = rw (given, ← append_assoc b.read (all_given caught.asks) bytes)
+          (fed_both g.More bits [] (text_of caught) bytes b.was.at p.at q.at held kept caught.fed (rw all at more));
+      calm_in = calm_in ∙ caught.calm_in;
+      calm_out = calm_out ∙ caught.calm_out;
+    }
+
+-- which counts of faults rose in a turn, rose since the session began
+causes_since : (ending : Ending) (was p now : Moment) → p.faults ≡ was.faults → p.at.out.faults ≡ was.at.out.faults
+    → HasCauses ending p now → HasCauses ending was now
+causes_since e.Quit was p now calm_in calm_out causes = rw (← calm_in, ← calm_out) causes
+causes_since e.End was p now calm_in calm_out causes = rw (← calm_in, ← calm_out) causes
+causes_since e.Long was p now calm_in calm_out causes = rw (← calm_in, ← calm_out) causes
+causes_since e.ReadFault was p now calm_in calm_out causes = rw (← calm_in, ← calm_out) causes
+causes_since e.WriteFault was p now calm_in calm_out causes = rw (← calm_in, ← calm_out) causes
+
+-- it stopped, when bytes had been read or none
+stopped_by : (ending : Ending) (bits : ℕ) (b : Begun) (n : ℕ) (p now : Moment) (held bytes : List ℕ)
+    → (caught : Caught bits b n p held)
+    → 0 < n → length bytes ≤ n → Consumes p.rest now.rest bytes
+    → HasRead ending (all_given caught.asks ++ bytes) b.more now.rest
+    → HasServed ending false bits b.was.at now.at (lines_in (text_of caught ++ seen n bytes)) → HasCauses ending p now
+    → Prompts bits b.read b.more b.was now → Stopped ending bits b now
+stopped_by ending bits b n p now held bytes caught some few took read served causes prompts =
+    let front = all_given caught.asks in
+    let count : b.more - 1 ≡ length front + (n - 1) = omega (arith, caught.left, some) in
+    let both : seen b.more (front ++ bytes) ≡ front ++ seen n bytes = rw count (take-append-add front bytes (n - 1)) in
+    record {
+      bytes = front ++ bytes;
+      few = omega (arith, length-append front bytes, caught.left, few);
+      taken = consumes_both b.was.rest p.rest now.rest front bytes caught.taken took;
+      ended = read;
+      served = rw (both, ← append_assoc b.read front (seen n bytes)) served;
+      causes = causes_since ending b.was p now caught.calm_in caught.calm_out causes;
+      prompts = prompts;
+    }
+
+-- behind bytes that were fed: a quit among their lines, the last byte that may be read, or a write that failed
+pub stopped_quit : (bits : ℕ) (b : Begun) (n : ℕ) (p now : Moment) (held kept bytes fed : List ℕ)
+    → (caught : Caught bits b n p held)
+    → 0 < n → length bytes ≤ n → Consumes p.rest now.rest bytes → fed ≡ seen n bytes
+    → Fed g.Quit bits (line_of caught) fed p.at now.at kept → HasCauses e.Quit p now
+    → Prompts bits b.read b.more b.was now → Stopped e.Quit bits b now
+stopped_quit bits b n p now held kept bytes fed caught some few took is more causes prompts =
+    let both = fed_both g.Quit bits [] (text_of caught) fed b.was.at p.at now.at held kept caught.fed more in
+    stopped_by e.Quit bits b n p now held bytes caught some few took tt (rw (← is) (both.answered, sym both.going))
+    causes prompts
+
+pub stopped_long : (bits : ℕ) (b : Begun) (n : ℕ) (p now : Moment) (held kept bytes fed : List ℕ)
+    → (caught : Caught bits b n p held)
+    → 0 < n → length bytes ≡ n → Consumes p.rest now.rest bytes → fed ≡ seen n bytes
+    → Fed g.More bits (line_of caught) fed p.at now.at kept → HasCauses e.Long p now
+    → Prompts bits b.read b.more b.was now → Stopped e.Long bits b now
+stopped_long bits b n p now held kept bytes fed caught some full took is more causes prompts =
+    let both = fed_both g.More bits [] (text_of caught) fed b.was.at p.at now.at held kept caught.fed more in
+    stopped_by e.Long bits b n p now held bytes caught some (omega (arith, full)) took
+    (omega (arith, length-append (all_given caught.asks) bytes, caught.left, full))
+    (rw (← is) (fed_answered both, sym both.going)) causes prompts
+
+pub stopped_broke : (bits : ℕ) (b : Begun) (n : ℕ) (p now : Moment) (held bytes fed : List ℕ)
+    → (caught : Caught bits b n p held)
+    → 0 < n → length bytes ≤ n → Consumes p.rest now.rest bytes → fed ≡ seen n bytes
+    → Broken false bits p.at now.at (until_quit (ended (line_of caught) fed)) → HasCauses e.WriteFault p now
+    → Prompts bits b.read b.more b.was now → Stopped e.WriteFault bits b now
+stopped_broke bits b n p now held bytes fed caught some few took is broke causes prompts =
+    stopped_by e.WriteFault bits b n p now held bytes caught some few took tt
+    (rw (← is) (broke_until_more bits b.was.at now.at (ended [] (text_of caught ++ fed))
+    (last_of (left [] (text_of caught ++ fed)))
+    (broke_fed bits [] (text_of caught) fed b.was.at p.at now.at held caught.fed broke))) causes prompts
+
+-- where nothing more was read: a read that failed, the end of the input, or a write that failed in the answer
+-- to the last piece
+stopped_idle : (ending : Ending) (bits : ℕ) (b : Begun) (n : ℕ) (p now : Moment) (held bytes : List ℕ)
+    → (caught : Caught bits b n p held) → 0 < n → bytes ≡ [] → Consumes p.rest now.rest bytes
+    → HasRead ending (all_given caught.asks) b.more now.rest
+    → HasServed ending false bits b.was.at now.at (lines_in (text_of caught)) → HasCauses ending p now
+    → Prompts bits b.read b.more b.was now → Stopped ending bits b now
+stopped_idle ending bits b n p now held bytes caught some none took read served causes prompts =
+    let nothing : seen n [] ≡ [] = take_all (n - 1) [] (omega arith) in
+    stopped_by ending bits b n p now held [] caught some (omega arith) (rw none at took)
+    (rw (append-nil (all_given caught.asks)) read) (rw (nothing, append-nil (text_of caught)) served) causes prompts
+
+pub stopped_fault : (bits : ℕ) (b : Begun) (n : ℕ) (p now : Moment) (held : List ℕ) → Caught bits b n p held → 0 < n
+    → Keeps p.rest now.rest → now.at ≡ p.at → HasCauses e.ReadFault p now
+    → Prompts bits b.read b.more b.was now → Stopped e.ReadFault bits b now
+stopped_fault bits b n p now held caught some kept same causes prompts =
+    stopped_idle e.ReadFault bits b n p now held [] caught some refl
+    (consumes_kept p.rest p.rest now.rest [] (consumes_none p.rest) kept) tt
+    (rw same (fed_answered caught.fed), sym caught.fed.going) causes prompts
+
+pub stopped_end : (bits : ℕ) (b : Begun) (n : ℕ) (p now : Moment) (held bytes : List ℕ)
+    → (caught : Caught bits b n p held) → 0 < n
+    → bytes ≡ [] → Consumes p.rest now.rest bytes → IsAtEnd now.rest
+    → Answered false bits p.at now.at (until_quit (last_of (line_of caught))) → HasCauses e.End p now
+    → Prompts bits b.read b.more b.was now → Stopped e.End bits b now
+stopped_end bits b n p now held bytes caught some none took end last causes prompts =
+    stopped_idle e.End bits b n p now held bytes caught some none took (omega (arith, caught.left, some), end) (
+      answered_until bits b.was.at p.at now.at (whole_lines (text_of caught)) (last_of (line_of caught))
+          (fed_answered caught.fed)
+          (sym caught.fed.going) last,
+      sym caught.fed.going,
+    ) causes prompts
+
+pub stopped_last : (bits : ℕ) (b : Begun) (n : ℕ) (p now : Moment) (held bytes : List ℕ)
+    → (caught : Caught bits b n p held) → 0 < n
+    → bytes ≡ [] → Consumes p.rest now.rest bytes
+    → Broken false bits p.at now.at (until_quit (last_of (line_of caught)))
+    → HasCauses e.WriteFault p now → Prompts bits b.read b.more b.was now → Stopped e.WriteFault bits b now
+stopped_last bits b n p now held bytes caught some none took broke causes prompts =
+    stopped_idle e.WriteFault bits b n p now held bytes caught some none took tt
+    (broke_until bits b.was.at p.at now.at (whole_lines (text_of caught)) (last_of (line_of caught))
+    (fed_answered caught.fed)
+    (sym caught.fed.going) broke) causes prompts
+
+-- and where nothing could be read
+pub stopped_full : (bits : ℕ) (b : Begun) (n : ℕ) (p : Moment) (held : List ℕ) → n ≡ 0 → Caught bits b n p held
+    → Stopped e.Long bits b p
+stopped_full bits b n p held none caught = record {
+  bytes = all_given caught.asks;
+  few = omega (arith, caught.left);
+  taken = caught.taken;
+  ended = omega (arith, caught.left, none);
+  served = rw caught.seen (fed_answered caught.fed, sym caught.fed.going);
+  causes = (caught.calm_in, caught.calm_out);
+  prompts = record { asks = caught.asks; asked = caught.asked; taken = caught.taken; prompt = caught.prompt };
 }
 
-pub ended_quit : (limit n bits : ℕ) (buf fed : List ℕ) (p : Place) (q : Moment) → n ≤ length buf → n ≤ limit
-    → Consumes p.moment.rest q.rest (take n buf) → fed ≡ seen limit (take n buf)
-    → Answered false bits p.moment.at q.at (until_quit (short_ended p.held fed))
-    → has_quit (short_ended p.held fed) ≡ true → Ended e.Quit limit bits p q
-ended_quit limit n bits buf fed p q within few taken is answered quits = record {
-  bytes = take n buf;
-  few = omega (arith, length-take n buf);
-  taken = taken;
+-- lines that were read before had a quit among them, or a write failed in an answer to them
+nothing_seen : (read : List ℕ) (n : ℕ) → read ++ seen n [] ≡ read
+nothing_seen read n = rw (take_all {A = ℕ} (n - 1) [] (omega arith)) (append-nil read)
+
+prompts_none : (bits : ℕ) (read : List ℕ) (n : ℕ) (was now : Moment) → now.asks ≡ was.asks → now.rest ≡ was.rest
+    → Prompts bits read n was now
+prompts_none bits read n was now asks rest =
+    record { asks = []; asked = rw asks (asked_none was.asks); taken = rw rest (consumes_none was.rest); prompt = tt }
+
+pub begun_quit : (bits : ℕ) (read : List ℕ) (n : ℕ) (was now : Moment) (held : List ℕ) → now.asks ≡ was.asks
+    → now.rest ≡ was.rest
+    → now.faults ≡ was.faults → now.at.out.faults ≡ was.at.out.faults
+    → Fed g.Quit bits [] read was.at now.at held → Stopped e.Quit bits (begun was read n) now
+begun_quit bits read n was now held asks rest calm_in calm_out fed = record {
+  bytes = [];
+  few = omega arith;
+  taken = rw rest (consumes_none was.rest);
   ended = tt;
-  served = (rw (← is) answered, rw (← is) quits);
+  served = rw (nothing_seen read n) (fed.answered, sym fed.going);
+  causes = (calm_in, calm_out);
+  prompts = prompts_none bits read n was now asks rest;
 }
 
--- a write failed in the answer to the last piece, at the end of the input
-pub ended_last : (limit bits count : ℕ) (buf : List ℕ) (p : Place) (q : Moment) → count ≡ 0
-    → Consumes p.moment.rest q.rest (take count buf) → Broken false bits p.moment.at q.at (until_quit (last_of p.held))
-    → Ended e.WriteFault limit bits p q
-ended_last limit bits count buf p q none taken broke =
-    let nothing = seen_none limit in
-    record { bytes = []; few = omega arith; taken = rw none at taken; ended = tt; served = rw nothing broke }
+pub begun_broke : (bits : ℕ) (read : List ℕ) (n : ℕ) (was now : Moment) → now.asks ≡ was.asks → now.rest ≡ was.rest
+    → now.faults ≡ was.faults → Rose was.at.out.faults now.at.out.faults
+    → Broken false bits was.at now.at (until_quit (whole_lines read)) → Stopped e.WriteFault bits (begun was read n) now
+begun_broke bits read n was now asks rest calm rose broke = record {
+  bytes = [];
+  few = omega arith;
+  taken = rw rest (consumes_none was.rest);
+  ended = tt;
+  served = rw (nothing_seen read n)
+      (broke_until_more bits was.at now.at (whole_lines read) (last_of (left [] read)) broke);
+  causes = (rose, calm);
+  prompts = prompts_none bits read n was now asks rest;
+}

@@ -16,9 +16,11 @@ pub record Moment : Type 0 where
 
 abbrev pub moment : SessionView → (work : ℕ) → (out : SinkState) → (asks : Option (List Ask)) → (rest : Option (List ℕ))
     → (faults : ℕ) → Moment
-moment session work out asks rest faults = record { at = stand session work out; asks = asks; rest = rest; faults = faults }
+moment session work out asks rest faults =
+    record { at = stand session work out; asks = asks; rest = rest; faults = faults }
 
--- each time, the whole lines of what was read before had been answered, and nothing else, none of them was a `quit`, and some of so
+-- each time, the whole lines of what was read before had been answered, and nothing else, none of them was a
+-- `quit`, and some of so
 -- many bytes were left to be read
 abbrev pub Prompt : (bits : ℕ) (from : Stand) → (more : ℕ) → (text : List ℕ) → List Ask → Type 0
 Prompt bits from more text [] = ⊤

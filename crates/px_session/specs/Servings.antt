@@ -19,7 +19,8 @@ pub record Answered (ends : Bool) (bits : ℕ) (from now : Stand) (lines : List 
   pub state : Obeyed from now lines
   pub wrote : Gives ends from.out now.out (answers bits from.session lines)
 
--- a write failed in the answer to one of the lines, or, where `ends` is true, in finishing behind the last: so many lines were
+-- a write failed in the answer to one of the lines, or, where `ends` is true, in finishing behind the last: so
+-- many lines were
 -- obeyed, of whose answers a front was written, with all answers but the last in it
 pub record Broken (ends : Bool) (bits : ℕ) (from now : Stand) (lines : List (List ℕ)) : Type 0 where
   pub count : ℕ
@@ -64,7 +65,8 @@ HasCauses e.ReadFault before after = Rose before.faults after.faults × (after.a
 HasCauses e.WriteFault before after = Rose before.at.out.faults after.at.out.faults × (after.faults ≡ before.faults)
 HasCauses ending before after = (after.faults ≡ before.faults) × (after.at.out.faults ≡ before.at.out.faults)
 
--- some bytes were read before, and more of the input here: the lines of both were answered, each before more was asked for
+-- some bytes were read before, and more of the input here: the lines of both were answered, each before more
+-- was asked for
 pub record Serves (ending : Ending) (bits : ℕ) (read : List ℕ) (more : ℕ) (before after : Moment) : Type 0 where
   pub bytes : List ℕ
   pub few : length bytes ≤ more

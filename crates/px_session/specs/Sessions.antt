@@ -18,7 +18,8 @@ after_line s line = record { scene = s.scene; now = moved s.scene s.now (line_co
 
 -- its answer to the line
 unfoldable pub answer_line : (bits : ℕ) → SessionView → (line : List ℕ) → List ℕ
-answer_line bits s line = answer bits s.scene (moved s.scene s.now (line_command line)) (s.lines + 1) (line_command line)
+answer_line bits s line = answer bits s.scene (moved s.scene s.now (line_command line)) (s.lines + 1)
+    (line_command line)
 
 abbrev pub is_last : Going → Bool
 is_last g.Quit = true

@@ -1,11 +1,12 @@
 //! Bytes to lines, and lines to answers.
-ghost use Rattle.std.specs.Prelude.{◌≡◌, ◌<◌, ◌≤◌, ◌+◌, ◌-◌, ◌^◌, IfOk, OnOk, OnErr, length, false, [], ◌∷◌};
+ghost use Rattle.std.specs.Prelude.{◌≡◌, ◌<◌, ◌≤◌, ◌+◌, ◌-◌, ◌^◌, ◌++◌, ℕ, List, IfOk, OnOk, OnErr, length, false, [], ◌∷◌};
 ghost use Rattle.px_io.specs.Counts.{HasCause};
 ghost use Rattle.px_debug.specs.Moves.{Fits};
-ghost use Rattle.px_lines.specs.Lines.{last_of};
-ghost use Rattle.px_session.specs.Buffers.{held_with, short_ended, short_left};
+ghost use Rattle.px_lines.specs.Lines.{ended, last_of};
+ghost use Rattle.px_session.specs.Buffers.{short};
 ghost use Rattle.px_session.specs.Servings.{Answered, Broken};
 ghost use Rattle.px_session.specs.Sessions.{has_quit, is_last, stand, until_quit};
+ghost use Rattle.px_session.specs.Turns.{Fed};
 
 use arrayvec::ArrayVec;
 use px_asm::Operating;
@@ -17,36 +18,36 @@ pub(crate) type Line = ArrayVec<u8, 256>;
 
 /// Keeps a byte of a line, as long as there is room.
 fn keep(held: &mut Line, byte: u8)
-    ensures { held.new.items ≡ held_with held.old.items byte }
+    ensures { (line : List ℕ) → held.old.items ≡ short line →
+        held.new.items ≡ short (line ++ byte ∷ []) }
 {
     if held.len() < 256 {
         held.push(byte);
     }
 }
 
-/// Gives a line to a session.
+/// Gives a line to a session, by its first bytes.
 fn give<A: Operating, O: Sink>(
     session: &mut Session<'_>,
     array: &mut A,
-    line: &[u8],
+    first: &[u8],
     out: &mut O,
 ) -> Result<Going, Failed>
     requires fits { Fits A.BITS session.old (A.device array.old) (A.slots array.old) }
     requires counted { session.old.lines < 2 ^ 64 - 1 }
     ensures fits { Fits A.BITS session.new (A.device array.new) (A.slots array.new) }
-    ensures ok { OnOk result (Answered false A.BITS
+    ensures ok { (line : List ℕ) → first.now ≡ short line → OnOk result (Answered false A.BITS
         (stand session.old (A.work array.old) (O.state out.old))
-        (stand session.new (A.work array.new) (O.state out.new))
-        (until_quit (line.now ∷ []))) }
-    ensures going { IfOk result (λ on. is_last on ≡ has_quit (line.now ∷ [])) }
-    ensures err { OnErr result (Broken false A.BITS
+        (stand session.new (A.work array.new) (O.state out.new)) (until_quit (line ∷ []))) }
+    ensures going { (line : List ℕ) → first.now ≡ short line →
+        IfOk result (λ on. is_last on ≡ has_quit (line ∷ [])) }
+    ensures err { (line : List ℕ) → first.now ≡ short line → OnErr result (Broken false A.BITS
         (stand session.old (A.work array.old) (O.state out.old))
-        (stand session.new (A.work array.new) (O.state out.new))
-        (until_quit (line.now ∷ []))) }
+        (stand session.new (A.work array.new) (O.state out.new)) (until_quit (line ∷ []))) }
     ensures count { session.new.lines ≡ session.old.lines + 1 }
     ensures cause { HasCause (O.state out.old).faults (O.state out.new).faults result }
 {
-    session.line(array, line, out)
+    session.line(array, first, out)
 }
 
 /// A byte: the end of a line has the line answered, and any other is held.
@@ -60,17 +61,13 @@ fn take_byte<A: Operating, O: Sink>(
     requires fits { Fits A.BITS session.old (A.device array.old) (A.slots array.old) }
     requires counted { session.old.lines < 2 ^ 64 - 1 }
     ensures fits { Fits A.BITS session.new (A.device array.new) (A.slots array.new) }
-    ensures ok { OnOk result (Answered false A.BITS
+    ensures ok { (line : List ℕ) → held.old.items ≡ short line →
+        IfOk result (λ on. Fed on A.BITS line (byte ∷ [])
         (stand session.old (A.work array.old) (O.state out.old))
-        (stand session.new (A.work array.new) (O.state out.new))
-        (until_quit (short_ended held.old.items (byte ∷ [])))) }
-    ensures going { IfOk result (λ on.
-        is_last on ≡ has_quit (short_ended held.old.items (byte ∷ []))) }
-    ensures held { OnOk result (held.new.items ≡ short_left held.old.items (byte ∷ [])) }
-    ensures err { OnErr result (Broken false A.BITS
+        (stand session.new (A.work array.new) (O.state out.new)) held.new.items) }
+    ensures err { (line : List ℕ) → held.old.items ≡ short line → OnErr result (Broken false A.BITS
         (stand session.old (A.work array.old) (O.state out.old))
-        (stand session.new (A.work array.new) (O.state out.new))
-        (until_quit (short_ended held.old.items (byte ∷ [])))) }
+        (stand session.new (A.work array.new) (O.state out.new)) (until_quit (ended line (byte ∷ [])))) }
     ensures count { session.new.lines ≤ session.old.lines + 1 }
     ensures cause { HasCause (O.state out.old).faults (O.state out.new).faults result }
 {
@@ -95,17 +92,13 @@ pub(crate) fn feed<A: Operating, O: Sink>(
     requires fits { Fits A.BITS session.old (A.device array.old) (A.slots array.old) }
     requires counted { session.old.lines + length bytes.now < 2 ^ 64 - 1 }
     ensures fits { Fits A.BITS session.new (A.device array.new) (A.slots array.new) }
-    ensures ok { OnOk result (Answered false A.BITS
+    ensures ok { (line : List ℕ) → held.old.items ≡ short line →
+        IfOk result (λ on. Fed on A.BITS line bytes.now
         (stand session.old (A.work array.old) (O.state out.old))
-        (stand session.new (A.work array.new) (O.state out.new))
-        (until_quit (short_ended held.old.items bytes.now))) }
-    ensures going { IfOk result (λ on. is_last on ≡ has_quit (short_ended held.old.items bytes.now)) }
-    ensures held { IfOk result (λ on. on ≡ Going.More →
-        held.new.items ≡ short_left held.old.items bytes.now) }
-    ensures err { OnErr result (Broken false A.BITS
+        (stand session.new (A.work array.new) (O.state out.new)) held.new.items) }
+    ensures err { (line : List ℕ) → held.old.items ≡ short line → OnErr result (Broken false A.BITS
         (stand session.old (A.work array.old) (O.state out.old))
-        (stand session.new (A.work array.new) (O.state out.new))
-        (until_quit (short_ended held.old.items bytes.now))) }
+        (stand session.new (A.work array.new) (O.state out.new)) (until_quit (ended line bytes.now))) }
     ensures count { session.new.lines ≤ session.old.lines + length bytes.now }
     ensures cause { HasCause (O.state out.old).faults (O.state out.new).faults result }
 {
@@ -128,14 +121,12 @@ pub(crate) fn finish_line<A: Operating, O: Sink>(
     requires fits { Fits A.BITS session.old (A.device array.old) (A.slots array.old) }
     requires counted { session.old.lines < 2 ^ 64 - 1 }
     ensures fits { Fits A.BITS session.new (A.device array.new) (A.slots array.new) }
-    ensures ok { OnOk result (Answered false A.BITS
+    ensures ok { (line : List ℕ) → held.now.items ≡ short line → OnOk result (Answered false A.BITS
         (stand session.old (A.work array.old) (O.state out.old))
-        (stand session.new (A.work array.new) (O.state out.new))
-        (until_quit (last_of held.now.items))) }
-    ensures err { OnErr result (Broken false A.BITS
+        (stand session.new (A.work array.new) (O.state out.new)) (until_quit (last_of line))) }
+    ensures err { (line : List ℕ) → held.now.items ≡ short line → OnErr result (Broken false A.BITS
         (stand session.old (A.work array.old) (O.state out.old))
-        (stand session.new (A.work array.new) (O.state out.new))
-        (until_quit (last_of held.now.items))) }
+        (stand session.new (A.work array.new) (O.state out.new)) (until_quit (last_of line))) }
     ensures cause { HasCause (O.state out.old).faults (O.state out.new).faults result }
 {
     match held.as_slice() {

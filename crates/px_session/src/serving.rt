@@ -1,13 +1,12 @@
 //! Reading, and answering what was read before more is asked for.
-ghost use Rattle.std.specs.Prelude.{◌≡◌, ◌⊎◌, ◌<◌, ◌≤◌, ◌+◌, ◌-◌, ◌^◌, IfOk, IfErr, OnOk, length, true};
+ghost use Rattle.std.specs.Prelude.{◌≡◌, ◌⊎◌, ◌<◌, ◌≤◌, ◌+◌, ◌-◌, ◌^◌, IfOk, IfErr, length, true};
 ghost use Rattle.std.specs.Io.KnownBytes.{Keeps};
 ghost use Rattle.px_io.specs.Counts.{Rose};
 ghost use Rattle.px_io.specs.Told.{Tells};
 ghost use Rattle.px_debug.specs.Moves.{Fits};
-ghost use Rattle.px_session.specs.Catching.{Begun, Caught};
-ghost use Rattle.px_session.specs.Prompts.{Prompts, moment};
-ghost use Rattle.px_session.specs.Servings.{HasCauses, Serves};
-ghost use Rattle.px_session.specs.Turns.{Ended, Stopped, Went, place};
+ghost use Rattle.px_session.specs.Catching.{Begun, Caught, Stopped, begun};
+ghost use Rattle.px_session.specs.Prompts.{moment};
+ghost use Rattle.px_session.specs.Servings.{Serves};
 
 use crate::feed::{Line, feed, finish_line};
 use arrayvec::ArrayVec;
@@ -86,19 +85,8 @@ fn answer_all<S: Asks<O>, O: Sink, A: Operating>(
     requires fits { Fits A.BITS session.old (A.device array.old) (A.slots array.old) }
     requires counted { session.old.lines + length read.now + more < 2 ^ 64 - 1 }
     ensures fits { Fits A.BITS session.new (A.device array.new) (A.slots array.new) }
-    ensures stopped { Stopped result A.BITS read.now more
-        (moment session.old (A.work array.old) (O.state out.old)
-        (S.asks input.old) (S.rest input.old) (S.faults input.old))
-        (moment session.new (A.work array.new) (O.state out.new)
-        (S.asks input.new) (S.rest input.new) (S.faults input.new)) }
-    ensures causes { HasCauses result
-        (moment session.old (A.work array.old) (O.state out.old)
-        (S.asks input.old) (S.rest input.old) (S.faults input.old))
-        (moment session.new (A.work array.new) (O.state out.new)
-        (S.asks input.new) (S.rest input.new) (S.faults input.new)) }
-    ensures prompt { Prompts A.BITS read.now more
-        (moment session.old (A.work array.old) (O.state out.old)
-        (S.asks input.old) (S.rest input.old) (S.faults input.old))
+    ensures stopped { Stopped result A.BITS (begun (moment session.old (A.work array.old) (O.state out.old)
+        (S.asks input.old) (S.rest input.old) (S.faults input.old)) read.now more)
         (moment session.new (A.work array.new) (O.state out.new)
         (S.asks input.new) (S.rest input.new) (S.faults input.new)) }
 {
@@ -122,21 +110,10 @@ fn read_on<S: Asks<O>, O: Sink, A: Operating>(
     requires fits { Fits A.BITS session.old (A.device array.old) (A.slots array.old) }
     requires counted { session.old.lines + limit < 2 ^ 64 - 1 }
     ensures fits { Fits A.BITS session.new (A.device array.new) (A.slots array.new) }
-    ensures ended { Ended result limit A.BITS (place held.old.items
+    ensures stopped { (b : Begun) → Caught A.BITS b limit
         (moment session.old (A.work array.old) (O.state out.old)
-        (S.asks input.old) (S.rest input.old) (S.faults input.old)))
-        (moment session.new (A.work array.new) (O.state out.new)
-        (S.asks input.new) (S.rest input.new) (S.faults input.new)) }
-    ensures causes { HasCauses result
-        (moment session.old (A.work array.old) (O.state out.old)
-        (S.asks input.old) (S.rest input.old) (S.faults input.old))
-        (moment session.new (A.work array.new) (O.state out.new)
-        (S.asks input.new) (S.rest input.new) (S.faults input.new)) }
-    ensures prompt { (b : Begun) → Caught A.BITS b limit (place held.old.items
-        (moment session.old (A.work array.old) (O.state out.old)
-        (S.asks input.old) (S.rest input.old) (S.faults input.old)))
-        → Prompts A.BITS b.read b.more b.was
-        (moment session.new (A.work array.new) (O.state out.new)
+        (S.asks input.old) (S.rest input.old) (S.faults input.old)) held.old.items →
+        Stopped result A.BITS b (moment session.new (A.work array.new) (O.state out.new)
         (S.asks input.new) (S.rest input.new) (S.faults input.new)) }
 {
     let mut piece = [0; 4096];
@@ -165,37 +142,20 @@ fn turn<S: Asks<O>, O: Sink, A: Operating>(
     requires room { 0 < length piece.old }
     requires counted { session.old.lines + limit < 2 ^ 64 - 1 }
     ensures fits { Fits A.BITS session.new (A.device array.new) (A.slots array.new) }
-    ensures on { IfOk result (λ count. Went limit count A.BITS
-        (place held.old.items (moment session.old (A.work array.old) (O.state out.old)
-        (S.asks input.old) (S.rest input.old) (S.faults input.old)))
-        (place held.new.items (moment session.new (A.work array.new) (O.state out.new)
-        (S.asks input.new) (S.rest input.new) (S.faults input.new)))) }
-    ensures count { IfOk result (λ count. (0 < count) × (count ≤ limit)
+    ensures count { IfOk result (λ count. (0 < count) × (count < limit)
         × (session.new.lines + (limit - count) < 2 ^ 64 - 1)) }
-    ensures calm { OnOk result ((S.faults input.new ≡ S.faults input.old)
-        × ((O.state out.new).faults ≡ (O.state out.old).faults)) }
-    ensures off { IfErr result (λ ending. Ended ending limit A.BITS
-        (place held.old.items (moment session.old (A.work array.old) (O.state out.old)
-        (S.asks input.old) (S.rest input.old) (S.faults input.old)))
+    ensures caught { (b : Begun) → Caught A.BITS b limit
+        (moment session.old (A.work array.old) (O.state out.old)
+        (S.asks input.old) (S.rest input.old) (S.faults input.old)) held.old.items →
+        IfOk result (λ count. Caught A.BITS b (limit - count)
+        (moment session.new (A.work array.new) (O.state out.new)
+        (S.asks input.new) (S.rest input.new) (S.faults input.new)) held.new.items) }
+    ensures stopped { (b : Begun) → Caught A.BITS b limit
+        (moment session.old (A.work array.old) (O.state out.old)
+        (S.asks input.old) (S.rest input.old) (S.faults input.old)) held.old.items →
+        IfErr result (λ ending. Stopped ending A.BITS b
         (moment session.new (A.work array.new) (O.state out.new)
         (S.asks input.new) (S.rest input.new) (S.faults input.new))) }
-    ensures causes { IfErr result (λ ending. HasCauses ending
-        (moment session.old (A.work array.old) (O.state out.old)
-        (S.asks input.old) (S.rest input.old) (S.faults input.old))
-        (moment session.new (A.work array.new) (O.state out.new)
-        (S.asks input.new) (S.rest input.new) (S.faults input.new))) }
-    ensures prompt { (b : Begun) → Caught A.BITS b limit (place held.old.items
-        (moment session.old (A.work array.old) (O.state out.old)
-        (S.asks input.old) (S.rest input.old) (S.faults input.old)))
-        → Prompts A.BITS b.read b.more b.was
-        (moment session.new (A.work array.new) (O.state out.new)
-        (S.asks input.new) (S.rest input.new) (S.faults input.new)) }
-    ensures caught { IfOk result (λ count. (b : Begun) → Caught A.BITS b limit (place held.old.items
-        (moment session.old (A.work array.old) (O.state out.old)
-        (S.asks input.old) (S.rest input.old) (S.faults input.old)))
-        → count < limit → Caught A.BITS b (limit - count) (place held.new.items
-        (moment session.new (A.work array.new) (O.state out.new)
-        (S.asks input.new) (S.rest input.new) (S.faults input.new)))) }
 {
     let room = piece.len().min(limit);
     let Ok(count) = input.ask(out, &mut piece[..room]) else {
@@ -208,7 +168,13 @@ fn turn<S: Asks<O>, O: Sink, A: Operating>(
         };
     }
     match feed(session, held, array, &piece[..count.min(limit - 1)], out) {
-        Ok(Going::More) => Ok(count),
+        Ok(Going::More) => {
+            if count < limit {
+                Ok(count)
+            } else {
+                Err(Ending::Long)
+            }
+        }
         Ok(Going::Quit) => Err(Ending::Quit),
         Err(_) => Err(Ending::WriteFault),
     }
