@@ -46,32 +46,13 @@ kept_by_carry u number w p q v test below h says =
     rw (h.memory, h.enable, h.carry, carry_is_at_most u number w below, says) refl
 
 fetch_place : (f g : Field) (n : ℕ) → n < f.len → less_act f g (suc (2 * n)) ≡ act.Fetch (g.at + n)
-fetch_place f g n low =
-    let place : (suc (2 * n) - 1) / 2 ≡ n = omega arith in
-    rw (suc_not_zero (2 * n), not_last (2 * n) (2 * f.len) (omega arith), is_odd n, place) refl
-  where
-    not_last : (i last : ℕ) → i < last → (suc i == 1 + last) ≡ false
-    not_last i last low = grind (arith, nat_tests)
-
-    is_odd : (n : ℕ) → (suc (2 * n) % 2 == 1) ≡ true
-    is_odd n = grind (arith, nat_tests)
+fetch_place f g n low = grind (arith, nat_tests)
 
 carry_place : (f g : Field) (n : ℕ) → less_act f g (suc (suc (2 * n))) ≡ act.CarryLatch (f.at + n)
-carry_place f g n =
-    let place : (suc (suc (2 * n)) - 1) / 2 ≡ n = omega arith in
-    rw (suc_not_zero (suc (2 * n)), not_last n f.len, is_even n, place) refl
-  where
-    not_last : (n len : ℕ) → (suc (suc (2 * n)) == 1 + 2 * len) ≡ false
-    not_last n len = grind (arith, nat_tests)
-
-    is_even : (n : ℕ) → (suc (suc (2 * n)) % 2 == 1) ≡ false
-    is_even n = grind (arith, nat_tests)
+carry_place f g n = grind (arith, nat_tests)
 
 last_place : (f g : Field) → less_act f g (suc (2 * f.len)) ≡ act.EnableCarry false
-last_place f g = rw (suc_not_zero (2 * f.len), is_last (2 * f.len)) refl
-  where
-    is_last : (n : ℕ) → (suc n == 1 + n) ≡ true
-    is_last n = grind (arith, nat_tests)
+last_place f g = grind (arith, nat_tests)
 
 pub compared_by_latch : BitsOfNumber → (f g : Field) (tree : ℕ → Bool) (n : ℕ) (p : PixelState) → n ≤ f.len
     → f.len ≡ g.len

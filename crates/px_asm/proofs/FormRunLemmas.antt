@@ -26,13 +26,10 @@ use Rattle.px_asm.proofs.WrittenLemmas.{IsWritten, none_written, one_written, wh
 
 waiting_act : (levels : ℕ) (first : Act) (each : ℕ → Act) (i : ℕ) → suc i ≤ levels → act_at levels first each (suc i)
     ≡ act.Nop
-waiting_act levels first each i low = rw (suc_not_zero i, lt_false levels (suc i) low) refl
+waiting_act levels first each i low = grind (arith, nat_tests)
 
 bit_act : (levels : ℕ) (first : Act) (each : ℕ → Act) (t : ℕ) → act_at levels first each (suc levels + t) ≡ each t
-bit_act levels first each t =
-    let later : suc levels + t ≡ suc (levels + t) = omega arith in
-    let bit : suc (levels + t) - 1 - levels ≡ t = omega arith in
-    rw (later, suc_not_zero (levels + t), lt_true levels (suc (levels + t)) (omega arith), bit) refl
+bit_act levels first each t = grind (arith, nat_tests)
 
 -- while the lowest bit comes down the levels nothing happens
 waiting : (levels : ℕ) (first : Act) (each : ℕ → Act) (tree : ℕ → Bool) (n : ℕ) (p : PixelState) → n ≤ levels

@@ -62,7 +62,7 @@ pub few_here : (bits nx ny : ℕ) (op : Macro) (d : Device) → HasGrid bits nx 
 few_here bits nx ny op d size grid lawful =
     let count : cycles_on d op ≡ cycles op nx ny =
     ap (λ x. cycles op x d.state.tree.ny) size.columns ∙ ap (λ y. cycles op nx y) size.rows in
-    omega (arith, count, few_cycles op 256 nx ny grid lawful)
+    omega (arith, count, few_cycles op nx ny grid lawful)
 
 -- one operation more by its clocks
 pub clocked_more : (bits : ℕ) (ops : List Macro) (i : ℕ) (d : Macro) (start before now : Device) → CanMake bits ops start
@@ -94,7 +94,7 @@ nearly_more law bits ops i d start before now can within near done =
     ap (λ os. all_untouched os all_known) (take_more ops i d within) ∙ untouched_both (take i ops) op all_known in
     let count : cycles_on before op ≡ cycles op nx ny =
     ap (λ x. cycles op x before.state.tree.ny) first.columns ∙ ap (λ y. cycles op nx y) first.rows in
-    let few = few_cycles op 256 nx ny can.grid (can.lawful i d within) in
+    let few = few_cycles op nx ny can.grid (can.lawful i d within) in
     record {
       known = subst (λ (k : Known). AgreeIn k bits nx ny now.state (all_made (take (i + 1) ops) start).state) (sym left)
           (subst (λ (e : Device). AgreeIn (untouched op (all_untouched (take i ops) all_known)) bits nx ny now.state e.state)

@@ -56,7 +56,7 @@ sized_after bits ms d sized =
 
 micros_few : (m : Macro) (nx ny : ℕ) → IsLawful m 256 → IsGrid nx ny → length (micros m nx ny) ≤ 82
 micros_few m nx ny lawful grid =
-    omega (arith, length-tabulate (cycles m nx ny) (micro_at m nx ny), few_cycles m 256 nx ny grid lawful)
+    omega (arith, length-tabulate (cycles m nx ny) (micro_at m nx ny), few_cycles m nx ny grid lawful)
 
 all_micros_few : (ms : List Macro) (nx ny : ℕ) → All (λ m. IsLawful m 256) ms → IsGrid nx ny
     → length (all_micros ms nx ny) ≤ 82 * length ms

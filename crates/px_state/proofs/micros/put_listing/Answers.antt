@@ -44,7 +44,7 @@ loop-m-preserved c =
     let end = rw (items, nx, ny) at made.end in
     record {
       start = omega (arith, end, before.start, begins l i op here);
-      few = omega (arith, end, before.few, few_cycles op 256 l.nx l.ny kept.grid (kept.lawful i m.All within));
+      few = omega (arith, end, before.few, few_cycles op l.nx l.ny kept.grid (kept.lawful i m.All within));
       put = put_next l c.args.first i op c.loop-m.start c.put_micros-start.result c.loop-m.micros
           c.put_micros-start.new.micros here before.start end made.length before.put (rw (items, nx, ny) at made.put) made.kept;
       same = made.length ∙ before.same;
