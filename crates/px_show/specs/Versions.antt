@@ -1,6 +1,6 @@
 -- The versions of scene texts, and the signs of operators: the words that name each version, what it has, the byte of
 -- each sign, and which signs a version has. Clauses of public calls stand on it.
-use Rattle.std.specs.Prelude.{ℕ, List, [], ◌∷◌, codes, Bool, true, false, if◌then◌else◌, Option, Some, None, unwrap_or, ◌==◌, ◌||◌, not}
+use Rattle.std.specs.Prelude.{ℕ, List, [], ◌∷◌, codes, Bool, true, false, if◌then◌else◌, Option, Some, None, ◌==◌, ◌||◌, not}
 use Rattle.std.specs.Str.{bytes_eq}
 use Rattle.px_text.specs.Text.{Words}
 use Rattle.px_show.specs.declared.scene_version.Version.{Version}
@@ -28,21 +28,11 @@ abbrev pub version_of : Words → Option Version
 version_of (w ∷ []) = version_named w
 version_of ws = None
 
--- the version behind a header; before any, the first
-abbrev pub version_or_first : Words → Version
-version_or_first ws = unwrap_or (version_of ws) v.One
-
 -- whether `^` is a sign
 abbrev pub has_differ : Version → Bool
 has_differ v.One = false
 has_differ v.Two = true
 has_differ v.Three = true
-
--- how many numbers a `depth` line has
-abbrev pub depth_count : Version → ℕ
-depth_count v.One = 1
-depth_count v.Two = 1
-depth_count v.Three = 2
 
 -- `+`, `*`, `-` and `^`
 abbrev pub sign_byte : Op → ℕ
