@@ -9,7 +9,8 @@ use Rattle.px_model.specs.Scenes.{SolidView, IsColour, IsLawfulSolid, IsPlane, A
 use Rattle.px_scene.specs.Drafts.{DraftView}
 use Rattle.px_canonical.proofs.CutLemmas.{below, at_number, HasOne, cut, few_below}
 use Rattle.px_canonical.proofs.WalkLaws.{Walk, walk_both}
-use Rattle.px_canonical.proofs.RoundLaws.{Writes, back_walk, face_words, face_written, front_walk, open_solid, plane_for}
+use Rattle.px_canonical.proofs.RoundLaws.{Writes, back_walk, face_words, face_written, front_walk, open_solid}
+use Rattle.px_canonical.proofs.RoundLaws.{plane_for}
 
 -- a solid with its faces below a number, and no side
 abbrev pub part : SolidView → ℕ → SolidView

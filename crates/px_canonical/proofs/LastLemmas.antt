@@ -10,7 +10,8 @@ with_last-append change [] s = refl
 with_last-append change (q ∷ []) s = refl
 with_last-append change (q ∷ r ∷ ss) s = ap (λ x. q ∷ x) (with_last-append change (r ∷ ss) s)
 
-pub in_last-push : (count : SolidView → ℕ) (ss : List SolidView) (s : SolidView) → in_last count (ss ++ s ∷ []) ≡ count s
+pub in_last-push : (count : SolidView → ℕ) (ss : List SolidView) (s : SolidView)
+    → in_last count (ss ++ s ∷ []) ≡ count s
 in_last-push count [] s = refl
 in_last-push count (q ∷ qs) s =
     let place : length (q ∷ (qs ++ s ∷ [])) - 1 ≡ suc (length (qs ++ s ∷ []) - 1) =

@@ -66,8 +66,8 @@ number_short s m true ok front back =
 number_short s m false ok front back =
     let one = (cut m s.backs ok.backs.order).present back
     in let none = (cut m s.fronts ok.fronts.order).absent front
-    in joined (face_lines_at (codes "front") s.fronts m) (face_lines_at (codes "back") s.backs m) 0 54 (rw none (omega arith))
-    (one_short (codes "back") m s.backs (omega arith) ok.backs.planes ok.backs.colours one)
+    in joined (face_lines_at (codes "front") s.fronts m) (face_lines_at (codes "back") s.backs m) 0 54
+    (rw none (omega arith)) (one_short (codes "back") m s.backs (omega arith) ok.backs.planes ok.backs.colours one)
 
 numbers_short : (s : SolidView) (count n : ℕ) → IsLawfulSolid s
     → ((m : ℕ) → n < m → m ≤ n + count → has_number s.fronts m ≡ not (has_number s.backs m))
@@ -141,7 +141,8 @@ pub begin_short : (version : Version) (width height bits fraction : ℕ) → wid
     ++ written_line (codes "depth") (depth_words version bits fraction)) ≤ 40
 begin_short version width height bits fraction w h b f =
     joined _ _ 26 14
-    (joined _ _ 10 16 (line_short (codes "pxscene") (version_word version ∷ []) 7 2 (omega arith) (version_short version))
+    (joined _ _ 10 16
+    (line_short (codes "pxscene") (version_word version ∷ []) 7 2 (omega arith) (version_short version))
     (line_short (codes "picture") (decimal width ∷ decimal height ∷ []) 7 8 (omega arith)
     (joined (32 ∷ decimal width) _ 4 4 (let n = decimal_short width (omega arith) in omega arith)
     (joined (32 ∷ decimal height) [] 4 0 (let n = decimal_short height (omega arith) in omega arith) (omega arith)))))

@@ -304,7 +304,8 @@ solid_walk start done n name c is lawful fresh few more =
     form_walk (standing start done n) (codes "solid") (name ∷ colour_words c) (solid name (paint_for c))
     (rw (name_is_plain name lawful, colour_plain c is) refl) (due_solid done) (rw (lawful, paint_read c is) refl)
     (rw fresh (none_of (colour_past (paint_for c)) (most kind.Solids 255 (length done + 1))
-    (most kind.Faces 4095 (n + 1)) (paint_in_limits c is) (past_in kind.Solids 0 255 (length done + 1) (omega arith) (omega arith))
+    (most kind.Faces 4095 (n + 1)) (paint_in_limits c is)
+    (past_in kind.Solids 0 255 (length done + 1) (omega arith) (omega arith))
     (past_in kind.Faces 0 4095 (n + 1) (omega arith) (omega arith))))
 
 abbrev pub shown_draft : DraftView → List SolidView → ℕ → Due → Option Tree → DraftView

@@ -25,8 +25,8 @@ use Rattle.px_canonical.specs.Canonical.{version_for, plane_words, colour_words}
 use Rattle.px_canonical.proofs.CutLemmas.{none_below, all_below}
 use Rattle.px_show.proofs.PrintedLaws.{signs_of}
 use Rattle.px_canonical.proofs.WalkLaws.{Walk, walk_both}
-use Rattle.px_canonical.proofs.RoundLaws.{CanWrite, begin_walk, begin_words, opened, open_solid, shown_draft, solid_walk}
-use Rattle.px_canonical.proofs.RoundLaws.{end_walk, show_walk, sides_walk, standing, stands}
+use Rattle.px_canonical.proofs.RoundLaws.{CanWrite, begin_walk, begin_words, end_walk, open_solid, opened}
+use Rattle.px_canonical.proofs.RoundLaws.{show_walk, shown_draft, sides_walk, solid_walk, standing, stands}
 use Rattle.px_canonical.proofs.FaceWalkLemmas.{part, words_of_number, faces_walk}
 
 abbrev pub head_words : SolidView → Words

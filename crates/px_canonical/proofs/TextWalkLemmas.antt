@@ -13,8 +13,8 @@ use Rattle.px_canonical.proofs.WalkLaws.{read_by_walk}
 
 pub canonical_read : (scene : SceneView) → IsWritable scene → IsReadAs (canonical_text scene) scene
 canonical_read scene is =
-    read_by_walk (canonical_text scene) (scene_words scene) (final_draft scene) (text_is scene) (canonical_short scene is)
-    (scene_walk scene is) refl
+    read_by_walk (canonical_text scene) (scene_words scene) (final_draft scene) (text_is scene)
+    (canonical_short scene is) (scene_walk scene is) refl
 
 -- a text that is put together of the parts of a lawful scene
 pub parts_read : (scene : SceneView) (count : ℕ) (begun shown text : List ℕ) → length scene.solids ≤ count

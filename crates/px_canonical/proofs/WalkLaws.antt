@@ -42,7 +42,8 @@ pub line_walk : (draft : DraftView) (l : Words) (w : List ℕ) (ws : Words) (for
     → Walk draft (l ∷ []) (taken_by draft (Ok form))
 line_walk draft l w ws form fed words due reads none =
     let says : form_in draft w ws ≡ Ok form =
-    by_due (is_due draft.due (keyword_of w)) (form_of draft.version (keyword_of w) ws) (not_due draft.due) form due reads
+    by_due (is_due draft.due (keyword_of w)) (form_of draft.version (keyword_of w) ws) (not_due draft.due) form due
+    reads
     in (
       record { fed = fed; good = ap (fault_in draft) words ∙ ap (fault_by draft) says ∙ none },
       ap (taken draft) words ∙ ap (taken_by draft) says,

@@ -1,6 +1,7 @@
 -- The solids of the sample: their planes, their colours and their names.
 use Rattle.std.proofs.Common.{◌≡◌, ℕ, pos, ◌+◌, ◌*◌, ◌/◌, ◌%◌, ◌^◌, ◌<◌, ◌≤◌, List, [], ◌∷◌, ◌++◌, length, Bool, true}
-use Rattle.std.proofs.Common.{false, ◌&&◌, codes, decimal, map, get_or, Some, refl, ap, sym, subst, ◌∙◌, arith, length-append}
+use Rattle.std.proofs.Common.{false, ◌&&◌, codes, decimal, map, get_or, Some, refl, ap, sym, subst, ◌∙◌, arith}
+use Rattle.std.proofs.Common.{length-append}
 use Rattle.std.proofs.Common.{nat_le, if◌then◌else◌, None}
 use Prim.Native.Nat.{zero, suc}
 use lib.IntN.{neg_ℤ}

@@ -1,5 +1,5 @@
 -- The lines of the sample, its length, and so that it is accepted.
-use Rattle.std.proofs.Common.{◌≡◌, ℕ, ◌+◌, ◌*◌, ◌<◌, ◌≤◌, ◌^◌, List, [], ◌∷◌, ◌++◌, length, true, codes, decimal}
+use Rattle.std.proofs.Common.{◌≡◌, ℕ, ◌+◌, ◌*◌, ◌<◌, ◌≤◌, ◌^◌, List, [], ◌∷◌, ◌++◌, length, true, codes}
 use Rattle.std.proofs.Common.{refl, ap, sym, subst, ◌∙◌, arith, length-append}
 use Prim.Native.Nat.{zero, suc}
 use Rattle.std.specs.List.{flat_map, range_with_len}
@@ -18,10 +18,10 @@ use Rattle.px_canonical.proofs.LengthLaws as short
 use Rattle.px_canonical.proofs.LengthLemmas.{begin_short}
 use Rattle.px_canonical.proofs.RoundLaws.{begin_are}
 use Rattle.px_show.specs.declared.scene_version.Version.TheVariants as v
-use Rattle.px_sample.proofs.SampleSolidLemmas.{back_of, back_plane, block_named, block_planes, block_sides_of}
+use Rattle.px_sample.proofs.SampleSolidLemmas.{back_of, back_plane, block_named, block_planes}
 use Rattle.px_sample.proofs.SampleSolidLemmas.{block_words, blue, blue_is, bottom_side, cut_back, cut_back_plane}
 use Rattle.px_sample.proofs.SampleSolidLemmas.{cut_planes, cut_side, cut_words, front_of, front_plane, left_side}
-use Rattle.px_sample.proofs.SampleSolidLemmas.{right_side, sample_names, sample_solids, side_words, top_side, yellow}
+use Rattle.px_sample.proofs.SampleSolidLemmas.{right_side, sample_names, sample_solids, top_side, yellow}
 use Rattle.px_sample.proofs.SampleSolidLemmas.{yellow_is}
 use Rattle.px_sample.proofs.SampleTreeLemmas.{sample_tree}
 use Rattle.px_sample.proofs.SampleWalkLemmas.{sample_draft, sample_first, sample_is, sample_middle, sample_show}

@@ -1,6 +1,6 @@
 -- The lines of the sample, one after another, are good.
 use Rattle.std.proofs.Common.{◌≡◌, ℕ, ◌+◌, ◌*◌, ◌<◌, ◌≤◌, List, [], ◌∷◌, ◌++◌, length}
-use Rattle.std.proofs.Common.{codes, decimal, Some, refl, ap, sym, subst, ◌∙◌, arith, length-append}
+use Rattle.std.proofs.Common.{codes, Some, refl, ap, sym, subst, ◌∙◌, arith}
 use Prim.Native.Nat.{zero, suc}
 use Rattle.std.specs.List.{flat_map, range_with_len}
 use Rattle.std.proofs.lemmas.List.FromFn.{length-map-range_with_len}
@@ -14,8 +14,9 @@ use Rattle.px_canonical.specs.Canonical.{colour_words, plane_words}
 use Rattle.px_scene.specs.Drafts.{DraftView, blank, fresh_solid, with_front}
 use Rattle.px_scene.specs.Lines.{uncoloured}
 use Rattle.px_sample.specs.Sample.{block_name, block_rows}
-use Rattle.px_canonical.proofs.RoundLaws.{back_walk, begin_walk, begin_words, end_walk, front_walk, open_solid, opened}
-use Rattle.px_canonical.proofs.RoundLaws.{plane_written, show_walk, shown_draft, sides_walk, solid_walk, standing, stands}
+use Rattle.px_canonical.proofs.RoundLaws.{back_walk, begin_walk, begin_words, end_walk, front_walk, open_solid}
+use Rattle.px_canonical.proofs.RoundLaws.{opened, plane_written, show_walk, shown_draft, sides_walk, solid_walk}
+use Rattle.px_canonical.proofs.RoundLaws.{standing, stands}
 use Rattle.px_sample.proofs.SampleSolidLemmas.{back_of, back_plane, block, block_named, block_planes, block_sides_of}
 use Rattle.px_sample.proofs.SampleSolidLemmas.{block_words, blocks, blocks_more, blue, blue_is, cut_back}
 use Rattle.px_sample.proofs.SampleSolidLemmas.{cut_back_plane, cut_planes, cut_side, cut_solid, cut_words, fresh_block}

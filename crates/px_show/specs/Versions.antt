@@ -1,7 +1,6 @@
 -- The versions of scene texts, and the signs of operators: the words that name each version, what it has, the byte of
 -- each sign, and which signs a version has. Clauses of public calls stand on it.
-use Rattle.std.specs.Prelude.{ℕ, List, [], ◌∷◌, codes, Bool, true, false, if◌then◌else◌, Option, Some, None}
-use Rattle.std.specs.Prelude.{unwrap_or, ◌==◌, ◌||◌, not}
+use Rattle.std.specs.Prelude.{ℕ, List, [], ◌∷◌, codes, Bool, true, false, if◌then◌else◌, Option, Some, None, ◌==◌, ◌||◌, not}
 use Rattle.std.specs.Str.{bytes_eq}
 use Rattle.px_text.specs.Text.{Words}
 use Rattle.px_show.specs.declared.scene_version.Version.{Version}
@@ -29,21 +28,11 @@ abbrev pub version_of : Words → Option Version
 version_of (w ∷ []) = version_named w
 version_of ws = None
 
--- the version behind a header; before any, the first
-abbrev pub version_or_first : Words → Version
-version_or_first ws = unwrap_or (version_of ws) v.One
-
 -- whether `^` is a sign
 abbrev pub has_differ : Version → Bool
 has_differ v.One = false
 has_differ v.Two = true
 has_differ v.Three = true
-
--- how many numbers a `depth` line has
-abbrev pub depth_count : Version → ℕ
-depth_count v.One = 1
-depth_count v.Two = 1
-depth_count v.Three = 2
 
 -- `+`, `*`, `-` and `^`
 abbrev pub sign_byte : Op → ℕ
@@ -63,8 +52,10 @@ op_of b =
 
 -- whether the sign is `^`
 abbrev pub is_differ : Op → Bool
+is_differ o.Union = false
+is_differ o.Meet = false
+is_differ o.Minus = false
 is_differ o.Differ = true
-is_differ other = false
 
 -- whether a version has an operator's sign
 abbrev pub is_sign : Version → Op → Bool
