@@ -1,5 +1,5 @@
 -- What the acts of the operations on a form leave of one pixel, to which the tree brings the bits of its value.
-use Rattle.std.proofs.Common.{◌≡◌, ℕ, zero, suc, ◌+◌, ◌-◌, ◌<◌, ◌≤◌, ◌==◌, ℤ, pos, ◌+ℤ◌, Bool, true, false, not}
+use Rattle.std.proofs.Common.{◌≡◌, ℕ, zero, suc, ◌+◌, ◌<◌, ◌≤◌, ◌==◌, ℤ, pos, ◌+ℤ◌, Bool, true, false, not}
 use Rattle.std.proofs.Common.{length, if◌then◌else◌, nat_le, inr, refl, sym, ap, ◌∙◌, arith}
 use Rattle.std.specs.Bool.{beq}
 use Rattle.std.specs.Int.{is_negative}
@@ -8,7 +8,7 @@ use Rattle.std.proofs.lemmas.Int.{ints}
 use Rattle.px_num.proofs.AdderLaws.{flipped_bit, sum_bit}
 use Rattle.px_num.proofs.BitLaws.{modulo_bit}
 use Rattle.px_num.specs.Bits.{bit_at, bit_of, carry_from, modulo, nat_bit}
-use Rattle.px_num.proofs.TruthLaws.{beq_true, itself_true, lt_false, lt_true, suc_not_zero}
+use Rattle.px_num.proofs.TruthLaws.{beq_true, itself_true}
 use Rattle.px_pixel.specs.Acts.{after_act}
 use Rattle.px_pixel.specs.Pixels.{PixelState}
 use Rattle.px_pixel.specs.declared.act.Act.{Act}

@@ -1,11 +1,12 @@
 -- What is left of one pixel by acts that store a field, bit by bit.
-use Rattle.std.proofs.Common.{◌≡◌, ℕ, zero, suc, ◌+◌, ◌*◌, ◌/◌, ◌%◌, ◌<◌, ◌≤◌, ◌==◌, Bool, true, false, List, length}
+use Rattle.std.proofs.Common.{◌≡◌, ℕ, zero, suc, ◌+◌, ◌*◌, ◌<◌, ◌≤◌, Bool, List, length}
 use Rattle.std.proofs.Common.{if◌then◌else◌, ◌⊎◌, inl, inr, refl, sym, ap, subst, ◌∙◌, arith}
 use Rattle.std.proofs.lemmas.Bool.Decides.{nat_tests}
 use Rattle.px_num.specs.Bits.{bit_at, nat_bit}
 use Rattle.px_pixel.specs.Acts.{after_act, stored}
 use Rattle.px_pixel.specs.Pixels.{PixelState}
 use Rattle.px_pixel.specs.declared.act.Act.{Act}
+use Rattle.px_pixel.specs.declared.act.Act.TheVariants as act
 use Rattle.px_macro.specs.FieldLaws.{BitsOfNumber}
 use Rattle.px_macro.specs.Fields.{number_in, with_number}
 use Rattle.px_macro.specs.Macros.{AreApart, with_field}
@@ -57,17 +58,11 @@ put_by_stores f n v act tree p room bits each =
 pub two_more : (n : ℕ) → 2 * suc n ≡ suc (suc (2 * n))
 two_more n = omega arith
 
-even : (n : ℕ) → (2 * n % 2 == 0) ≡ true
-even n = grind (arith, nat_tests)
+fetch_place : (f g : Field) (n : ℕ) → copy_act f g (2 * n) ≡ act.Fetch (f.at + n)
+fetch_place f g n = grind (arith, nat_tests)
 
-odd : (n : ℕ) → (suc (2 * n) % 2 == 0) ≡ false
-odd n = grind (arith, nat_tests)
-
-half_even : (n : ℕ) → 2 * n / 2 ≡ n
-half_even n = omega arith
-
-half_odd : (n : ℕ) → suc (2 * n) / 2 ≡ n
-half_odd n = omega arith
+store_place : (f g : Field) (n : ℕ) → copy_act f g (suc (2 * n)) ≡ act.StoreLatch (g.at + n)
+store_place f g n = grind (arith, nat_tests)
 
 -- a pair of a copy: what was fetched is stored
 pub after_pair : (f g : Field) (tree : ℕ → Bool) (n : ℕ) (p : PixelState) →
@@ -76,7 +71,7 @@ pub after_pair : (f g : Field) (tree : ℕ → Bool) (n : ℕ) (p : PixelState) 
     (record q { latch = bit_at q.memory (f.at + n) })
 after_pair f g tree n p =
     ap (λ i. after_acts (copy_act f g) tree i p) (two_more n)
-    ∙ rw (even n, odd n, half_even n, half_odd n) refl
+    ∙ rw (store_place f g n, fetch_place f g n) refl
 
 pub enable_after_copy : (f g : Field) (tree : ℕ → Bool) (n : ℕ) (p : PixelState)
     → (after_acts (copy_act f g) tree (2 * n) p).enable ≡ p.enable
