@@ -101,6 +101,11 @@ def pov_tree(tree, scene, grown, indent):
                                       pov_tree(right, scene, grown != (sign == "-"), inner), indent)
 
 
+def pov_side(a, b, c):
+    """A side in POV-Ray's words; one without a slope, which leaves out every pixel, as what ends before the eye."""
+    return "Side(%d, %d, %d)" % (a, b, c) if a or b else "plane { z, -1 }"
+
+
 def pov_name(scene, index):
     return "Solid_" + scene.solids[index].name
 
@@ -123,7 +128,7 @@ def pov(scene, camera=None):
         backs = ["0, 0, FAR"] + [cells(face.plane, scene) for face in solid.backs]
         planes = ["%s(%s, G * %g)" % (kind, plane, 1 - which / 2 / len(of_kind))
                   for kind, of_kind in (("Front", fronts), ("Back", backs)) for which, plane in enumerate(of_kind)]
-        planes += ["Side(%d, %d, %d)" % side.plane for side in solid.sides]
+        planes += [pov_side(*side.plane) for side in solid.sides if any(side.plane[:2]) or side.plane[2] < 0]
         text += "\n#macro %s(G) intersection {\n  %s\n} #end\n" % (pov_name(scene, index), "\n  ".join(planes))
     lacks = ["the numbers of the faces"] + [ONE_DEPTH] * bool(scene.fraction_bits) + [TOUCHING] * ("^" in scene.show)
     said["tree"] = pov_tree(signed(scene), scene, False, "  ")

@@ -8,6 +8,7 @@
 #include <GL/glew.h>
 #include <GL/freeglut.h>
 #include <opencsg.h>
+#include <algorithm>
 #include <cstdlib>
 #include <fstream>
 #include <vector>
@@ -35,6 +36,7 @@ struct Picture {
   std::vector<std::vector<OpenCSG::Primitive *>> products;
 };
 
+const int LEAST = 128;
 std::vector<const char *> files;
 
 bool read(const char *path, Picture &picture) {
@@ -95,7 +97,8 @@ int main(int count, char **words) {
   if (count < 5) return 2;
   glutInit(&count, words);
   files.assign(words + 3, words + count);
-  glutInitWindowSize(std::atoi(words[1]), std::atoi(words[2]));
+  // (a window of a few pixels is never displayed)
+  glutInitWindowSize(std::max(LEAST, std::atoi(words[1])), std::max(LEAST, std::atoi(words[2])));
   glutInitDisplayMode(GLUT_RGBA | GLUT_SINGLE | GLUT_DEPTH | GLUT_STENCIL);
   glutCreateWindow("opencsg");
   if (glewInit() != GLEW_OK) return 3;
