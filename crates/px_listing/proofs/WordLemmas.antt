@@ -103,31 +103,3 @@ read_whole words numbers i so past = (
     length-map words (λ v. v.now),
   )),
 )
-
--- the words of a line are bad by the first, or else by those behind it
-cause_by : (test : Bool) (first : Cause) (form : Option Cause)
-    → (if test then form else Some first) ≡ option_or (if test then None else Some first) form
-cause_by true first form = refl
-cause_by false first form = refl
-
-one_word : (ws : Words) → is_one ws ≡ true → ws ≡ codes "1" ∷ []
-one_word [] e = cc
-one_word (w ∷ []) e = ap (λ v. v ∷ []) ((bytes_eq-Decides w (codes "1")).0 e)
-one_word (w ∷ v ∷ ws) e = cc
-
-header_form : (w : List ℕ) (ws : Words) → is_header w ws ≡ true → form_of (keyword_of w) ws ≡ None
-header_form w ws e =
-    let word = (bytes_eq-Decides w (codes "pxlist")).0 (and_left (bytes_eq w (codes "pxlist")) (is_one ws) e) in
-    rw (word, one_word ws (and_right (bytes_eq w (codes "pxlist")) (is_one ws) e)) refl
-
-header_by : (test : Bool) (form : Option Cause) → (test ≡ true → form ≡ None)
-    → (if test then None else Some c.NotHeader) ≡ option_or (if test then None else Some c.NotHeader) form
-header_by true form is = sym (is refl)
-header_by false form is = refl
-
-pub cause_is : (due : Due) (w : List ℕ) (ws : Words)
-    → cause_of due w ws ≡ option_or (untimely due w ws) (form_of (keyword_of w) ws)
-cause_is d.Header w ws = header_by (is_header w ws) (form_of (keyword_of w) ws) (header_form w ws)
-cause_is d.Nothing w ws = refl
-cause_is d.Grid w ws = cause_by (is_due d.Grid (keyword_of w)) c.Unexpected (form_of (keyword_of w) ws)
-cause_is d.Operation w ws = cause_by (is_due d.Operation (keyword_of w)) c.Unexpected (form_of (keyword_of w) ws)

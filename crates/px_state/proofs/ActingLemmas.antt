@@ -16,12 +16,6 @@ use Rattle.px_planes.specs.Pixels.{acted_at}
 use Rattle.px_state.specs.Cells.{pixel_in, word_bit}
 use Rattle.px_state.specs.Packing.{place_of}
 
--- a bit that is stored where the pixel is enabled
-pub stored_bit : (e v : Bool) (memory : List Bool) (at : ℕ) → at < length memory
-    → bit_at (if e then slice_set memory at v else memory) at ≡ cond e v (bit_at memory at)
-stored_bit true v memory at within = get_or-set_same memory at v false within
-stored_bit false v memory at within = refl
-
 stored_other : (e v : Bool) (memory : List Bool) (at b : ℕ) → b ≢ at
     → bit_at (if e then slice_set memory at v else memory) b ≡ bit_at memory b
 stored_other true v memory at b other = get_or-set_other memory at b v false other
@@ -189,16 +183,3 @@ module _ (bits plane at k : ℕ) (words : List ℕ) (memory enable carry latch :
       is_tabulate (tabulate bits (λ b. word_bit with_words (b * plane + j) i)) bits (λ b. word_bit words (b * plane + j) i)
       false (length-tabulate bits _) (λ b below. get_or-tabulate bits _ b false below ∙ word b) in
       rw (bits_are, word bits, word (bits + 1), word (bits + 2)) refl
-
-  -- what lies behind the registers stays
-  pub kept_behind : (j : ℕ) → (bits + 3) * plane ≤ j → get_or with_words j 0 ≡ get_or words j 0
-  kept_behind j past =
-      get_or-set_other third ((bits + 2) * plane + k) j latch 0 (omega (arith, plane_end (bits + 2) (bits + 3) plane (omega arith)))
-      ∙ (get_or-set_other second ((bits + 1) * plane + k) j carry 0 (omega (arith, plane_end (bits + 1) (bits + 3) plane (omega arith)))
-      ∙ (get_or-set_other first (bits * plane + k) j enable 0 (omega (arith, plane_end bits (bits + 3) plane (omega arith)))
-      ∙ get_or-set_other words (at * plane + k) j memory 0 (omega (arith, plane_end at (bits + 3) plane (omega arith)))))
-
-  pub same_length : length with_words ≡ length words
-  same_length =
-      length-set third ((bits + 2) * plane + k) latch ∙ (length-set second ((bits + 1) * plane + k) carry
-      ∙ (length-set first (bits * plane + k) enable ∙ length-set words (at * plane + k) memory))

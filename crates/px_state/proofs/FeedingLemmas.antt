@@ -16,12 +16,6 @@ use Rattle.px_state.specs.declared.shape.Shape.{Shape}
 pub below_law : (w j place : ℕ) → nat_lt j (place - 64 * w) ≡ nat_lt (64 * w + j) place
 below_law w j place = grind (arith, nat_tests)
 
-pub places_law : (p total : ℕ) (zero : Bool) → zero ≡ false → cond (nat_lt p 2) zero (nat_lt p total) ≡ (nat_le 2 p && nat_lt p total)
-places_law p total zero none = elim (cases_lt p 2) [
-  | inl low ↦ rw (lt_true p 2 low, none, le_false 2 p low) refl
-  | inr high ↦ rw (lt_false p 2 high, le_true 2 p high) refl
-]
-
 -- the node table by its two cases
 pub output_law : (odd p l c : Bool) → cond odd (xor p (xor l c)) p ≡ (next_node odd p l c).output
 output_law true p l c = refl
