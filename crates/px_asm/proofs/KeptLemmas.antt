@@ -1,5 +1,6 @@
 -- What the micros of an operation do not begin anew they leave as it was.
-use Rattle.std.proofs.Common.{◌≡◌, ℕ, zero, suc, ◌+◌, ◌-◌, ◌%◌, ◌/◌, ◌^◌, ◌<◌, ◌==◌, Bool, true, false, if◌then◌else◌, nat_lt, refl, sym, ap, ◌∙◌}
+use Rattle.std.proofs.Common.{◌≡◌, ℕ, zero, suc, ◌+◌, ◌-◌, ◌%◌, ◌/◌, ◌^◌, ◌<◌, ◌==◌, Bool, true, false}
+use Rattle.std.proofs.Common.{if◌then◌else◌, nat_lt, refl, sym, ap, ◌∙◌}
 use Rattle.px_pixel.specs.Acts.{after_act}
 use Rattle.px_pixel.specs.Pixels.{PixelState}
 use Rattle.px_pixel.specs.declared.act.Act.{Act}
@@ -14,7 +15,7 @@ use Rattle.px_array.proofs.ClockLaws.{pixel_at-after_clock}
 use Rattle.px_macro.specs.declared.operation.Macro.{Macro}
 use Rattle.px_macro.specs.declared.operation.Macro.TheVariants as m
 use Rattle.px_asm.specs.Micros.{act_at, cycles, micro_at, micros}
-use Rattle.px_asm.specs.Operated.{IsKept, none_known, renewed}
+use Rattle.px_asm.specs.Operated.{LeavesTheRest, none_known, renewed}
 use Rattle.px_asm.proofs.StepLemmas.{grid_after_steps, run_is_steps, steps}
 
 no : true ≡ false → ⊥
@@ -111,13 +112,14 @@ micro_holds (m.KeepAtMost form f) nx ny i e = absurd (no e)
 micro_holds (m.AddLinear form f) nx ny i e = absurd (no e)
 micro_holds op nx ny i e = refl
 
-steps_hold : (micro : ℕ → Micro) (n : ℕ) (s : State) → ((i : ℕ) → (micro i).tree ≡ Hold) → (steps micro n s).tree ≡ s.tree
+steps_hold : (micro : ℕ → Micro) (n : ℕ) (s : State) → ((i : ℕ) → (micro i).tree ≡ Hold)
+    → (steps micro n s).tree ≡ s.tree
 steps_hold micro zero s each = refl
 steps_hold micro (suc n) s each =
     ap (λ (op : TreeOp). after_tree_op op (steps micro n s).tree) (each n) ∙ steps_hold micro n s each
 
 pub kept_by_micros : (bits nx ny : ℕ) (op : Macro) (s : State) → HasGrid bits nx ny s
-    → IsKept op nx ny s (after_clocks (micros op nx ny) s)
+    → LeavesTheRest op nx ny s (after_clocks (micros op nx ny) s)
 kept_by_micros bits nx ny op s grid =
     let micro = micro_at op nx ny in
     let n = cycles op nx ny in

@@ -1,5 +1,6 @@
 -- Arrays on which operations were made at once, beside those on which their micros were made.
-use Rattle.std.proofs.Common.{◌≡◌, ℕ, ◌+◌, ◌*◌, ◌/◌, ◌%◌, ◌^◌, ◌<◌, ◌&&◌, not, Bool, true, false, refl, sym, ap, ◌∙◌, arith}
+use Rattle.std.proofs.Common.{◌≡◌, ℕ, ◌+◌, ◌*◌, ◌/◌, ◌%◌, ◌^◌, ◌<◌, ◌&&◌, not, Bool, true, false, refl, sym, ap}
+use Rattle.std.proofs.Common.{◌∙◌, arith}
 use Rattle.std.proofs.Math.Nat.{one-le-pow}
 use Rattle.std.proofs.lemmas.Nat.{pow-add}
 use Rattle.px_macro.specs.Macros.{PixelBits, after_macro}
@@ -7,7 +8,8 @@ use Rattle.px_array.specs.Arrays.{State, pixel_at, pixel_of}
 use Rattle.px_array.proofs.ClockLaws.{grid_after_clocks}
 use Rattle.px_asm.specs.Micros.{micros}
 use Rattle.px_asm.specs.Microprograms.{LeaveTheMeaning}
-use Rattle.px_asm.specs.Operated.{Agree, AgreeIn, BecomeTheSame, BecomeTheSameAgain, Known, StayInAgreement, StayKnown, none_known}
+use Rattle.px_asm.specs.Operated.{Agree, AgreeIn, BecomeTheSame, BecomeTheSameAgain, Known, StayInAgreement}
+use Rattle.px_asm.specs.Operated.{StayKnown, none_known}
 use Rattle.px_asm.proofs.AlikeLemmas.{Alike, all_micros_alike, same_state}
 use Rattle.px_asm.proofs.KeptLemmas.{kept_by_micros}
 
@@ -52,7 +54,8 @@ alike_places bits nx ny s t h = record {
 
 pub become_the_same : BecomeTheSame
 become_the_same bits nx ny ops lawful s t h all =
-    same_state bits nx ny _ _ (rw all at (all_micros_alike bits nx ny ops lawful none_known s t (alike_places bits nx ny s t h)))
+    same_state bits nx ny _ _
+    (rw all at (all_micros_alike bits nx ny ops lawful none_known s t (alike_places bits nx ny s t h)))
 
 pub stay_in_agreement : LeaveTheMeaning → StayInAgreement
 stay_in_agreement law bits nx ny sizes op lawful before now s agree done = record {

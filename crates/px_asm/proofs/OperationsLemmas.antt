@@ -1,11 +1,14 @@
 -- Operations one after another, of which some are made at once.
-use Rattle.std.proofs.Common.{◌≡◌, ℕ, suc, ◌+◌, ◌-◌, ◌<◌, ◌≤◌, ◌&&◌, ◌||◌, not, Bool, true, false, List, [], ◌∷◌, ◌++◌, length, take, drop, get_or, Option, Some, None, refl, sym, subst, ap, ◌∙◌, inl, inr, arith}
+use Rattle.std.proofs.Common.{◌≡◌, ℕ, suc, ◌+◌, ◌-◌, ◌<◌, ◌≤◌, ◌&&◌, ◌||◌, not, Bool, true, false, List, []}
+use Rattle.std.proofs.Common.{◌∷◌, ◌++◌, length, take, drop, get_or, Option, Some, None, refl, sym, subst, ap}
+use Rattle.std.proofs.Common.{◌∙◌, inl, inr, arith}
 use Rattle.std.proofs.Common.{All, if◌then◌else◌}
 use Rattle.std.proofs.lemmas.Option.{get_or_from_slice_get, slice_get-get_or}
 use Rattle.std.proofs.lemmas.Bool.{cases_lt}
 use Rattle.std.specs.Prelude.{unwrap_or}
 use Rattle.std.specs.List.{flat_map}
-use Rattle.std.proofs.lemmas.List.{flat_map_more, get_or-drop, get_or-take, length-drop, length-take, take-append-drop, take_more}
+use Rattle.std.proofs.lemmas.List.{flat_map_more, get_or-drop, get_or-take, length-drop, length-take}
+use Rattle.std.proofs.lemmas.List.{take-append-drop, take_more}
 use Rattle.std.proofs.lemmas.List.Concat.{flat_map-append}
 use Rattle.px_array.specs.Arrays.{Device, HasGrid, State}
 use Rattle.px_array.proofs.ClockLaws.{all_clocked-append, grid_after_clocks}
@@ -14,7 +17,8 @@ use Rattle.px_array.specs.declared.micro.Micro.{Micro}
 use Rattle.px_asm.specs.AtOnce.{IsEnough, IsNearly, IsOneOf, all_untouched}
 use Rattle.px_asm.specs.Making.{cycles_on, micros_on}
 use Rattle.px_asm.specs.Micros.{all_micros, cycles, micros}
-use Rattle.px_asm.specs.Operated.{AgreeIn, BecomeTheSameAgain, IsOperated, Known, StayKnown, all_known, all_renewed, none_known, renewed, untouched}
+use Rattle.px_asm.specs.Operated.{AgreeIn, BecomeTheSameAgain, IsOperated, Known, StayKnown, all_known}
+use Rattle.px_asm.specs.Operated.{all_renewed, none_known, renewed, untouched}
 use Rattle.px_asm.specs.Operations.{CanMake, all_made}
 use Rattle.px_asm.proofs.CycleLaws.{few_cycles}
 use Rattle.px_asm.proofs.MakingLemmas.{count_of_them}
@@ -35,7 +39,8 @@ made_more ops i op d within =
     ∙ (ap (λ ms. all_clocked ms d) (sym (flat_map_more each [] (take i ops) (get_or ops i op)))
     ∙ all_clocked-append (all_micros (take i ops) nx ny) (micros (get_or ops i op) nx ny) d)
 
-untouched_both : (xs : List Macro) (op : Macro) (k : Known) → all_untouched (xs ++ op ∷ []) k ≡ untouched op (all_untouched xs k)
+untouched_both : (xs : List Macro) (op : Macro) (k : Known) → all_untouched (xs ++ op ∷ []) k
+    ≡ untouched op (all_untouched xs k)
 untouched_both [] op k = refl
 untouched_both (x ∷ xs) op k = untouched_both xs op (untouched x k)
 
@@ -65,7 +70,8 @@ few_here bits nx ny op d size grid lawful =
     omega (arith, count, few_cycles op nx ny grid lawful)
 
 -- one operation more by its clocks
-pub clocked_more : (bits : ℕ) (ops : List Macro) (i : ℕ) (d : Macro) (start before now : Device) → CanMake bits ops start
+pub clocked_more : (bits : ℕ) (ops : List Macro) (i : ℕ) (d : Macro) (start before now : Device)
+    → CanMake bits ops start
     → i < length ops → before ≡ all_made (take i ops) start
     → now ≡ all_clocked (micros_on before (get_or ops i d)) before → now ≡ all_made (take (i + 1) ops) start
 clocked_more bits ops i d start before now can within before_is is =
@@ -79,7 +85,8 @@ clocked_more bits ops i d start before now can within before_is is =
     ∙ (ap (all_clocked (micros op nx start.state.tree.ny)) before_is ∙ sym (made_more ops i d start within)))
 
 -- one operation more at once
-pub nearly_more : StayKnown → (bits : ℕ) (ops : List Macro) (i : ℕ) (d : Macro) (start before now : Device) → CanMake bits ops start
+pub nearly_more : StayKnown → (bits : ℕ) (ops : List Macro) (i : ℕ) (d : Macro) (start before now : Device)
+    → CanMake bits ops start
     → i < length ops → IsNearly bits (take i ops) start before → IsOperated bits (get_or ops i d) before now
     → IsNearly bits (take (i + 1) ops) start now
 nearly_more law bits ops i d start before now can within near done =
@@ -97,7 +104,8 @@ nearly_more law bits ops i d start before now can within near done =
     let few = few_cycles op nx ny can.grid (can.lawful i d within) in
     record {
       known = subst (λ (k : Known). AgreeIn k bits nx ny now.state (all_made (take (i + 1) ops) start).state) (sym left)
-          (subst (λ (e : Device). AgreeIn (untouched op (all_untouched (take i ops) all_known)) bits nx ny now.state e.state)
+          (subst (λ (e : Device). AgreeIn (untouched op (all_untouched (take i ops) all_known)) bits nx ny now.state
+          e.state)
           (sym more) known);
       clocks = omega (
         arith,
@@ -114,7 +122,8 @@ nearly_more law bits ops i d start before now can within near done =
 
 module _ (part : Known → Bool) where
   -- the operations up to one more
-  pub one_more : (ops : List Macro) (b : Bool) (i : ℕ) (before o : Option ℕ) (d : Macro) → o ≡ (if b then Some i else before)
+  pub one_more : (ops : List Macro) (b : Bool) (i : ℕ) (before o : Option ℕ) (d : Macro)
+      → o ≡ (if b then Some i else before)
       → b ≡ part (renewed (get_or ops i d) none_known) → i < length ops → IsOneOf part ops i before
       → IsOneOf part ops (i + 1) o
   one_more ops true i before o d is says inside so_far =
@@ -170,14 +179,18 @@ pub enough : (ops : List Macro) (n first : ℕ) (tree carry latch : Option ℕ) 
 enough ops n first tree carry latch n_is is_tree is_carry is_latch before_tree before_carry before_latch =
     let low : first ≤ n = omega (arith, before_tree, within (λ (k : Known). k.tree) ops n tree is_tree) in
     all_of_them (all_renewed (drop first ops) (all_untouched (take first ops) all_known))
-    (known_again (λ (k : Known). k.tree) (λ a b. refl) (λ op k. refl) refl ops n first tree n_is low is_tree before_tree)
-    (known_again (λ (k : Known). k.carry) (λ a b. refl) (λ op k. refl) refl ops n first carry n_is low is_carry before_carry)
-    (known_again (λ (k : Known). k.latch) (λ a b. refl) (λ op k. refl) refl ops n first latch n_is low is_latch before_latch)
+    (known_again (λ (k : Known). k.tree) (λ a b. refl) (λ op k. refl) refl ops n first tree n_is low is_tree
+    before_tree)
+    (known_again (λ (k : Known). k.carry) (λ a b. refl) (λ op k. refl) refl ops n first carry n_is low is_carry
+    before_carry)
+    (known_again (λ (k : Known). k.latch) (λ a b. refl) (λ op k. refl) refl ops n first latch n_is low is_latch
+    before_latch)
 
 -- ---- both halves
 
 -- what is made at once, and then clock by clock, is what the clocks make
-pub all_is_made : BecomeTheSameAgain → (bits : ℕ) (ops : List Macro) (n : ℕ) (start near now : Device) → CanMake bits ops start
+pub all_is_made : BecomeTheSameAgain → (bits : ℕ) (ops : List Macro) (n : ℕ) (start near now : Device)
+    → CanMake bits ops start
     → n ≤ length ops → IsNearly bits (take n ops) start near → IsEnough ops n → now ≡ all_made (drop n ops) near
     → now ≡ all_made ops start
 all_is_made law bits ops n start near now can low nearly enough is =
@@ -189,7 +202,8 @@ all_is_made law bits ops n start near now can low nearly enough is =
     let size = length-drop n ops in
     let lawful : All (λ op. IsLawful op bits) (drop n ops) =
     λ i x below. rw (get_or-drop n ops i x) (can.places (n + i) x (omega (arith, size))) in
-    let same = law bits nx ny (drop n ops) lawful (all_untouched (take n ops) all_known) near.state front.state nearly.known enough in
+    let same = law bits nx ny (drop n ops) lawful (all_untouched (take n ops) all_known) near.state front.state
+    nearly.known enough in
     let here : all_made (drop n ops) near ≡ all_clocked rest near =
     ap (λ x. all_clocked (all_micros (drop n ops) x near.state.tree.ny) near) first.columns
     ∙ ap (λ y. all_clocked (all_micros (drop n ops) nx y) near) first.rows in

@@ -1,5 +1,6 @@
 -- Lists of operations that begin the tree, the carry and the latch anew somewhere.
-use Rattle.std.proofs.Common.{◌≡◌, ℕ, suc, ◌+◌, ◌-◌, ◌<◌, ◌≤◌, Bool, true, false, ◌||◌, List, [], ◌∷◌, ◌++◌, length, take, drop, get_or, Some, refl, sym, ap, ◌∙◌, arith}
+use Rattle.std.proofs.Common.{◌≡◌, ℕ, suc, ◌+◌, ◌-◌, ◌<◌, ◌≤◌, Bool, true, false, ◌||◌, List, [], ◌∷◌, ◌++◌}
+use Rattle.std.proofs.Common.{length, take, drop, get_or, Some, refl, sym, ap, ◌∙◌, arith}
 use Rattle.std.specs.List.{slice_get}
 use Rattle.std.proofs.Math.Seq.{drop-cons}
 use Rattle.std.proofs.lemmas.List.{drop-drop, take-append-drop}
@@ -25,7 +26,8 @@ found ops i op here inside = let e = sym (slice_get-get_or ops i op inside) ∙ 
 module _ (part : Known → Bool) (joins : (a b : Known) → part (joined a b) ≡ (part a || part b)) where
   renewed_keeps : (op : Macro) (k : Known) → part k ≡ true → part (renewed op k) ≡ true
   renewed_keeps op k known =
-      ap part (renewed_joins op k) ∙ (joins (renewed op none_known) k ∙ rw known (or_true (part (renewed op none_known))))
+      ap part (renewed_joins op k)
+      ∙ (joins (renewed op none_known) k ∙ rw known (or_true (part (renewed op none_known))))
 
   renewed_here : (op : Macro) (k : Known) → part (renewed op none_known) ≡ true → part (renewed op k) ≡ true
   renewed_here op k new = ap part (renewed_joins op k) ∙ (joins (renewed op none_known) k ∙ rw new refl)
@@ -50,7 +52,8 @@ module _ (part : Known → Bool) (joins : (a b : Known) → part (joined a b) �
       ∙ ap (λ (x : Macro). x ∷ drop (suc i) ops) (found ops i op here inside)))
 
   -- one of the operations from n on begins it anew
-  pub somewhere : (ops : List Macro) (n i : ℕ) (op : Macro) → slice_get ops i ≡ Some op → n ≤ i → part (renewed op none_known) ≡ true
+  pub somewhere : (ops : List Macro) (n i : ℕ) (op : Macro) → slice_get ops i ≡ Some op → n ≤ i
+      → part (renewed op none_known) ≡ true
       → part (all_renewed (drop n ops) none_known) ≡ true
   somewhere ops n i op here low new =
       let inside = slice_get_within ops i op here in

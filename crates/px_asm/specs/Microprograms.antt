@@ -1,4 +1,5 @@
--- The main theorem of this crate: the micros of an operation leave its meaning in every pixel. Clauses of public calls stand on it.
+-- The main theorem of this crate: the micros of an operation leave its meaning in every pixel. Clauses of
+-- public calls stand on it.
 use Rattle.std.specs.Prelude.{◌≡◌, ℕ, ◌^◌, ◌<◌, All, List}
 use Rattle.px_macro.specs.Macros.{IsLawful, PixelBits, after_macro, after_macros}
 use Rattle.px_macro.specs.declared.operation.Macro.{Macro}

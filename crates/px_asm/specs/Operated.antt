@@ -1,4 +1,5 @@
--- What an operation that is made at once leaves of an array, and when two arrays that differ only in what it leaves open
+-- What an operation that is made at once leaves of an array, and when two arrays that differ only in what it
+-- leaves open
 -- become the same again. Clauses of public calls stand on it.
 use Rattle.std.specs.Prelude.{◌≡◌, ℕ, ◌+◌, ◌^◌, ◌<◌, ◌&&◌, not, Bool, true, false, All, List, [], ◌∷◌}
 use Rattle.px_array.specs.Arrays.{Device, HasGrid, State, pixel_at, pixel_of}
@@ -34,17 +35,20 @@ renewed (m.KeepLess f g) k = record { tree = k.tree; carry = true; latch = true 
 renewed op k = k
 
 -- what the operation does not begin anew is as it was
-pub record IsKept (op : Macro) (nx ny : ℕ) (before now : State) : Type 0 where
+pub record LeavesTheRest (op : Macro) (nx ny : ℕ) (before now : State) : Type 0 where
   pub tree : (renewed op none_known).tree ≡ false → now.tree ≡ before.tree
-  pub carry : (renewed op none_known).carry ≡ false → (place : ℕ) → place < 2 ^ (nx + ny) → (pixel_at now place).carry ≡ (pixel_at before place).carry
-  pub latch : (renewed op none_known).latch ≡ false → (place : ℕ) → place < 2 ^ (nx + ny) → (pixel_at now place).latch ≡ (pixel_at before place).latch
+  pub carry : (renewed op none_known).carry ≡ false → (place : ℕ) → place < 2 ^ (nx + ny) → (pixel_at now place).carry
+      ≡ (pixel_at before place).carry
+  pub latch : (renewed op none_known).latch ≡ false → (place : ℕ) → place < 2 ^ (nx + ny) → (pixel_at now place).latch
+      ≡ (pixel_at before place).latch
 
 -- every pixel has what the operation means there, in memory and enable, and its clocks are counted; what the operation
 -- begins anew of carries, latches and the tree may be anything, and all else of them is as it was
 pub record IsOperated (bits : ℕ) (op : Macro) (before now : Device) : Type 0 where
   pub grid : HasGrid bits before.state.tree.nx before.state.tree.ny now.state
-  pub meaning : (x y : ℕ) → x < 2 ^ before.state.tree.nx → y < 2 ^ before.state.tree.ny → bits_of (pixel_of now.state x y) ≡ after_macro op x y (bits_of (pixel_of before.state x y))
-  pub kept : IsKept op before.state.tree.nx before.state.tree.ny before.state now.state
+  pub meaning : (x y : ℕ) → x < 2 ^ before.state.tree.nx → y < 2 ^ before.state.tree.ny
+      → bits_of (pixel_of now.state x y) ≡ after_macro op x y (bits_of (pixel_of before.state x y))
+  pub kept : LeavesTheRest op before.state.tree.nx before.state.tree.ny before.state now.state
   pub clocks : now.clocks ≡ before.clocks + cycles_on before op
 
 -- two states of one grid have the same in memory and enable of every pixel
@@ -59,13 +63,18 @@ all_renewed (op ∷ ops) k = all_renewed ops (renewed op k)
 
 -- the micros of operations that begin all of it anew leave the same state
 abbrev pub BecomeTheSame : Type 0
-BecomeTheSame = (bits nx ny : ℕ) (ops : List Macro) → All (λ op. IsLawful op bits) ops → (s t : State) → Agree bits nx ny s t →
-    all_renewed ops none_known ≡ all_known → after_clocks (all_micros ops nx ny) s ≡ after_clocks (all_micros ops nx ny) t
+BecomeTheSame = (bits nx ny : ℕ) (ops : List Macro) → All (λ op. IsLawful op bits) ops → (s t : State)
+    → Agree bits nx ny s t →
+    all_renewed ops none_known ≡ all_known → after_clocks (all_micros ops nx ny) s
+    ≡ after_clocks (all_micros ops nx ny) t
 
--- an operation that is made at once on one of two states that agree, and by its micros on the other, leaves them in agreement
+-- an operation that is made at once on one of two states that agree, and by its micros on the other, leaves
+-- them in agreement
 abbrev pub StayInAgreement : Type 0
-StayInAgreement = (bits nx ny : ℕ) → IsGrid nx ny → (op : Macro) → IsLawful op bits → (before now : Device) (s : State) →
-    Agree bits nx ny before.state s → IsOperated bits op before now → Agree bits nx ny now.state (after_clocks (micros op nx ny) s)
+StayInAgreement = (bits nx ny : ℕ) → IsGrid nx ny → (op : Macro) → IsLawful op bits
+    → (before now : Device) (s : State) →
+    Agree bits nx ny before.state s → IsOperated bits op before now
+    → Agree bits nx ny now.state (after_clocks (micros op nx ny) s)
 
 -- they agree, and what is known to be the same of all else is so
 pub record AgreeIn (k : Known) (bits nx ny : ℕ) (s t : State) : Type 0 where
@@ -80,15 +89,18 @@ untouched op k =
     let new = renewed op none_known in
     record { tree = k.tree && not new.tree; carry = k.carry && not new.carry; latch = k.latch && not new.latch }
 
--- an operation that is made at once on one of two states, and by its micros on the other, leaves the same what was the same,
+-- an operation that is made at once on one of two states, and by its micros on the other, leaves the same what
+-- was the same,
 -- but for what it begins anew
 abbrev pub StayKnown : Type 0
-StayKnown = (bits nx ny : ℕ) → IsGrid nx ny → (op : Macro) → IsLawful op bits → (k : Known) (before now : Device) (s : State) →
+StayKnown = (bits nx ny : ℕ) → IsGrid nx ny → (op : Macro) → IsLawful op bits
+    → (k : Known) (before now : Device) (s : State) →
     AgreeIn k bits nx ny before.state s → IsOperated bits op before now →
     AgreeIn (untouched op k) bits nx ny now.state (after_clocks (micros op nx ny) s)
 
 -- the micros of operations that begin anew all that is not known leave the same state
 abbrev pub BecomeTheSameAgain : Type 0
-BecomeTheSameAgain = (bits nx ny : ℕ) (ops : List Macro) → All (λ op. IsLawful op bits) ops → (k : Known) (s t : State) →
+BecomeTheSameAgain = (bits nx ny : ℕ) (ops : List Macro) → All (λ op. IsLawful op bits) ops
+    → (k : Known) (s t : State) →
     AgreeIn k bits nx ny s t → all_renewed ops k ≡ all_known →
     after_clocks (all_micros ops nx ny) s ≡ after_clocks (all_micros ops nx ny) t

@@ -7,16 +7,17 @@ use Rattle.px_show.specs.declared.fault.TextFault.TheVariants as f
 use Rattle.px_c.specs.declared.answer.Answer.{Answer}
 use Rattle.px_c.specs.declared.found.Found.{Found}
 use Rattle.px_c.specs.declared.status.TheConstants.{NO_ROOM, OK}
-use Rattle.px_c.specs.Answers.{Answers, refused, unless_refused, within_room}
+use Rattle.px_c.specs.Answers.{Answers, refused_answer, answer_unless_refused, within_room}
 
 -- a fault that is want of memory, or the refusal that is due
 pub refuses : (refusal : Option SceneFault) (due : Answer) (fault : SceneFault)
-    → (fault ≡ f.Memory want) ⊎ (refusal ≡ Some fault) → Answers (unless_refused refusal due) (refused fault)
+    → (fault ≡ f.Memory want) ⊎ (refusal ≡ Some fault)
+    → Answers (answer_unless_refused refusal due) (refused_answer fault)
 refuses refusal due fault (inl none) = rw none (inr refl)
 refuses refusal due fault (inr is) = rw is (inl refl)
 
 pub accepts : (refusal : Option SceneFault) (due answer : Answer) → refusal ≡ None → Answers due answer
-    → Answers (unless_refused refusal due) answer
+    → Answers (answer_unless_refused refusal due) answer
 accepts refusal due answer none answers = rw none answers
 
 pub roomy : (room due : ℕ) (found : Found) → due ≤ room → within_room room due found

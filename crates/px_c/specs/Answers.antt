@@ -42,30 +42,30 @@ abbrev pub cost_found : SceneView → Found
 cost_found scene = record (scene_found scene) { operations = length (passes scene); clocks = total scene }
 
 -- the refusal of a text: its first bad line, and why, or what it found past a limit
-abbrev pub refused : SceneFault → Answer
-refused (f.Malformed line cause) =
+abbrev pub refused_answer : SceneFault → Answer
+refused_answer (f.Malformed line cause) =
     record { status = MALFORMED; found = record nothing { line = line; cause = cause_number cause } }
-refused (f.Limit line limit found) =
+refused_answer (f.Limit line limit found) =
     record { status = LIMIT; found = record nothing { line = line; kind = kind_number limit; number = found } }
-refused (f.Memory _) = record { status = MEMORY; found = nothing }
+refused_answer (f.Memory _) = record { status = MEMORY; found = nothing }
 
 -- a refusal of the array as one of the text: a limit of no one line
-abbrev pub scene_fault : JobFault → SceneFault
-scene_fault (job.PixelMemory need) = f.Limit 0 kind.PixelMemory (pos need)
-scene_fault (job.Products count) = f.Limit 0 kind.Products (pos count)
-scene_fault (job.Memory m) = f.Memory m
+abbrev pub text_fault_of : JobFault → SceneFault
+text_fault_of (job.PixelMemory need) = f.Limit 0 kind.PixelMemory (pos need)
+text_fault_of (job.Products count) = f.Limit 0 kind.Products (pos count)
+text_fault_of (job.Memory m) = f.Memory m
 
 abbrev pub by_job : Option JobFault → Option SceneFault
 by_job None = None
-by_job (Some fault) = Some (scene_fault fault)
+by_job (Some fault) = Some (text_fault_of fault)
 
 -- why a scene has no picture, where it has none
 abbrev pub undrawn : SceneView → Option SceneFault
 undrawn scene = by_job (job_refusal BITS scene)
 
-abbrev pub unless_refused : Option SceneFault → Answer → Answer
-unless_refused (Some fault) answer = refused fault
-unless_refused None answer = answer
+abbrev pub answer_unless_refused : Option SceneFault → Answer → Answer
+answer_unless_refused (Some fault) answer = refused_answer fault
+answer_unless_refused None answer = answer
 
 -- what was found, where buffers of so much room have enough of it
 abbrev pub within_room : (room due : ℕ) → Found → Answer
@@ -79,37 +79,37 @@ pixels_of scene = scene.width * scene.height
 
 -- what is found of a scene whose picture takes so many elements, in buffers of so much room
 abbrev pub drawn_answer : (room due : ℕ) → SceneView → Answer
-drawn_answer room due scene = unless_refused (undrawn scene) (within_room room due (cost_found scene))
+drawn_answer room due scene = answer_unless_refused (undrawn scene) (within_room room due (cost_found scene))
 
 abbrev pub listed_answer : (room : ℕ) → SceneView → Answer
 listed_answer room scene =
-    unless_refused (by_job (too_many_of (crowd_of scene)))
+    answer_unless_refused (by_job (too_many_of (crowd_of scene)))
     (within_room room (length (all_literals (plan_of scene))) (scene_found scene))
 
 -- `pxplanes_check`: no buffer is asked
 abbrev pub check_answer : List ℕ → Answer
-check_answer text = unless_refused (refusal_of text) (drawn_answer 0 0 (scene_of (worded text)))
+check_answer text = answer_unless_refused (refusal_of text) (drawn_answer 0 0 (scene_of (worded text)))
 
 -- `pxplanes_render`: an element a pixel, in each of two buffers
 abbrev pub render_answer : List ℕ → (depths faces : ℕ) → Answer
 render_answer text depths faces =
     let scene = scene_of (worded text)
-    in unless_refused (refusal_of text) (drawn_answer (min depths faces) (pixels_of scene) scene)
+    in answer_unless_refused (refusal_of text) (drawn_answer (min depths faces) (pixels_of scene) scene)
 
 -- `pxplanes_colour`: three bytes a pixel
 abbrev pub colour_answer : List ℕ → (room : ℕ) → Answer
 colour_answer text room =
     let scene = scene_of (worded text)
-    in unless_refused (refusal_of text) (drawn_answer room (3 * pixels_of scene) scene)
+    in answer_unless_refused (refusal_of text) (drawn_answer room (3 * pixels_of scene) scene)
 
 -- `pxplanes_products`
 abbrev pub products_answer : List ℕ → (room : ℕ) → Answer
-products_answer text room = unless_refused (refusal_of text) (listed_answer room (scene_of (worded text)))
+products_answer text room = answer_unless_refused (refusal_of text) (listed_answer room (scene_of (worded text)))
 
 -- a call answers this, or want of memory, with which it found nothing
 abbrev pub Answers : Answer → Answer → Type 0
-Answers due answer = (answer ≡ due) ⊎ (answer ≡ refused (f.Memory want))
+Answers due answer = (answer ≡ due) ⊎ (answer ≡ refused_answer (f.Memory want))
 
 -- the status that a call returns, and what it wrote down as found, are such an answer
-abbrev pub Tells : Answer → (status : ℕ) → Found → Type 0
-Tells due status found = Answers due (record { status = status; found = found })
+abbrev pub TellsAnswer : Answer → (status : ℕ) → Found → Type 0
+TellsAnswer due status found = Answers due (record { status = status; found = found })

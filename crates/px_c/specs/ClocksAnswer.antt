@@ -7,8 +7,8 @@ use Rattle.px_c.specs.declared.answer.Answer.{Answer}
 use Rattle.px_c.specs.declared.status.TheConstants.{BITS, NO_GRID, NO_MICRO, NO_ROOM, OK}
 
 -- the exponent of a side that a grid may have
-abbrev pub exponent_of : (side : ℕ) → Option ℕ
-exponent_of side =
+abbrev pub exponent_of_side : (side : ℕ) → Option ℕ
+exponent_of_side side =
     if side == 2 then Some 1 else if side == 4 then Some 2 else if side == 8 then Some 3 else
     if side == 16 then Some 4 else if side == 32 then Some 5 else if side == 64 then Some 6 else
     if side == 128 then Some 7 else if side == 256 then Some 8 else if side == 512 then Some 9 else None
@@ -32,5 +32,6 @@ on_grid room None ny micros = record { status = NO_GRID; found = nothing }
 
 -- `pxplanes_clocks`, in a buffer of so many words
 abbrev pub clocks_answer : (room grid_width grid_height : ℕ) → (micros : List ℕ) → Answer
-clocks_answer room grid_width grid_height micros = on_grid room (exponent_of grid_width) (exponent_of grid_height)
+clocks_answer room grid_width grid_height micros =
+    on_grid room (exponent_of_side grid_width) (exponent_of_side grid_height)
     micros

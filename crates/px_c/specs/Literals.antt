@@ -15,9 +15,9 @@ abbrev pub barred_literal : ℕ → ℤ
 barred_literal solid = neg_ℤ (pos (solid + 1))
 
 -- the literals of a product, and the 0 behind them
-abbrev pub literals_of : Product → List ℤ
-literals_of product =
+abbrev pub literal_numbers : Product → List ℤ
+literal_numbers product =
     map plain_literal (solids product.plain) ++ map barred_literal (solids product.barred) ++ pos 0 ∷ []
 
 abbrev pub all_literals : List Product → List ℤ
-all_literals products = flat_map literals_of products
+all_literals products = flat_map literal_numbers products

@@ -25,12 +25,12 @@ kind_names =
     ∷ list_word l.Overlap ∷ kind_word any.Lights ∷ kind_word any.Tiles ∷ []
 
 -- the word of a number; a number that names nothing has none
-abbrev pub name_in : List (List ℕ) → (number : ℕ) → List ℕ
-name_in names number = unwrap_or (slice_get names number) []
+abbrev pub word_of_number : List (List ℕ) → (number : ℕ) → List ℕ
+word_of_number names number = unwrap_or (slice_get names number) []
 
 -- a call answers the length of a word, which it wrote to the front of a buffer where it fits, and no part of it
 -- where it does not
-pub record IsWritten (word : List ℕ) (answer : ℕ) (before now : List ℕ) : Type 0 where
+pub record IsWordWritten (word : List ℕ) (answer : ℕ) (before now : List ℕ) : Type 0 where
   pub count : answer ≡ length word
   pub fits : length word ≤ length before → now ≡ word ++ drop (length word) before
   pub short : length before < length word → now ≡ before

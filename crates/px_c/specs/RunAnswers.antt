@@ -13,12 +13,12 @@ use Rattle.px_c.specs.Answers.{nothing}
 use Rattle.px_c.specs.Numbers.{cause_number, limit_number}
 
 -- how many bits the pixels of a command have
-abbrev pub bits_of : Option Command → ℕ
-bits_of command = if needs_wide_pixels command then WIDE_BITS else BITS
+abbrev pub pixel_bits_of : Option Command → ℕ
+pixel_bits_of command = if needs_wide_pixels command then WIDE_BITS else BITS
 
 -- what a command makes of a text
 abbrev pub outcome_of : Option Command → (text : List ℕ) → Outcome
-outcome_of command text = commanded command text (bits_of command)
+outcome_of command text = commanded command text (pixel_bits_of command)
 
 -- and what the command of some words makes of it
 abbrev pub run_outcome : (text words : List ℕ) → Outcome

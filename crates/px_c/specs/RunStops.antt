@@ -19,4 +19,4 @@ IsCalm stop = ⊤
 abbrev pub stop_answer : Stop → Answer
 stop_answer s.Usage = record { status = USAGE; found = nothing }
 stop_answer (s.Refused reason) = refusal_answer reason
-stop_answer stop = text.refused (f.Memory want)
+stop_answer stop = text.refused_answer (f.Memory want)

@@ -5,13 +5,13 @@ use Rattle.px_array.specs.declared.micro.Micro.{Micro}
 use Rattle.px_listing.specs.Listings.{ListingView}
 use Rattle.px_listing.specs.Reading.{ListFault}
 use Rattle.px_show.specs.declared.fault.TextFault.TheVariants as text_fault
-use Rattle.px_state.specs.Courses.{IsNext, total}
+use Rattle.px_state.specs.Courses.{IsNextBroadcast, total_of_listing}
 use Rattle.px_state.specs.Packing.{packed}
 use Rattle.px_state.specs.Refusals.{course_of, micros_refusal, operations_refusal, state_refusal}
 use Rattle.px_state.specs.Words.{row_words}
 use Rattle.px_state.specs.declared.fault.StateFault.{StateFault}
 use Rattle.px_state.specs.declared.fault.StateFault.TheVariants as f
-use Rattle.px_c.specs.Answers.{nothing, refused, scene_fault}
+use Rattle.px_c.specs.Answers.{nothing, refused_answer, text_fault_of}
 use Rattle.px_c.specs.Numbers.{cause_number, list_number}
 use Rattle.px_c.specs.declared.answer.Answer.{Answer}
 use Rattle.px_c.specs.declared.state.State.{State}
@@ -23,23 +23,24 @@ list_refused (text_fault.Malformed line cause) =
     record { status = MALFORMED; found = record nothing { line = line; cause = cause_number cause } }
 list_refused (text_fault.Limit line limit found) =
     record { status = LIMIT; found = record nothing { line = line; kind = list_number limit; number = found } }
-list_refused (text_fault.Memory m) = refused (text_fault.Memory m)
+list_refused (text_fault.Memory m) = refused_answer (text_fault.Memory m)
 
 -- why there is no state, or there are no micros or operations: the text, its clocks, its operations, or too little room
 abbrev pub state_refused : StateFault → Answer
-state_refused (f.Scene fault) = refused fault
-state_refused (f.Job fault) = refused (scene_fault fault)
+state_refused (f.Scene fault) = refused_answer fault
+state_refused (f.Job fault) = refused_answer (text_fault_of fault)
 state_refused (f.Listing fault) = list_refused fault
 state_refused (f.NoClock clocks) = record { status = NO_CLOCK; found = record nothing { clocks = clocks } }
 state_refused (f.NoOperation operations) =
     record { status = NO_OPERATION; found = record nothing { operations = operations } }
 state_refused (f.NoRoom room) = record { status = NO_ROOM; found = record nothing { room = room } }
-state_refused (f.Memory m) = refused (text_fault.Memory m)
+state_refused (f.Memory m) = refused_answer (text_fault.Memory m)
 
 -- what a text broadcasts is found, where nothing is refused
 abbrev pub unless_faulty : Option StateFault → ListingView → Answer
 unless_faulty (Some fault) l = state_refused fault
-unless_faulty None l = record { status = OK; found = record nothing { operations = length l.macros; clocks = total l } }
+unless_faulty None l =
+    record { status = OK; found = record nothing { operations = length l.macros; clocks = total_of_listing l } }
 
 -- `pxplanes_state`, in a buffer of so many words
 abbrev pub state_answer : List ℕ → (clock room : ℕ) → Answer
@@ -56,7 +57,7 @@ course_answer text first count = unless_faulty (operations_refusal BITS text fir
 -- a broadcast comes next: that cycle of that operation, and its packed micro
 pub record IsComing (l : ListingView) (clock operation cycle word : ℕ) : Type 0 where
   pub micro : Micro
-  pub is : IsNext l clock operation cycle micro
+  pub is : IsNextBroadcast l clock operation cycle micro
   pub word_is : word ≡ packed micro
 
 -- none comes: the operation is the number of all
@@ -73,9 +74,9 @@ pub record TellsState (l : ListingView) (clock : ℕ) (s : State) : Type 0 where
   pub bits_is : s.bits ≡ BITS
   pub levels : s.levels ≡ l.nx + l.ny
   pub clock_is : s.clock ≡ clock
-  pub clocks : s.clocks ≡ total l
-  pub next : clock < total l → IsComing l clock s.operation s.operation_clock s.next_micro
-  pub end : total l ≤ clock → IsOver l s.operation s.operation_clock s.next_micro
+  pub clocks : s.clocks ≡ total_of_listing l
+  pub next : clock < total_of_listing l → IsComing l clock s.operation s.operation_clock s.next_micro
+  pub end : total_of_listing l ≤ clock → IsOver l s.operation s.operation_clock s.next_micro
 
 -- and where there is none
 abbrev pub no_state : State

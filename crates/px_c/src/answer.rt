@@ -1,7 +1,7 @@
 //! What a call answers: its status, and what it found.
 ghost use Rattle.std.specs.Prelude.{◌≡◌, ◌≤◌, ◌^◌, ℕ};
 ghost use Rattle.px_control.specs.declared.fault.JobFault.{JobFault};
-ghost use Rattle.px_c.specs.Answers.{refused, scene_fault};
+ghost use Rattle.px_c.specs.Answers.{refused_answer, text_fault_of};
 ghost use Rattle.px_state.specs.Refusals.{HasSmallCount};
 ghost use Rattle.px_c.specs.StateAnswers.{list_refused, state_refused};
 ghost use Rattle.px_c.specs.declared.status.TheConstants.{OK};
@@ -33,7 +33,7 @@ impl Answer {
 
 /// The answer to a text that is refused.
 pub(crate) fn refused(fault: SceneFault) -> Answer
-    ensures { result ≡ refused fault }
+    ensures { result ≡ refused_answer fault }
 {
     match fault {
         SceneFault::Malformed { line, cause } => Answer {
@@ -63,7 +63,7 @@ pub(crate) fn refused(fault: SceneFault) -> Answer
 /// A refusal of the array, as one of the text.
 pub(crate) fn scene_fault(fault: JobFault) -> SceneFault
     requires { (count : ℕ) → fault ≡ JobFault.Products count → count ≤ 2 ^ 21 }
-    ensures { result ≡ scene_fault fault }
+    ensures { result ≡ text_fault_of fault }
 {
     match fault {
         JobFault::PixelMemory { need } => SceneFault::Limit {

@@ -2,7 +2,7 @@
 ghost use Rattle.std.specs.Prelude.{◌≡◌, ◌⊎◌, IfErr, IfOk, None, Some};
 ghost use Rattle.px_num.specs.Want.{want};
 ghost use Rattle.px_show.specs.declared.fault.TextFault.TheVariants as TextFault;
-ghost use Rattle.px_c.specs.Answers.{Answers, Tells, check_answer, cost_found, drawn_answer, refused, undrawn};
+ghost use Rattle.px_c.specs.Answers.{Answers, TellsAnswer, check_answer, cost_found, drawn_answer, refused_answer, undrawn};
 ghost use Rattle.px_c.specs.declared.status.TheConstants.{OK};
 
 use crate::answer::{Answer, refused, scene_fault};
@@ -18,7 +18,7 @@ use std::alloc::Global;
 /// has no picture. Nothing is drawn.
 #[unsafe(no_mangle)]
 pub extern "C" fn pxplanes_check(alloc: Global, text: &[u8], found: &mut Found) -> u32
-    ensures answer { Tells (check_answer text.now) result found.new }
+    ensures answer { TellsAnswer (check_answer text.now) result found.new }
 {
     check(alloc, text).give(found)
 }

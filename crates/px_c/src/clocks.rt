@@ -2,7 +2,7 @@
 ghost use Rattle.std.specs.Prelude.{◌≡◌, ◌≤◌, ℕ, IfSome, Some, length};
 ghost use Rattle.px_tree.specs.Nodes.{IsGrid};
 ghost use Rattle.px_state.specs.Clocking.{AreClocked};
-ghost use Rattle.px_c.specs.ClocksAnswer.{answer_on, clocks_answer, exponent_of};
+ghost use Rattle.px_c.specs.ClocksAnswer.{answer_on, clocks_answer, exponent_of_side};
 ghost use Rattle.px_c.specs.declared.status.TheConstants.{BITS, OK};
 
 use crate::answer::Answer;
@@ -21,7 +21,7 @@ pub extern "C" fn pxplanes_clocks(
 ) -> u32
     ensures answer { clocks_answer (length words.old) grid_width grid_height micros.now
         ≡ record { status = result; found = found.new } }
-    ensures words { result ≡ OK → (nx ny : ℕ) → exponent_of grid_width ≡ Some nx → exponent_of grid_height ≡ Some ny
+    ensures words { result ≡ OK → (nx ny : ℕ) → exponent_of_side grid_width ≡ Some nx → exponent_of_side grid_height ≡ Some ny
         → AreClocked BITS nx ny micros.now words.old words.new }
     ensures kept { (result ≡ OK → ⊥) → words.new ≡ words.old }
     ensures length { length words.new ≡ length words.old }
@@ -31,8 +31,8 @@ pub extern "C" fn pxplanes_clocks(
 
 fn clocks_of(words: &mut [u64], grid_width: u32, grid_height: u32, micros: &[u64]) -> Answer
     ensures answer { clocks_answer (length words.old) grid_width grid_height micros.now ≡ result }
-    ensures words { result.status ≡ OK → (nx ny : ℕ) → exponent_of grid_width ≡ Some nx
-        → exponent_of grid_height ≡ Some ny → AreClocked BITS nx ny micros.now words.old words.new }
+    ensures words { result.status ≡ OK → (nx ny : ℕ) → exponent_of_side grid_width ≡ Some nx
+        → exponent_of_side grid_height ≡ Some ny → AreClocked BITS nx ny micros.now words.old words.new }
     ensures kept { (result.status ≡ OK → ⊥) → words.new ≡ words.old }
     ensures length { length words.new ≡ length words.old }
 {
@@ -83,7 +83,7 @@ fn clocks_on(words: &mut [u64], nx: u32, ny: u32, micros: &[u64]) -> Answer
 
 /// The exponent of a side of a grid: 2, 4, .. 512.
 fn exponent_of(side: u32) -> Option<u32>
-    ensures exponent { result ≡ exponent_of side }
+    ensures exponent { result ≡ exponent_of_side side }
     ensures within { IfSome result (λ e. (1 ≤ e) × (e ≤ 9)) }
 {
     match side {

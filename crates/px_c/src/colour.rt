@@ -3,7 +3,7 @@ ghost use Rattle.std.specs.Prelude.{◌≡◌, ◌*◌, ◌≤◌, length};
 ghost use Rattle.px_scene.specs.Reading.{scene_of};
 ghost use Rattle.px_scene.specs.Text.{worded};
 ghost use Rattle.px_frame.specs.Picture.{colour_at};
-ghost use Rattle.px_c.specs.Answers.{Answers, Tells, colour_answer, drawn_answer, pixels_of};
+ghost use Rattle.px_c.specs.Answers.{Answers, TellsAnswer, colour_answer, drawn_answer, pixels_of};
 ghost use Rattle.px_c.specs.Buffers.{HoldsColours};
 ghost use Rattle.px_c.specs.declared.status.TheConstants.{OK};
 
@@ -28,7 +28,7 @@ pub extern "C" fn pxplanes_colour(
     rgb: &mut [u8],
     found: &mut Found,
 ) -> u32
-    ensures answer { Tells (colour_answer text.now (length rgb.old)) result found.new }
+    ensures answer { TellsAnswer (colour_answer text.now (length rgb.old)) result found.new }
     ensures colours { result ≡ OK → HoldsColours (scene_of (worded text.now)).width
         (scene_of (worded text.now)).height (colour_at (scene_of (worded text.now)))
         rgb.old rgb.new }

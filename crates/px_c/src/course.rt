@@ -1,7 +1,7 @@
 //! `pxplanes_course`: the operations of a scene or of a listing, each with what it is for.
 ghost use Rattle.std.specs.Prelude.{◌≡◌, length};
 ghost use Rattle.px_state.specs.Operations.{HasOperations, IsOperationOf};
-ghost use Rattle.px_c.specs.Answers.{Answers, Tells};
+ghost use Rattle.px_c.specs.Answers.{Answers, TellsAnswer};
 ghost use Rattle.px_c.specs.StateAnswers.{course_answer};
 ghost use Rattle.px_c.specs.declared.status.TheConstants.{OK};
 
@@ -20,7 +20,7 @@ pub extern "C" fn pxplanes_course(
     course: &mut [Operation],
     found: &mut Found,
 ) -> u32
-    ensures answer { Tells (course_answer text.now first (length course.old)) result found.new }
+    ensures answer { TellsAnswer (course_answer text.now first (length course.old)) result found.new }
     ensures operations { result ≡ OK → HasOperations (IsOperationOf text.now) first course.new }
     ensures kept { (result ≡ OK → ⊥) → course.new ≡ course.old }
     ensures length { length course.new ≡ length course.old }

@@ -2,7 +2,7 @@
 ghost use Rattle.std.specs.Prelude.{◌≡◌, length};
 ghost use Rattle.px_state.specs.Packed.{HasMicros};
 ghost use Rattle.px_state.specs.Refusals.{course_of};
-ghost use Rattle.px_c.specs.Answers.{Answers, Tells};
+ghost use Rattle.px_c.specs.Answers.{Answers, TellsAnswer};
 ghost use Rattle.px_c.specs.StateAnswers.{micros_answer};
 ghost use Rattle.px_c.specs.declared.status.TheConstants.{OK};
 
@@ -21,7 +21,7 @@ pub extern "C" fn pxplanes_micros(
     micros: &mut [u64],
     found: &mut Found,
 ) -> u32
-    ensures answer { Tells (micros_answer text.now first (length micros.old)) result found.new }
+    ensures answer { TellsAnswer (micros_answer text.now first (length micros.old)) result found.new }
     ensures micros { result ≡ OK → HasMicros (course_of text.now) first micros.new }
     ensures kept { (result ≡ OK → ⊥) → micros.new ≡ micros.old }
     ensures length { length micros.new ≡ length micros.old }

@@ -6,7 +6,7 @@ ghost use Rattle.px_listing.specs.declared.limit.ListKind.{ListKind};
 ghost use Rattle.px_outcome.specs.declared.refusal.Kind.{Kind};
 ghost use Rattle.px_outcome.specs.Notes.{kind_word};
 ghost use Rattle.px_words.specs.Words.{cause_word, list_word, scene_word};
-ghost use Rattle.px_c.specs.Names.{IsWritten, cause_names, kind_names, name_in};
+ghost use Rattle.px_c.specs.Names.{IsWordWritten, cause_names, kind_names, word_of_number};
 ghost use Rattle.px_c.specs.Numbers.{cause_number, kind_number, limit_number, list_number};
 
 use px_listing::ListKind;
@@ -17,9 +17,9 @@ use px_words::{cause_word, list_word, scene_word};
 /// is no cause's.
 #[unsafe(no_mangle)]
 pub extern "C" fn pxplanes_cause_name(cause: u32, name: &mut [u8]) -> usize
-    ensures word { IsWritten (name_in cause_names cause) result name.old name.new }
+    ensures word { IsWordWritten (word_of_number cause_names cause) result name.old name.new }
     ensures known { (found : Cause) → cause ≡ cause_number found
-        → IsWritten (cause_word found) result name.old name.new }
+        → IsWordWritten (cause_word found) result name.old name.new }
 {
     write_word(cause_name(cause).as_bytes(), name)
 }
@@ -28,13 +28,13 @@ pub extern "C" fn pxplanes_cause_name(cause: u32, name: &mut [u8]) -> usize
 /// for a number that is none's.
 #[unsafe(no_mangle)]
 pub extern "C" fn pxplanes_kind_name(kind: u32, name: &mut [u8]) -> usize
-    ensures word { IsWritten (name_in kind_names kind) result name.old name.new }
+    ensures word { IsWordWritten (word_of_number kind_names kind) result name.old name.new }
     ensures of_scenes { (found : LimitKind) → kind ≡ kind_number found
-        → IsWritten (scene_word found) result name.old name.new }
+        → IsWordWritten (scene_word found) result name.old name.new }
     ensures of_listings { (found : ListKind) → kind ≡ list_number found
-        → IsWritten (list_word found) result name.old name.new }
+        → IsWordWritten (list_word found) result name.old name.new }
     ensures known { (found : Kind) → kind ≡ limit_number found
-        → IsWritten (kind_word found) result name.old name.new }
+        → IsWordWritten (kind_word found) result name.old name.new }
 {
     write_word(kind_name(kind).as_bytes(), name)
 }
@@ -42,14 +42,14 @@ pub extern "C" fn pxplanes_kind_name(kind: u32, name: &mut [u8]) -> usize
 /// Writes the library's version to the front of `text`, where it fits, and gives its length.
 #[unsafe(no_mangle)]
 pub extern "C" fn pxplanes_version(text: &mut [u8]) -> usize
-    ensures { IsWritten (codes "1.0.0") result text.old text.new }
+    ensures { IsWordWritten (codes "1.0.0") result text.old text.new }
 {
     write_word(b"1.0.0", text)
 }
 
 /// Writes a word to the front of a buffer, where it fits, and gives its length.
 fn write_word(word: &[u8], to: &mut [u8]) -> usize
-    ensures { IsWritten word.now result to.old to.new }
+    ensures { IsWordWritten word.now result to.old to.new }
 {
     if word.len() <= to.len() {
         let (front, _) = to.split_at_mut(word.len());
@@ -59,7 +59,7 @@ fn write_word(word: &[u8], to: &mut [u8]) -> usize
 }
 
 fn cause_name(cause: u32) -> &'static str
-    ensures { result.now ≡ name_in cause_names cause }
+    ensures { result.now ≡ word_of_number cause_names cause }
 {
     match cause {
         1 => cause_word(Cause::NotHeader),
@@ -77,7 +77,7 @@ fn cause_name(cause: u32) -> &'static str
 }
 
 fn kind_name(kind: u32) -> &'static str
-    ensures { result.now ≡ name_in kind_names kind }
+    ensures { result.now ≡ word_of_number kind_names kind }
 {
     match kind {
         1 => scene_word(LimitKind::Text),

@@ -3,9 +3,9 @@ ghost use Rattle.std.specs.Prelude.{◌≡◌, ◌++◌, ◌≤◌, IfOk, OnOk, 
 ghost use Rattle.px_scene.specs.Reading.{scene_of};
 ghost use Rattle.px_scene.specs.Text.{worded};
 ghost use Rattle.px_prune.specs.Kept.{plan_of};
-ghost use Rattle.px_c.specs.Answers.{Answers, Tells, listed_answer, products_answer};
+ghost use Rattle.px_c.specs.Answers.{Answers, TellsAnswer, listed_answer, products_answer};
 ghost use Rattle.px_c.specs.Buffers.{HoldsFront};
-ghost use Rattle.px_c.specs.Literals.{all_literals, barred_literal, literals_of, plain_literal};
+ghost use Rattle.px_c.specs.Literals.{all_literals, barred_literal, literal_numbers, plain_literal};
 ghost use Rattle.px_c.specs.declared.status.TheConstants.{OK};
 
 use crate::answer::{Answer, refused, scene_fault};
@@ -29,7 +29,7 @@ pub extern "C" fn pxplanes_products(
     literals: &mut [i32],
     found: &mut Found,
 ) -> u32
-    ensures answer { Tells (products_answer text.now (length literals.old)) result found.new }
+    ensures answer { TellsAnswer (products_answer text.now (length literals.old)) result found.new }
     ensures literals { result ≡ OK → HoldsFront (all_literals (plan_of (scene_of (worded text.now))))
         literals.old literals.new }
     ensures kept { (result ≡ OK → ⊥) → literals.new ≡ literals.old }
@@ -91,7 +91,7 @@ fn all_literals(alloc: Global, products: &[Product]) -> Result<Vec<i32>, Memory>
 }
 
 fn push_product(all: &mut Vec<i32>, product: &Product) -> Result<(), Memory>
-    ensures { OnOk result (all.new.items ≡ all.old.items ++ literals_of product.now) }
+    ensures { OnOk result (all.new.items ≡ all.old.items ++ literal_numbers product.now) }
 {
     push_plain(all, product.plain.solids().as_slice())?;
     push_barred(all, product.barred.solids().as_slice())?;

@@ -3,7 +3,7 @@ ghost use Rattle.std.specs.Prelude.{◌≡◌, ◌<◌, ◌≤◌, ℕ, length, 
 ghost use Rattle.px_scene.specs.Reading.{scene_of};
 ghost use Rattle.px_scene.specs.Text.{worded};
 ghost use Rattle.px_frame.specs.Picture.{depth_at, face_at};
-ghost use Rattle.px_c.specs.Answers.{Answers, Tells, drawn_answer, pixels_of, render_answer};
+ghost use Rattle.px_c.specs.Answers.{Answers, TellsAnswer, drawn_answer, pixels_of, render_answer};
 ghost use Rattle.px_c.specs.Buffers.{HoldsNumbers};
 ghost use Rattle.px_c.specs.declared.status.TheConstants.{OK};
 
@@ -29,7 +29,7 @@ pub extern "C" fn pxplanes_render(
     faces: &mut [u32],
     found: &mut Found,
 ) -> u32
-    ensures answer { Tells (render_answer text.now (length depths.old) (length faces.old))
+    ensures answer { TellsAnswer (render_answer text.now (length depths.old) (length faces.old))
         result found.new }
     ensures depths { result ≡ OK → HoldsNumbers (scene_of (worded text.now)).width
         (scene_of (worded text.now)).height (depth_at (scene_of (worded text.now)))

@@ -5,7 +5,7 @@ ghost use Rattle.px_command.specs.Commands.{HasLawfulNumbers, command_of};
 ghost use Rattle.px_outcome.specs.Outcomes.{done, output};
 ghost use Rattle.px_outcome.specs.Results.{Meets};
 ghost use Rattle.px_draw.specs.Runs.{commanded};
-ghost use Rattle.px_c.specs.Answers.{Answers, Tells};
+ghost use Rattle.px_c.specs.Answers.{Answers, TellsAnswer};
 ghost use Rattle.px_c.specs.Buffers.{HoldsBytes};
 ghost use Rattle.px_c.specs.RunAnswers.{bytes_answer, outcome_answer, outcome_of, refusal_answer, run_answer, run_outcome};
 ghost use Rattle.px_c.specs.RunStops.{IsCalm, stop_answer};
@@ -34,7 +34,7 @@ pub extern "C" fn pxplanes_run(
     out: &mut [u8],
     found: &mut Found,
 ) -> u32
-    ensures answer { Tells (run_answer text.now words.now (length out.old)) result found.new }
+    ensures answer { TellsAnswer (run_answer text.now words.now (length out.old)) result found.new }
     ensures output { result ≡ OK → HoldsBytes (output (run_outcome text.now words.now)) out.old out.new }
     ensures kept { (result ≡ OK → ⊥) → out.new ≡ out.old }
 {

@@ -2,11 +2,11 @@
 ghost use Rattle.std.specs.Prelude.{◌≡◌, ◌<◌, ◌≤◌, ℕ, length};
 ghost use Rattle.px_listing.specs.Listings.{ListingView};
 ghost use Rattle.px_tree.specs.Nodes.{IsGrid};
-ghost use Rattle.px_state.specs.Courses.{device_after, total};
+ghost use Rattle.px_state.specs.Courses.{device_after, total_of_listing};
 ghost use Rattle.px_state.specs.Refusals.{course_of};
 ghost use Rattle.px_state.specs.States.{IsState};
-ghost use Rattle.px_state.specs.Words.{HasWords};
-ghost use Rattle.px_c.specs.Answers.{Answers, Tells};
+ghost use Rattle.px_state.specs.Words.{BeginsWithState};
+ghost use Rattle.px_c.specs.Answers.{Answers, TellsAnswer};
 ghost use Rattle.px_c.specs.StateAnswers.{IsComing, IsOver, TellsState, no_state, state_answer};
 ghost use Rattle.px_c.specs.declared.status.TheConstants.{BITS, OK};
 
@@ -56,10 +56,10 @@ pub extern "C" fn pxplanes_state(
     state: &mut State,
     found: &mut Found,
 ) -> u32
-    ensures answer { Tells (state_answer text.now clock (length words.old)) result found.new }
+    ensures answer { TellsAnswer (state_answer text.now clock (length words.old)) result found.new }
     ensures state { result ≡ OK → TellsState (course_of text.now) clock state.new }
     ensures stateless { (result ≡ OK → ⊥) → state.new ≡ no_state }
-    ensures words { result ≡ OK → HasWords BITS
+    ensures words { result ≡ OK → BeginsWithState BITS
         (device_after BITS (course_of text.now) clock).state words.old words.new }
     ensures kept { (result ≡ OK → ⊥) → words.new ≡ words.old }
     ensures length { length words.new ≡ length words.old }
@@ -75,7 +75,7 @@ fn state_of(alloc: Global, text: &[u8], clock: u64, words: &mut [u64]) -> (Answe
     ensures answer { Answers (state_answer text.now clock (length words.old)) result.0 }
     ensures state { result.0.status ≡ OK → TellsState (course_of text.now) clock result.1 }
     ensures stateless { (result.0.status ≡ OK → ⊥) → result.1 ≡ no_state }
-    ensures words { result.0.status ≡ OK → HasWords BITS
+    ensures words { result.0.status ≡ OK → BeginsWithState BITS
         (device_after BITS (course_of text.now) clock).state words.old words.new }
     ensures kept { (result.0.status ≡ OK → ⊥) → words.new ≡ words.old }
     ensures length { length words.new ≡ length words.old }
@@ -115,9 +115,9 @@ fn standing(found: &px_state::State) -> State
 
 /// The operation of the broadcast that comes next, which of its clocks that is, and the packed micro.
 fn coming(found: &px_state::State) -> (u64, u64, u64)
-    ensures next { (l : ListingView) (clock : ℕ) → IsState BITS l clock found.now → clock < total l
+    ensures next { (l : ListingView) (clock : ℕ) → IsState BITS l clock found.now → clock < total_of_listing l
         → IsComing l clock result.0 result.1 result.2 }
-    ensures end { (l : ListingView) (clock : ℕ) → IsState BITS l clock found.now → total l ≤ clock
+    ensures end { (l : ListingView) (clock : ℕ) → IsState BITS l clock found.now → total_of_listing l ≤ clock
         → IsOver l result.0 result.1 result.2 }
 {
     match found.next {

@@ -3,7 +3,7 @@ use Rattle.std.proofs.Common.{◌≡◌, ℕ, ◌+◌, ◌==◌, List, [], ◌�
 use Rattle.std.specs.List.{flat_map, range_with_len}
 use Rattle.px_text.specs.Text.{Words}
 use Rattle.px_model.specs.Scenes.{SolidView, SceneView}
-use Rattle.px_canonical.specs.Canonical.{canonical_text, colour_words, lines_of_number, plane_words, solid_lines}
+use Rattle.px_canonical.specs.Canonical.{canonical_text, colour_words, lines_of_number, words_of_plane, solid_lines}
 use Rattle.px_canonical.specs.Canonical.{version_for}
 use Rattle.px_canonical.proofs.RoundLaws.{begin_are, face_words}
 use Rattle.px_canonical.proofs.FaceWalkLemmas.{words_at, words_of_number}
@@ -23,7 +23,7 @@ solid_lines_are s =
     (both_texts (head_words s ∷ []) (numbers_words s) _ _ (one_line (codes "solid") (s.name ∷ colour_words s.colour))
     (parts_are (lines_of_number s) (words_of_number s) (number_lines_are s)
     (range_with_len (s.near_number + 1) (length s.fronts + length s.backs))))
-    (lines_are (codes "side") plane_words s.sides)
+    (lines_are (codes "side") words_of_plane s.sides)
 
 pub text_is : (scene : SceneView) → canonical_text scene ≡ text_of_lines (scene_words scene)
 text_is scene =

@@ -15,7 +15,7 @@ use Rattle.px_text.specs.Text.{Words, is_letter, is_name, is_name_byte}
 use Rattle.px_model.specs.Scenes.{IsColour, IsPlane}
 use Rattle.px_show.specs.Printed.{printed, named_by}
 use Rattle.px_show.specs.Versions.{sign_byte}
-use Rattle.px_canonical.specs.Canonical.{written_line, plane_words, colour_words}
+use Rattle.px_canonical.specs.Canonical.{written_line, words_of_plane, colour_words}
 use Rattle.px_text.specs.Written.{spaced}
 use Rattle.px_text.proofs.PlainLaws.{both}
 
@@ -33,7 +33,7 @@ signed_short (negsuc n) is = let low = is.0
 wider : (z : ℤ) → IsWithin (2 ^ 23) z → IsWithin (2 ^ 33) z
 wider z is = let low = is.0 in let high = is.1 in (omega (arith, ints), omega (arith, ints))
 
-pub plane_short : (p : Linear) → IsPlane p → length (spaced (plane_words p)) ≤ 36
+pub plane_short : (p : Linear) → IsPlane p → length (spaced (words_of_plane p)) ≤ 36
 plane_short p is =
     joined (32 ∷ signed_decimal p.a) _ 12 24 (let a = signed_short p.a (wider p.a is.a) in omega arith)
     (joined (32 ∷ signed_decimal p.b) _ 12 12 (let b = signed_short p.b (wider p.b is.b) in omega arith)

@@ -15,7 +15,8 @@ use Rattle.px_show.specs.Versions.{version_word}
 use Rattle.px_canonical.specs.Writable.{IsWritable}
 use Rattle.px_show.specs.declared.scene_version.Version.{Version}
 use Rattle.px_show.specs.declared.scene_version.Version.TheVariants as v
-use Rattle.px_canonical.specs.Canonical.{version_for, depth_words, written_line, plane_words, colour_words, face_line}
+use Rattle.px_canonical.specs.Canonical.{version_for, depth_words, written_line, words_of_plane, colour_words}
+use Rattle.px_canonical.specs.Canonical.{face_line}
 use Rattle.px_canonical.specs.Canonical.{side_line, face_lines_at, lines_of_number, face_lines, solid_lines}
 use Rattle.px_canonical.specs.Canonical.{first_lines, show_line, canonical_text}
 use Rattle.px_text.specs.Written.{spaced}
@@ -35,14 +36,14 @@ spaced_both (v ∷ vs) ws m n some more =
 face_short : (kind : List ℕ) (f : Face) → length kind ≤ 5 → IsPlane f.plane → IsColour f.colour
     → length (face_line kind f) ≤ 54
 face_short kind f few plane colour =
-    line_short kind (plane_words f.plane ++ colour_words f.colour) 5 48 few
-    (spaced_both (plane_words f.plane) (colour_words f.colour) 36 12 (plane_short f.plane plane)
+    line_short kind (words_of_plane f.plane ++ colour_words f.colour) 5 48 few
+    (spaced_both (words_of_plane f.plane) (colour_words f.colour) 36 12 (plane_short f.plane plane)
     (colour_short f.colour colour))
 
 sides_short : (ps : List Linear) → All IsPlane ps → length (flat_map side_line ps) ≤ 41 * length ps
 sides_short [] all = omega arith
 sides_short (p ∷ ps) all =
-    let here = line_short (codes "side") (plane_words p) 4 36 (omega arith) (plane_short p (all 0 p (omega arith)))
+    let here = line_short (codes "side") (words_of_plane p) 4 36 (omega arith) (plane_short p (all 0 p (omega arith)))
     in let later = sides_short ps (λ k d lt. all (suc k) d (omega arith))
     in omega (arith, length-append (side_line p) (flat_map side_line ps))
 
@@ -161,7 +162,8 @@ canonical_short scene is =
     in let few = law.solids
     in let faces = law.faces
     in let first = begin_short (version_for scene) scene.width scene.height scene.depth_bits scene.fraction_bits
-    (let m = law.sizes.width_limit in omega arith) (let m = law.sizes.height_limit in omega arith) (let m = law.sizes.depth_limit in omega arith)
+    (let m = law.sizes.width_limit in omega arith) (let m = law.sizes.height_limit in omega arith)
+    (let m = law.sizes.depth_limit in omega arith)
     (let m = law.sizes.fraction_limit in omega arith)
     in let solids = solids_short scene.solids 1 is.solids law.numbers law.names
     in let show = line_short (codes "show") (shown ∷ []) 4 (1 + length shown) (omega arith)

@@ -35,7 +35,7 @@ use Rattle.px_scene.specs.Lines.{keyword_of, linear_in, most, paint_in, picture,
 use Rattle.px_scene.specs.Lines.{show, side, solid, uncoloured}
 use Rattle.px_model.specs.Scenes.{SolidView, IsColour, IsPlane, names_of}
 use Rattle.px_scene.specs.Drafts.{DraftView, with_front, with_back, with_side, fresh_solid, blank}
-use Rattle.px_canonical.specs.Canonical.{colour_words, depth_words, plane_words, written_line}
+use Rattle.px_canonical.specs.Canonical.{colour_words, depth_words, words_of_plane, written_line}
 use Rattle.px_text.proofs.DecimalLaws.{number_read, signed_read}
 use Rattle.px_text.proofs.LineLaws.{small_size}
 use Rattle.px_text.proofs.PlainLaws.{decimal_plain, name_is_plain}
@@ -190,7 +190,7 @@ pub record Writes (ws : Words) (p : Plane) : Type 0 where
   pub reads : plane_in ws ≡ Ok p
   pub within : face_past p ≡ None
 
-pub plane_written : (p : Linear) → IsPlane p → Writes (plane_words p) (uncoloured p)
+pub plane_written : (p : Linear) → IsPlane p → Writes (words_of_plane p) (uncoloured p)
 plane_written p is = record {
   plain = plane_plain p is;
   reads = rw (linear_read p is) refl;
@@ -198,14 +198,14 @@ plane_written p is = record {
 }
 
 abbrev pub face_words : Face → Words
-face_words f = plane_words f.plane ++ colour_words f.colour
+face_words f = words_of_plane f.plane ++ colour_words f.colour
 
 abbrev pub plane_for : Face → Plane
 plane_for f = record { form = f.plane; paint = Some (paint_for f.colour) }
 
 pub face_written : (f : Face) → IsPlane f.plane → IsColour f.colour → Writes (face_words f) (plane_for f)
 face_written f plane colour = record {
-  plain = list_all-append is_plain (plane_words f.plane) (colour_words f.colour)
+  plain = list_all-append is_plain (words_of_plane f.plane) (colour_words f.colour)
       ∙ rw (plane_plain f.plane plane, colour_plain f.colour colour) refl;
   reads = rw (linear_read f.plane plane, paint_read f.colour colour) refl;
   within = rw (linear_in_limits f.plane plane) (paint_in_limits f.colour colour);
@@ -251,12 +251,12 @@ back_walk start done s n ws p is few more =
 
 side_walk : (start : DraftView) (done : List SolidView) (s : SolidView) (n : ℕ) (p : Linear) → IsPlane p
     → length s.sides < 32
-    → Walk (open_solid start done s n) ((codes "side" ∷ plane_words p) ∷ [])
+    → Walk (open_solid start done s n) ((codes "side" ∷ words_of_plane p) ∷ [])
     (open_solid start done (with_side p s) n)
 side_walk start done s n p is few =
-    subst (λ (ss : List SolidView). Walk (open_solid start done s n) ((codes "side" ∷ plane_words p) ∷ [])
+    subst (λ (ss : List SolidView). Walk (open_solid start done s n) ((codes "side" ∷ words_of_plane p) ∷ [])
     (written_so_far start ss n)) (with_last-append (with_side p) done s)
-    (form_walk (open_solid start done s n) (codes "side") (plane_words p) (side p) (rw (plane_plain p is) refl) refl
+    (form_walk (open_solid start done s n) (codes "side") (words_of_plane p) (side p) (rw (plane_plain p is) refl) refl
     (rw (linear_read p is) refl)
     (ap (λ m. option_or (plane_past p) (most kind.Sides 32 (m + 1))) (in_last-push (λ q. length q.sides) done s)
     ∙ rw (linear_in_limits p is) (past_in kind.Sides 0 32 (length s.sides + 1) (omega arith) (omega arith))))
@@ -265,7 +265,7 @@ side_walk start done s n p is few =
 pub sides_walk : (start : DraftView) (done : List SolidView) (s : SolidView) (n : ℕ) (ps before : List Linear)
     → All IsPlane ps → length before + length ps ≤ 32
     → Walk (open_solid start done (record s { sides = before }) n)
-    (map (λ p. codes "side" ∷ plane_words p) ps)
+    (map (λ p. codes "side" ∷ words_of_plane p) ps)
     (open_solid start done (record s { sides = before ++ ps }) n)
 sides_walk start done s n [] before all few =
     ap (λ ps. open_solid start done (record s { sides = ps }) n) (sym (append-nil before))
@@ -277,7 +277,7 @@ sides_walk start done s n (p ∷ ps) before all few =
     (walk_both (open_solid start done (record s { sides = before }) n)
     (open_solid start done (record s { sides = before ++ p ∷ [] }) n)
     (open_solid start done (record s { sides = (before ++ p ∷ []) ++ ps }) n)
-    ((codes "side" ∷ plane_words p) ∷ []) (map (λ q. codes "side" ∷ plane_words q) ps) first later)
+    ((codes "side" ∷ words_of_plane p) ∷ []) (map (λ q. codes "side" ∷ words_of_plane q) ps) first later)
 
 -- before a solid is written
 abbrev pub due_behind_solids : List SolidView → Due

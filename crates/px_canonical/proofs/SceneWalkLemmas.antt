@@ -21,7 +21,7 @@ use Rattle.px_canonical.specs.Writable.{IsWritable}
 use Rattle.px_scene.specs.Drafts.{DraftView, fresh_solid, blank}
 use Rattle.px_show.specs.Versions.{has_difference, has_differ}
 use Rattle.px_show.specs.declared.scene_version.Version.TheVariants as v
-use Rattle.px_canonical.specs.Canonical.{version_for, plane_words, colour_words}
+use Rattle.px_canonical.specs.Canonical.{version_for, words_of_plane, colour_words}
 use Rattle.px_canonical.proofs.CutLemmas.{none_below, all_below}
 use Rattle.px_show.proofs.PrintedLaws.{signs_of}
 use Rattle.px_canonical.proofs.WalkLaws.{Walk, walk_both}
@@ -36,7 +36,7 @@ abbrev pub numbers_words : SolidView → List Words
 numbers_words s = flat_map (words_of_number s) (range_with_len (s.near_number + 1) (length s.fronts + length s.backs))
 
 abbrev pub sides_words : SolidView → List Words
-sides_words s = map (λ p. codes "side" ∷ plane_words p) s.sides
+sides_words s = map (λ p. codes "side" ∷ words_of_plane p) s.sides
 
 abbrev pub solid_words : SolidView → List Words
 solid_words s = ((head_words s ∷ []) ++ numbers_words s) ++ sides_words s
@@ -183,7 +183,8 @@ scene_walk scene is =
     in let below = subst (λ (n : ℕ). HasLeavesBelow n scene.show) (sym names) law.shown
     in let stand = standing (start_of scene)
     in let first = begin_walk (version_for scene) scene.width scene.height scene.depth_bits scene.fraction_bits
-    (can_write scene.fraction_bits (has_difference scene.show)) law.sizes.some_width law.sizes.width_limit law.sizes.some_height law.sizes.height_limit
+    (can_write scene.fraction_bits (has_difference scene.show)) law.sizes.some_width law.sizes.width_limit
+    law.sizes.some_height law.sizes.height_limit
     law.sizes.some_depth law.sizes.depth_limit
     law.sizes.fraction_limit
     in let solids = solids_walk (start_of scene) scene.solids [] 0 is.solids law.numbers

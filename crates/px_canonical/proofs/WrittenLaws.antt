@@ -7,7 +7,7 @@ use Rattle.px_num.specs.declared.linear.Linear.{Linear}
 use Rattle.px_model.specs.declared.solid.Colour.{Colour}
 use Rattle.px_model.specs.Scenes.{IsColour, IsPlane}
 use Rattle.px_text.specs.Text.{Words, words_of, is_some_byte}
-use Rattle.px_canonical.specs.Canonical.{written_line, plane_words, colour_words}
+use Rattle.px_canonical.specs.Canonical.{written_line, words_of_plane, colour_words}
 use Rattle.px_text.specs.Written.{spaced, fed, is_plain, are_plain, is_plain_byte, is_no_feed}
 use Rattle.px_text.proofs.PlainLaws.{both, plain_fed, spaced_fed, decimal_plain, signed_plain}
 use Rattle.px_text.proofs.LineLaws.{small_size}
@@ -60,7 +60,7 @@ colour_plain c is =
     in rw (decimal_plain c.red (omega arith), decimal_plain c.green (omega arith), decimal_plain c.blue (omega arith))
     refl
 
-pub plane_plain : (p : Linear) → IsPlane p → are_plain (plane_words p) ≡ true
+pub plane_plain : (p : Linear) → IsPlane p → are_plain (words_of_plane p) ≡ true
 plane_plain p is =
     rw (
       signed_plain p.a (small_size (2 ^ 23) p.a (omega arith) is.a),

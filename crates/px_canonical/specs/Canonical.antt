@@ -21,15 +21,15 @@ written_line w ws = w ++ spaced ws ++ 10 ∷ []
 abbrev pub colour_words : Colour → Words
 colour_words c = decimal c.red ∷ decimal c.green ∷ decimal c.blue ∷ []
 
-abbrev pub plane_words : Linear → Words
-plane_words p = signed_decimal p.a ∷ signed_decimal p.b ∷ signed_decimal p.c ∷ []
+abbrev pub words_of_plane : Linear → Words
+words_of_plane p = signed_decimal p.a ∷ signed_decimal p.b ∷ signed_decimal p.c ∷ []
 
 -- a front or a back, with its colour
 abbrev pub face_line : List ℕ → Face → List ℕ
-face_line kind f = written_line kind (plane_words f.plane ++ colour_words f.colour)
+face_line kind f = written_line kind (words_of_plane f.plane ++ colour_words f.colour)
 
 abbrev pub side_line : Linear → List ℕ
-side_line p = written_line (codes "side") (plane_words p)
+side_line p = written_line (codes "side") (words_of_plane p)
 
 -- the lines of the faces that have a number
 abbrev pub face_lines_at : List ℕ → List Face → ℕ → List ℕ

@@ -3,7 +3,7 @@ ghost use Rattle.std.specs.Prelude.{◌≡◌, ◌++◌, ◌∷◌, [], codes, d
 ghost use Rattle.std.specs.Fmt.{signed_decimal};
 ghost use Rattle.px_show.specs.Versions.{version_word};
 ghost use Rattle.px_text.specs.Written.{spaced};
-ghost use Rattle.px_canonical.specs.Canonical.{written_line, colour_words, plane_words, side_line, depth_words};
+ghost use Rattle.px_canonical.specs.Canonical.{written_line, colour_words, words_of_plane, side_line, depth_words};
 
 use itoa::Buffer;
 use px_model::Colour;
@@ -100,7 +100,7 @@ pub fn put_line(text: &mut Vec<u8>, word: &[u8]) -> Result<(), Memory>
 
 /// The numbers of a plane, each behind a space.
 pub fn put_plane(text: &mut Vec<u8>, plane: &Linear) -> Result<(), Memory>
-    ensures { OnOk result (text.new.items ≡ text.old.items ++ spaced (plane_words plane.now)) }
+    ensures { OnOk result (text.new.items ≡ text.old.items ++ spaced (words_of_plane plane.now)) }
 {
     put_coefficient(text, plane.a)?;
     put_coefficient(text, plane.b)?;

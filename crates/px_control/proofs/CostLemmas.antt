@@ -128,7 +128,8 @@ module _ (count : EdgesAreCounted) (scene : SceneView) (measure : Measure) where
         let kept = kept_of scene (sum_of_products scene.show) in
         let own = operations scene l in
         ap (products_worth (rated rates scene) scene) same ∙ sym (products_sum (rated rates scene) scene kept apart)
-        ∙ sym (sum_by-agree (λ step. sum_by (worth scene measure) (own step)) (λ step. rated rates scene (first_face_step step))
+        ∙ sym (sum_by-agree (λ step. sum_by (worth scene measure) (own step))
+        (λ step. rated rates scene (first_face_step step))
         (steps_with scene kept)
         (λ k d low. rated_is (get_or (steps_with scene kept) k d) (steps_there scene kept k d low)))
         ∙ sym (flat_sum (worth scene measure) own (steps_with scene kept))

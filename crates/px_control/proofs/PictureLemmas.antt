@@ -20,7 +20,8 @@ use Rattle.px_model.proofs.GridLaws.{exponent_between, exponent_is}
 use Rattle.px_array.proofs.ClockLaws.{grid_of_zero_state}
 
 pub scene_grid : (scene : SceneView) → IsLawfulScene scene → IsGrid (columns_of scene) (rows_of scene)
-scene_grid scene lawful = (exponent_between scene.width lawful.sizes.width_limit, exponent_between scene.height lawful.sizes.height_limit)
+scene_grid scene lawful =
+    (exponent_between scene.width lawful.sizes.width_limit, exponent_between scene.height lawful.sizes.height_limit)
 
 zero_pixel_at : (bits count place : ℕ) → place < count → get_or (replicate count (zero_pixel bits)) place no_pixel
     ≡ zero_pixel bits

@@ -301,7 +301,7 @@ took_served ending bits o read more known was now opens left serves = (
 )
 
 -- which counts of faults rose in a session, rose in the command
-session_causes : (ending : Ending) (was now : Moment) → session.HasCauses ending was now
+session_causes : (ending : Ending) (was now : Moment) → session.HasEndingCauses ending was now
     → HasCauses (result_of ending) was.faults now.faults was.at.out.faults now.at.out.faults
 session_causes e.Quit was now causes =
     record { read = λ e. cc; write = λ e. cc; input = λ other. causes.0; out = λ other. causes.1 }
@@ -315,7 +315,7 @@ session_causes e.WriteFault was now causes =
     record { read = λ e. cc; write = λ e. causes.0; input = λ other. causes.1; out = λ other. absurd (other refl) }
 
 pub served_causes : (result : Result (Unit {0}) Stop) (ending : Ending) (was now : Moment) (m : ℕ) → was.faults ≡ m
-    → result ≡ result_of ending → session.HasCauses ending was now
+    → result ≡ result_of ending → session.HasEndingCauses ending was now
     → HasCauses result m now.faults was.at.out.faults now.at.out.faults
 served_causes result ending was now m calm is causes = rw (← calm, is) (session_causes ending was now causes)
 

@@ -1,5 +1,6 @@
 -- What a command line asks for. Clauses of public calls stand on it.
-use Rattle.std.specs.Prelude.{ℕ, List, [], ◌∷◌, Option, Some, None, bytes_eq, codes, if◌then◌else◌, length, nat_le, nat_lt}
+use Rattle.std.specs.Prelude.{ℕ, List, [], ◌∷◌, Option, Some, None, bytes_eq, codes, if◌then◌else◌, length}
+use Rattle.std.specs.Prelude.{nat_le, nat_lt}
 use Rattle.px_text.specs.Text.{size_of_digits, words_in}
 use Rattle.px_debug_text.specs.declared.command.Command.{Command}
 use Rattle.px_debug_text.specs.declared.command.Command.TheVariants as c

@@ -1,6 +1,7 @@
 -- The lines of which answers are made, each a function of what it shows: a number, a pixel, a node or a broadcast.
 -- Clauses of public calls stand on it.
-use Rattle.std.specs.Prelude.{ℕ, ◌+◌, ◌^◌, Bool, ◌&&◌, List, [], ◌∷◌, ◌++◌, codes, decimal, if◌then◌else◌, map, nat_le, nat_lt}
+use Rattle.std.specs.Prelude.{ℕ, ◌+◌, ◌^◌, Bool, ◌&&◌, List, [], ◌∷◌, ◌++◌, codes, decimal, if◌then◌else◌, map}
+use Rattle.std.specs.Prelude.{nat_le, nat_lt}
 use Rattle.px_num.specs.Bits.{bit_at}
 use Rattle.px_array.specs.Arrays.{State, levels_of, pixel_of}
 use Rattle.px_array.specs.declared.micro.Micro.{Micro}
@@ -40,7 +41,8 @@ pixel_line s x y =
 
 -- the depth and the face number of a key
 abbrev pub key_text : LayoutView → Field → List Bool → List ℕ
-key_text l key memory = decimal (number_in (depth_part l key) memory) ++ codes " " ++ decimal (number_in (number_part l key) memory)
+key_text l key memory = decimal (number_in (depth_part l key) memory) ++ codes " "
+    ++ decimal (number_in (number_part l key) memory)
 
 -- the keys of a pixel, and whether its candidate is alive and an odd number of faces was passed
 abbrev pub field_line : LayoutView → State → (x y : ℕ) → List ℕ
@@ -54,7 +56,8 @@ field_line l s x y =
 abbrev pub tree_line : State → (level index : ℕ) → List ℕ
 tree_line s level index =
     let node = node_at s.tree level index in
-    codes "tree " ++ decimal level ++ codes " " ++ decimal index ++ codes " out " ++ flag node.output ++ codes " carry " ++ flag node.carry ++ codes "\n"
+    codes "tree " ++ decimal level ++ codes " " ++ decimal index ++ codes " out " ++ flag node.output
+    ++ codes " carry " ++ flag node.carry ++ codes "\n"
 
 abbrev pub tree_text : TreeOp → List ℕ
 tree_text t.Hold = codes "hold"

@@ -10,13 +10,13 @@ use Rattle.px_scene.specs.Scenes.{SceneView}
 use Rattle.px_sched.specs.Layouts.{layout_of, need_of}
 use Rattle.px_sched.specs.PassesFacts.{PassesAreLawful}
 use Rattle.px_sched.proofs.LawfulLaws.{passes_lawful}
-use Rattle.px_listing.specs.AcceptedLaw.{AcceptedIsLawful, MemoryIsNoRefusal}
-use Rattle.px_listing.specs.Listings.{ListingView, canonical_text}
+use Rattle.px_listing.specs.AcceptedLaw.{AcceptedListingIsLawful, MemoryIsNoRefusal}
+use Rattle.px_listing.specs.Listings.{ListingView, canonical_listing}
 use Rattle.px_playing.specs.Memories.{played_text}
 use Rattle.px_playing.specs.PassesText.{CanPlay, PassesAreReadBack, PlayedPassesShowThePicture, passes_listing}
 use Rattle.px_playing.specs.Played.{HasPlayed}
-use Rattle.px_listing.specs.Reading.{refusal_of}
-use Rattle.px_listing.specs.RoundTrip.{IsReadAs}
+use Rattle.px_listing.specs.Reading.{listing_refusal_of}
+use Rattle.px_listing.specs.RoundTrip.{IsReadAsListing}
 use Rattle.px_listing.specs.Reading.{ListFault}
 use Rattle.px_show.specs.declared.fault.TextFault.TheVariants as f
 use Rattle.px_outcome.specs.declared.refusal.Refusal.{Refusal}
@@ -47,7 +47,7 @@ pub record Laws : Type 0 where
   pub more : IsLawfulInMore
   pub lawful : PassesAreLawful
   pub read : PassesAreReadBack
-  pub accepted : AcceptedIsLawful
+  pub accepted : AcceptedListingIsLawful
   pub refusals : MemoryIsNoRefusal
   pub picture : PlayedPassesShowThePicture
 
@@ -58,22 +58,22 @@ can_play laws bits scene text is = record {
   lawful = passes_lawful laws.more laws.lawful bits scene is.scene_is is.solids
       (lt_fails bits (need_of (layout_of scene)) (not_short (nat_lt bits (need_of (layout_of scene)))
       (short_of_bits (need_of (layout_of scene)))
-      (crowd_of scene) (canonical_text (passes_listing scene)) text is.answer));
+      (crowd_of scene) (canonical_listing (passes_listing scene)) text is.answer));
 }
 
 read_as : Laws → (bits : ℕ) (scene : SceneView) (text : List ℕ) → IsListed bits scene text
-    → IsReadAs bits text (passes_listing scene)
+    → IsReadAsListing bits text (passes_listing scene)
 read_as laws bits scene text is =
-    subst (λ (t : List ℕ). IsReadAs bits t (passes_listing scene))
+    subst (λ (t : List ℕ). IsReadAsListing bits t (passes_listing scene))
     (same_bytes (nat_lt bits (need_of (layout_of scene))) (short_of_bits (need_of (layout_of scene)))
-    (crowd_of scene) (canonical_text (passes_listing scene)) text is.answer)
+    (crowd_of scene) (canonical_listing (passes_listing scene)) text is.answer)
     (laws.read bits scene (can_play laws bits scene text is) is.few)
 
-written_as : (bits : ℕ) (text : List ℕ) (l : ListingView) → IsReadAs bits text l → listing_written text ≡ l
+written_as : (bits : ℕ) (text : List ℕ) (l : ListingView) → IsReadAsListing bits text l → listing_written text ≡ l
 unfolding listing_written
 written_as bits text l read = read.read
 
-not_refused : (bits : ℕ) (text : List ℕ) (l : ListingView) → IsReadAs bits text l → length text ≤ MAX_TEXT_BYTES
+not_refused : (bits : ℕ) (text : List ℕ) (l : ListingView) → IsReadAsListing bits text l → length text ≤ MAX_TEXT_BYTES
     → list_refusal bits text ≡ None
 unfolding list_refusal
 not_refused bits text l read short = rw (at_most (length text) short, read.good) refl
@@ -109,11 +109,11 @@ short_of : (long : Bool) (reason : Option Refusal) (past : Refusal) → (if long
 short_of true reason past none = cc
 short_of false reason past none = none
 
-accepted : Laws → (bits : ℕ) (text : List ℕ) → list_refusal bits text ≡ None → refusal_of bits text ≡ None
+accepted : Laws → (bits : ℕ) (text : List ℕ) → list_refusal bits text ≡ None → listing_refusal_of bits text ≡ None
 unfolding list_refusal
 accepted laws bits text none =
-    no_refusal (refusal_of bits text) (laws.refusals bits text)
-    (short_of (nat_lt MAX_TEXT_BYTES (length text)) (list_refusal_by (refusal_of bits text)) too_long none)
+    no_refusal (listing_refusal_of bits text) (laws.refusals bits text)
+    (short_of (nat_lt MAX_TEXT_BYTES (length text)) (list_refusal_by (listing_refusal_of bits text)) too_long none)
 
 pub done_shown : Laws → DoneShowsThePicture
 done_shown laws listed_bits bits scene text answer is done_so =

@@ -13,7 +13,8 @@ block_splits : (ny block j : ℕ) → ny ≤ 9 → Splits (2 ^ ny) j (512 * bloc
 block_splits ny block j low =
     let e : 9 ≡ ny + (9 - ny) = omega arith in
     let power : 512 ≡ 2 ^ ny * 2 ^ (9 - ny) = ap (λ n. 2 ^ n) e ∙ pow-add 2 ny (9 - ny) in
-    let place : 512 * block ≡ 2 ^ ny * (2 ^ (9 - ny) * block) = ap (λ n. n * block) power ∙ mul_assoc (2 ^ ny) (2 ^ (9 - ny)) block in
+    let place : 512 * block ≡ 2 ^ ny * (2 ^ (9 - ny) * block) = ap (λ n. n * block) power
+    ∙ mul_assoc (2 ^ ny) (2 ^ (9 - ny)) block in
     rw place (splits_above (2 ^ ny) j (2 ^ (9 - ny) * block) (one-le-pow ny 2 (omega arith)))
   where
     mul_assoc : (a b c : ℕ) → a * b * c ≡ a * (b * c)

@@ -2,7 +2,8 @@
 use Rattle.std.proofs.Common.{◌≡◌, ℕ, ◌+◌, ◌-◌, ◌*◌, ◌/◌, ◌%◌, ◌^◌, ◌<◌, ◌≤◌, ◌==◌, ℤ, pos, ◌+ℤ◌, ◌*ℤ◌}
 use Rattle.std.proofs.Common.{if◌then◌else◌, sym, ap, ◌∙◌, arith, inl, inr, ◌⊎◌}
 use Rattle.std.proofs.Math.Arith.{mod-mul}
-use Rattle.std.proofs.Math.Nat.{add-mul-div_left, add-mul-mod_self_left, mod-eq_of_lt, div-eq_of_lt, one-le-pow, pow-le-pow_right}
+use Rattle.std.proofs.Math.Nat.{add-mul-div_left, add-mul-mod_self_left, mod-eq_of_lt, div-eq_of_lt, one-le-pow}
+use Rattle.std.proofs.Math.Nat.{pow-le-pow_right}
 use Rattle.std.proofs.lemmas.Bool.{cases_lt}
 use Rattle.std.proofs.lemmas.Int.{ints}
 use Rattle.std.proofs.lemmas.Nat.{pow-add}
@@ -65,7 +66,8 @@ sum_of_offsets : (a b : ℤ) (c d e f x y : ℕ) → x ≡ c + e → y ≡ d + f
     → ((a *ℤ pos c) +ℤ (b *ℤ pos d)) +ℤ ((a *ℤ pos e) +ℤ (b *ℤ pos f)) ≡ (a *ℤ pos x) +ℤ (b *ℤ pos y)
 sum_of_offsets a b c d e f x y columns rows = rw (columns, rows) (omega (arith, ints))
 
-offset_more : (form : Linear) (ny r k : ℕ) → r < 2 ^ k → offset form ny r +ℤ offset form ny (2 ^ k) ≡ offset form ny (r + 2 ^ k)
+offset_more : (form : Linear) (ny r k : ℕ) → r < 2 ^ k → offset form ny r +ℤ offset form ny (2 ^ k)
+    ≡ offset form ny (r + 2 ^ k)
 offset_more form ny r k small =
     let s = splits ny r k small in
     sum_of_offsets form.a form.b (r / 2 ^ ny) (r % 2 ^ ny) (2 ^ k / 2 ^ ny) (2 ^ k % 2 ^ ny) ((r + 2 ^ k) / 2 ^ ny)
@@ -89,7 +91,8 @@ with_bit form ny r k n small bit = elim (zero_or_one n bit) [
 
 -- one bit more of the lane's number
 pub offset_step : (form : Linear) (ny j k : ℕ)
-    → offset form ny (j % 2 ^ k) +ℤ (if nat_bit j k then offset form ny (2 ^ k) else pos 0) ≡ offset form ny (j % 2 ^ (k + 1))
+    → offset form ny (j % 2 ^ k) +ℤ (if nat_bit j k then offset form ny (2 ^ k) else pos 0)
+    ≡ offset form ny (j % 2 ^ (k + 1))
 offset_step form ny j k =
     let some : 1 ≤ 2 ^ k = one-le-pow k 2 (omega arith) in
     let double : 2 ^ (k + 1) ≡ 2 * 2 ^ k = omega (arith, pow-add 2 k 1) in
@@ -123,7 +126,8 @@ word_splits ny w j small = elim (cases_lt 6 ny) [
   | inr low ↦
       let e : 6 ≡ ny + (6 - ny) = omega arith in
       let power : 64 ≡ 2 ^ ny * 2 ^ (6 - ny) = ap (λ n. 2 ^ n) e ∙ pow-add 2 ny (6 - ny) in
-      let place : 64 * w ≡ 2 ^ ny * (2 ^ (6 - ny) * w) = omega (arith, mul_by power w, mul_assoc (2 ^ ny) (2 ^ (6 - ny)) w) in
+      let place : 64 * w ≡ 2 ^ ny * (2 ^ (6 - ny) * w) =
+      omega (arith, mul_by power w, mul_assoc (2 ^ ny) (2 ^ (6 - ny)) w) in
       rw place (splits_above (2 ^ ny) j (2 ^ (6 - ny) * w) (one-le-pow ny 2 (omega arith)))
 ]
   where

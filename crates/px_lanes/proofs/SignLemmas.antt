@@ -1,5 +1,6 @@
 -- Where a value that grows by a slope from pixel to pixel has another sign than at the first.
-use Rattle.std.proofs.Common.{◌≡◌, ℕ, zero, suc, ◌+◌, ◌*◌, ◌/◌, ◌<◌, ◌≤◌, ℤ, pos, negsuc, ◌+ℤ◌, ◌-ℤ◌, ◌*ℤ◌, ◌≤ℤ◌, ◌<ℤ◌, nat_abs}
+use Rattle.std.proofs.Common.{◌≡◌, ℕ, zero, suc, ◌+◌, ◌*◌, ◌/◌, ◌<◌, ◌≤◌, ℤ, pos, negsuc, ◌+ℤ◌, ◌-ℤ◌, ◌*ℤ◌}
+use Rattle.std.proofs.Common.{◌≤ℤ◌, ◌<ℤ◌, nat_abs}
 use Rattle.std.proofs.Common.{nat_lt, not, arith, inl, inr}
 use Rattle.std.proofs.lemmas.Bool.{cases_lt}
 use Rattle.std.proofs.lemmas.Bool.Decides.{nat_tests}
@@ -31,7 +32,8 @@ fallen : (slope : ℤ) (j : ℕ) → (pos 0 -ℤ slope) *ℤ pos j ≡ pos 0 -�
 fallen slope zero = omega (arith, ints, *ℤ-zero (pos 0 -ℤ slope), *ℤ-zero slope)
 fallen slope (suc j) = omega (arith, ints, fallen slope j, *ℤ-suc (pos 0 -ℤ slope) j, *ℤ-suc slope j)
 
-pub after : (slope base : ℤ) (j : ℕ) → not (le_z ((pos 0 -ℤ slope) *ℤ pos j) base) ≡ is_negative ((slope *ℤ pos j) +ℤ base)
+pub after : (slope base : ℤ) (j : ℕ) → not (le_z ((pos 0 -ℤ slope) *ℤ pos j) base)
+    ≡ is_negative ((slope *ℤ pos j) +ℤ base)
 after slope base j = rw (fallen slope j) (turned (slope *ℤ pos j)) where
   turned : (step : ℤ) → not (le_z (pos 0 -ℤ step) base) ≡ is_negative (step +ℤ base)
   turned step = grind (arith, ints)

@@ -1,5 +1,6 @@
 -- Numbers in lanes. Clauses of public calls stand on it.
-use Rattle.std.specs.Prelude.{◌≡◌, ℕ, ◌+◌, ◌*◌, ◌/◌, ◌%◌, ◌^◌, ◌<◌, false, ℤ, pos, ◌+ℤ◌, ◌*ℤ◌, List, [], length, slice_index, slice_index_or}
+use Rattle.std.specs.Prelude.{◌≡◌, ℕ, ◌+◌, ◌*◌, ◌/◌, ◌%◌, ◌^◌, ◌<◌, false, ℤ, pos, ◌+ℤ◌, ◌*ℤ◌, List, [], length}
+use Rattle.std.specs.Prelude.{slice_index, slice_index_or}
 use Rattle.px_num.specs.Bits.{bit_of, carry_from, nat_bit}
 use Rattle.px_lanes.specs.declared.sums.Carries.{Carries}
 use Rattle.px_num.specs.Forms.{value_at}
@@ -9,7 +10,8 @@ use Rattle.px_num.specs.declared.linear.Linear.{Linear}
 pub record HasValue (words : List ℕ) (j : ℕ) (u : ℤ) : Type 0 where
   pub each : (t : ℕ) → t < length words → nat_bit (slice_index words t) j ≡ bit_of u t
 
--- how much greater the value of a form is j pixels further on than at the first pixel of a word, where columns have 2^ny pixels
+-- how much greater the value of a form is j pixels further on than at the first pixel of a word, where columns
+-- have 2^ny pixels
 abbrev pub offset : Linear → (ny j : ℕ) → ℤ
 offset form ny j = (form.a *ℤ pos (j / 2 ^ ny)) +ℤ (form.b *ℤ pos (j % 2 ^ ny))
 

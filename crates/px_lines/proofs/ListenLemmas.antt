@@ -1,10 +1,11 @@
 -- Listening on.
-use Rattle.std.proofs.Common.{◌≡◌, ℕ, ◌-◌, List, [], ◌∷◌, ◌++◌, Option, None, refl, ap, ◌∙◌, append-nil, append_assoc, take}
+use Rattle.std.proofs.Common.{◌≡◌, ℕ, ◌-◌, List, [], ◌∷◌, ◌++◌, Option, None, refl, ap, ◌∙◌, append-nil}
+use Rattle.std.proofs.Common.{append_assoc, take}
 use Rattle.std.specs.Io.KnownBytes.{Consumes}
 use Rattle.px_io.proofs.ToldLaws.{consumes_both}
 use Rattle.px_asked.specs.Asks.{Ask, Notes, all_given}
 use Rattle.px_asked.proofs.AskLaws.{asked_both, asked_none, given-append}
-use Rattle.px_lines.specs.Hearings.{Begun, Heard, Waits}
+use Rattle.px_lines.specs.Hearings.{HearingBegun, Heard, Waits}
 use Rattle.px_lines.specs.Listenings.{ListenedTo, Listens, Silent}
 use Rattle.px_lines.specs.Parts.{part_end}
 
@@ -30,18 +31,19 @@ listens_more n a b c w xs ys listens none noted =
       silent = silent_more n w [] listens.asks one listens.silent refl (rw listens.given none);
     }
 
-pub heard_more : (b : Begun) (asks more : Option (List Ask)) (rest left w : Option (List ℕ)) (xs ys : List ℕ)
+pub heard_more : (b : HearingBegun) (asks more : Option (List Ask)) (rest left w : Option (List ℕ)) (xs ys : List ℕ)
     → Waits b asks rest w xs → Notes asks more w ys → Consumes rest left ys → Heard b more left w (xs ++ ys)
 heard_more b asks more rest left w xs ys waits noted took = record {
   taken = consumes_both b.rest rest left xs ys waits.heard.taken took;
   listens = listens_more b.limit b.asks asks more w xs ys waits.heard.listens waits.none noted;
 }
 
-pub listened_to : (b : Begun) (asks : Option (List Ask)) (rest w : Option (List ℕ)) (xs : List ℕ)
+pub listened_to : (b : HearingBegun) (asks : Option (List Ask)) (rest w : Option (List ℕ)) (xs : List ℕ)
     → Heard b asks rest w xs → ListenedTo b.limit b.asks asks w b.rest rest
 listened_to b asks rest w xs heard = (xs, heard.taken, heard.listens)
 
-pub listened_more : (b : Begun) (asks more : Option (List Ask)) (rest left w : Option (List ℕ)) (xs ys : List ℕ)
-    → Waits b asks rest w xs → Notes asks more w ys → Consumes rest left ys → ListenedTo b.limit b.asks more w b.rest left
+pub listened_more : (b : HearingBegun) (asks more : Option (List Ask)) (rest left w : Option (List ℕ)) (xs ys : List ℕ)
+    → Waits b asks rest w xs → Notes asks more w ys → Consumes rest left ys
+    → ListenedTo b.limit b.asks more w b.rest left
 listened_more b asks more rest left w xs ys waits noted took =
     listened_to b more left w (xs ++ ys) (heard_more b asks more rest left w xs ys waits noted took)

@@ -1,11 +1,13 @@
 -- What holds of what was read.
-use Rattle.std.proofs.Common.{arith, ℕ, ◌≡◌, ◌-◌, ◌≤◌, List, drop, length, take, Option, None, Result, Ok, Err, OnErr, ap, sym, ◌∙◌, ◌++◌, min}
-use Rattle.std.proofs.lemmas.List.{drop-append-le, length-append, length-drop, length-take, take_all, take_min, take-append-drop, take-append-le, take-take}
+use Rattle.std.proofs.Common.{arith, ℕ, ◌≡◌, ◌-◌, ◌≤◌, List, drop, length, take, Option, None, Result, Ok, Err}
+use Rattle.std.proofs.Common.{OnErr, ap, sym, ◌∙◌, ◌++◌, min}
+use Rattle.std.proofs.lemmas.List.{drop-append-le, length-append, length-drop, length-take, take_all, take_min}
+use Rattle.std.proofs.lemmas.List.{take-append-drop, take-append-le, take-take}
 use Rattle.std.proofs.Math.Nat.{min-le_left, min-le_right}
 use Rattle.std.specs.Io.KnownBytes.{Consumes}
 use Rattle.px_io.specs.Told.{ConsumesAtMost}
 use Rattle.px_asked.specs.Asks.{Ask}
-use Rattle.px_lines.specs.Hearings.{Begun, Heard, Waits}
+use Rattle.px_lines.specs.Hearings.{HearingBegun, Heard, Waits}
 use Rattle.px_lines.specs.Parts.{part_end}
 use Rattle.px_lines.specs.Searches.{HasSeen}
 use Rattle.px_lines.specs.declared.search.Search.{Search}
@@ -47,7 +49,8 @@ seen_more s old new limit n seen front =
     (seen_longer s (take j (take limit new)) (drop j (take limit new)) (rw (sym same) seen))
 
 -- as far as a text goes, and a limit
-pub least_front : (xs ys : List ℕ) (m n limit : ℕ) → xs ≡ ys → n ≡ length ys → m ≡ min n limit → take m xs ≡ take limit ys
+pub least_front : (xs ys : List ℕ) (m n limit : ℕ) → xs ≡ ys → n ≡ length ys → m ≡ min n limit
+    → take m xs ≡ take limit ys
 least_front xs ys m n limit same long least =
     ap (take m) same ∙ ap (λ k. take k ys) (omega (arith, least, long)) ∙ take_min limit ys
 
@@ -56,7 +59,7 @@ pub seen_all : (s : Search) (text : List ℕ) → HasSeen s text → s.at ≡ le
 seen_all s text seen all = ap part_end (sym (take_all s.at text (omega (arith, all)))) ∙ seen.none
 
 -- so that more may be asked for
-pub waits_of : (s : Search) (b : Begun) (asks : Option (List Ask)) (rest w : Option (List ℕ)) (text : List ℕ)
+pub waits_of : (s : Search) (b : HearingBegun) (asks : Option (List Ask)) (rest w : Option (List ℕ)) (text : List ℕ)
     → Heard b asks rest w text → HasSeen s (take (b.limit - 1) text) → s.at ≡ length (take (b.limit - 1) text)
     → Waits b asks rest w text
 waits_of s b asks rest w text heard seen all =

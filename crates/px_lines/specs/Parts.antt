@@ -1,5 +1,6 @@
 -- The scene part of bytes. Clauses of public calls stand on it.
-use Rattle.std.specs.Prelude.{ℕ, ◌+◌, ◌==◌, List, [], ◌∷◌, ◌++◌, Bool, false, if◌then◌else◌, Option, Some, None, bytes_eq, codes, drop, is_some, length, take, unwrap_or}
+use Rattle.std.specs.Prelude.{ℕ, ◌+◌, ◌==◌, List, [], ◌∷◌, ◌++◌, Bool, false, if◌then◌else◌, Option, Some, None}
+use Rattle.std.specs.Prelude.{bytes_eq, codes, drop, is_some, length, take, unwrap_or}
 use Rattle.px_text.specs.Text.{Words, words_of}
 
 abbrev pub are_end : Words → Bool
@@ -11,7 +12,8 @@ are_end (word ∷ other ∷ more) = false
 unfoldable pub is_end_line : List ℕ → Bool
 is_end_line line = are_end (words_of line)
 
--- where the scene part ends: behind the first line feed of a line whose one word is `end`; so much of a line, and so many
+-- where the scene part ends: behind the first line feed of a line whose one word is `end`; so much of a line,
+-- and so many
 -- bytes in all, stand before
 abbrev pub end_after : (line : List ℕ) → (count : ℕ) → (bytes : List ℕ) → Option ℕ
 end_after line count [] = None

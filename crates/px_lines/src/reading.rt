@@ -4,7 +4,7 @@ ghost use Rattle.std.specs.Io.KnownBytes.{Consumes, IsAtEnd};
 ghost use Rattle.px_num.specs.Want.{want};
 ghost use Rattle.px_io.specs.Counts.{Rose};
 ghost use Rattle.px_io.specs.Told.{ConsumesAtMost};
-ghost use Rattle.px_lines.specs.Hearings.{Begun, Heard, Waits};
+ghost use Rattle.px_lines.specs.Hearings.{HearingBegun, Heard, Waits};
 ghost use Rattle.px_lines.specs.Listenings.{ListenedTo, Listens};
 ghost use Rattle.px_lines.specs.Parts.{part_end};
 ghost use Rattle.px_lines.specs.Readings.{TookNoPart};
@@ -74,15 +74,15 @@ fn read_piece<S: Asks<O>, O: Sink>(
     bytes: &mut Vec<u8>,
 ) -> Result<usize, ReadError>
     requires { 0 < length piece.old }
-    ensures heard { (begun : Begun) → Waits begun (S.asks input.old) (S.rest input.old)
+    ensures heard { (begun : HearingBegun) → Waits begun (S.asks input.old) (S.rest input.old)
         (O.state out.now).written bytes.old.items →
         OnOk result (Heard begun (S.asks input.new) (S.rest input.new) (O.state out.now).written
         bytes.new.items) }
     ensures bytes { OnOk result (take (vec_len bytes.old) bytes.new.items ≡ bytes.old.items) }
-    ensures failed { (begun : Begun) → Heard begun (S.asks input.old) (S.rest input.old)
+    ensures failed { (begun : HearingBegun) → Heard begun (S.asks input.old) (S.rest input.old)
         (O.state out.now).written bytes.old.items →
         IsErrOf result ReadError.Failed → Consumes begun.rest (S.rest input.new) bytes.old.items }
-    ensures err { (begun : Begun) → Heard begun (S.asks input.old) (S.rest input.old)
+    ensures err { (begun : HearingBegun) → Heard begun (S.asks input.old) (S.rest input.old)
         (O.state out.now).written bytes.old.items →
         OnErr result (ConsumesAtMost begun.rest (S.rest input.new)
         (vec_len bytes.old + length piece.old)) }
@@ -93,7 +93,7 @@ fn read_piece<S: Asks<O>, O: Sink>(
         Rose (S.faults input.old) (S.faults input.new) }
     ensures calm { OnOk result (S.faults input.new ≡ S.faults input.old) }
     ensures memory { IsErrOf result (ReadError.Memory want) → S.faults input.new ≡ S.faults input.old }
-    ensures listened { (begun : Begun) → Waits begun (S.asks input.old) (S.rest input.old)
+    ensures listened { (begun : HearingBegun) → Waits begun (S.asks input.old) (S.rest input.old)
         (O.state out.now).written bytes.old.items →
         OnErr result (ListenedTo begun.limit begun.asks (S.asks input.new) (O.state out.now).written
         begun.rest (S.rest input.new)) }

@@ -18,12 +18,13 @@ use Rattle.px_show.proofs.FaultLaws.{within_limits}
 use Rattle.px_show.proofs.JudgedLaws.{none_here, not_memory, not_refused}
 use Rattle.px_scene.specs.Lines.{plane_of, size_of}
 use Rattle.px_listing.specs.Lines.{cause_of, numbers_of}
-use Rattle.px_listing.specs.AcceptedLaw.{AcceptedIsLawful, MemoryIsNoRefusal}
-use Rattle.px_listing.specs.Keywords.{keyword_of}
+use Rattle.px_listing.specs.AcceptedLaw.{AcceptedListingIsLawful, MemoryIsNoRefusal}
+use Rattle.px_listing.specs.Keywords.{listing_keyword_of}
 use Rattle.px_listing.specs.Kinds.{field_of, operation_of, operation_with, shape_of}
-use Rattle.px_listing.specs.Limits.{end_past, field_past, fields_past, form_past, limit_of, overlap, shape_past}
+use Rattle.px_listing.specs.Limits.{end_past, field_past, fields_past, form_past, listing_limit_of, overlap, shape_past}
 use Rattle.px_listing.specs.Limits.{value_past}
-use Rattle.px_listing.specs.Reading.{ListFault, due_behind, fault_behind, fault_of, listing_of, operation_in, refusal_of}
+use Rattle.px_listing.specs.Reading.{ListFault, due_behind, listing_fault_behind, listing_fault_of, listing_of}
+use Rattle.px_listing.specs.Reading.{operation_in, listing_refusal_of}
 use Rattle.px_listing.specs.Listings.{ListingView}
 use Rattle.px_listing.specs.declared.keyword.Due.{Due}
 use Rattle.px_listing.specs.declared.keyword.Keyword.{Keyword}
@@ -146,7 +147,7 @@ kind_lawful bits n.KeepLess (at ∷ len ∷ to ∷ []) none = of_one_length bits
 kind_lawful bits kind zs none = tt
 
 -- the operation of a line that passes no limit
-op_lawful : (bits : ℕ) (keyword : Keyword) (zs : List ℤ) → limit_of bits keyword zs ≡ None
+op_lawful : (bits : ℕ) (keyword : Keyword) (zs : List ℤ) → listing_limit_of bits keyword zs ≡ None
     → IfSome (operation_of keyword zs) (λ op. IsLawful op bits)
 op_lawful bits (k.Operation kind) zs none = kind_lawful bits kind zs none
 op_lawful bits k.Pxlist zs none = tt
@@ -154,37 +155,37 @@ op_lawful bits k.Grid zs none = tt
 op_lawful bits k.End zs none = tt
 op_lawful bits k.Other zs none = tt
 
-line_lawful : (bits : ℕ) (due : Due) (l : Words) → fault_of bits due l ≡ None
+line_lawful : (bits : ℕ) (due : Due) (l : Words) → listing_fault_of bits due l ≡ None
     → IfSome (operation_in l) (λ op. IsLawful op bits)
 line_lawful bits due [] none = tt
 line_lawful bits due (w ∷ ws) none =
-    op_lawful bits (keyword_of w) (numbers_of ws)
-    (within_limits (cause_of due w ws) (limit_of bits (keyword_of w) (numbers_of ws)) none)
+    op_lawful bits (listing_keyword_of w) (numbers_of ws)
+    (within_limits (cause_of due w ws) (listing_limit_of bits (listing_keyword_of w) (numbers_of ws)) none)
 
 listed : (bits : ℕ) (o : Option Macro) (ops : List Macro) → IfSome o (λ op. IsLawful op bits)
     → All (λ op. IsLawful op bits) ops → All (λ op. IsLawful op bits) (cons_option o ops)
 listed bits None ops one all = all
 listed bits (Some op) ops one all = All-cons (λ q. IsLawful q bits) op ops one all
 
-lines_lawful : (bits : ℕ) (before ls : List Words) → first_bad (fault_behind bits) before ls ≡ None
+lines_lawful : (bits : ℕ) (before ls : List Words) → first_bad (listing_fault_behind bits) before ls ≡ None
     → All (λ op. IsLawful op bits) (filter_map operation_in ls)
 lines_lawful bits before [] none = All-nil (λ op. IsLawful op bits)
 lines_lawful bits before (l ∷ ls) none =
-    let each = none_here (length before + 1) (fault_behind bits before l)
-    (first_bad (fault_behind bits) (before ++ l ∷ []) ls) none in
+    let each = none_here (length before + 1) (listing_fault_behind bits before l)
+    (first_bad (listing_fault_behind bits) (before ++ l ∷ []) ls) none in
     listed bits (operation_in l) (filter_map operation_in ls) (line_lawful bits (due_behind before) l each.0)
     (lines_lawful bits (before ++ l ∷ []) ls each.1)
 
-pub accepted_is_lawful : AcceptedIsLawful
+pub accepted_is_lawful : AcceptedListingIsLawful
 accepted_is_lawful bits text none =
-    lines_lawful bits [] (worded text) (not_refused (first_bad (fault_behind bits) [] (worded text)) _ _ none).0
+    lines_lawful bits [] (worded text) (not_refused (first_bad (listing_fault_behind bits) [] (worded text)) _ _ none).0
 
 -- such pixels can carry out each operation of the listing that is read
 pub read_is_lawful : (bits : ℕ) (text : List ℕ) (r : Result ListingView ListFault)
-    → IfOk r (λ l. (refusal_of bits text ≡ None) × (l ≡ listing_of (worded text)))
+    → IfOk r (λ l. (listing_refusal_of bits text ≡ None) × (l ≡ listing_of (worded text)))
     → IfOk r (λ l. All (λ op. IsLawful op bits) l.macros)
 read_is_lawful bits text (Ok l) (good, is) = rw is (accepted_is_lawful bits text good)
 read_is_lawful bits text (Err f) e = tt
 
 pub memory_is_no_refusal : MemoryIsNoRefusal
-memory_is_no_refusal bits text = not_memory (first_bad (fault_behind bits) [] (worded text)) _ _
+memory_is_no_refusal bits text = not_memory (first_bad (listing_fault_behind bits) [] (worded text)) _ _

@@ -18,12 +18,14 @@ use Rattle.px_tree.specs.Nodes.{IsGrid}
 use Rattle.px_listing.specs.Listings.{ListingView}
 use Rattle.px_scene.specs.Lines.{size_of}
 use Rattle.px_listing.specs.Lines.{cause_of, numbers_of}
-use Rattle.px_listing.specs.Drafts.{DraftView, IsDraft, IsDraftOf, draft_of, head_of, or_else, taken}
+use Rattle.px_listing.specs.Drafts.{ListingDraft, IsDraft, IsListingDraftOf, listing_draft_of, head_of, or_else}
+use Rattle.px_listing.specs.Drafts.{listing_taken}
 use Rattle.px_listing.specs.Drafts.{with_line, with_operation}
-use Rattle.px_listing.specs.Keywords.{due_after, is_header, is_one, keyword_of}
-use Rattle.px_listing.specs.Limits.{grid_past, limit_of}
+use Rattle.px_listing.specs.Keywords.{due_next, is_header, is_one, listing_keyword_of}
+use Rattle.px_listing.specs.Limits.{grid_past, listing_limit_of}
 use Rattle.px_listing.specs.Kinds.{operation_of}
-use Rattle.px_listing.specs.Reading.{Exponents, due_behind, due_behind_line, exponents_of, fault_behind, fault_of}
+use Rattle.px_listing.specs.Reading.{Exponents, due_behind, due_behind_line, exponents_of, listing_fault_behind}
+use Rattle.px_listing.specs.Reading.{listing_fault_of}
 use Rattle.px_listing.specs.Reading.{grid_in, last_or, least_grid, listing_of}
 use Rattle.px_listing.specs.Reading.{operation_in}
 use Rattle.px_listing.specs.declared.keyword.Due.{Due}
@@ -52,23 +54,23 @@ listed None ops = append-nil ops
 listed (Some op) ops = refl
 
 same_draft : (due due' : Due) (grid grid' : Exponents) (ops ops' : List Macro) → due ≡ due' → grid ≡ grid' → ops ≡ ops'
-    → (let v : DraftView = record { due = due; grid = grid; macros = ops } in
+    → (let v : ListingDraft = record { due = due; grid = grid; macros = ops } in
     v) ≡ record { due = due'; grid = grid'; macros = ops' }
 same_draft due due' grid grid' ops ops' p q r = rw (p, q, r) refl
 
 -- the draft of one more line
-pub draft_more : (ls : List Words) (l : Words) → draft_of (ls ++ l ∷ []) ≡ taken (draft_of ls) l
+pub draft_more : (ls : List Words) (l : Words) → listing_draft_of (ls ++ l ∷ []) ≡ listing_taken (listing_draft_of ls) l
 draft_more ls l =
     same_draft _ _ _ _ _ _ (said_more d.Header due_behind_line ls l) (said_more least_grid grid_in ls l)
     (filter_map-append operation_in ls (l ∷ []) ∙ listed (operation_in l) (filter_map operation_in ls))
     ∙ by_words ls l
   where
     by_words : (ls : List Words) (l : Words)
-        → (let v : DraftView = record {
+        → (let v : ListingDraft = record {
           due = or_else (due_behind_line l) (due_behind ls);
           grid = or_else (grid_in l) (last_or least_grid (filter_map grid_in ls));
           macros = with_operation (operation_in l) (filter_map operation_in ls);
-        } in v) ≡ taken (draft_of ls) l
+        } in v) ≡ listing_taken (listing_draft_of ls) l
     by_words ls [] = refl
     by_words ls (w ∷ ws) = refl
 
@@ -94,7 +96,7 @@ grid_said k.End zs g good grid = grid
 grid_said k.Other zs g good grid = grid
 
 -- the limits of a line of a grid are those of its exponents
-grid_limit : (bits : ℕ) (keyword : Keyword) (zs : List ℤ) → limit_of bits keyword zs ≡ None → keyword ≡ k.Grid
+grid_limit : (bits : ℕ) (keyword : Keyword) (zs : List ℤ) → listing_limit_of bits keyword zs ≡ None → keyword ≡ k.Grid
     → grid_past zs ≡ None
 grid_limit bits keyword zs good is = rw is at good
 
@@ -125,38 +127,39 @@ header_here false e = cc
 
 few_more : (due : Due) (w : List ℕ) (ws : Words) (ops : List Macro) (count : ℕ) → cause_of due w ws ≡ None
     → length ops + head_of due ≤ count
-    → length (with_operation (operation_of (keyword_of w) (numbers_of ws)) ops) + head_of (due_after (keyword_of w))
+    → length (with_operation (operation_of (listing_keyword_of w) (numbers_of ws)) ops) + head_of
+    (due_next (listing_keyword_of w))
     ≤ count + 1
 few_more d.Header w ws ops count good few =
-    let header : keyword_of w ≡ k.Pxlist =
+    let header : listing_keyword_of w ≡ k.Pxlist =
     header_first (bytes_eq w (codes "pxlist")) ws _ (header_here (is_header w ws) good) in
     rw header (omega (arith, few))
 few_more d.Grid w ws ops count good few =
     omega (
       arith,
       few,
-      one_at_most (due_after (keyword_of w)),
-      one_longer (operation_of (keyword_of w) (numbers_of ws)) ops,
+      one_at_most (due_next (listing_keyword_of w)),
+      one_longer (operation_of (listing_keyword_of w) (numbers_of ws)) ops,
     )
 few_more d.Operation w ws ops count good few =
     omega (
       arith,
       few,
-      one_at_most (due_after (keyword_of w)),
-      one_longer (operation_of (keyword_of w) (numbers_of ws)) ops,
+      one_at_most (due_next (listing_keyword_of w)),
+      one_longer (operation_of (listing_keyword_of w) (numbers_of ws)) ops,
     )
 few_more d.Nothing w ws ops count good few =
     omega (
       arith,
       few,
-      one_at_most (due_after (keyword_of w)),
-      one_longer (operation_of (keyword_of w) (numbers_of ws)) ops,
+      one_at_most (due_next (listing_keyword_of w)),
+      one_longer (operation_of (listing_keyword_of w) (numbers_of ws)) ops,
     )
 
 -- a good line keeps a draft lawful
-pub kept_more : (bits count : ℕ) (draft new : DraftView) (w : List ℕ) (ws : Words) (keyword : Keyword) (zs : List ℤ)
-    → keyword ≡ keyword_of w → zs ≡ numbers_of ws
-    → cause_of draft.due w ws ≡ None → limit_of bits keyword zs ≡ None → IfSome (operation_of keyword zs)
+pub kept_more : (bits count : ℕ) (draft new : ListingDraft) (w : List ℕ) (ws : Words) (keyword : Keyword) (zs : List ℤ)
+    → keyword ≡ listing_keyword_of w → zs ≡ numbers_of ws
+    → cause_of draft.due w ws ≡ None → listing_limit_of bits keyword zs ≡ None → IfSome (operation_of keyword zs)
     (λ m. IsLawful m bits)
     → new ≡ with_line keyword zs draft → IsDraft bits count draft → IsDraft bits (count + 1) new
 kept_more bits count draft new w ws keyword zs word figures cause limit lawful is keeps =
@@ -167,8 +170,8 @@ kept_more bits count draft new w ws keyword zs word figures cause limit lawful i
     } in
     subst (IsDraft bits (count + 1)) (sym is) kept
 
-pub read_start : (bits : ℕ) (draft : DraftView)
-    → draft ≡ record { due = d.Header; grid = least_grid; macros = [] } → IsDraftOf bits draft []
+pub read_start : (bits : ℕ) (draft : ListingDraft)
+    → draft ≡ record { due = d.Header; grid = least_grid; macros = [] } → IsListingDraftOf bits draft []
 read_start bits draft e = rw e (record {
   says = refl;
   keeps = record {
@@ -180,25 +183,26 @@ read_start bits draft e = rw e (record {
 })
 
 -- the draft of the lines before judges a line
-pub told : (bits : ℕ) (draft : DraftView) (before : List Words) (l : Words) → draft ≡ draft_of before
-    → fault_behind bits before l ≡ fault_of bits draft.due l
-told bits draft before l says = ap (λ (v : DraftView). fault_of bits v.due l) (sym says)
+pub told : (bits : ℕ) (draft : ListingDraft) (before : List Words) (l : Words) → draft ≡ listing_draft_of before
+    → listing_fault_behind bits before l ≡ listing_fault_of bits draft.due l
+told bits draft before l says = ap (λ (v : ListingDraft). listing_fault_of bits v.due l) (sym says)
 
-pub read_next : {T E : Type 0} (r : Result T E) (bits : ℕ) (draft new : DraftView) (before : List Words) (l : Words)
-    → (bits ≤ 256) × IsDraftOf bits draft before → OnOk r (new ≡ taken draft l)
-    → OnOk r (IsDraft bits (length before + 1) new) → OnOk r ((bits ≤ 256) × IsDraftOf bits new (before ++ l ∷ []))
+pub read_next : {T E : Type 0} (r : Result T E) (bits : ℕ) (draft new : ListingDraft) (before : List Words) (l : Words)
+    → (bits ≤ 256) × IsListingDraftOf bits draft before → OnOk r (new ≡ listing_taken draft l)
+    → OnOk r (IsDraft bits (length before + 1) new)
+    → OnOk r ((bits ≤ 256) × IsListingDraftOf bits new (before ++ l ∷ []))
 read_next (Ok x) bits draft new before l (few, so) e keeps = (
   few,
   record {
-    says = e ∙ (ap (λ v. taken v l) so.says ∙ sym (draft_more before l));
+    says = e ∙ (ap (λ v. listing_taken v l) so.says ∙ sym (draft_more before l));
     keeps = subst (λ n. IsDraft bits n new) (sym (length-append before (l ∷ []))) keeps;
   },
 )
 read_next (Err f) bits draft new before l so e keeps = tt
 
-pub listing_is : (bits : ℕ) (draft : DraftView) (lines : List Words) → IsDraftOf bits draft lines
+pub listing_is : (bits : ℕ) (draft : ListingDraft) (lines : List Words) → IsListingDraftOf bits draft lines
     → (let l : ListingView = record { nx = draft.grid.nx; ny = draft.grid.ny; macros = draft.macros } in
     l) ≡ listing_of lines
 listing_is bits draft lines is =
-    ap (λ (v : DraftView). let l : ListingView = record { nx = v.grid.nx; ny = v.grid.ny; macros = v.macros } in
+    ap (λ (v : ListingDraft). let l : ListingView = record { nx = v.grid.nx; ny = v.grid.ny; macros = v.macros } in
     l) is.says

@@ -14,16 +14,17 @@ use Rattle.px_macro.specs.declared.operation.Macro.TheVariants as m
 use Rattle.px_num.specs.Forms.{IsInTreeRange, IsWithin}
 use Rattle.px_num.specs.declared.linear.Linear.{Linear}
 use Rattle.px_num.proofs.TruthLaws.{same_true}
-use Rattle.px_listing.specs.Lines.{are_numbers, form_of, numbers_of}
+use Rattle.px_listing.specs.Lines.{are_numbers, listing_form_of, numbers_of}
 use Rattle.px_show.specs.Judged.{judged, past}
 use Rattle.px_show.specs.declared.fault.Cause.TheVariants as c
 use Rattle.px_text.specs.Text.{Words, number_of}
 use Rattle.px_text.specs.Written.{are_plain, is_plain}
 use Rattle.px_text.proofs.LineLaws.{small_size}
-use Rattle.px_listing.specs.Keywords.{due_after, is_due, keyword_of}
-use Rattle.px_listing.specs.Kinds.{bit_number, is_set, kind_of, number_count, operands_of, operation_of, operation_with, shape_of, word_of}
-use Rattle.px_listing.specs.Limits.{end_past, field_past, form_past, limit_of, overlap, shape_past}
-use Rattle.px_listing.specs.Reading.{due_behind_line, exponents_of, fault_of, grid_in, operation_in}
+use Rattle.px_listing.specs.Keywords.{due_next, is_operation_due, listing_keyword_of}
+use Rattle.px_listing.specs.Kinds.{bit_number, is_set, kind_of, number_count, operands_of, operation_of}
+use Rattle.px_listing.specs.Kinds.{operation_with, shape_of, word_of}
+use Rattle.px_listing.specs.Limits.{end_past, field_past, form_past, listing_limit_of, overlap, shape_past}
+use Rattle.px_listing.specs.Reading.{due_behind_line, exponents_of, listing_fault_of, grid_in, operation_in}
 use Rattle.px_listing.specs.declared.keyword.Keyword.{Keyword}
 use Rattle.px_listing.specs.declared.keyword.Keyword.TheVariants as k
 use Rattle.px_listing.specs.declared.kind.Kind.{Kind}
@@ -252,12 +253,12 @@ module _ (bits : ℕ) (most : bits ≤ 256) where
   good_line : (keyword : Keyword) (kind : Kind) (ws : Words) (zs : List ℤ) → keyword ≡ k.Operation kind
       → (length ws == number_count (shape_of kind)) ≡ true → are_numbers ws ≡ true → numbers_of ws ≡ zs
       → shape_past bits (shape_of kind) zs ≡ None
-      → judged (if is_due d.Operation keyword then form_of keyword ws else Some c.Unexpected)
-      (limit_of bits keyword (numbers_of ws)) ≡ None
+      → judged (if is_operation_due d.Operation keyword then listing_form_of keyword ws else Some c.Unexpected)
+      (listing_limit_of bits keyword (numbers_of ws)) ≡ None
   good_line keyword kind ws zs is count numeric read good = rw (is, count, numeric, read) good
 
 -- the word of an operation is its own, and plain
-word_is : (kind : Kind) → keyword_of (word_of kind) ≡ k.Operation kind
+word_is : (kind : Kind) → listing_keyword_of (word_of kind) ≡ k.Operation kind
 word_is n.All = refl
 word_is n.KeepSign = refl
 word_is n.KeepBit = refl
@@ -285,7 +286,7 @@ plain_word n.KeepLess = refl
 
 -- a line of an operation that such pixels can carry out is good, and is read as it
 pub record IsRead (bits : ℕ) (op : Macro) : Type 0 where
-  pub good : fault_of bits d.Operation (op_words op) ≡ None
+  pub good : listing_fault_of bits d.Operation (op_words op) ≡ None
   pub due : due_behind_line (op_words op) ≡ Some d.Operation
   pub grid : grid_in (op_words op) ≡ None
   pub read : operation_in (op_words op) ≡ Some op
@@ -302,8 +303,9 @@ op_read law bits most op lawful =
     let read = are_read law zs fit.short in
     let count = same_true (length ws) (number_count (shape_of kind)) (length-map zs signed_decimal ∙ fit.count) in
     record {
-      good = good_line bits most (keyword_of (word_of kind)) kind ws zs is count (are_numeric law zs fit.short) read fit.good;
-      due = ap (λ keyword. Some (due_after keyword)) is;
+      good = good_line bits most (listing_keyword_of (word_of kind)) kind ws zs is count
+          (are_numeric law zs fit.short) read fit.good;
+      due = ap (λ keyword. Some (due_next keyword)) is;
       grid = ap (λ keyword. exponents_of keyword (numbers_of ws)) is;
       read = ap (λ keyword. operation_of keyword (numbers_of ws)) is
           ∙ (ap (operation_with kind) read ∙ written bits most op lawful);

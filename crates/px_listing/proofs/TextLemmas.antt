@@ -13,9 +13,10 @@ use Rattle.px_text.specs.Text.{Words, lines_of, words_of, worded}
 use Rattle.px_text.specs.Written.{are_plain, fed, is_no_feed, is_plain, spaced}
 use Rattle.px_tree.specs.Nodes.{IsGrid}
 use Rattle.px_listing.specs.Lines.{number_line}
-use Rattle.px_listing.specs.Listings.{ListingView, canonical_text, end_line, header_line, macro_line}
+use Rattle.px_listing.specs.Listings.{ListingView, canonical_listing, end_line, header_line, macro_line}
 use Rattle.px_listing.specs.Kinds.{kind_of, operands_of, word_of}
-use Rattle.px_listing.specs.Reading.{Exponents, due_behind, due_behind_line, fault_behind, fault_of, grid_in}
+use Rattle.px_listing.specs.Reading.{Exponents, due_behind, due_behind_line, listing_fault_behind}
+use Rattle.px_listing.specs.Reading.{listing_fault_of, grid_in}
 use Rattle.px_listing.specs.Reading.{last_or, least_grid, listing_of, operation_in}
 use Rattle.px_listing.specs.RoundTrip.{TextsAreReadBack}
 use Rattle.px_listing.specs.declared.keyword.Due.{Due}
@@ -61,7 +62,7 @@ lines_from (op ∷ ops) =
     ap (λ t. macro_line op ++ t) (lines_from ops)
     ∙ sym (append_assoc (macro_line op) (flat_map macro_line ops) end_line)
 
-text_is : (l : ListingView) → fed (map bare (all_words l)) ≡ canonical_text l
+text_is : (l : ListingView) → fed (map bare (all_words l)) ≡ canonical_listing l
 unfolding header_line number_line
 text_is l =
     let header = header_line in
@@ -103,16 +104,17 @@ read_from law words bits most (op ∷ ops) lawful =
 -- no line is bad
 good_from : NumbersAreRead → (bits : ℕ) → bits ≤ 256 → (before : List Words) (ops : List Macro) → due_behind before
     ≡ d.Operation → AreLawful bits ops
-    → first_bad (fault_behind bits) before (words_from ops) ≡ None
+    → first_bad (listing_fault_behind bits) before (words_from ops) ≡ None
 good_from law bits most before [] due lawful =
-    ap (λ due. at_line (length before + 1) (fault_of bits due (codes "end" ∷ [])) None) due
+    ap (λ due. at_line (length before + 1) (listing_fault_of bits due (codes "end" ∷ [])) None) due
 good_from law bits most before (op ∷ ops) due lawful =
     let is = op_read law bits most op (first_of bits op ops lawful) in
     let next : due_behind (before ++ op_words op ∷ []) ≡ d.Operation =
     said_more d.Header due_behind_line before (op_words op) ∙ ap (λ o. or_else o (due_behind before)) is.due in
-    ap (λ due. at_line (length before + 1) (fault_of bits due (op_words op))
-    (first_bad (fault_behind bits) (before ++ op_words op ∷ []) (words_from ops))) due
-    ∙ (ap (λ f. at_line (length before + 1) f (first_bad (fault_behind bits) (before ++ op_words op ∷ []) (words_from ops))) is.good
+    ap (λ due. at_line (length before + 1) (listing_fault_of bits due (op_words op))
+    (first_bad (listing_fault_behind bits) (before ++ op_words op ∷ []) (words_from ops))) due
+    ∙ (ap (λ f. at_line (length before + 1) f
+    (first_bad (listing_fault_behind bits) (before ++ op_words op ∷ []) (words_from ops))) is.good
     ∙ good_from law bits most (before ++ op_words op ∷ []) ops next (rest_of bits op ops lawful))
 
 -- the last line is the end
@@ -144,7 +146,7 @@ said_from law bits most (op ∷ ops) lawful =
 
 -- the line of the grid
 pub record IsGridRead (bits nx ny : ℕ) : Type 0 where
-  good : fault_of bits d.Grid (grid_words nx ny) ≡ None
+  good : listing_fault_of bits d.Grid (grid_words nx ny) ≡ None
   grid : grid_in (grid_words nx ny) ≡ Some (record { nx = nx; ny = ny })
   plain : are_plain (map signed_decimal (pos nx ∷ pos ny ∷ [])) ≡ true
 
@@ -165,7 +167,7 @@ grid_read law bits nx ny grid =
 
 worded_text : NumbersAreRead → WordsAreRead → LinesAreRead → (bits : ℕ) (l : ListingView) → bits ≤ 256
     → IsGrid l.nx l.ny → AreLawful bits l.macros
-    → worded (canonical_text l) ≡ all_words l
+    → worded (canonical_listing l) ≡ all_words l
 worded_text law words lines bits l most grid lawful =
     let of_grid = grid_read law bits l.nx l.ny grid in
     let second = map signed_decimal (pos l.nx ∷ pos l.ny ∷ []) in
@@ -183,8 +185,9 @@ pub read_back : NumbersAreRead → WordsAreRead → LinesAreRead → TextsAreRea
 read_back law words lines bits l most grid lawful =
     let text = worded_text law words lines bits l most grid lawful in
     let of_grid = grid_read law bits l.nx l.ny grid in
-    let good : first_bad (fault_behind bits) [] (all_words l) ≡ None =
-    ap (λ f. at_line 2 f (first_bad (fault_behind bits) (header_words ∷ grid_words l.nx l.ny ∷ []) (words_from l.macros))) of_grid.good
+    let good : first_bad (listing_fault_behind bits) [] (all_words l) ≡ None =
+    ap (λ f. at_line 2 f (first_bad (listing_fault_behind bits) (header_words ∷ grid_words l.nx l.ny ∷ [])
+    (words_from l.macros))) of_grid.good
     ∙ good_from law bits most (header_words ∷ grid_words l.nx l.ny ∷ []) l.macros refl lawful in
     let ended : due_behind (all_words l) ≡ d.Nothing = ended_from law bits most d.Operation l.macros lawful in
     record {

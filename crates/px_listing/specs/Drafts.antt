@@ -4,7 +4,7 @@ use Rattle.px_macro.specs.Macros.{IsLawful}
 use Rattle.px_macro.specs.declared.operation.Macro.{Macro}
 use Rattle.px_text.specs.Text.{Words}
 use Rattle.px_tree.specs.Nodes.{IsGrid}
-use Rattle.px_listing.specs.Keywords.{due_after, keyword_of}
+use Rattle.px_listing.specs.Keywords.{due_next, listing_keyword_of}
 use Rattle.px_listing.specs.Lines.{numbers_of}
 use Rattle.px_listing.specs.Kinds.{operation_of}
 use Rattle.px_listing.specs.Reading.{Exponents, due_behind, exponents_of, grid_of, operation_in}
@@ -15,17 +15,18 @@ use Rattle.px_listing.specs.declared.draft.Draft.{Draft}
 use Rattle.std.specs.List.{filter_map}
 use Rattle.std.specs.Prelude.{ℤ}
 
-pub record DraftView : Type 0 where
+pub record ListingDraft : Type 0 where
   pub due : Due
   pub grid : Exponents
   pub macros : List Macro
 
-abbrev pub view_of : Draft → DraftView
-view_of draft = record { due = draft.due; grid = record { nx = draft.nx; ny = draft.ny }; macros = draft.macros.items }
+abbrev pub listing_view_of : Draft → ListingDraft
+listing_view_of draft =
+    record { due = draft.due; grid = record { nx = draft.nx; ny = draft.ny }; macros = draft.macros.items }
 
 -- what lines say
-abbrev pub draft_of : List Words → DraftView
-draft_of lines = record { due = due_behind lines; grid = grid_of lines; macros = filter_map operation_in lines }
+abbrev pub listing_draft_of : List Words → ListingDraft
+listing_draft_of lines = record { due = due_behind lines; grid = grid_of lines; macros = filter_map operation_in lines }
 
 abbrev pub or_else : {A : Type 0} → Option A → A → A
 or_else None a = a
@@ -36,16 +37,16 @@ with_operation None ops = ops
 with_operation (Some op) ops = ops ++ op ∷ []
 
 -- a draft with what a good line adds, by its first word and its numbers
-abbrev pub with_line : Keyword → List ℤ → DraftView → DraftView
+abbrev pub with_line : Keyword → List ℤ → ListingDraft → ListingDraft
 with_line keyword zs draft = record {
-  due = due_after keyword;
+  due = due_next keyword;
   grid = or_else (exponents_of keyword zs) draft.grid;
   macros = with_operation (operation_of keyword zs) draft.macros;
 }
 
-abbrev pub taken : DraftView → Words → DraftView
-taken draft [] = draft
-taken draft (w ∷ ws) = with_line (keyword_of w) (numbers_of ws) draft
+abbrev pub listing_taken : ListingDraft → Words → ListingDraft
+listing_taken draft [] = draft
+listing_taken draft (w ∷ ws) = with_line (listing_keyword_of w) (numbers_of ws) draft
 
 -- how many lines stand before the operations at least
 abbrev pub head_of : Due → ℕ
@@ -53,12 +54,12 @@ head_of d.Header = 0
 head_of due = 1
 
 -- what the drafts of so many good lines keep
-pub record IsDraft (bits count : ℕ) (draft : DraftView) : Type 0 where
+pub record IsDraft (bits count : ℕ) (draft : ListingDraft) : Type 0 where
   pub grid : IsGrid draft.grid.nx draft.grid.ny
   pub lawful : All (λ m. IsLawful m bits) draft.macros
   pub few : length draft.macros + head_of draft.due ≤ count
 
 -- the draft of lines of which none is bad
-pub record IsDraftOf (bits : ℕ) (draft : DraftView) (lines : List Words) : Type 0 where
-  pub says : draft ≡ draft_of lines
+pub record IsListingDraftOf (bits : ℕ) (draft : ListingDraft) (lines : List Words) : Type 0 where
+  pub says : draft ≡ listing_draft_of lines
   pub keeps : IsDraft bits (length lines) draft

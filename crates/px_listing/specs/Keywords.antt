@@ -15,28 +15,28 @@ operation_or_other (Some kind) = k.Operation kind
 operation_or_other None = k.Other
 
 -- what the first word of a line begins
-abbrev pub keyword_of : List ℕ → Keyword
-keyword_of w =
+abbrev pub listing_keyword_of : List ℕ → Keyword
+listing_keyword_of w =
     if bytes_eq w (codes "pxlist") then k.Pxlist
     else if bytes_eq w (codes "grid") then k.Grid
     else if bytes_eq w (codes "end") then k.End
     else operation_or_other (kind_named w)
 
 -- what is due after a line that begins so
-abbrev pub due_after : Keyword → Due
-due_after k.Pxlist = d.Grid
-due_after k.Grid = d.Operation
-due_after (k.Operation kind) = d.Operation
-due_after k.End = d.Nothing
-due_after k.Other = d.Header
+abbrev pub due_next : Keyword → Due
+due_next k.Pxlist = d.Grid
+due_next k.Grid = d.Operation
+due_next (k.Operation kind) = d.Operation
+due_next k.End = d.Nothing
+due_next k.Other = d.Header
 
 -- the lines that are due: the header, the grid, and then operations and the end
-abbrev pub is_due : Due → Keyword → Bool
-is_due d.Header k.Pxlist = true
-is_due d.Grid k.Grid = true
-is_due d.Operation (k.Operation kind) = true
-is_due d.Operation k.End = true
-is_due due keyword = false
+abbrev pub is_operation_due : Due → Keyword → Bool
+is_operation_due d.Header k.Pxlist = true
+is_operation_due d.Grid k.Grid = true
+is_operation_due d.Operation (k.Operation kind) = true
+is_operation_due d.Operation k.End = true
+is_operation_due due keyword = false
 
 -- how many numbers stand behind the first word
 abbrev pub operand_count : Keyword → ℕ

@@ -1,4 +1,5 @@
--- The operations by their lines: the word of each, its numbers, and what they write. Clauses of public calls stand on it.
+-- The operations by their lines: the word of each, its numbers, and what they write. Clauses of public calls
+-- stand on it.
 use Rattle.std.specs.Prelude.{ℕ, ℤ, pos, Bool, List, [], ◌∷◌, Option, Some, None, codes, if◌then◌else◌}
 use Rattle.std.specs.Str.{bytes_eq}
 use lib.Signed.{le_z}

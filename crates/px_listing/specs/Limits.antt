@@ -89,7 +89,7 @@ shape_past bits s.FieldsApart zs = copy_past bits zs
 shape_past bits s.Fields zs = less_past bits zs
 
 -- the first limit that a line of good form passes, in pixels of so many memory bits
-abbrev pub limit_of : (bits : ℕ) → Keyword → List ℤ → Option (LineFault ListKind)
-limit_of bits k.Grid zs = grid_past zs
-limit_of bits (k.Operation kind) zs = shape_past bits (shape_of kind) zs
-limit_of bits keyword zs = None
+abbrev pub listing_limit_of : (bits : ℕ) → Keyword → List ℤ → Option (LineFault ListKind)
+listing_limit_of bits k.Grid zs = grid_past zs
+listing_limit_of bits (k.Operation kind) zs = shape_past bits (shape_of kind) zs
+listing_limit_of bits keyword zs = None

@@ -7,7 +7,7 @@ use Rattle.px_show.specs.declared.fault.Cause.{Cause}
 use Rattle.px_show.specs.declared.fault.Cause.TheVariants as c
 use Rattle.px_text.specs.Text.{Words, number_of}
 use Rattle.px_text.specs.Written.{spaced}
-use Rattle.px_listing.specs.Keywords.{operand_count, is_due, is_header, keyword_of}
+use Rattle.px_listing.specs.Keywords.{operand_count, is_operation_due, is_header, listing_keyword_of}
 use Rattle.px_listing.specs.declared.keyword.Keyword.{Keyword}
 use Rattle.px_listing.specs.declared.keyword.Due.{Due}
 use Rattle.px_listing.specs.declared.keyword.Due.TheVariants as d
@@ -25,12 +25,14 @@ abbrev pub numbers_of : Words → List ℤ
 numbers_of ws = map (λ w. unwrap_or (number_of w) (pos 0)) ws
 
 -- why the words after the first are bad: their count, and then the first that is no number
-abbrev pub form_of : Keyword → Words → Option Cause
-form_of keyword ws =
-    if not (length ws == operand_count keyword) then Some c.WordCount else if are_numbers ws then None else Some c.NotNumber
+abbrev pub listing_form_of : Keyword → Words → Option Cause
+listing_form_of keyword ws =
+    if not (length ws == operand_count keyword) then Some c.WordCount else if are_numbers ws then None
+    else Some c.NotNumber
 
 -- why the words of a line are bad: the first word, and those after it
 abbrev pub cause_of : Due → List ℕ → Words → Option Cause
 cause_of d.Header w ws = if is_header w ws then None else Some c.NotHeader
 cause_of d.Nothing w ws = Some c.AfterEnd
-cause_of due w ws = if is_due due (keyword_of w) then form_of (keyword_of w) ws else Some c.Unexpected
+cause_of due w ws = if is_operation_due due (listing_keyword_of w) then listing_form_of (listing_keyword_of w) ws
+    else Some c.Unexpected

@@ -34,9 +34,9 @@ abbrev pub end_line : List ℕ
 end_line = number_line (codes "end") []
 
 -- the two lines before the operations
-abbrev pub first_lines : (nx ny : ℕ) → List ℕ
-first_lines nx ny = header_line ++ grid_line nx ny
+abbrev pub listing_head : (nx ny : ℕ) → List ℕ
+listing_head nx ny = header_line ++ grid_line nx ny
 
 -- the header, the grid, a line for each operation, and the end
-abbrev pub canonical_text : ListingView → List ℕ
-canonical_text l = first_lines l.nx l.ny ++ flat_map macro_line l.macros ++ end_line
+abbrev pub canonical_listing : ListingView → List ℕ
+canonical_listing l = listing_head l.nx l.ny ++ flat_map macro_line l.macros ++ end_line

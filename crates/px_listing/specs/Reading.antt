@@ -5,10 +5,10 @@ use Rattle.std.specs.List.{filter_map}
 use Rattle.px_macro.specs.declared.operation.Macro.{Macro}
 use Rattle.px_show.specs.Judged.{first_bad, judged, refused}
 use Rattle.px_text.specs.Text.{Words, lines_of, worded}
-use Rattle.px_listing.specs.Keywords.{due_after, keyword_of}
+use Rattle.px_listing.specs.Keywords.{due_next, listing_keyword_of}
 use Rattle.px_scene.specs.Lines.{size_of}
 use Rattle.px_listing.specs.Lines.{cause_of, numbers_of}
-use Rattle.px_listing.specs.Limits.{limit_of}
+use Rattle.px_listing.specs.Limits.{listing_limit_of}
 use Rattle.px_listing.specs.Listings.{ListingView}
 use Rattle.px_listing.specs.Kinds.{operation_of}
 use Rattle.px_listing.specs.declared.keyword.Keyword.{Keyword}
@@ -31,20 +31,21 @@ last_or a (x ∷ xs) = last_or x xs
 -- what is due behind a line that has words
 abbrev pub due_behind_line : Words → Option Due
 due_behind_line [] = None
-due_behind_line (w ∷ ws) = Some (due_after (keyword_of w))
+due_behind_line (w ∷ ws) = Some (due_next (listing_keyword_of w))
 
 -- what is due behind lines, by the last of them that has words
 abbrev pub due_behind : List Words → Due
 due_behind lines = last_or d.Header (filter_map due_behind_line lines)
 
 -- why a line is bad, where it is: its form first, and then its limits in pixels of so many memory bits
-abbrev pub fault_of : (bits : ℕ) → Due → Words → Option (LineFault ListKind)
-fault_of bits due [] = None
-fault_of bits due (w ∷ ws) = judged (cause_of due w ws) (limit_of bits (keyword_of w) (numbers_of ws))
+abbrev pub listing_fault_of : (bits : ℕ) → Due → Words → Option (LineFault ListKind)
+listing_fault_of bits due [] = None
+listing_fault_of bits due (w ∷ ws) =
+    judged (cause_of due w ws) (listing_limit_of bits (listing_keyword_of w) (numbers_of ws))
 
 -- why a line is bad behind others
-abbrev pub fault_behind : (bits : ℕ) → (before : List Words) → Words → Option (LineFault ListKind)
-fault_behind bits before line = fault_of bits (due_behind before) line
+abbrev pub listing_fault_behind : (bits : ℕ) → (before : List Words) → Words → Option (LineFault ListKind)
+listing_fault_behind bits before line = listing_fault_of bits (due_behind before) line
 
 -- the exponents of a grid's columns and rows
 pub record Exponents : Type 0 where
@@ -58,12 +59,12 @@ exponents_of keyword zs = None
 -- what a line says of the grid
 abbrev pub grid_in : Words → Option Exponents
 grid_in [] = None
-grid_in (w ∷ ws) = exponents_of (keyword_of w) (numbers_of ws)
+grid_in (w ∷ ws) = exponents_of (listing_keyword_of w) (numbers_of ws)
 
 -- the operation of a line
 abbrev pub operation_in : Words → Option Macro
 operation_in [] = None
-operation_in (w ∷ ws) = operation_of (keyword_of w) (numbers_of ws)
+operation_in (w ∷ ws) = operation_of (listing_keyword_of w) (numbers_of ws)
 
 -- stands where no line says the grid
 abbrev pub least_grid : Exponents
@@ -82,10 +83,11 @@ listing_of lines = record {
 }
 
 -- whether nothing more is due, as behind the end
-abbrev pub is_nothing : Due → Bool
-is_nothing d.Nothing = true
-is_nothing due = false
+abbrev pub is_listing_over : Due → Bool
+is_listing_over d.Nothing = true
+is_listing_over due = false
 
 -- why a text is no listing for pixels of so many memory bits, where it is none
-abbrev pub refusal_of : (bits : ℕ) → List ℕ → Option ListFault
-refusal_of bits text = refused (first_bad (fault_behind bits) [] (worded text)) (is_nothing (due_behind (worded text))) (length (lines_of text))
+abbrev pub listing_refusal_of : (bits : ℕ) → List ℕ → Option ListFault
+listing_refusal_of bits text = refused (first_bad (listing_fault_behind bits) [] (worded text))
+    (is_listing_over (due_behind (worded text))) (length (lines_of text))

@@ -1,9 +1,9 @@
 //! What the lines of a listing have said so far.
 ghost use Rattle.std.specs.Prelude.{◌≡◌, ◌∷◌, [], ◌+◌, ◌≤◌, ℕ, All, IsErrOf, None, OnOk, Some, length, IfSome, is_some};
-ghost use Rattle.px_listing.specs.Drafts.{IsDraft, head_of, or_else, taken, view_of, with_line, with_operation};
-ghost use Rattle.px_listing.specs.Limits.{grid_past, limit_of};
+ghost use Rattle.px_listing.specs.Drafts.{IsDraft, head_of, or_else, listing_taken, listing_view_of, with_line, with_operation};
+ghost use Rattle.px_listing.specs.Limits.{grid_past, listing_limit_of};
 ghost use Rattle.px_listing.specs.Kinds.{operation_of};
-ghost use Rattle.px_listing.specs.Reading.{exponents_of, fault_of, is_nothing, least_grid};
+ghost use Rattle.px_listing.specs.Reading.{exponents_of, listing_fault_of, is_listing_over, least_grid};
 ghost use Rattle.px_listing.specs.declared.keyword.Due.TheVariants as Due;
 ghost use Rattle.px_listing.specs.declared.keyword.Keyword.TheVariants as Keyword;
 ghost use Rattle.px_tree.specs.Nodes.{IsGrid};
@@ -35,7 +35,7 @@ pub(crate) struct Draft {
 impl Draft {
     /// What stands before the first line.
     pub(crate) fn new(alloc: Global) -> Draft
-        ensures { view_of result ≡ record { due = Due.Header; grid = least_grid; macros = [] } }
+        ensures { listing_view_of result ≡ record { due = Due.Header; grid = least_grid; macros = [] } }
     {
         Draft {
             due: Due::Header,
@@ -53,11 +53,11 @@ impl Draft {
     ) -> Result<(), LineError<ListKind>>
         requires bits { bits ≤ 256 }
         ensures bad { (f : LineFault ListKind) → IsErrOf result (LineError.Bad f) →
-            fault_of bits self.old.due (now_of words.now) ≡ Some f }
-        ensures good { OnOk result (fault_of bits self.old.due (now_of words.now) ≡ None) }
-        ensures taken { OnOk result (view_of self.new ≡ taken (view_of self.old) (now_of words.now)) }
-        ensures keeps { (count : ℕ) → IsDraft bits count (view_of self.old) →
-            OnOk result (IsDraft bits (count + 1) (view_of self.new)) }
+            listing_fault_of bits self.old.due (now_of words.now) ≡ Some f }
+        ensures good { OnOk result (listing_fault_of bits self.old.due (now_of words.now) ≡ None) }
+        ensures taken { OnOk result (listing_view_of self.new ≡ listing_taken (listing_view_of self.old) (now_of words.now)) }
+        ensures keeps { (count : ℕ) → IsDraft bits count (listing_view_of self.old) →
+            OnOk result (IsDraft bits (count + 1) (listing_view_of self.new)) }
     {
         match words {
             [] => Ok(()),
@@ -74,13 +74,13 @@ impl Draft {
     ) -> Result<(), LineError<ListKind>>
         requires bits { bits ≤ 256 }
         ensures bad { (f : LineFault ListKind) → IsErrOf result (LineError.Bad f) →
-            fault_of bits self.old.due (word.now ∷ now_of arguments.now) ≡ Some f }
+            listing_fault_of bits self.old.due (word.now ∷ now_of arguments.now) ≡ Some f }
         ensures good { OnOk result
-            (fault_of bits self.old.due (word.now ∷ now_of arguments.now) ≡ None) }
-        ensures taken { OnOk result (view_of self.new
-            ≡ taken (view_of self.old) (word.now ∷ now_of arguments.now)) }
-        ensures keeps { (count : ℕ) → IsDraft bits count (view_of self.old) →
-            OnOk result (IsDraft bits (count + 1) (view_of self.new)) }
+            (listing_fault_of bits self.old.due (word.now ∷ now_of arguments.now) ≡ None) }
+        ensures taken { OnOk result (listing_view_of self.new
+            ≡ listing_taken (listing_view_of self.old) (word.now ∷ now_of arguments.now)) }
+        ensures keeps { (count : ℕ) → IsDraft bits count (listing_view_of self.old) →
+            OnOk result (IsDraft bits (count + 1) (listing_view_of self.new)) }
     {
         let keyword = keyword_of(word);
         let numbers = match numbers_in(self.due, keyword, word, arguments) {
@@ -97,9 +97,9 @@ impl Draft {
     /// Takes in what a good line says.
     fn take(&mut self, bits: u32, keyword: Keyword, numbers: &[i64]) -> Result<(), Memory>
         requires bits { bits ≤ 256 }
-        requires limit { limit_of bits keyword numbers.now ≡ None }
+        requires limit { listing_limit_of bits keyword numbers.now ≡ None }
         ensures taken { OnOk result
-            (view_of self.new ≡ with_line keyword numbers.now (view_of self.old)) }
+            (listing_view_of self.new ≡ with_line keyword numbers.now (listing_view_of self.old)) }
         ensures lawful { IfSome (operation_of keyword numbers.now) (λ m. IsLawful m bits) }
     {
         self.take_operation(operation_of(bits, keyword, numbers))?;
@@ -109,7 +109,7 @@ impl Draft {
     }
 
     fn take_operation(&mut self, operation: Option<Macro>) -> Result<(), Memory>
-        ensures { OnOk result (view_of self.new ≡ record (view_of self.old) {
+        ensures { OnOk result (listing_view_of self.new ≡ record (listing_view_of self.old) {
           macros = with_operation operation self.old.macros.items;
         }) }
     {
@@ -121,8 +121,8 @@ impl Draft {
 
     fn take_grid(&mut self, keyword: Keyword, numbers: &[i64])
         requires limit { keyword ≡ Keyword.Grid → grid_past numbers.now ≡ None }
-        ensures { view_of self.new ≡ record (view_of self.old) {
-          grid = or_else (exponents_of keyword numbers.now) (view_of self.old).grid;
+        ensures { listing_view_of self.new ≡ record (listing_view_of self.old) {
+          grid = or_else (exponents_of keyword numbers.now) (listing_view_of self.old).grid;
         } }
     {
         if let (Keyword::Grid, [nx, ny]) = (keyword, numbers) {
@@ -136,7 +136,7 @@ impl Draft {
         requires grid { IsGrid self.nx self.ny }
         requires few { length self.macros.items + head_of self.due ≤ MAX_TEXT_BYTES + 1 }
         requires lawful { All (λ m. IsLawful m 256) self.macros.items }
-        ensures ended { is_some result ≡ is_nothing self.due }
+        ensures ended { is_some result ≡ is_listing_over self.due }
         ensures listing { IfSome result (λ l.
             l ≡ record { nx = self.nx; ny = self.ny; macros = self.macros.items }) }
     {

@@ -2,9 +2,9 @@
 ghost use Rattle.std.specs.Prelude.{◌≡◌, ◌≤◌, ◌^◌, All, IfErr, IfNone, IfOk, IfSome, None, Some, false, length, true};
 ghost use Rattle.px_num.specs.Forms.{IsWithin};
 ghost use Rattle.px_text.specs.LentWords.{now_of};
-ghost use Rattle.px_listing.specs.Keywords.{keyword_of};
+ghost use Rattle.px_listing.specs.Keywords.{listing_keyword_of};
 ghost use Rattle.px_listing.specs.Untimely.{untimely};
-ghost use Rattle.px_listing.specs.Lines.{are_numbers, cause_of, form_of, numbers_of};
+ghost use Rattle.px_listing.specs.Lines.{are_numbers, cause_of, listing_form_of, numbers_of};
 
 use crate::keyword::{Due, Keyword, count_of, is_due, is_header};
 use crate::numbers::Numbers;
@@ -20,7 +20,7 @@ pub(crate) fn numbers_in(
     word: &[u8],
     arguments: &[&[u8]],
 ) -> Result<Numbers, Cause>
-    requires keyword { keyword ≡ keyword_of word.now }
+    requires keyword { keyword ≡ listing_keyword_of word.now }
     ensures good { IfOk result (λ numbers. cause_of due word.now (now_of arguments.now) ≡ None) }
     ensures value { IfOk result (λ numbers. numbers.items ≡ numbers_of (now_of arguments.now)) }
     ensures small { IfOk result (λ numbers. All (IsWithin (10 ^ 18)) numbers.items) }
@@ -34,7 +34,7 @@ pub(crate) fn numbers_in(
 
 /// Why a line is bad whatever stands behind its first word, a header's version apart.
 fn untimely(due: Due, keyword: Keyword, word: &[u8], arguments: &[&[u8]]) -> Option<Cause>
-    requires keyword { keyword ≡ keyword_of word.now }
+    requires keyword { keyword ≡ listing_keyword_of word.now }
     ensures { result ≡ untimely due word.now (now_of arguments.now) }
 {
     match due {
@@ -58,10 +58,10 @@ fn untimely(due: Due, keyword: Keyword, word: &[u8], arguments: &[&[u8]]) -> Opt
 
 /// As many numbers as belong behind a first word, or why there are not.
 fn numbers_behind(keyword: Keyword, arguments: &[&[u8]]) -> Result<Numbers, Cause>
-    ensures good { IfOk result (λ numbers. form_of keyword (now_of arguments.now) ≡ None) }
+    ensures good { IfOk result (λ numbers. listing_form_of keyword (now_of arguments.now) ≡ None) }
     ensures value { IfOk result (λ numbers. numbers.items ≡ numbers_of (now_of arguments.now)) }
     ensures small { IfOk result (λ numbers. All (IsWithin (10 ^ 18)) numbers.items) }
-    ensures bad { IfErr result (λ cause. form_of keyword (now_of arguments.now) ≡ Some cause) }
+    ensures bad { IfErr result (λ cause. listing_form_of keyword (now_of arguments.now) ≡ Some cause) }
 {
     if arguments.len() != count_of(keyword) {
         return Err(Cause::WordCount);

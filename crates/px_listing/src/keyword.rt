@@ -1,7 +1,7 @@
 //! The first word of a line, and which lines are due.
 ghost use Rattle.std.specs.Prelude.{◌≡◌, ◌≤◌};
 ghost use Rattle.px_text.specs.LentWords.{now_of};
-ghost use Rattle.px_listing.specs.Keywords.{operand_count, due_after, is_due, is_header, is_one, keyword_of};
+ghost use Rattle.px_listing.specs.Keywords.{operand_count, due_next, is_operation_due, is_header, is_one, listing_keyword_of};
 
 use crate::kind::Kind;
 
@@ -25,7 +25,7 @@ pub(crate) enum Due {
 }
 
 pub(crate) fn keyword_of(word: &[u8]) -> Keyword
-    ensures { result ≡ keyword_of word.now }
+    ensures { result ≡ listing_keyword_of word.now }
 {
     if word == b"pxlist".as_slice() {
         Keyword::Pxlist
@@ -39,7 +39,7 @@ pub(crate) fn keyword_of(word: &[u8]) -> Keyword
 }
 
 pub(crate) fn due_after(keyword: Keyword) -> Due
-    ensures { result ≡ due_after keyword }
+    ensures { result ≡ due_next keyword }
 {
     match keyword {
         Keyword::Pxlist => Due::Grid,
@@ -50,7 +50,7 @@ pub(crate) fn due_after(keyword: Keyword) -> Due
 }
 
 pub(crate) fn is_due(due: Due, keyword: Keyword) -> bool
-    ensures { result ≡ is_due due keyword }
+    ensures { result ≡ is_operation_due due keyword }
 {
     match keyword {
         Keyword::Pxlist => due == Due::Header,

@@ -1,5 +1,5 @@
 //! What holds of every listing.
-ghost use Rattle.px_listing.specs.AcceptedLaw.{AcceptedIsLawful, MemoryIsNoRefusal};
+ghost use Rattle.px_listing.specs.AcceptedLaw.{AcceptedListingIsLawful, MemoryIsNoRefusal};
 ghost use Rattle.px_listing.specs.RoundTrip.{TextsAreReadBack};
 
 use px_macro::laws_of_operations;
@@ -11,7 +11,7 @@ use px_text::written_law;
 /// none is refused for want of memory.
 pub fn laws_of_listings()
     ensures read_back { TextsAreReadBack }
-    ensures accepted { AcceptedIsLawful }
+    ensures accepted { AcceptedListingIsLawful }
     ensures refusals { MemoryIsNoRefusal }
 {
     written_law();

@@ -15,7 +15,7 @@ ghost use Rattle.px_listing.specs.Limits.{
   form_past,
   grid_past,
   less_past,
-  limit_of,
+  listing_limit_of,
   linear_past,
   overlap,
   place_past,
@@ -45,7 +45,7 @@ pub enum ListKind {
 pub(crate) fn limit_of(bits: u32, keyword: Keyword, numbers: &[i64]) -> Option<LineFault<ListKind>>
     requires bits { bits ≤ 256 }
     requires small { All (IsWithin (10 ^ 18)) numbers.now }
-    ensures { result ≡ limit_of bits keyword numbers.now }
+    ensures { result ≡ listing_limit_of bits keyword numbers.now }
 {
     match keyword {
         Keyword::Grid => grid_past(numbers),

@@ -4,7 +4,7 @@ ghost use Rattle.px_macro.specs.Macros.{IsField, IsLawful};
 ghost use Rattle.px_num.specs.Forms.{IsInTreeRange};
 ghost use Rattle.px_scene.specs.Lines.{plane_of, size_of};
 ghost use Rattle.px_listing.specs.Kinds.{bit_number, field_of, is_set, operation_of};
-ghost use Rattle.px_listing.specs.Limits.{end_past, field_past, form_past, limit_of, value_past};
+ghost use Rattle.px_listing.specs.Limits.{end_past, field_past, form_past, listing_limit_of, value_past};
 
 use crate::keyword::Keyword;
 use crate::kind::operation_with;
@@ -53,7 +53,7 @@ pub(crate) fn bit_number(v: bool) -> i64
 /// The operation of a line that passes no limit (docs/LISTINGS.md, "Operations").
 pub(crate) fn operation_of(bits: u32, keyword: Keyword, numbers: &[i64]) -> Option<Macro>
     requires bits { bits ≤ 256 }
-    requires good { limit_of bits keyword numbers.now ≡ None }
+    requires good { listing_limit_of bits keyword numbers.now ≡ None }
     ensures value { result ≡ operation_of keyword numbers.now }
     ensures lawful { IfSome result (λ m. IsLawful m bits) }
 {

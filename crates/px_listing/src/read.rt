@@ -1,7 +1,7 @@
 //! Reading a listing from its text.
 ghost use Rattle.std.specs.Prelude.{◌≡◌, ◌≤◌, ◌⊎◌, All, IfErr, IfOk, None, Some, length};
 ghost use Rattle.px_num.specs.Want.{want};
-ghost use Rattle.px_listing.specs.Reading.{listing_of, refusal_of};
+ghost use Rattle.px_listing.specs.Reading.{listing_of, listing_refusal_of};
 ghost use Rattle.px_macro.specs.Macros.{IsLawful};
 ghost use Rattle.px_text.specs.declared.text.TheConstants.{MAX_TEXT_BYTES};
 ghost use Rattle.px_text.specs.Text.{worded};
@@ -24,10 +24,10 @@ pub type ListFault = TextFault<ListKind>;
 pub fn read_listing(alloc: Global, text: &[u8], bits: u32) -> Result<Listing, ListFault>
     requires bits { bits ≤ 256 }
     requires short { length text.now ≤ MAX_TEXT_BYTES }
-    ensures ok { IfOk result (λ l. (refusal_of bits text.now ≡ None)
+    ensures ok { IfOk result (λ l. (listing_refusal_of bits text.now ≡ None)
         × (l ≡ listing_of (worded text.now))) }
     ensures lawful { IfOk result (λ l. All (λ m. IsLawful m bits) l.macros) }
-    ensures err { IfErr result (λ f. (f ≡ TextFault.Memory want) ⊎ (refusal_of bits text.now ≡ Some f)) }
+    ensures err { IfErr result (λ f. (f ≡ TextFault.Memory want) ⊎ (listing_refusal_of bits text.now ≡ Some f)) }
 {
     let draft = Draft::new(alloc);
     read_text(alloc, text, Reading { bits, draft })
@@ -42,19 +42,19 @@ struct Reading {
 
 impl Drafting for Reading {
     ghost use Rattle.std.specs.Prelude.{◌≤◌};
-    ghost use Rattle.px_listing.specs.Drafts.{IsDraftOf, view_of};
-    ghost use Rattle.px_listing.specs.Reading.{due_behind, fault_behind, is_nothing, listing_of};
+    ghost use Rattle.px_listing.specs.Drafts.{IsListingDraftOf, listing_view_of};
+    ghost use Rattle.px_listing.specs.Reading.{due_behind, listing_fault_behind, is_listing_over, listing_of};
 
     type Kind = ListKind;
 
     type Whole = Listing;
 
-    ghost judge = { λ reading. fault_behind reading.bits };
+    ghost judge = { λ reading. listing_fault_behind reading.bits };
 
     ghost says = { λ reading lines.
-        (reading.bits ≤ 256) × IsDraftOf reading.bits (view_of reading.draft) lines };
+        (reading.bits ≤ 256) × IsListingDraftOf reading.bits (listing_view_of reading.draft) lines };
 
-    ghost is_whole = { λ lines. is_nothing (due_behind lines) };
+    ghost is_whole = { λ lines. is_listing_over (due_behind lines) };
 
     ghost means = { listing_of };
 

@@ -3,7 +3,7 @@ ghost use Rattle.std.specs.Prelude.{◌≡◌, ◌≤◌, [], ◌++◌, length, 
 ghost use Rattle.px_io.specs.Counts.{HasCause};
 ghost use Rattle.px_io.specs.Told.{TakesAll, TakesFront};
 ghost use Rattle.px_macro.specs.Macros.{IsLawful};
-ghost use Rattle.px_listing.specs.Listings.{canonical_text, end_line, first_lines, grid_line, header_line, macro_line};
+ghost use Rattle.px_listing.specs.Listings.{canonical_listing, end_line, listing_head, grid_line, header_line, macro_line};
 ghost use Rattle.px_listing.specs.Pieces.{Puts};
 
 use crate::kind::{Kind, operands_of};
@@ -17,8 +17,8 @@ use px_macro::Macro;
 ///
 /// After `Failed` a front of it was written. The sink is not finished.
 pub fn write_listing<O: Sink>(listing: &Listing, out: &mut O) -> Result<(), Failed>
-    ensures ok { OnOk result (TakesAll (O.state out.old) (O.state out.new) (canonical_text listing.now)) }
-    ensures err { OnErr result (TakesFront (O.state out.old) (O.state out.new) (canonical_text listing.now)) }
+    ensures ok { OnOk result (TakesAll (O.state out.old) (O.state out.new) (canonical_listing listing.now)) }
+    ensures err { OnErr result (TakesFront (O.state out.old) (O.state out.new) (canonical_listing listing.now)) }
     ensures cause { HasCause (O.state out.old).faults (O.state out.new).faults result }
 {
     let mut piece = Piece::new();
@@ -36,8 +36,8 @@ pub fn put_first_lines<O: Sink>(
     nx: u32,
     ny: u32,
 ) -> Result<(), Failed>
-    ensures ok { OnOk result (Puts (O.state out.old) (O.state out.new) piece.old.bytes (first_lines nx ny) piece.new.bytes) }
-    ensures err { OnErr result (TakesFront (O.state out.old) (O.state out.new) (piece.old.bytes ++ first_lines nx ny)) }
+    ensures ok { OnOk result (Puts (O.state out.old) (O.state out.new) piece.old.bytes (listing_head nx ny) piece.new.bytes) }
+    ensures err { OnErr result (TakesFront (O.state out.old) (O.state out.new) (piece.old.bytes ++ listing_head nx ny)) }
     ensures cause { HasCause (O.state out.old).faults (O.state out.new).faults result }
 {
     put(out, piece, header_line())?;

@@ -1,4 +1,5 @@
--- An array that can carry out operations, and one that can be turned back. Only proofs and private functions stand on it.
+-- An array that can carry out operations, and one that can be turned back. Only proofs and private functions
+-- stand on it.
 use Rattle.std.specs.Prelude.{ℕ, List, Option}
 use Rattle.px_array.specs.Arrays.{Device, HasGrid}
 use Rattle.px_array.specs.Slots.{ArrayView, IsSaved}

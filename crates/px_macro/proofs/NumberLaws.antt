@@ -34,7 +34,8 @@ if_times : (b : Bool) (p q : ℕ) → (if b then p * q else 0) ≡ p * (if b the
 if_times true p q = refl
 if_times false p q = omega arith
 
-number_of_parts : (bit : ℕ → Bool) (low high : ℕ) → number_from_bits bit (low + high) ≡ number_from_bits bit low + 2 ^ low
+number_of_parts : (bit : ℕ → Bool) (low high : ℕ) → number_from_bits bit (low + high) ≡ number_from_bits bit low + 2 ^
+    low
     * number_from_bits (λ t. bit (low + t)) high
 number_of_parts bit low zero = let e : low + 0 ≡ low = omega arith in rw e (omega arith)
 number_of_parts bit low (suc high) =

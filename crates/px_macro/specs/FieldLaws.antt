@@ -1,5 +1,6 @@
 -- Laws of numbers in fields. Clauses of public calls stand on it.
-use Rattle.std.specs.Prelude.{◌≡◌, ℕ, ◌+◌, ◌-◌, ◌*◌, ◌%◌, ◌^◌, ◌<◌, ◌≤◌, Bool, false, if◌then◌else◌, List, length, slice_set}
+use Rattle.std.specs.Prelude.{◌≡◌, ℕ, ◌+◌, ◌-◌, ◌*◌, ◌%◌, ◌^◌, ◌<◌, ◌≤◌, Bool, false, if◌then◌else◌, List}
+use Rattle.std.specs.Prelude.{length, slice_set}
 use Rattle.px_num.specs.Bits.{bit_at, nat_bit}
 use Rattle.px_macro.specs.Fields.{is_in, number_in, with_number}
 use Rattle.px_macro.specs.Macros.{AreApart}
@@ -44,4 +45,5 @@ NumberBesideIsKept = (field : Field) (memory : List Bool) (place : ℕ) (v : Boo
 abbrev pub NumberOfParts : Type 0
 NumberOfParts = (at low high : ℕ) (memory : List Bool) →
     number_in (record { at = at; len = low + high }) memory
-    ≡ number_in (record { at = at; len = low }) memory + 2 ^ low * number_in (record { at = at + low; len = high }) memory
+    ≡ number_in (record { at = at; len = low }) memory + 2 ^ low * number_in (record { at = at + low; len = high })
+    memory

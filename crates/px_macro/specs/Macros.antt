@@ -1,5 +1,6 @@
 -- The meaning of each operation on one pixel, and which operations are lawful. Clauses of public calls stand on it.
-use Rattle.std.specs.Prelude.{◌≡◌, ℕ, ◌+◌, ◌^◌, ◌<◌, ◌≤◌, ⊤, ◌⊎◌, pos, ◌+ℤ◌, Bool, true, not, ◌&&◌, if◌then◌else◌, nat_le, nat_lt, List, [], ◌∷◌, ◌++◌, length, slice_set}
+use Rattle.std.specs.Prelude.{◌≡◌, ℕ, ◌+◌, ◌^◌, ◌<◌, ◌≤◌, ⊤, ◌⊎◌, pos, ◌+ℤ◌, Bool, true, not, ◌&&◌}
+use Rattle.std.specs.Prelude.{if◌then◌else◌, nat_le, nat_lt, List, [], ◌∷◌, ◌++◌, length, slice_set}
 use Rattle.std.specs.Bool.{beq}
 use Rattle.std.specs.Int.{is_negative}
 use Rattle.px_num.specs.Bits.{bit_at, modulo}
@@ -7,7 +8,9 @@ use Rattle.px_num.specs.Forms.{IsInTreeRange, value_at}
 use Rattle.px_macro.specs.Fields.{number_in, with_number}
 use Rattle.px_macro.specs.declared.field.Field.{Field}
 use Rattle.px_macro.specs.declared.operation.Macro.{Macro}
-use Rattle.px_macro.specs.declared.operation.Macro.TheVariants.{All, KeepSign, KeepBit, LoadLinear, KeepAtMost, AddLinear, LoadConst, SetBit, Toggle, Copy, KeepLess}
+use Rattle.px_macro.specs.declared.operation.Macro.TheVariants.{All, KeepSign, KeepBit, LoadLinear, KeepAtMost}
+use Rattle.px_macro.specs.declared.operation.Macro.TheVariants.{AddLinear, LoadConst, SetBit, Toggle, Copy}
+use Rattle.px_macro.specs.declared.operation.Macro.TheVariants.{KeepLess}
 
 -- what an operation speaks of: the memory of a pixel, and whether it is enabled
 pub record PixelBits : Type 0 where

@@ -34,7 +34,8 @@ operated_law bits op tree old new before now pixels each carry latch counted = r
     rows = refl;
     pixels = length-tabulate (2 ^ (tree.nx + tree.ny)) (pixel_in new);
     memory = λ place inside.
-        ap (λ (x : PixelState). length x.memory) (get_or-tabulate (2 ^ (tree.nx + tree.ny)) (pixel_in new) place no_pixel inside)
+        ap (λ (x : PixelState). length x.memory)
+        (get_or-tabulate (2 ^ (tree.nx + tree.ny)) (pixel_in new) place no_pixel inside)
         ∙ (length-map new.memory.items (λ (row : List ℕ). row_bit row place) ∙ pixels.memory);
   };
   meaning = λ x y column row.
@@ -49,12 +50,14 @@ operated_law bits op tree old new before now pixels each carry latch counted = r
   kept = record {
     tree = λ e. refl;
     carry = λ e place inside.
-        ap (λ (x : PixelState). x.carry) (get_or-tabulate (2 ^ (tree.nx + tree.ny)) (pixel_in new) place no_pixel inside)
+        ap (λ (x : PixelState). x.carry)
+        (get_or-tabulate (2 ^ (tree.nx + tree.ny)) (pixel_in new) place no_pixel inside)
         ∙ (ap (λ row. row_bit row place) carry
         ∙ sym (ap (λ (x : PixelState). x.carry)
         (get_or-tabulate (2 ^ (tree.nx + tree.ny)) (pixel_in old) place no_pixel inside)));
     latch = λ e place inside.
-        ap (λ (x : PixelState). x.latch) (get_or-tabulate (2 ^ (tree.nx + tree.ny)) (pixel_in new) place no_pixel inside)
+        ap (λ (x : PixelState). x.latch)
+        (get_or-tabulate (2 ^ (tree.nx + tree.ny)) (pixel_in new) place no_pixel inside)
         ∙ (ap (λ row. row_bit row place) latch
         ∙ sym (ap (λ (x : PixelState). x.latch)
         (get_or-tabulate (2 ^ (tree.nx + tree.ny)) (pixel_in old) place no_pixel inside)));

@@ -1,5 +1,6 @@
 -- Operations made at once in one word.
-use Rattle.std.proofs.Common.{◌≡◌, ℕ, zero, suc, ◌+◌, ◌*◌, ◌/◌, ◌^◌, ◌<◌, ◌≤◌, ◌%◌, ℤ, pos, Bool, true, false, not, cond}
+use Rattle.std.proofs.Common.{◌≡◌, ℕ, zero, suc, ◌+◌, ◌*◌, ◌/◌, ◌^◌, ◌<◌, ◌≤◌, ◌%◌, ℤ, pos, Bool, true, false}
+use Rattle.std.proofs.Common.{not, cond}
 use Rattle.std.proofs.Common.{List, [], length, get_or, refl, sym, ap, ◌∙◌, arith}
 use Rattle.std.specs.Vec.{with_item}
 use Rattle.std.proofs.lemmas.List.{length-map}
@@ -29,7 +30,8 @@ use Rattle.px_planes.specs.declared.planes.Planes.{Planes}
 use Rattle.px_planes.proofs.StoredLemmas.{bit_of_rows, stored_row}
 use Rattle.px_planes.proofs.WorkLemmas.{like_stored}
 
-pub done_by_work : (op : Macro) (ny w n : ℕ) (f : ℕ → PixelState → PixelState) (old new : Planes) → IsWorked w n f old new
+pub done_by_work : (op : Macro) (ny w n : ℕ) (f : ℕ → PixelState → PixelState) (old new : Planes)
+    → IsWorked w n f old new
     → ((p : ℕ) → p < 64 * n → p / 64 ≡ w → bits_of (f p (pixel_in old p))
     ≡ after_macro op (p / 2 ^ ny) (p % 2 ^ ny) (bits_of (pixel_in old p)))
     → IsWordDone op ny w n old new
@@ -53,9 +55,11 @@ pub stored_law : (f : Field) (number : ℕ) (v : ℕ → Bool) (n : ℕ) (planes
     → bits_of (stored_bits f.at v n (pixel_in planes p)) ≡ with_field f number (bits_of (pixel_in planes p))
 stored_law f number v n planes p long room bits =
     let x = pixel_in planes p in
-    let size : length x.memory ≡ length planes.memory.items = length-map planes.memory.items (λ (row : List ℕ). row_bit row p) in
+    let size : length x.memory ≡ length planes.memory.items =
+    length-map planes.memory.items (λ (row : List ℕ). row_bit row p) in
     ap bits_of (ap (λ k. stored_bits f.at v k x) long ∙ stored_acts f.at v f.len x)
-    ∙ put_by_stores f number v (λ t. StoreConst (f.at + t) (v t)) (λ t. false) x (omega (arith, size)) bits (λ t q low. refl)
+    ∙ put_by_stores f number v (λ t. StoreConst (f.at + t) (v t)) (λ t. false) x (omega (arith, size)) bits
+    (λ t q low. refl)
 
 pub place_in_word : (p w : ℕ) → p / 64 ≡ w → 64 * w + p % 64 ≡ p
 place_in_word p w here = omega arith
@@ -112,11 +116,13 @@ none_kept form ny w n base high old new work values most test =
     ap (λ (b : Bool). bits_of (kept b (pixel_in old p))) (bit_of_zero (p % 64) ∙ ap not (sym sign)))
 
 -- a row that is stored where the pixels are enabled
-pub stored_in_rows : (op : Macro) (ny : ℕ) (old : Planes) (at : ℕ) (row : List ℕ) (v : ℕ → Bool) → HasWords (length old.enable) old
+pub stored_in_rows : (op : Macro) (ny : ℕ) (old : Planes) (at : ℕ) (row : List ℕ) (v : ℕ → Bool)
+    → HasWords (length old.enable) old
     → at < length old.memory.items → length row ≡ length old.enable
     → ((p : ℕ) → p < 64 * length row → row_bit row p ≡ cond (row_bit old.enable p) (v p)
     (row_bit (get_or old.memory.items at []) p))
-    → ((p : ℕ) → bits_of (stored at (v p) (pixel_in old p)) ≡ after_macro op (p / 2 ^ ny) (p % 2 ^ ny) (bits_of (pixel_in old p)))
+    → ((p : ℕ) → bits_of (stored at (v p) (pixel_in old p)) ≡ after_macro op (p / 2 ^ ny) (p % 2 ^ ny)
+    (bits_of (pixel_in old p)))
     → IsDone op ny (length old.enable) old (record old { memory = with_item old.memory at row })
 stored_in_rows op ny old at row v words place long each means = record {
   each = λ p within.

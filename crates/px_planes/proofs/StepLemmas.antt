@@ -1,5 +1,6 @@
 -- Values that grow by a step from block to block, bit by bit.
-use Rattle.std.proofs.Common.{◌≡◌, ℕ, zero, suc, ℤ, false, ◌+ℤ◌, ◌+◌, ◌*◌, ◌/◌, ◌%◌, ◌^◌, ◌<◌, ◌≤◌, List, get_or, sym, arith}
+use Rattle.std.proofs.Common.{◌≡◌, ℕ, zero, suc, ℤ, false, ◌+ℤ◌, ◌+◌, ◌*◌, ◌/◌, ◌%◌, ◌^◌, ◌<◌, ◌≤◌, List}
+use Rattle.std.proofs.Common.{get_or, sym, arith}
 use Rattle.px_lanes.specs.Lanes.{offset}
 use Rattle.px_lanes.proofs.BlockLaws.{value_behind}
 use Rattle.px_num.specs.Bits.{bit_of, carry_from, nat_bit}
@@ -16,7 +17,11 @@ stepped_bit : (a carry : List ℕ) (step : ℤ) (t n : ℕ) (v : ℕ → ℕ →
     → (b i : ℕ) → b ≤ n → i < 512 → value_in a (bit_of step t) carry b i ≡ bit_of (v b i) t
 stepped_bit a carry step t n v first carried next zero i within small = first i small
 stepped_bit a carry step t n v first carried next (suc b) i within small =
-    rw (stepped_bit a carry step t n v first carried next b i (omega arith) small, carried b i (omega arith) small, next b i)
+    rw (
+      stepped_bit a carry step t n v first carried next b i (omega arith) small,
+      carried b i (omega arith) small,
+      next b i,
+    )
     (sym (sum_bit (v b i) step t))
 
 -- the values in the blocks of a strip, and in the block behind it
@@ -24,7 +29,8 @@ pub value_in_strip : (form : Linear) (ny strip t : ℕ) (a carry : List ℕ) →
     → ((i : ℕ) → i < 512 → nat_bit (get_or a (i / 64) 0) (i % 64)
     ≡ bit_of (value_at form ((512 * (64 * strip) + i) / 2 ^ ny) ((512 * (64 * strip) + i) % 2 ^ ny)) t)
     → ((q : ℕ) → q < 32768 → row_bit carry q
-    ≡ carry_from false (value_at form ((32768 * strip + q) / 2 ^ ny) ((32768 * strip + q) % 2 ^ ny)) (offset form ny 512) t)
+    ≡ carry_from false (value_at form ((32768 * strip + q) / 2 ^ ny) ((32768 * strip + q) % 2 ^ ny))
+    (offset form ny 512) t)
     → (b i : ℕ) → b ≤ 64 → i < 512 → value_in a (bit_of (offset form ny 512) t) carry b i
     ≡ bit_of (value_at form ((512 * (64 * strip + b) + i) / 2 ^ ny) ((512 * (64 * strip + b) + i) % 2 ^ ny)) t
 value_in_strip form ny strip t a carry low first carried =

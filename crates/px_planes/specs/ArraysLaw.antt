@@ -10,7 +10,8 @@ use Rattle.px_tree.specs.Nodes.{TreeState, leaf_output}
 -- what some micros make of one pixel, which sees of the others nothing, and of the tree its own leaf
 abbrev pub alone_after : List Micro → TreeState → (place : ℕ) → PixelState → PixelState
 alone_after [] tree place p = p
-alone_after (m ∷ ms) tree place p = alone_after ms (after_tree_op m.tree tree) place (after_act m.act (leaf_output tree place) p)
+alone_after (m ∷ ms) tree place p =
+    alone_after ms (after_tree_op m.tree tree) place (after_act m.act (leaf_output tree place) p)
 
 -- after some micros each pixel of a grid is what they make of it alone
 abbrev pub EachPixelIsAlone : Type 0

@@ -1,5 +1,6 @@
 -- Operations that are made at once, word by word. Only proofs and private functions stand on it.
-use Rattle.std.specs.Prelude.{◌≡◌, ◌≢◌, ℕ, zero, suc, ◌+◌, ◌*◌, ◌/◌, ◌%◌, ◌^◌, ◌<◌, ◌≤◌, ◌⊎◌, ⊤, ◌≤ℤ◌, Bool, false, not, ◌==◌, max, count_by, List, length}
+use Rattle.std.specs.Prelude.{◌≡◌, ◌≢◌, ℕ, zero, suc, ◌+◌, ◌*◌, ◌/◌, ◌%◌, ◌^◌, ◌<◌, ◌≤◌, ◌⊎◌, ⊤, ◌≤ℤ◌, Bool}
+use Rattle.std.specs.Prelude.{false, not, ◌==◌, max, count_by, List, length}
 use Rattle.px_num.specs.Forms.{IsWithin}
 use Rattle.px_lanes.specs.Lanes.{HasValue, offset}
 use Rattle.px_macro.specs.declared.operation.Macro.TheVariants as m
@@ -30,7 +31,8 @@ pub record IsLike (n : ℕ) (old new : Planes) : Type 0 where
   pub latch : new.latch ≡ old.latch
   pub full : new.full ≡ old.full
 
--- of rows of n words, parted into so many pixels each, the pixels of part w became what f says, and all others are as they were
+-- of rows of n words, parted into so many pixels each, the pixels of part w became what f says, and all others
+-- are as they were
 pub record IsWorkedIn (size w n : ℕ) (f : ℕ → PixelState → PixelState) (old new : Planes) : Type 0 where
   pub each : (p : ℕ) → p < 64 * n → p / size ≡ w → pixel_in new p ≡ f p (pixel_in old p)
   pub others : (p : ℕ) → p < 64 * n → p / size ≢ w → pixel_in new p ≡ pixel_in old p
@@ -42,19 +44,22 @@ IsWorked w n f old new = IsWorkedIn 64 w n f old new
 
 -- the operation was made in the pixels of word w
 pub record IsWordDone (op : Macro) (ny w n : ℕ) (old new : Planes) : Type 0 where
-  pub each : (p : ℕ) → p < 64 * n → p / 64 ≡ w → bits_of (pixel_in new p) ≡ after_macro op (p / 2 ^ ny) (p % 2 ^ ny) (bits_of (pixel_in old p))
+  pub each : (p : ℕ) → p < 64 * n → p / 64 ≡ w → bits_of (pixel_in new p) ≡ after_macro op (p / 2 ^ ny) (p % 2 ^ ny)
+      (bits_of (pixel_in old p))
   pub others : (p : ℕ) → p < 64 * n → p / 64 ≢ w → pixel_in new p ≡ pixel_in old p
   pub like : IsLike n old new
 
 -- the operation was made in the pixels of a strip of 512 words
 pub record IsStripDone (op : Macro) (ny strip n : ℕ) (old new : Planes) : Type 0 where
-  pub each : (p : ℕ) → p < 64 * n → p / 32768 ≡ strip → bits_of (pixel_in new p) ≡ after_macro op (p / 2 ^ ny) (p % 2 ^ ny) (bits_of (pixel_in old p))
+  pub each : (p : ℕ) → p < 64 * n → p / 32768 ≡ strip → bits_of (pixel_in new p) ≡ after_macro op (p / 2 ^ ny)
+      (p % 2 ^ ny) (bits_of (pixel_in old p))
   pub others : (p : ℕ) → p < 64 * n → p / 32768 ≢ strip → pixel_in new p ≡ pixel_in old p
   pub like : IsLike n old new
 
 -- the operation was made everywhere
 pub record IsDone (op : Macro) (ny n : ℕ) (old new : Planes) : Type 0 where
-  pub each : (p : ℕ) → p < 64 * n → bits_of (pixel_in new p) ≡ after_macro op (p / 2 ^ ny) (p % 2 ^ ny) (bits_of (pixel_in old p))
+  pub each : (p : ℕ) → p < 64 * n → bits_of (pixel_in new p) ≡ after_macro op (p / 2 ^ ny) (p % 2 ^ ny)
+      (bits_of (pixel_in old p))
   pub like : IsLike n old new
 
 -- whether a pixel of a word is enabled
@@ -89,7 +94,8 @@ HaveOffsets op ny offsets = ⊤
 
 -- every pixel is enabled
 pub record IsEnabled (n : ℕ) (old new : Planes) : Type 0 where
-  pub each : (p : ℕ) → p < 64 * n → bits_of (pixel_in new p) ≡ record { memory = (pixel_in old p).memory; enable = nat_bit old.full (p % 64) }
+  pub each : (p : ℕ) → p < 64 * n → bits_of (pixel_in new p)
+      ≡ record { memory = (pixel_in old p).memory; enable = nat_bit old.full (p % 64) }
   pub like : IsLike n old new
 
 -- an operation that is made word by word and is no edge
@@ -112,4 +118,5 @@ bits_needed op = 0
 -- no pixel is enabled outside the words of a reach
 pub record IsReach (reach : Reach) (planes : Planes) : Type 0 where
   pub within : reach.to ≤ length planes.enable
-  pub outside : (p : ℕ) → p < 64 * length planes.enable → (p / 64 < reach.from) ⊎ (reach.to ≤ p / 64) → row_bit planes.enable p ≡ false
+  pub outside : (p : ℕ) → p < 64 * length planes.enable → (p / 64 < reach.from) ⊎ (reach.to ≤ p / 64)
+      → row_bit planes.enable p ≡ false

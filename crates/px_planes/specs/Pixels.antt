@@ -1,5 +1,6 @@
 -- Bit planes: their rows as the pixels of an array. Only proofs and private functions stand on it.
-use Rattle.std.specs.Prelude.{◌≡◌, ℕ, ◌*◌, ◌%◌, ◌<◌, ◌≤◌, ◌&&◌, Bool, nat_lt, List, [], length, map, replicate, slice_index_or}
+use Rattle.std.specs.Prelude.{◌≡◌, ℕ, ◌*◌, ◌%◌, ◌<◌, ◌≤◌, ◌&&◌, Bool, nat_lt, List, [], length, map, replicate}
+use Rattle.std.specs.Prelude.{slice_index_or}
 use Rattle.px_num.specs.Bits.{nat_bit}
 use Rattle.px_num.specs.Lists.{tabulate}
 use Rattle.px_pixel.specs.Acts.{after_act}
@@ -45,7 +46,8 @@ acted_at inside act t p = after_act act t p
 
 -- what an act leaves of the bit of every row, at each place by its leaf's
 pub record IsActed (act : Act) (leaves : List ℕ) (old new : Planes) : Type 0 where
-  pub each : (p : ℕ) → p < 64 * length leaves → pixel_in new p ≡ acted_at (nat_bit old.full (p % 64)) act (row_bit leaves p) (pixel_in old p)
+  pub each : (p : ℕ) → p < 64 * length leaves → pixel_in new p ≡ acted_at (nat_bit old.full (p % 64)) act
+      (row_bit leaves p) (pixel_in old p)
   pub words : HasWords (length leaves) new
   pub memory : length new.memory.items ≡ length old.memory.items
   pub full : new.full ≡ old.full

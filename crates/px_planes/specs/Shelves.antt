@@ -16,12 +16,14 @@ pub record ShelfView : Type 0 where
 -- the first rows are on a shelf, each of n words, one behind another
 pub record AreShelved (n count : ℕ) (rows : List (List ℕ)) (words : List ℕ) : Type 0 where
   pub long : count * n ≤ length words
-  pub each : (at j : ℕ) → at < count → j < n → slice_index words (at * n + j) ≡ slice_index (slice_index_or rows at []) j
+  pub each : (at j : ℕ) → at < count → j < n → slice_index words (at * n + j)
+      ≡ slice_index (slice_index_or rows at []) j
 
 -- all rows of planes, each of n words: the memory bits, then enable, carry and latch
 pub record IsShelved (bits n : ℕ) (planes : Planes) (words : List ℕ) : Type 0 where
   pub long : length words ≡ (bits + 3) * n
-  pub memory : (at j : ℕ) → at < bits → j < n → slice_index words (at * n + j) ≡ slice_index (slice_index_or planes.memory.items at []) j
+  pub memory : (at j : ℕ) → at < bits → j < n → slice_index words (at * n + j)
+      ≡ slice_index (slice_index_or planes.memory.items at []) j
   pub enable : (j : ℕ) → j < n → slice_index words (bits * n + j) ≡ slice_index planes.enable j
   pub carry : (j : ℕ) → j < n → slice_index words ((bits + 1) * n + j) ≡ slice_index planes.carry j
   pub latch : (j : ℕ) → j < n → slice_index words ((bits + 2) * n + j) ≡ slice_index planes.latch j
@@ -38,7 +40,11 @@ pixel_on bits n words p = record {
 -- the state and the clocks that are kept
 abbrev pub device_on : (bits : ℕ) → TreeState → List ℕ → (clocks : ℕ) → Device
 device_on bits tree words clocks = record {
-  state = record { pixels = tabulate (2 ^ (tree.nx + tree.ny)) (pixel_on bits (words_for (2 ^ (tree.nx + tree.ny))) words); tree = tree };
+  state = record {
+    pixels =
+        tabulate (2 ^ (tree.nx + tree.ny)) (pixel_on bits (words_for (2 ^ (tree.nx + tree.ny))) words);
+    tree = tree;
+  };
   clocks = clocks;
 }
 

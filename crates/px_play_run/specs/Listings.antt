@@ -9,7 +9,7 @@ use Rattle.px_text.specs.Text.{worded}
 use Rattle.px_listing.specs.Listings.{ListingView}
 use Rattle.px_playing.specs.Memories.{played_text}
 use Rattle.px_playing.specs.Played.{HasPlayed, played_on}
-use Rattle.px_listing.specs.Reading.{listing_of, refusal_of}
+use Rattle.px_listing.specs.Reading.{listing_of, listing_refusal_of}
 use Rattle.px_listing.specs.Reading.{ListFault}
 use Rattle.px_outcome.specs.declared.refusal.Refusal.{Refusal}
 use Rattle.px_outcome.specs.declared.stop.Stop.{Stop}
@@ -30,7 +30,7 @@ list_refusal_by (Some fault) = list_refusal_in fault
 -- why a text is no listing for pixels of so many bits, where it is none: past the limit of a text, or by a line
 unfoldable pub list_refusal : (bits : ℕ) → List ℕ → Option Refusal
 list_refusal bits text =
-    if nat_lt MAX_TEXT_BYTES (length text) then Some too_long else list_refusal_by (refusal_of bits text)
+    if nat_lt MAX_TEXT_BYTES (length text) then Some too_long else list_refusal_by (listing_refusal_of bits text)
 
 -- its listing
 unfoldable pub listing_written : List ℕ → ListingView

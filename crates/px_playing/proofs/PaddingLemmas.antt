@@ -1,4 +1,5 @@
--- Operations that few memory bits can carry out, on a longer memory: its first bits come out alike, and the others stay.
+-- Operations that few memory bits can carry out, on a longer memory: its first bits come out alike, and the
+-- others stay.
 use Rattle.std.proofs.Common.{◌≡◌, ℕ, suc, ◌+◌, ◌-◌, ◌<◌, ◌≤◌, All, Bool, false, true, if◌then◌else◌, List, [], ◌∷◌}
 use Rattle.std.proofs.Common.{◌++◌}
 use Rattle.std.proofs.Common.{length, replicate, slice_set, get_or, inl, inr, refl, ap, sym, subst, ◌∙◌, arith}

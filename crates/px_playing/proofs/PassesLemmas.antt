@@ -1,7 +1,8 @@
 -- The grid and the passes of a scene, as a listing.
 use Rattle.std.proofs.Common.{◌≡◌, ℕ, ◌+◌, ◌^◌, ◌<◌, ◌≤◌, All, List, [], ◌++◌}
 use Rattle.std.proofs.Common.{false, Some, length, take, drop, slice_get}
-use Rattle.std.proofs.Common.{refl, ap, sym, ◌∙◌, arith, subst, append_assoc, Result, OnOk, OnErr, replicate, length-append}
+use Rattle.std.proofs.Common.{refl, ap, sym, ◌∙◌, arith, subst, append_assoc, Result, OnOk, OnErr, replicate}
+use Rattle.std.proofs.Common.{length-append}
 use Rattle.std.proofs.lemmas.List.{append-nil, length-replicate}
 use Rattle.std.proofs.lemmas.Option.{get_or_from_slice_get, slice_get_within}
 use Rattle.px_io.specs.Told.{SinkState, TakesAll, TakesFront}
@@ -113,7 +114,10 @@ passes_lawful_in_all more layouts lawful scene h solids =
 
 pub passes_read_back : TextsAreReadBack → PassesAreReadBack
 passes_read_back texts bits scene can few =
-    texts bits (passes_listing scene) few (exponent_between scene.width can.scene_is.sizes.width_limit, exponent_between scene.height can.scene_is.sizes.height_limit)
+    texts bits (passes_listing scene) few (
+      exponent_between scene.width can.scene_is.sizes.width_limit,
+      exponent_between scene.height can.scene_is.sizes.height_limit,
+    )
     can.lawful
 
 pub scenes_grid : PassesHaveTheScenesGrid
@@ -122,7 +126,8 @@ scenes_grid scene lawful = record {
   rows = exponent_is scene.height lawful.sizes.height_limit;
 }
 
--- the picture law holds of a memory with as many zeros behind it as the layout may need, whose first bits come out as those of
+-- the picture law holds of a memory with as many zeros behind it as the layout may need, whose first bits come
+-- out as those of
 -- the memory
 pub show_the_picture : MemoryStaysLong → PassesLaw → PlayedPassesShowThePicture
 show_the_picture stays law bits scene state can has x y left above =
@@ -136,9 +141,12 @@ show_the_picture stays law bits scene state can has x y left above =
     let long : length start.memory ≡ bits = length-replicate bits false in
     let room : need ≤ length (start.memory ++ zeros) =
     omega (arith, length-append start.memory zeros, length-replicate need false) in
-    let alike : after_macros (passes scene) x y (padded start zeros) ≡ padded (played bits (passes_listing scene) x y) zeros =
-    all_padded stays (passes scene) x y start zeros (subst (λ n. All (λ m. IsLawful m n) (passes scene)) (sym long) can.lawful) in
-    let shown : HasSight (layout_of scene) (padded (played bits (passes_listing scene) x y) zeros).memory (picture scene x y) =
+    let alike : after_macros (passes scene) x y (padded start zeros) ≡ padded (played bits (passes_listing scene) x y)
+    zeros =
+    all_padded stays (passes scene) x y start zeros
+    (subst (λ n. All (λ m. IsLawful m n) (passes scene)) (sym long) can.lawful) in
+    let shown : HasSight (layout_of scene) (padded (played bits (passes_listing scene) x y) zeros).memory
+    (picture scene x y) =
     subst (λ (p : PixelBits). HasSight (layout_of scene) p.memory (picture scene x y)) alike
     (law scene can.scene_is can.solids x y left above (padded start zeros) room) in
     subst (λ memory. HasSight (layout_of scene) memory (picture scene x y)) (sym same)

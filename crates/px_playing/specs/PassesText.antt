@@ -7,9 +7,9 @@ use Rattle.px_model.specs.Scenes.{IsGridExponent, IsLawfulScene, SceneView, IsLa
 use Rattle.px_sched.specs.Layouts.{layout_of}
 use Rattle.px_sched.specs.Passes.{passes}
 use Rattle.px_sched.specs.PassesLaw.{ShowsThePicture}
-use Rattle.px_listing.specs.Listings.{ListingView, canonical_text}
+use Rattle.px_listing.specs.Listings.{ListingView, canonical_listing}
 use Rattle.px_playing.specs.Played.{HasPlayed}
-use Rattle.px_listing.specs.RoundTrip.{IsReadAs}
+use Rattle.px_listing.specs.RoundTrip.{IsReadAsListing}
 
 abbrev pub passes_listing : SceneView → ListingView
 passes_listing scene = record {
@@ -26,7 +26,8 @@ pub record HasScenesGrid (scene : SceneView) (l : ListingView) : Type 0 where
 abbrev pub PassesHaveTheScenesGrid : Type 0
 PassesHaveTheScenesGrid = (scene : SceneView) → IsLawfulScene scene → HasScenesGrid scene (passes_listing scene)
 
--- pixels that can carry out each of a scene's passes: those that have the bits that its layout needs, and where its passes use
+-- pixels that can carry out each of a scene's passes: those that have the bits that its layout needs, and where
+-- its passes use
 -- fewer, as those of products of one literal do, pixels with fewer
 pub record CanPlay (bits : ℕ) (scene : SceneView) : Type 0 where
   pub scene_is : IsLawfulScene scene
@@ -36,7 +37,7 @@ pub record CanPlay (bits : ℕ) (scene : SceneView) : Type 0 where
 -- the text of a scene's passes is read as their listing
 abbrev pub PassesAreReadBack : Type 0
 PassesAreReadBack = (bits : ℕ) (scene : SceneView) → CanPlay bits scene → bits ≤ 256 →
-    IsReadAs bits (canonical_text (passes_listing scene)) (passes_listing scene)
+    IsReadAsListing bits (canonical_listing (passes_listing scene)) (passes_listing scene)
 
 -- an array that has played it stores the picture of the scene in key B of each pixel
 abbrev pub PlayedPassesShowThePicture : Type 0

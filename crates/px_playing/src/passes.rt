@@ -3,7 +3,7 @@ ghost use Rattle.std.specs.Prelude.{◌≡◌, ◌≤◌, ◌^◌, ◌<◌, ◌+
 ghost use Rattle.std.specs.List.{flat_map};
 ghost use Rattle.px_io.specs.Counts.{HasCause};
 ghost use Rattle.px_io.specs.Told.{TakesAll, TakesFront};
-ghost use Rattle.px_listing.specs.Listings.{canonical_text, macro_line};
+ghost use Rattle.px_listing.specs.Listings.{canonical_listing, macro_line};
 ghost use Rattle.px_playing.specs.PassesText.{passes_listing};
 ghost use Rattle.px_listing.specs.Pieces.{Puts};
 ghost use Rattle.px_macro.specs.Macros.{IsLawful};
@@ -31,8 +31,8 @@ pub fn write_passes<O: Sink>(
     requires products { plan.now.products.items ≡ plan_of scene.now }
     requires few { length (plan_of scene.now) ≤ MAX_PRODUCTS }
     requires layout { layout.now ≡ layout_of scene.now }
-    ensures ok { OnOk result (TakesAll (O.state out.old) (O.state out.new) (canonical_text (passes_listing scene.now))) }
-    ensures err { OnErr result (TakesFront (O.state out.old) (O.state out.new) (canonical_text (passes_listing scene.now))) }
+    ensures ok { OnOk result (TakesAll (O.state out.old) (O.state out.new) (canonical_listing (passes_listing scene.now))) }
+    ensures err { OnErr result (TakesFront (O.state out.old) (O.state out.new) (canonical_listing (passes_listing scene.now))) }
     ensures cause { HasCause (O.state out.old).faults (O.state out.new).faults result }
 {
     laws_of_scenes(scene);

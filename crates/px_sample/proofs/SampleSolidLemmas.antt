@@ -25,7 +25,7 @@ use Rattle.px_show.specs.Printed.{AreDistinctNames}
 use Rattle.px_model.specs.declared.solid.Colour.{Colour}
 use Rattle.px_model.specs.declared.solid.Face.{Face}
 use Rattle.px_model.specs.Scenes.{IsColour, IsPlane, SolidView, names_of}
-use Rattle.px_canonical.specs.Canonical.{colour_words, plane_words}
+use Rattle.px_canonical.specs.Canonical.{colour_words, words_of_plane}
 use Rattle.px_sample.specs.Sample.{block_name, form}
 use Rattle.px_sample.proofs.SampleTreeLemmas.{BeginsWithBlocks}
 use Rattle.px_scene.proofs.NameLaws.{names_push}
@@ -65,18 +65,18 @@ abbrev pub block_sides_of : ℕ → List Linear
 block_sides_of i = left_side i ∷ right_side i ∷ top_side i ∷ bottom_side i ∷ []
 
 abbrev pub side_words : List Linear → List Words
-side_words ps = map (λ p. codes "side" ∷ plane_words p) ps
+side_words ps = map (λ p. codes "side" ∷ words_of_plane p) ps
 
 -- the words of the lines of a block, and of the cut
 abbrev pub block_words : ℕ → List Words
 block_words i =
     (codes "solid" ∷ block_name i ∷ colour_words (blue i)) ∷ (side_words (block_sides_of i)
-    ++ ((codes "front" ∷ plane_words (front_of i)) ∷ (codes "back" ∷ plane_words back_of) ∷ []))
+    ++ ((codes "front" ∷ words_of_plane (front_of i)) ∷ (codes "back" ∷ words_of_plane back_of) ∷ []))
 
 abbrev pub cut_words : List Words
 cut_words =
-    (codes "solid" ∷ codes "cut" ∷ colour_words yellow) ∷ (codes "side" ∷ plane_words cut_side)
-    ∷ (codes "back" ∷ plane_words cut_back) ∷ []
+    (codes "solid" ∷ codes "cut" ∷ colour_words yellow) ∷ (codes "side" ∷ words_of_plane cut_side)
+    ∷ (codes "back" ∷ words_of_plane cut_back) ∷ []
 
 -- a face in the colour of its solid
 abbrev pub face_at : ℕ → Linear → Colour → Face

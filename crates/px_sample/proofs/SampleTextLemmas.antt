@@ -8,7 +8,7 @@ use Rattle.px_expr.specs.Tree.{HasLeavesBelow}
 use Rattle.px_text.specs.Text.{Words, is_name}
 use Rattle.px_model.specs.declared.solid.Colour.{Colour}
 use Rattle.px_model.specs.Scenes.{IsColour, IsPlane, names_of}
-use Rattle.px_canonical.specs.Canonical.{colour_words, plane_words, side_line, written_line}
+use Rattle.px_canonical.specs.Canonical.{colour_words, words_of_plane, side_line, written_line}
 use Rattle.px_sample.specs.Sample.{block_faces, block_line, block_lines, block_name, block_rows, block_sides, cut_lines}
 use Rattle.px_sample.specs.Sample.{form_line, left_and_right, sample_start, sample_text, top_and_bottom, union_of}
 use Rattle.px_sample.specs.SampleLaw.{SamplesAreAccepted}
@@ -32,15 +32,15 @@ abbrev head_line : List ℕ → Colour → Words
 head_line name c = codes "solid" ∷ name ∷ colour_words c
 
 abbrev side_line_words : Linear → Words
-side_line_words p = codes "side" ∷ plane_words p
+side_line_words p = codes "side" ∷ words_of_plane p
 
 abbrev face_line_words : List ℕ → Linear → Words
-face_line_words kind p = kind ∷ plane_words p
+face_line_words kind p = kind ∷ words_of_plane p
 
 two_sides : (p q : Linear) → side_line p ++ side_line q ≡ text_of_lines (side_line_words p ∷ side_line_words q ∷ [])
 two_sides p q =
-    both_texts (side_line_words p ∷ []) (side_line_words q ∷ []) _ _ (one_line (codes "side") (plane_words p))
-    (one_line (codes "side") (plane_words q))
+    both_texts (side_line_words p ∷ []) (side_line_words q ∷ []) _ _ (one_line (codes "side") (words_of_plane p))
+    (one_line (codes "side") (words_of_plane q))
 
 block_is : (i : ℕ) → block_lines i ≡ text_of_lines (block_words i)
 block_is i =
@@ -52,8 +52,8 @@ block_is i =
     (both_texts (head_line (block_name i) (blue i) ∷ []) (two ++ more) _ _
     (one_line (codes "solid") (block_name i ∷ colour_words (blue i)))
     (both_texts two more _ _ (two_sides (left_side i) (right_side i)) (two_sides (top_side i) (bottom_side i))))
-    (both_texts (front ∷ []) (back ∷ []) _ _ (one_line (codes "front") (plane_words (front_of i)))
-    (one_line (codes "back") (plane_words back_of)))
+    (both_texts (front ∷ []) (back ∷ []) _ _ (one_line (codes "front") (words_of_plane (front_of i)))
+    (one_line (codes "back") (words_of_plane back_of)))
 
 cut_is : cut_lines ≡ text_of_lines cut_words
 cut_is =
@@ -62,8 +62,8 @@ cut_is =
     let back = face_line_words (codes "back") cut_back in
     both_texts (head ∷ side ∷ []) (back ∷ []) _ _
     (both_texts (head ∷ []) (side ∷ []) _ _ (one_line (codes "solid") (codes "cut" ∷ colour_words yellow))
-    (one_line (codes "side") (plane_words cut_side)))
-    (one_line (codes "back") (plane_words cut_back))
+    (one_line (codes "side") (words_of_plane cut_side)))
+    (one_line (codes "back") (words_of_plane cut_back))
 
 text_is : (n : ℕ) → 1 ≤ n → n ≤ 200 → sample_text n ≡ text_of_lines (sample_words n)
 text_is n some le =
@@ -80,10 +80,10 @@ text_is n some le =
 
 -- the sample is within the limit of texts
 side_short : (p : Linear) → IsPlane p → length (side_line p) ≤ 41
-side_short p is = line_short (codes "side") (plane_words p) 4 36 (omega arith) (plane_short p is)
+side_short p is = line_short (codes "side") (words_of_plane p) 4 36 (omega arith) (plane_short p is)
 
 form_short : (kind : List ℕ) (p : Linear) → length kind ≤ 5 → IsPlane p → length (form_line kind p) ≤ 42
-form_short kind p few is = line_short kind (plane_words p) 5 36 few (plane_short p is)
+form_short kind p few is = line_short kind (words_of_plane p) 5 36 few (plane_short p is)
 
 head_short : (name : List ℕ) (c : Colour) → is_name name ≡ true → IsColour c
     → length (written_line (codes "solid") (name ∷ colour_words c)) ≤ 51

@@ -10,7 +10,7 @@ use Rattle.px_show.specs.Printed.{named_by, printed}
 use Rattle.px_show.specs.declared.scene_version.Version.TheVariants as v
 use Rattle.px_model.specs.Scenes.{SolidView, names_of}
 use Rattle.px_scene.specs.declared.line.Due.TheVariants as d
-use Rattle.px_canonical.specs.Canonical.{colour_words, plane_words}
+use Rattle.px_canonical.specs.Canonical.{colour_words, words_of_plane}
 use Rattle.px_scene.specs.Drafts.{DraftView, blank, fresh_solid, with_front}
 use Rattle.px_scene.specs.Lines.{uncoloured}
 use Rattle.px_sample.specs.Sample.{block_name, block_rows}
@@ -47,14 +47,15 @@ block_walk start i low =
     let end : open_at (block i) (n + 1 + 1 + 1) ≡ standing start (blocks (i + 1)) (3 * (i + 1)) =
     stands start done (block i) (n + 1 + 1 + 1) ∙ ap (standing start (done ++ block i ∷ [])) last
     ∙ ap (λ ss. standing start ss (3 * (i + 1))) (sym (blocks_more i)) in
-    let faces : List Words = (codes "front" ∷ plane_words (front_of i)) ∷ (codes "back" ∷ plane_words back_of) ∷ [] in
+    let faces : List Words = (codes "front" ∷ words_of_plane (front_of i)) ∷ (codes "back" ∷ words_of_plane back_of)
+    ∷ [] in
     subst (λ (after : DraftView). Walk (standing start done n) (block_words i) after) end
     (walk_both (standing start done n) (open_at fresh (n + 1)) (open_at (block i) (n + 1 + 1 + 1))
     ((codes "solid" ∷ block_name i ∷ colour_words (blue i)) ∷ []) (side_words (block_sides_of i) ++ faces) head
     (walk_both (open_at fresh (n + 1)) (open_at sided (n + 1)) (open_at (block i) (n + 1 + 1 + 1))
     (side_words (block_sides_of i)) faces sides
     (walk_both (open_at sided (n + 1)) (open_at fronted (n + 1 + 1)) (open_at (block i) (n + 1 + 1 + 1))
-    ((codes "front" ∷ plane_words (front_of i)) ∷ []) ((codes "back" ∷ plane_words back_of) ∷ []) front back)))
+    ((codes "front" ∷ words_of_plane (front_of i)) ∷ []) ((codes "back" ∷ words_of_plane back_of) ∷ []) front back)))
 
 blocks_walk : (start : DraftView) (count first : ℕ) → first + count ≤ 200
     → Walk (standing start (blocks first) (3 * first)) (flat_map block_words (range_with_len first count))
@@ -83,7 +84,7 @@ cut_walk start n le =
     let sides = sides_walk start done fresh (m + 1) (cut_side ∷ []) [] cut_planes (omega arith) in
     let back = back_walk start done sided (m + 1) _ _ (plane_written cut_back cut_back_plane) (omega arith)
     (omega arith) in
-    let back_words : List Words = (codes "back" ∷ plane_words cut_back) ∷ [] in
+    let back_words : List Words = (codes "back" ∷ words_of_plane cut_back) ∷ [] in
     subst (λ (after : DraftView). Walk (standing start done m) cut_words after)
     (stands start done (cut_solid m) (m + 1 + 1))
     (walk_both (standing start done m) (open_solid start done fresh (m + 1))

@@ -1,15 +1,16 @@
 -- The text of the sample: blocks in rows of 16, and one cut through all of them. Clauses of public calls stand on it.
-use Rattle.std.specs.Prelude.{ℕ, zero, suc, ◌+◌, ◌-◌, ◌*◌, ◌/◌, ◌%◌, ◌==◌, if◌then◌else◌, List, [], ◌∷◌, ◌++◌, ℤ, pos, neg_ℤ, codes, decimal}
+use Rattle.std.specs.Prelude.{ℕ, zero, suc, ◌+◌, ◌-◌, ◌*◌, ◌/◌, ◌%◌, ◌==◌, if◌then◌else◌, List, [], ◌∷◌, ◌++◌}
+use Rattle.std.specs.Prelude.{ℤ, pos, neg_ℤ, codes, decimal}
 use Rattle.std.specs.List.{flat_map, range_with_len}
 use Rattle.px_num.specs.declared.linear.Linear.{Linear}
-use Rattle.px_canonical.specs.Canonical.{colour_words, plane_words, side_line, written_line}
+use Rattle.px_canonical.specs.Canonical.{colour_words, words_of_plane, side_line, written_line}
 
 abbrev pub form : (a b c : ℤ) → Linear
 form a b c = record { a = a; b = b; c = c }
 
 -- a front or a back in the colour of its solid
 abbrev pub form_line : (keyword : List ℕ) → Linear → List ℕ
-form_line keyword p = written_line keyword (plane_words p)
+form_line keyword p = written_line keyword (words_of_plane p)
 
 abbrev pub block_name : ℕ → List ℕ
 block_name i = codes "b" ++ decimal i
@@ -62,7 +63,8 @@ union_in zero first end = []
 union_in (suc depth) first end =
     if end == first + 1
     then block_name first
-    else (codes "(" ++ union_in depth first ((first + end) / 2) ++ codes " + " ++ union_in depth ((first + end) / 2) end ++ codes ")")
+    else (codes "(" ++ union_in depth first ((first + end) / 2) ++ codes " + " ++ union_in depth ((first + end) / 2)
+    end ++ codes ")")
 
 abbrev pub union_of : (first end : ℕ) → List ℕ
 union_of first end = union_in (end - first) first end

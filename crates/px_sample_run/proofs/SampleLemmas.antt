@@ -16,7 +16,8 @@ use Rattle.px_outcome.specs.Arrays.{Draws}
 use Rattle.px_sample_run.specs.Countings.{IsShownAtMost, shown_at, shown_within, shown_in_row, shown_together}
 use Rattle.px_outcome.specs.Outcomes.{Outcome, unless_refused}
 use Rattle.px_outcome.specs.Refusals.{text_refusal}
-use Rattle.px_sample_run.specs.Samples.{measured, one_at, row_sum, sample_scene, sampled, shown_depth_at, text_measured}
+use Rattle.px_sample_run.specs.Samples.{measures_answer, one_at, row_sum, sample_scene, sampled, shown_depth_at}
+use Rattle.px_sample_run.specs.Samples.{text_measured}
 use Rattle.px_outcome.specs.Results.{Meets, status_in, status_of}
 use Rattle.px_outcome.specs.Stops.{DoesWork, IsSceneStop, IsTextStop}
 use Rattle.px_outcome.proofs.StopLaws.{not_read, not_usage, stop_causes, stop_writes}
@@ -87,10 +88,10 @@ text_serves result stop text bits a at is =
 -- the scene of a text is served
 pub scene_serves : (result : Result (Unit {0}) Stop) (text : List ℕ) (bits : ℕ) (scene : SceneView)
     (a b : SinkState)
-    → text_refusal text ≡ None → scene ≡ scene_of (worded text) → DoesWork result (measured scene bits) a b
+    → text_refusal text ≡ None → scene ≡ scene_of (worded text) → DoesWork result (measures_answer scene bits) a b
     → DoesWork result (text_measured text bits) a b
 scene_serves result text bits scene a b good is serves =
-    let here : text_measured text bits ≡ measured scene bits = rw (good, is) refl in
+    let here : text_measured text bits ≡ measures_answer scene bits = rw (good, is) refl in
     rw here serves
 
 -- one pixel more
@@ -99,7 +100,8 @@ pub row_more : (scene : SceneView) (y n : ℕ) → shown_together (shown_in_row 
 row_more scene y n = rw (sum_more (λ x. one_at scene x y) n, sum_more (λ x. shown_depth_at scene x y) n) refl
 
 -- one row more
-pub rows_more : (scene : SceneView) (width n : ℕ) → shown_together (shown_within scene width n) (shown_in_row scene width n)
+pub rows_more : (scene : SceneView) (width n : ℕ)
+    → shown_together (shown_within scene width n) (shown_in_row scene width n)
     ≡ shown_within scene width (n + 1)
 rows_more scene width n =
     rw (sum_more (λ y. row_sum (one_at scene) width y) n, sum_more (λ y. row_sum (shown_depth_at scene) width y) n) refl

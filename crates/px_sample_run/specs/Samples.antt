@@ -1,4 +1,5 @@
--- What `sample` answers: four numbers of the scene of so many blocks, and of its picture. Clauses of public calls stand on it.
+-- What `sample` answers: four numbers of the scene of so many blocks, and of its picture. Clauses of public
+-- calls stand on it.
 use Rattle.std.specs.Prelude.{ℕ, ◌==◌, if◌then◌else◌, List, length, sum_by}
 use Rattle.std.specs.List.{range_with_len}
 use Rattle.px_frame.specs.Picture.{depth_at, face_at}
@@ -40,12 +41,12 @@ depth_sum scene = sum_over (shown_depth_at scene) scene.width scene.height
 abbrev pub measures : SceneView → List ℕ
 measures scene = four_lines (shown scene) (depth_sum scene) (length (plan_of scene)) (total scene)
 
-abbrev pub measured : SceneView → (bits : ℕ) → Outcome
-measured scene bits = drawable bits scene (done (measures scene))
+abbrev pub measures_answer : SceneView → (bits : ℕ) → Outcome
+measures_answer scene bits = drawable bits scene (done (measures scene))
 
 -- the refusal of a text, or else the numbers of its scene
 abbrev pub text_measured : List ℕ → (bits : ℕ) → Outcome
-text_measured text bits = unless_refused (text_refusal text) (measured (scene_of (worded text)) bits)
+text_measured text bits = unless_refused (text_refusal text) (measures_answer (scene_of (worded text)) bits)
 
 -- the numbers of the sample of n blocks
 unfoldable pub sampled : (n bits : ℕ) → Outcome

@@ -14,7 +14,7 @@ ghost use Rattle.px_deliver.specs.Drawn.{IsDrawn};
 ghost use Rattle.px_outcome.specs.Arrays.{Draws};
 ghost use Rattle.px_sample_run.specs.Countings.{IsShownAtMost, none_shown, shown_at, shown_within, shown_in_row, shown_together};
 ghost use Rattle.px_outcome.specs.Outcomes.{drawable};
-ghost use Rattle.px_sample_run.specs.Samples.{measured, measures, sample_scene, sampled, text_measured, where_shown};
+ghost use Rattle.px_sample_run.specs.Samples.{measures_answer, measures, sample_scene, sampled, text_measured, where_shown};
 ghost use Rattle.px_outcome.specs.Results.{status_in};
 ghost use Rattle.px_outcome.specs.Stops.{DoesWork, StopsAt};
 
@@ -91,7 +91,7 @@ fn measure<O: Sink, A: Operating>(
     array: &mut A,
 ) -> Result<(), Stop>
     requires bits { A.BITS ≤ 256 }
-    ensures serves { DoesWork result (measured scene.now A.BITS)
+    ensures serves { DoesWork result (measures_answer scene.now A.BITS)
         (O.state out.old) (O.state out.new) }
     ensures array { Draws (status_in result) A.BITS scene.now
         (array_view (A.device array.old) (A.slots array.old) (A.work array.old))

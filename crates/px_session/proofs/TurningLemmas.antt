@@ -11,7 +11,7 @@ use Rattle.px_asked.proofs.AskLaws.{asked_both, asked_none, given-one}
 use Rattle.px_debug.specs.declared.session.Going.TheVariants as g
 use Rattle.px_lines.specs.Lines.{ended, last_of, left, whole_lines}
 use Rattle.px_session.specs.Prompts.{Moment, Prompt, Prompts}
-use Rattle.px_session.specs.Servings.{Answered, Broken, HasCauses, HasRead, HasServed, lines_in, seen}
+use Rattle.px_session.specs.Servings.{Answered, Broken, HasEndingCauses, HasRead, HasServed, lines_in, seen}
 use Rattle.px_session.specs.Sessions.{Stand, answers, has_quit, until_quit}
 use Rattle.px_session.specs.Turns.{Fed}
 use Rattle.px_session.specs.Catching.{Begun, Caught, Stopped, begun}
@@ -111,7 +111,7 @@ caught_fed bits b n m p q held kept bytes fed caught some count noted took is mo
 
 -- which counts of faults rose in a turn, rose since the session began
 causes_since : (ending : Ending) (was p now : Moment) → p.faults ≡ was.faults → p.at.out.faults ≡ was.at.out.faults
-    → HasCauses ending p now → HasCauses ending was now
+    → HasEndingCauses ending p now → HasEndingCauses ending was now
 causes_since e.Quit was p now calm_in calm_out causes = rw (← calm_in, ← calm_out) causes
 causes_since e.End was p now calm_in calm_out causes = rw (← calm_in, ← calm_out) causes
 causes_since e.Long was p now calm_in calm_out causes = rw (← calm_in, ← calm_out) causes
@@ -123,7 +123,8 @@ stopped_by : (ending : Ending) (bits : ℕ) (b : Begun) (n : ℕ) (p now : Momen
     → (caught : Caught bits b n p held)
     → 0 < n → length bytes ≤ n → Consumes p.rest now.rest bytes
     → HasRead ending (all_given caught.asks ++ bytes) b.more now.rest
-    → HasServed ending false bits b.was.at now.at (lines_in (text_of caught ++ seen n bytes)) → HasCauses ending p now
+    → HasServed ending false bits b.was.at now.at (lines_in (text_of caught ++ seen n bytes))
+    → HasEndingCauses ending p now
     → Prompts bits b.read b.more b.was now → Stopped ending bits b now
 stopped_by ending bits b n p now held bytes caught some few took read served causes prompts =
     let front = all_given caught.asks in
@@ -143,7 +144,7 @@ stopped_by ending bits b n p now held bytes caught some few took read served cau
 pub stopped_quit : (bits : ℕ) (b : Begun) (n : ℕ) (p now : Moment) (held kept bytes fed : List ℕ)
     → (caught : Caught bits b n p held)
     → 0 < n → length bytes ≤ n → Consumes p.rest now.rest bytes → fed ≡ seen n bytes
-    → Fed g.Quit bits (line_of caught) fed p.at now.at kept → HasCauses e.Quit p now
+    → Fed g.Quit bits (line_of caught) fed p.at now.at kept → HasEndingCauses e.Quit p now
     → Prompts bits b.read b.more b.was now → Stopped e.Quit bits b now
 stopped_quit bits b n p now held kept bytes fed caught some few took is more causes prompts =
     let both = fed_both g.Quit bits [] (text_of caught) fed b.was.at p.at now.at held kept caught.fed more in
@@ -153,7 +154,7 @@ stopped_quit bits b n p now held kept bytes fed caught some few took is more cau
 pub stopped_long : (bits : ℕ) (b : Begun) (n : ℕ) (p now : Moment) (held kept bytes fed : List ℕ)
     → (caught : Caught bits b n p held)
     → 0 < n → length bytes ≡ n → Consumes p.rest now.rest bytes → fed ≡ seen n bytes
-    → Fed g.More bits (line_of caught) fed p.at now.at kept → HasCauses e.Long p now
+    → Fed g.More bits (line_of caught) fed p.at now.at kept → HasEndingCauses e.Long p now
     → Prompts bits b.read b.more b.was now → Stopped e.Long bits b now
 stopped_long bits b n p now held kept bytes fed caught some full took is more causes prompts =
     let both = fed_both g.More bits [] (text_of caught) fed b.was.at p.at now.at held kept caught.fed more in
@@ -164,7 +165,7 @@ stopped_long bits b n p now held kept bytes fed caught some full took is more ca
 pub stopped_broke : (bits : ℕ) (b : Begun) (n : ℕ) (p now : Moment) (held bytes fed : List ℕ)
     → (caught : Caught bits b n p held)
     → 0 < n → length bytes ≤ n → Consumes p.rest now.rest bytes → fed ≡ seen n bytes
-    → Broken false bits p.at now.at (until_quit (ended (line_of caught) fed)) → HasCauses e.WriteFault p now
+    → Broken false bits p.at now.at (until_quit (ended (line_of caught) fed)) → HasEndingCauses e.WriteFault p now
     → Prompts bits b.read b.more b.was now → Stopped e.WriteFault bits b now
 stopped_broke bits b n p now held bytes fed caught some few took is broke causes prompts =
     stopped_by e.WriteFault bits b n p now held bytes caught some few took tt
@@ -177,7 +178,7 @@ stopped_broke bits b n p now held bytes fed caught some few took is broke causes
 stopped_idle : (ending : Ending) (bits : ℕ) (b : Begun) (n : ℕ) (p now : Moment) (held bytes : List ℕ)
     → (caught : Caught bits b n p held) → 0 < n → bytes ≡ [] → Consumes p.rest now.rest bytes
     → HasRead ending (all_given caught.asks) b.more now.rest
-    → HasServed ending false bits b.was.at now.at (lines_in (text_of caught)) → HasCauses ending p now
+    → HasServed ending false bits b.was.at now.at (lines_in (text_of caught)) → HasEndingCauses ending p now
     → Prompts bits b.read b.more b.was now → Stopped ending bits b now
 stopped_idle ending bits b n p now held bytes caught some none took read served causes prompts =
     let nothing : seen n [] ≡ [] = take_all (n - 1) [] (omega arith) in
@@ -185,7 +186,7 @@ stopped_idle ending bits b n p now held bytes caught some none took read served 
     (rw (append-nil (all_given caught.asks)) read) (rw (nothing, append-nil (text_of caught)) served) causes prompts
 
 pub stopped_fault : (bits : ℕ) (b : Begun) (n : ℕ) (p now : Moment) (held : List ℕ) → Caught bits b n p held → 0 < n
-    → Keeps p.rest now.rest → now.at ≡ p.at → HasCauses e.ReadFault p now
+    → Keeps p.rest now.rest → now.at ≡ p.at → HasEndingCauses e.ReadFault p now
     → Prompts bits b.read b.more b.was now → Stopped e.ReadFault bits b now
 stopped_fault bits b n p now held caught some kept same causes prompts =
     stopped_idle e.ReadFault bits b n p now held [] caught some refl
@@ -195,7 +196,7 @@ stopped_fault bits b n p now held caught some kept same causes prompts =
 pub stopped_end : (bits : ℕ) (b : Begun) (n : ℕ) (p now : Moment) (held bytes : List ℕ)
     → (caught : Caught bits b n p held) → 0 < n
     → bytes ≡ [] → Consumes p.rest now.rest bytes → IsAtEnd now.rest
-    → Answered false bits p.at now.at (until_quit (last_of (line_of caught))) → HasCauses e.End p now
+    → Answered false bits p.at now.at (until_quit (last_of (line_of caught))) → HasEndingCauses e.End p now
     → Prompts bits b.read b.more b.was now → Stopped e.End bits b now
 stopped_end bits b n p now held bytes caught some none took end last causes prompts =
     stopped_idle e.End bits b n p now held bytes caught some none took (omega (arith, caught.left, some), end) (
@@ -209,7 +210,7 @@ pub stopped_last : (bits : ℕ) (b : Begun) (n : ℕ) (p now : Moment) (held byt
     → (caught : Caught bits b n p held) → 0 < n
     → bytes ≡ [] → Consumes p.rest now.rest bytes
     → Broken false bits p.at now.at (until_quit (last_of (line_of caught)))
-    → HasCauses e.WriteFault p now → Prompts bits b.read b.more b.was now → Stopped e.WriteFault bits b now
+    → HasEndingCauses e.WriteFault p now → Prompts bits b.read b.more b.was now → Stopped e.WriteFault bits b now
 stopped_last bits b n p now held bytes caught some none took broke causes prompts =
     stopped_idle e.WriteFault bits b n p now held bytes caught some none took tt
     (broke_until bits b.was.at p.at now.at (whole_lines (text_of caught)) (last_of (line_of caught))

@@ -5,7 +5,7 @@ use Rattle.std.specs.Io.KnownBytes.{Consumes}
 use Rattle.px_asked.specs.Asks.{Ask, Asked, all_given}
 use Rattle.px_debug.specs.declared.session.Going.TheVariants as g
 use Rattle.px_session.specs.Prompts.{Moment, Prompt, Prompts}
-use Rattle.px_session.specs.Servings.{HasCauses, HasRead, HasServed, lines_in, seen}
+use Rattle.px_session.specs.Servings.{HasEndingCauses, HasRead, HasServed, lines_in, seen}
 use Rattle.px_session.specs.Turns.{Fed}
 use Rattle.px_session.specs.declared.serving.Ending.{Ending}
 
@@ -39,5 +39,5 @@ pub record Stopped (ending : Ending) (bits : ℕ) (b : Begun) (after : Moment) :
   pub taken : Consumes b.was.rest after.rest bytes
   pub ended : HasRead ending bytes b.more after.rest
   pub served : HasServed ending false bits b.was.at after.at (lines_in (b.read ++ seen b.more bytes))
-  pub causes : HasCauses ending b.was after
+  pub causes : HasEndingCauses ending b.was after
   pub prompts : Prompts bits b.read b.more b.was after

@@ -60,10 +60,12 @@ abbrev pub seen : (more : ℕ) → List ℕ → List ℕ
 seen more bytes = take (more - 1) bytes
 
 -- which counts of faults rose, of the input and of the output
-abbrev pub HasCauses : Ending → (before after : Moment) → Type 0
-HasCauses e.ReadFault before after = Rose before.faults after.faults × (after.at.out.faults ≡ before.at.out.faults)
-HasCauses e.WriteFault before after = Rose before.at.out.faults after.at.out.faults × (after.faults ≡ before.faults)
-HasCauses ending before after = (after.faults ≡ before.faults) × (after.at.out.faults ≡ before.at.out.faults)
+abbrev pub HasEndingCauses : Ending → (before after : Moment) → Type 0
+HasEndingCauses e.ReadFault before after = Rose before.faults after.faults
+    × (after.at.out.faults ≡ before.at.out.faults)
+HasEndingCauses e.WriteFault before after = Rose before.at.out.faults after.at.out.faults
+    × (after.faults ≡ before.faults)
+HasEndingCauses ending before after = (after.faults ≡ before.faults) × (after.at.out.faults ≡ before.at.out.faults)
 
 -- some bytes were read before, and more of the input here: the lines of both were answered, each before more
 -- was asked for
@@ -73,5 +75,5 @@ pub record Serves (ending : Ending) (bits : ℕ) (read : List ℕ) (more : ℕ) 
   pub taken : Consumes before.rest after.rest bytes
   pub ended : HasRead ending bytes more after.rest
   pub served : HasServed ending true bits before.at after.at (lines_in (read ++ seen more bytes))
-  pub causes : HasCauses ending before after
+  pub causes : HasEndingCauses ending before after
   pub prompts : Prompts bits read more before after

@@ -113,11 +113,13 @@ module _ (P : ℕ → Bool) where
   unfolding solids
   all-each s = (each_passes P (has s) 256, all_pass P (has s) 256)
 
-  pub all-joined : (a b : SolidSet) → list_all P (solids (sets_joined a b)) ≡ list_all P (solids a) && list_all P (solids b)
+  pub all-joined : (a b : SolidSet) → list_all P (solids (sets_joined a b)) ≡ list_all P (solids a)
+      && list_all P (solids b)
   unfolding solids
   all-joined a b = all_joined P (has (sets_joined a b)) (has a) (has b) 256 (has-joined a b)
 
-  pub any-joined : (a b : SolidSet) → list_any P (solids (sets_joined a b)) ≡ list_any P (solids a) || list_any P (solids b)
+  pub any-joined : (a b : SolidSet) → list_any P (solids (sets_joined a b)) ≡ list_any P (solids a)
+      || list_any P (solids b)
   unfolding solids
   any-joined a b = any_joined P (has (sets_joined a b)) (has a) (has b) 256 (has-joined a b)
 

@@ -1,4 +1,5 @@
--- Laws of sets of solids, for whoever reasons of several of them: how a test goes over their solids. Clauses of public calls stand on it.
+-- Laws of sets of solids, for whoever reasons of several of them: how a test goes over their solids. Clauses of
+-- public calls stand on it.
 use Rattle.std.specs.Prelude.{ℕ, ◌≡◌, ◌<◌, ◌↔◌, Bool, true, false, ◌&&◌, ◌||◌}
 use Rattle.std.specs.List.{list_all, list_any}
 use Rattle.px_sets.specs.declared.set.SolidSet.{SolidSet}

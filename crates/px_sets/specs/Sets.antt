@@ -1,5 +1,6 @@
 -- Sets of solids by their bits. Clauses of public calls stand on it.
-use Rattle.std.specs.Prelude.{ℕ, ◌≡◌, ◌<◌, ◌/◌, ◌%◌, ◌^◌, Bool, true, ◌==◌, List, [], ◌∷◌, ◌++◌, filter, slice_index, slice_set, bit_or}
+use Rattle.std.specs.Prelude.{ℕ, ◌≡◌, ◌<◌, ◌/◌, ◌%◌, ◌^◌, Bool, true, ◌==◌, List, [], ◌∷◌, ◌++◌, filter}
+use Rattle.std.specs.Prelude.{slice_index, slice_set, bit_or}
 use Rattle.std.specs.Int.{bit_at}
 use Prim.Native.Nat.{zero, suc}
 use Rattle.px_sets.specs.declared.set.SolidSet.{SolidSet}

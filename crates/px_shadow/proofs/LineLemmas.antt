@@ -19,7 +19,7 @@ use Rattle.std.specs.List.{position_or_len}
 use Rattle.px_num.proofs.TruthLaws.{and_left, and_right, lt_holds, lt_true}
 use Rattle.px_show.specs.declared.fault.Cause.TheVariants.{BadName, Unexpected, UnknownName}
 use Rattle.px_show.proofs.JudgedLaws.{AreGood, all_good, first_is, good_next}
-use Rattle.px_shadow.specs.LightLines.{as_light, fault_behind, lights_fault, is_solid_name, light_in, light_of}
+use Rattle.px_shadow.specs.LightLines.{as_light, light_fault_behind, lights_fault, is_solid_name, light_in, light_of}
 use Rattle.px_shadow.specs.LightLines.{lights_of, line_fault, named, solid_named}
 use Rattle.px_shadow.specs.Saying.{AreRead}
 
@@ -106,7 +106,7 @@ line_at pieces k piece low is = get_or-map words_of pieces k piece [] low ∙ ap
 -- the number of a line and the lights before it judge it
 judged : (ss : List SolidView) (first : ℕ) (lines : List Words) (k line : ℕ) (old : List SolidSet) (ws : Words)
     → k < length lines → line ≡ first + k → old ≡ lights_of ss (take k lines)
-    → fault_behind ss first (take k lines) ws ≡ line_fault line (length old) (light_of ss ws)
+    → light_fault_behind ss first (take k lines) ws ≡ line_fault line (length old) (light_of ss ws)
 judged ss first lines k line old ws low number each =
     let count : length (take k lines) ≡ k = length-take-le k lines (omega arith) in
     rw (count, ← number, ← each) refl
@@ -114,20 +114,21 @@ judged ss first lines k line old ws low number each =
 -- a line that is taken
 pub step_good : (ss : List SolidView) (first : ℕ) (lines : List Words) (k line : ℕ) (old : List SolidSet) (ws : Words)
     → k < length lines → get_or lines k [] ≡ ws →
-    line ≡ first + k → old ≡ lights_of ss (take k lines) → AreGood (fault_behind ss first) lines k →
-    line_fault line (length old) (light_of ss ws) ≡ None → AreGood (fault_behind ss first) lines (k + 1)
+    line ≡ first + k → old ≡ lights_of ss (take k lines) → AreGood (light_fault_behind ss first) lines k →
+    line_fault line (length old) (light_of ss ws) ≡ None → AreGood (light_fault_behind ss first) lines (k + 1)
 step_good ss first lines k line old ws low is number each before here =
-    good_next (fault_behind ss first) lines k ws before low is (judged ss first lines k line old ws low number each
+    good_next (light_fault_behind ss first) lines k ws before low is
+    (judged ss first lines k line old ws low number each
     ∙ here)
 
 -- a line that is bad
 pub step_bad : (ss : List SolidView) (first : ℕ) (lines : List Words) (k line : ℕ) (old : List SolidSet) (ws : Words)
     (fault : LightFault) → k < length lines → get_or lines k [] ≡ ws →
-    line ≡ first + k → old ≡ lights_of ss (take k lines) → AreGood (fault_behind ss first) lines k →
+    line ≡ first + k → old ≡ lights_of ss (take k lines) → AreGood (light_fault_behind ss first) lines k →
     line_fault line (length old) (light_of ss ws) ≡ Some fault → lights_fault ss first lines ≡ Some fault
 step_bad ss first lines k line old ws fault low is number each before here =
     ap (option_map (λ bad. bad.1))
-    (first_is (fault_behind ss first) lines k ws fault before low is
+    (first_is (light_fault_behind ss first) lines k ws fault before low is
     (judged ss first lines k line old ws low number each ∙ here))
 
 pub step_each : (ss : List SolidView) (lines : List Words) (k : ℕ) (old now : List SolidSet) (ws : Words)
@@ -142,10 +143,10 @@ step_each ss lines k old now ws low is each more =
 -- all lines are taken
 pub all_read : (ss : List SolidView) (first : ℕ) (lines : List Words) (k : ℕ) (lights : List SolidSet)
     → k ≡ length lines →
-    AreGood (fault_behind ss first) lines k → lights ≡ lights_of ss (take k lines)
+    AreGood (light_fault_behind ss first) lines k → lights ≡ lights_of ss (take k lines)
     → All (IsBelow (length ss)) lights → AreRead ss first lines lights
 all_read ss first lines k lights all good each known = record {
-  good = ap (option_map (λ bad. bad.1)) (all_good (fault_behind ss first) lines k good (omega (arith, all)));
+  good = ap (option_map (λ bad. bad.1)) (all_good (light_fault_behind ss first) lines k good (omega (arith, all)));
   each = each ∙ ap (lights_of ss) (take_all k lines (omega (arith, all)));
   known = known;
 }

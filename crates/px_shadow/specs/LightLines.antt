@@ -54,9 +54,10 @@ line_fault number before (Ok None) = None
 line_fault number before (Ok (Some light)) = if before == MAX_LIGHTS then Some (Limit number (MAX_LIGHTS + 1)) else None
 
 -- what is bad of a line behind others, of which the first has this number
-abbrev pub fault_behind : List SolidView → (first : ℕ) → (before : List Words) → Words → Option LightFault
-fault_behind ss first before line = line_fault (first + length before) (length (lights_of ss before)) (light_of ss line)
+abbrev pub light_fault_behind : List SolidView → (first : ℕ) → (before : List Words) → Words → Option LightFault
+light_fault_behind ss first before line = line_fault (first + length before) (length (lights_of ss before))
+    (light_of ss line)
 
 -- the fault of the first bad line, if one is bad
 abbrev pub lights_fault : List SolidView → (first : ℕ) → List Words → Option LightFault
-lights_fault ss first lines = option_map (λ bad. bad.1) (first_bad (fault_behind ss first) [] lines)
+lights_fault ss first lines = option_map (λ bad. bad.1) (first_bad (light_fault_behind ss first) [] lines)

@@ -1,6 +1,7 @@
 -- The versions of scene texts, and the signs of operators: the words that name each version, what it has, the byte of
 -- each sign, and which signs a version has. Clauses of public calls stand on it.
-use Rattle.std.specs.Prelude.{ℕ, List, [], ◌∷◌, codes, Bool, true, false, if◌then◌else◌, Option, Some, None, ◌==◌, ◌||◌, not}
+use Rattle.std.specs.Prelude.{ℕ, List, [], ◌∷◌, codes, Bool, true, false, if◌then◌else◌, Option, Some, None}
+use Rattle.std.specs.Prelude.{◌==◌, ◌||◌, not}
 use Rattle.std.specs.Str.{bytes_eq}
 use Rattle.px_text.specs.Text.{Words}
 use Rattle.px_show.specs.declared.scene_version.Version.{Version}

@@ -1,5 +1,6 @@
 -- What an act leaves of a pixel whose bits stand in words.
-use Rattle.std.proofs.Common.{◌≡◌, ◌≢◌, ℕ, ◌+◌, ◌*◌, ◌<◌, ◌≤◌, Bool, true, false, cond, List, length, get_or, set, refl, sym, ap, ◌∙◌, arith}
+use Rattle.std.proofs.Common.{◌≡◌, ◌≢◌, ℕ, ◌+◌, ◌*◌, ◌<◌, ◌≤◌, Bool, true, false, cond, List, length, get_or}
+use Rattle.std.proofs.Common.{set, refl, sym, ap, ◌∙◌, arith}
 use Rattle.std.proofs.Common.{inl, inr, length-set}
 use Rattle.std.proofs.Math.Nat.{mul-le-mul_right}
 use Rattle.std.proofs.lemmas.Bool.{cases_eq, cases_lt}
@@ -13,8 +14,8 @@ use Rattle.px_pixel.specs.Pixels.{PixelState}
 use Rattle.px_pixel.specs.declared.act.Act.{Act}
 use Rattle.px_pixel.specs.declared.act.Act.TheVariants as act
 use Rattle.px_planes.specs.Pixels.{acted_at}
-use Rattle.px_state.specs.Cells.{pixel_in, word_bit}
-use Rattle.px_state.specs.Packing.{place_of}
+use Rattle.px_state.specs.Cells.{pixel_in_words, word_bit}
+use Rattle.px_state.specs.Packing.{memory_place}
 
 stored_other : (e v : Bool) (memory : List Bool) (at b : ℕ) → b ≢ at
     → bit_at (if e then slice_set memory at v else memory) b ≡ bit_at memory b
@@ -22,7 +23,7 @@ stored_other true v memory at b other = get_or-set_other memory at b v false oth
 stored_other false v memory at b other = refl
 
 -- an act leaves all other bits, and their number
-pub other_bits : (inside : Bool) (a : Act) (t : Bool) (p : PixelState) (b : ℕ) → b ≢ place_of a
+pub other_bits : (inside : Bool) (a : Act) (t : Bool) (p : PixelState) (b : ℕ) → b ≢ memory_place a
     → bit_at (acted_at inside a t p).memory b ≡ bit_at p.memory b
 other_bits inside act.Nop t p b other = refl
 other_bits inside act.EnableAll t p b other = refl
@@ -39,7 +40,8 @@ other_bits inside (act.CarryTree at) t p b other = refl
 other_bits inside (act.CarryLatch at) t p b other = refl
 other_bits inside (act.AddTree at) t p b other = stored_other p.enable _ p.memory at b other
 
-pub length-acted : (inside : Bool) (a : Act) (t : Bool) (p : PixelState) → length (acted_at inside a t p).memory ≡ length p.memory
+pub length-acted : (inside : Bool) (a : Act) (t : Bool) (p : PixelState) → length (acted_at inside a t p).memory
+    ≡ length p.memory
 length-acted inside act.Nop t p = refl
 length-acted inside act.EnableAll t p = refl
 length-acted inside (act.EnableCarry v) t p = refl
@@ -158,7 +160,7 @@ module _ (bits plane at k : ℕ) (words : List ℕ) (memory enable carry latch :
   pub written_pixel : (i : ℕ) (p : PixelState) → nat_bit memory i ≡ bit_at p.memory at → nat_bit enable i ≡ p.enable
       → nat_bit carry i ≡ p.carry → nat_bit latch i ≡ p.latch → length p.memory ≡ bits
       → ((b : ℕ) → b < bits → b ≢ at → bit_at p.memory b ≡ word_bit words (b * plane + k) i)
-      → pixel_in bits plane with_words k i ≡ p
+      → pixel_in_words bits plane with_words k i ≡ p
   written_pixel i p m e c l long rest =
       let bit_is : (b : ℕ) → b < bits → bit_at p.memory b ≡ word_bit with_words (b * plane + k) i =
       λ b below. elim (cases_eq b at) [
@@ -175,11 +177,14 @@ module _ (bits plane at k : ℕ) (words : List ℕ) (memory enable carry latch :
       ) refl
 
   -- and all others
-  pub other_pixel : (j i : ℕ) → j < plane → j ≢ k → pixel_in bits plane with_words j i ≡ pixel_in bits plane words j i
+  pub other_pixel : (j i : ℕ) → j < plane → j ≢ k → pixel_in_words bits plane with_words j i
+      ≡ pixel_in_words bits plane words j i
   other_pixel j i in_plane other =
       let word : (b : ℕ) → word_bit with_words (b * plane + j) i ≡ word_bit words (b * plane + j) i =
       λ b. ap (λ w. nat_bit w i) (beside_word b j in_plane other) in
-      let bits_are : tabulate bits (λ b. word_bit with_words (b * plane + j) i) ≡ tabulate bits (λ b. word_bit words (b * plane + j) i) =
-      is_tabulate (tabulate bits (λ b. word_bit with_words (b * plane + j) i)) bits (λ b. word_bit words (b * plane + j) i)
+      let bits_are : tabulate bits (λ b. word_bit with_words (b * plane + j) i)
+      ≡ tabulate bits (λ b. word_bit words (b * plane + j) i) =
+      is_tabulate (tabulate bits (λ b. word_bit with_words (b * plane + j) i)) bits
+      (λ b. word_bit words (b * plane + j) i)
       false (length-tabulate bits _) (λ b below. get_or-tabulate bits _ b false below ∙ word b) in
       rw (bits_are, word bits, word (bits + 1), word (bits + 2)) refl

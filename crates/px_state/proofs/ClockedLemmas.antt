@@ -1,12 +1,15 @@
 -- A state by the pixels and nodes that stand in its words, and one clock of it.
-use Rattle.std.proofs.Common.{◌≡◌, ℕ, ◌+◌, ◌-◌, ◌*◌, ◌/◌, ◌%◌, ◌^◌, ◌<◌, ◌≤◌, nat_lt, Bool, true, false, cond, not, List, [], ◌∷◌, length, drop, take, map, get_or, None, Some, refl, sym, ap, ◌∙◌, arith}
+use Rattle.std.proofs.Common.{◌≡◌, ℕ, ◌+◌, ◌-◌, ◌*◌, ◌/◌, ◌%◌, ◌^◌, ◌<◌, ◌≤◌, nat_lt, Bool, true, false, cond}
+use Rattle.std.proofs.Common.{not, List, [], ◌∷◌, length, drop, take, map, get_or, None, Some, refl, sym, ap}
+use Rattle.std.proofs.Common.{◌∙◌, arith}
 use Rattle.std.proofs.Common.{inl, inr}
 use Rattle.px_num.proofs.BitLaws.{pow_above}
 use Rattle.px_num.proofs.TruthLaws.{power_grows}
 use Rattle.px_rows.proofs.BitLaws.{bit_of_zero}
 use Rattle.px_tree.specs.declared.lines.Lines.{Lines}
 use Rattle.px_tree.specs.declared.node.Node.{Node}
-use Rattle.std.proofs.Math.Nat.{div-add-mod, div-lt_iff_lt-mul, le-mul_of_pos_right, mod-lt, add-mul-div_right, add-mul-mod_self_right, mul_assoc}
+use Rattle.std.proofs.Math.Nat.{div-add-mod, div-lt_iff_lt-mul, le-mul_of_pos_right, mod-lt, add-mul-div_right}
+use Rattle.std.proofs.Math.Nat.{add-mul-mod_self_right, mul_assoc}
 use Rattle.std.proofs.lemmas.Bool.{cases_eq, cases_lt}
 use Rattle.std.proofs.lemmas.List.{get_or-drop, get_or-replicate, length-drop, length-replicate, map-append, take_more}
 use Rattle.std.proofs.lemmas.List.Sums.{fails_before_first}
@@ -26,11 +29,13 @@ use Rattle.px_pixel.specs.declared.act.Act.{Act}
 use Rattle.px_planes.specs.Pixels.{acted_at}
 use Rattle.px_planes.proofs.GridLemmas.{acted_inside, acted_outside}
 use Rattle.px_tree.specs.Nodes.{TreeState, after_feed, at_place, cleared, leaf_bit, leaf_output, next_at, zero_node}
-use Rattle.px_state.specs.Cells.{HoldsLeaves, HoldsNodes, HoldsPixels, IsShape, fed_in, leaf_in, leaf_over, nodes_at, output_in, carry_in}
-use Rattle.px_state.specs.Cells.{pixel_here, pixel_in, word_bit}
+use Rattle.px_state.specs.Cells.{HoldsLeaves, HoldsNodes, HoldsPixels, IsShape, fed_in, leaf_in, leaf_over}
+use Rattle.px_state.specs.Cells.{nodes_at, output_in, carry_in}
+use Rattle.px_state.specs.Cells.{pixel_here, pixel_in_words, word_bit}
 use Rattle.px_state.specs.Clocking.{HoldsState, first_stray}
 use Rattle.px_state.specs.Packing.{is_micro, micro_in}
-use Rattle.px_state.specs.Words.{HasWords, column_bit, node_bit, node_words, plane_bit, plane_words, room_of, row_words, state_bit}
+use Rattle.px_state.specs.Words.{BeginsWithState, column_bit, node_bit, node_words, plane_bit, plane_words}
+use Rattle.px_state.specs.Words.{room_of, row_words, state_bit}
 use Rattle.px_state.specs.declared.shape.Shape.{Shape}
 use Rattle.px_state.proofs.ActingLemmas.{plane_end}
 
@@ -56,7 +61,8 @@ pub row_below : (shape : Shape) (k : ℕ) → IsShape shape → k < shape.plane 
 row_below shape k is below = (div-lt_iff_lt-mul (some_words shape.nx)).1 (omega (arith, is.plane))
 
 -- word k of plane b, by its row
-row_of : (rw ny b k : ℕ) → 0 < rw → k / rw < 2 ^ ny → ((b * (2 ^ ny * rw) + k) / rw ≡ b * 2 ^ ny + k / rw) × ((b * (2 ^ ny * rw) + k) % rw ≡ k % rw)
+row_of : (rw ny b k : ℕ) → 0 < rw → k / rw < 2 ^ ny → ((b * (2 ^ ny * rw) + k) / rw ≡ b * 2 ^ ny + k / rw)
+    × ((b * (2 ^ ny * rw) + k) % rw ≡ k % rw)
 row_of rw ny b k some below =
     let place : b * (2 ^ ny * rw) + k ≡ k + (b * 2 ^ ny) * rw = omega (arith, mul_assoc b (2 ^ ny) rw) in (
       ap (λ n. n / rw) place ∙ (add-mul-div_right k (b * 2 ^ ny) some ∙ omega arith),
@@ -86,7 +92,8 @@ plane_law shape s b k i is columns rows plane within =
 -- ---- from words to pixels and nodes, and back
 
 module _ (shape : Shape) (s : State) (is : IsShape shape) (grid : HasGrid shape.bits shape.nx shape.ny s) where
-  pub plane_here : (b k i : ℕ) → k < shape.plane → column_bit shape.bits s b (64 * (k % row_words shape.nx) + i) (k / row_words shape.nx)
+  pub plane_here : (b k i : ℕ) → k < shape.plane → column_bit shape.bits s b (64 * (k % row_words shape.nx) + i)
+      (k / row_words shape.nx)
       ≡ cond (nat_lt (64 * (k % row_words shape.nx) + i) (2 ^ shape.nx))
       (plane_bit shape.bits s b (64 * (k % row_words shape.nx) + i) (k / row_words shape.nx)) false
   plane_here b k i within = rw grid.columns refl
@@ -97,7 +104,8 @@ module _ (shape : Shape) (s : State) (is : IsShape shape) (grid : HasGrid shape.
       let rows : s.tree.ny ≡ shape.ny = grid.rows in
       rw (rows, pow-add 2 shape.nx shape.ny) (omega (arith, plane_end x (2 ^ shape.nx) (2 ^ shape.ny) column))
 
-  bits_of_pixel : (p : PixelState) (f : ℕ → Bool) → length p.memory ≡ shape.bits → ((b : ℕ) → b < shape.bits → f b ≡ bit_at p.memory b)
+  bits_of_pixel : (p : PixelState) (f : ℕ → Bool) → length p.memory ≡ shape.bits
+      → ((b : ℕ) → b < shape.bits → f b ≡ bit_at p.memory b)
       → tabulate shape.bits f ≡ p.memory
   bits_of_pixel p f long each = sym (is_tabulate p.memory shape.bits f false long (λ b below. sym (each b below)))
 
@@ -148,7 +156,8 @@ module _ (shape : Shape) (s : State) (is : IsShape shape) (grid : HasGrid shape.
           elim (cases_lt x (2 ^ shape.nx)) [
             | inl column ↦
                 let in_grid = lt_true x (2 ^ shape.nx) column in
-                let at : (b : ℕ) → b < shape.bits + 4 → word_bit words (b * shape.plane + k) i ≡ plane_bit shape.bits s b x y =
+                let at : (b : ℕ) → b < shape.bits + 4 → word_bit words (b * shape.plane + k) i
+                ≡ plane_bit shape.bits s b x y =
                 λ b below. here b below ∙ rw in_grid refl in
                 let p = pixel_of s x y in
                 let long : length p.memory ≡ shape.bits = grid.memory (x * 2 ^ s.tree.ny + y)
@@ -199,7 +208,7 @@ module _ (shape : Shape) (s : State) (is : IsShape shape) (grid : HasGrid shape.
         y : ℕ
         y = k / row_words shape.nx
 
-        p : pixel_in shape.bits shape.plane words k i ≡ pixel_here shape s k i
+        p : pixel_in_words shape.bits shape.plane words k i ≡ pixel_here shape s k i
         p = pixels.each k i within inside
 
         on_grid : (v : Bool) (u : Bool) → (x < 2 ^ shape.nx → u ≡ v) → (2 ^ shape.nx ≤ x → u ≡ false)
@@ -215,7 +224,8 @@ module _ (shape : Shape) (s : State) (is : IsShape shape) (grid : HasGrid shape.
         outer : (2 ^ shape.nx ≤ x) → pixel_here shape s k i ≡ zero_pixel shape.bits
         outer past = rw (lt_false x (2 ^ shape.nx) past) refl
 
-        by_plane : word_bit words (b * shape.plane + k) i ≡ cond (nat_lt x (2 ^ shape.nx)) (plane_bit shape.bits s b x y) false
+        by_plane : word_bit words (b * shape.plane + k) i ≡ cond (nat_lt x (2 ^ shape.nx))
+            (plane_bit shape.bits s b x y) false
         by_plane = elim (cases_lt b shape.bits) [
           | inl low ↦
               let read = sym (get_or-tabulate shape.bits (λ b. word_bit words (b * shape.plane + k) i) b false low)
@@ -226,15 +236,18 @@ module _ (shape : Shape) (s : State) (is : IsShape shape) (grid : HasGrid shape.
               ∙ get_or-replicate shape.bits b false false low))
           | inr high ↦ elim (cases_eq b shape.bits) [
             | inl e ↦
-                rw e (on_grid _ _ (λ column. ap (λ (p : PixelState). p.enable) (p ∙ inner column) ∙ sym (enable_plane x y))
+                rw e (on_grid _ _ (λ column. ap (λ (p : PixelState). p.enable) (p ∙ inner column)
+                ∙ sym (enable_plane x y))
                 (λ past. ap (λ (p : PixelState). p.enable) (p ∙ outer past)))
             | inr not_enable ↦ elim (cases_eq b (shape.bits + 1)) [
               | inl e ↦
-                  rw e (on_grid _ _ (λ column. ap (λ (p : PixelState). p.carry) (p ∙ inner column) ∙ sym (carry_plane x y))
+                  rw e (on_grid _ _ (λ column. ap (λ (p : PixelState). p.carry) (p ∙ inner column)
+                  ∙ sym (carry_plane x y))
                   (λ past. ap (λ (p : PixelState). p.carry) (p ∙ outer past)))
               | inr not_carry ↦ elim (cases_eq b (shape.bits + 2)) [
                 | inl e ↦
-                    rw e (on_grid _ _ (λ column. ap (λ (p : PixelState). p.latch) (p ∙ inner column) ∙ sym (latch_plane x y))
+                    rw e (on_grid _ _ (λ column. ap (λ (p : PixelState). p.latch) (p ∙ inner column)
+                    ∙ sym (latch_plane x y))
                     (λ past. ap (λ (p : PixelState). p.latch) (p ∙ outer past)))
                 | inr not_latch ↦
                     let e : b ≡ shape.bits + 3 = omega arith in
@@ -321,14 +334,17 @@ module _ (shape : Shape) (s : State) (is : IsShape shape) (words : List ℕ) whe
                 let bit : i ≡ p % 64 = omega arith in
                 ap (λ k. word_bit words k i) place ∙ (ap (λ i. word_bit words (nodes_at shape + p / 64) i) bit
                 ∙ (nodes.output p (omega arith)
-                ∙ rw (sizes, count, lt_false k (nodes_at shape) high, lt_true k (nodes_at shape + shape.nodes) low) refl))
+                ∙ rw (sizes, count, lt_false k (nodes_at shape) high, lt_true k (nodes_at shape + shape.nodes) low)
+                refl))
             | inr past ↦
                 let p = 64 * (k - (nodes_at shape + shape.nodes)) + i in
                 let place : k ≡ nodes_at shape + shape.nodes + p / 64 = omega arith in
                 let bit : i ≡ p % 64 = omega arith in
-                ap (λ k. word_bit words k i) place ∙ (ap (λ i. word_bit words (nodes_at shape + shape.nodes + p / 64) i) bit
+                ap (λ k. word_bit words k i) place
+                ∙ (ap (λ i. word_bit words (nodes_at shape + shape.nodes + p / 64) i) bit
                 ∙ (nodes.carry p (omega (arith, within, room_is shape is))
-                ∙ rw (sizes, count, lt_false k (nodes_at shape) high, lt_false k (nodes_at shape + shape.nodes) past) refl))
+                ∙ rw (sizes, count, lt_false k (nodes_at shape) high, lt_false k (nodes_at shape + shape.nodes) past)
+                refl))
           ]
         ];
   }
@@ -340,8 +356,9 @@ two_leaves shape is = power_grows 1 (shape.nx + shape.ny) (omega (arith, is.grid
 
 module _ (shape : Shape) (s : State) (is : IsShape shape) (grid : HasGrid shape.bits shape.nx shape.ny s) (act : Act)
     (old new : List ℕ) (pixels : HoldsPixels shape s old) (leaves : HoldsLeaves shape s.tree old)
-    (done : (k i : ℕ) → k < shape.plane → i < 64 → pixel_in shape.bits shape.plane new k i
-    ≡ acted_at (nat_bit shape.full i) act (leaf_in shape.bits shape.plane old k i) (pixel_in shape.bits shape.plane old k i)) where
+    (done : (k i : ℕ) → k < shape.plane → i < 64 → pixel_in_words shape.bits shape.plane new k i
+    ≡ acted_at (nat_bit shape.full i) act (leaf_in shape.bits shape.plane old k i)
+    (pixel_in_words shape.bits shape.plane old k i)) where
   abbrev pub acted_state : State
   acted_state = record { pixels = acted act s.tree s.pixels; tree = s.tree }
 
@@ -366,7 +383,8 @@ module _ (shape : Shape) (s : State) (is : IsShape shape) (grid : HasGrid shape.
         ]);
   }
 
-module _ (shape : Shape) (tree : TreeState) (is : IsShape shape) (columns : tree.nx ≡ shape.nx) (rows : tree.ny ≡ shape.ny)
+module _ (shape : Shape) (tree : TreeState) (is : IsShape shape) (columns : tree.nx ≡ shape.nx)
+    (rows : tree.ny ≡ shape.ny)
     (old new : List ℕ) where
   abbrev total : ℕ
   total = 2 ^ (shape.nx + shape.ny + 1)
@@ -384,7 +402,8 @@ module _ (shape : Shape) (tree : TreeState) (is : IsShape shape) (columns : tree
       | inr some ↦ elim (cases_lt p total) [
         | inr past ↦ rw (columns, rows, lt_false p 2 some, lt_false p total past) none
         | inl inside ↦
-            let node = get_or-tabulate total (next_at lines.a lines.b lines.c (2 ^ (shape.nx + 1)) tree.nodes) p zero_node inside in
+            let node = get_or-tabulate total (next_at lines.a lines.b lines.c (2 ^ (shape.nx + 1)) tree.nodes) p
+            zero_node inside in
             let carry : carry_in shape old p ≡ (at_place tree.nodes p).carry =
             nodes.carry p within ∙ rw (columns, rows, lt_false p 2 some, lt_true p total inside) refl in
             rw (columns, rows, lt_true p total inside, node, carry, lt_false p 2 some)
@@ -412,7 +431,8 @@ module _ (shape : Shape) (tree : TreeState) (is : IsShape shape) (columns : tree
       → HoldsNodes shape (cleared tree.nx tree.ny) new
   cleared_nodes zero = record {
     output = λ p within.
-        ap (λ w. nat_bit w (p % 64)) (zero (p / 64) (omega arith)) ∙ (bit_of_zero (p % 64) ∙ sym (none p (λ n. n.output) refl));
+        ap (λ w. nat_bit w (p % 64)) (zero (p / 64) (omega arith))
+        ∙ (bit_of_zero (p % 64) ∙ sym (none p (λ n. n.output) refl));
     carry = λ p within.
         let place : nodes_at shape + shape.nodes + p / 64 ≡ nodes_at shape + (shape.nodes + p / 64) = omega arith in
         ap (λ k. word_bit new k (p % 64)) place
@@ -420,7 +440,8 @@ module _ (shape : Shape) (tree : TreeState) (is : IsShape shape) (columns : tree
         ∙ (bit_of_zero (p % 64) ∙ sym (none p (λ n. n.carry) refl)));
   }
     where
-      none : (p : ℕ) (latch : Node → Bool) → latch zero_node ≡ false → node_bit latch (cleared tree.nx tree.ny) p ≡ false
+      none : (p : ℕ) (latch : Node → Bool) → latch zero_node ≡ false → node_bit latch (cleared tree.nx tree.ny) p
+          ≡ false
       none p latch zero = elim (cases_lt p 2) [
         | inl low ↦ rw (lt_true p 2 low) refl
         | inr some ↦ elim (cases_lt p (2 ^ (tree.nx + tree.ny + 1))) [
@@ -453,7 +474,12 @@ module _ (shape : Shape) (tree : TreeState) (is : IsShape shape) (columns : tree
               let leaf = 2 ^ (shape.nx + shape.ny) + (x * 2 ^ shape.ny + y) in
               let output = nodes.output leaf (omega (arith, place, twice, enough)) in
               rw (lt_true x (2 ^ shape.nx) column) (output
-              ∙ rw (columns, rows, lt_false leaf 2 (omega (arith, some)), lt_true leaf total (omega (arith, place, twice))) refl)
+              ∙ rw (
+                columns,
+                rows,
+                lt_false leaf 2 (omega (arith, some)),
+                lt_true leaf total (omega (arith, place, twice)),
+              ) refl)
           | inr past ↦ rw (lt_false x (2 ^ shape.nx) past) refl
         ];
   }
@@ -461,15 +487,18 @@ module _ (shape : Shape) (tree : TreeState) (is : IsShape shape) (columns : tree
 -- ---- what is kept
 
 pub kept_pixels : (shape : Shape) (s : State) (old new : List ℕ)
-    → ((j : ℕ) → j < (shape.bits + 3) * shape.plane → get_or new j 0 ≡ get_or old j 0) → HoldsPixels shape s old → HoldsPixels shape s new
+    → ((j : ℕ) → j < (shape.bits + 3) * shape.plane → get_or new j 0 ≡ get_or old j 0) → HoldsPixels shape s old
+    → HoldsPixels shape s new
 kept_pixels shape s old new same held = record {
   each = λ k i within inside.
       let bits = shape.bits in
       let plane = shape.plane in
       let word : (b : ℕ) → b < bits + 3 → word_bit new (b * plane + k) i ≡ word_bit old (b * plane + k) i =
       λ b below. ap (λ w. nat_bit w i) (same (b * plane + k) (omega (arith, plane_end b (bits + 3) plane below))) in
-      let memory : tabulate bits (λ at. word_bit new (at * plane + k) i) ≡ tabulate bits (λ at. word_bit old (at * plane + k) i) =
-      is_tabulate (tabulate bits (λ at. word_bit new (at * plane + k) i)) bits (λ at. word_bit old (at * plane + k) i) false
+      let memory : tabulate bits (λ at. word_bit new (at * plane + k) i)
+      ≡ tabulate bits (λ at. word_bit old (at * plane + k) i) =
+      is_tabulate (tabulate bits (λ at. word_bit new (at * plane + k) i)) bits (λ at. word_bit old (at * plane + k) i)
+      false
       (length-tabulate bits (λ at. word_bit new (at * plane + k) i))
       (λ b below. get_or-tabulate bits (λ at. word_bit new (at * plane + k) i) b false below ∙ word b (omega arith)) in
       rw (memory, word bits (omega arith), word (bits + 1) (omega arith), word (bits + 2) (omega arith))
@@ -477,14 +506,16 @@ kept_pixels shape s old new same held = record {
 }
 
 pub kept_leaves : (shape : Shape) (tree : TreeState) (old new : List ℕ)
-    → ((j : ℕ) → (shape.bits + 3) * shape.plane ≤ j → get_or new j 0 ≡ get_or old j 0) → HoldsLeaves shape tree old → HoldsLeaves shape tree new
+    → ((j : ℕ) → (shape.bits + 3) * shape.plane ≤ j → get_or new j 0 ≡ get_or old j 0) → HoldsLeaves shape tree old
+    → HoldsLeaves shape tree new
 kept_leaves shape tree old new same held = record {
   each = λ k i within inside.
       ap (λ w. nat_bit w i) (same ((shape.bits + 3) * shape.plane + k) (omega arith)) ∙ held.each k i within inside;
 }
 
 pub kept_nodes : (shape : Shape) (tree : TreeState) (old new : List ℕ)
-    → ((j : ℕ) → nodes_at shape ≤ j → get_or new j 0 ≡ get_or old j 0) → HoldsNodes shape tree old → HoldsNodes shape tree new
+    → ((j : ℕ) → nodes_at shape ≤ j → get_or new j 0 ≡ get_or old j 0) → HoldsNodes shape tree old
+    → HoldsNodes shape tree new
 kept_nodes shape tree old new same held = record {
   output = λ p within.
       ap (λ w. nat_bit w (p % 64)) (same (nodes_at shape + p / 64) (omega arith)) ∙ held.output p within;
@@ -493,7 +524,8 @@ kept_nodes shape tree old new same held = record {
 }
 
 -- a clock, once its pixels have done their act, and leaves and nodes are those of the tree behind it
-pub clock_law : (shape : Shape) (s : State) (m : Micro) (new : List ℕ) → IsShape shape → HasGrid shape.bits shape.nx shape.ny s
+pub clock_law : (shape : Shape) (s : State) (m : Micro) (new : List ℕ) → IsShape shape
+    → HasGrid shape.bits shape.nx shape.ny s
     → HoldsPixels shape (record { pixels = acted m.act s.tree s.pixels; tree = s.tree }) new
     → HoldsLeaves shape (after_tree_op m.tree s.tree) new → HoldsNodes shape (after_tree_op m.tree s.tree) new
     → HoldsState shape.bits shape.nx shape.ny (after_clock m s) new
@@ -514,7 +546,7 @@ same_behind n xs ys long same =
     (λ i below. get_or-drop n ys i 0))
 
 pub has_words : (bits nx ny : ℕ) (s : State) (old new : List ℕ) → HoldsState bits nx ny s new → length new ≡ length old
-    → ((j : ℕ) → room_of bits nx ny ≤ j → get_or new j 0 ≡ get_or old j 0) → HasWords bits s old new
+    → ((j : ℕ) → room_of bits nx ny ≤ j → get_or new j 0 ≡ get_or old j 0) → BeginsWithState bits s old new
 has_words bits nx ny s old new held long behind =
     let grid = held.grid in
     let room : room_of bits s.tree.nx s.tree.ny ≡ room_of bits nx ny = rw (grid.columns, grid.rows) refl in

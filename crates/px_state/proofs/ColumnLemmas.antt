@@ -1,5 +1,6 @@
 -- Planes column by column, and the words of their rows.
-use Rattle.std.proofs.Common.{◌≡◌, ◌≢◌, ℕ, zero, suc, replicate, ◌+◌, ◌*◌, ◌/◌, ◌%◌, ◌^◌, ◌<◌, ◌≤◌, List, get_or, refl, sym, ap, ◌∙◌, arith, inl, inr}
+use Rattle.std.proofs.Common.{◌≡◌, ◌≢◌, ℕ, zero, suc, replicate, ◌+◌, ◌*◌, ◌/◌, ◌%◌, ◌^◌, ◌<◌, ◌≤◌, List}
+use Rattle.std.proofs.Common.{get_or, refl, sym, ap, ◌∙◌, arith, inl, inr}
 use Rattle.std.proofs.Math.Nat.{mod-lt}
 use Rattle.std.proofs.lemmas.Bool.{cases_lt}
 use Rattle.std.proofs.lemmas.List.{get_or_past}
@@ -13,7 +14,7 @@ use Rattle.px_array.specs.Arrays.{State, pixel_of}
 use Rattle.px_array.specs.Words.{IsMemoryWord, memory_bit}
 use Rattle.px_state.specs.Cells.{IsShape}
 use Rattle.px_rows.specs.Rows as places
-use Rattle.px_state.specs.Columns.{HasSize, HoldsBlock, HoldsRows, column_words, memory_in, row_word}
+use Rattle.px_state.specs.Columns.{IsShapeOf, HoldsBlock, HoldsRows, column_words, memory_in, row_word}
 use Rattle.px_state.specs.Words.{column_bit, room_of, row_words, state_bit}
 use Rattle.px_state.specs.declared.shape.Shape.{Shape}
 use Rattle.px_state.proofs.ActingLemmas.{plane_end}
@@ -73,7 +74,8 @@ row_at words w b within =
 
 -- a block that was turned over
 pub turned_in : (s : State) (at c w : ℕ) (block turned : List ℕ) → HoldsBlock s at c w block
-    → ((p : ℕ) → p < 4096 → places.row_bit turned p ≡ places.row_bit block (64 * (p % 64) + p / 64)) → (j i : ℕ) → j < 64 → i < 64
+    → ((p : ℕ) → p < 4096 → places.row_bit turned p ≡ places.row_bit block (64 * (p % 64) + p / 64)) → (j i : ℕ)
+    → j < 64 → i < 64
     → 64 * w + j < 2 ^ s.tree.ny → nat_bit (get_or turned j 0) i ≡ memory_in s at (64 * c + i) (64 * w + j)
 turned_in s at c w block turned held over j i word bit row =
     let p = 64 * j + i in
@@ -93,13 +95,16 @@ empty_at i = elim (cases_lt i 64) [
 
 -- one block more
 pub more_rows : (s : State) (at b : ℕ) (old new block : List ℕ) → 1 ≤ column_words s.tree.ny
-    → ((c w j i : ℕ) → c * column_words s.tree.ny + w < b → w < column_words s.tree.ny → j < 64 → i < 64 → 64 * w + j < 2 ^ s.tree.ny
+    → ((c w j i : ℕ) → c * column_words s.tree.ny + w < b → w < column_words s.tree.ny → j < 64 → i < 64
+    → 64 * w + j < 2 ^ s.tree.ny
     → nat_bit (get_or old (64 * (c * column_words s.tree.ny + w) + j) 0) i ≡ memory_in s at (64 * c + i) (64 * w + j))
     → ((j i : ℕ) → j < 64 → i < 64 → 64 * (b % column_words s.tree.ny) + j < 2 ^ s.tree.ny
-    → nat_bit (get_or block j 0) i ≡ memory_in s at (64 * (b / column_words s.tree.ny) + i) (64 * (b % column_words s.tree.ny) + j))
+    → nat_bit (get_or block j 0) i ≡ memory_in s at (64 * (b / column_words s.tree.ny) + i)
+    (64 * (b % column_words s.tree.ny) + j))
     → ((j : ℕ) → j < 64 → get_or new (64 * b + j) 0 ≡ get_or block j 0)
     → ((j : ℕ) → j / 64 ≢ b → get_or new j 0 ≡ get_or old j 0)
-    → (c w j i : ℕ) → c * column_words s.tree.ny + w < b + 1 → w < column_words s.tree.ny → j < 64 → i < 64 → 64 * w + j < 2 ^ s.tree.ny
+    → (c w j i : ℕ) → c * column_words s.tree.ny + w < b + 1 → w < column_words s.tree.ny → j < 64 → i < 64
+    → 64 * w + j < 2 ^ s.tree.ny
     → nat_bit (get_or new (64 * (c * column_words s.tree.ny + w) + j) 0) i ≡ memory_in s at (64 * c + i) (64 * w + j)
 more_rows s at b old new block some before here put others c w j i low word row bit within =
     let each = column_words s.tree.ny in
@@ -117,7 +122,8 @@ more_rows s at b old new block some before here put others c w j i low word row 
     ]
 
 -- the word of a row is that of a state
-pub row_held : (shape : Shape) (s : State) (at k i : ℕ) (rows : List ℕ) → IsShape shape → HasSize shape s → at < shape.bits
+pub row_held : (shape : Shape) (s : State) (at k i : ℕ) (rows : List ℕ) → IsShape shape → IsShapeOf shape s
+    → at < shape.bits
     → HoldsRows s at rows → k < shape.plane → i < 64
     → nat_bit (row_word shape rows k) i ≡ state_bit shape.bits s (at * shape.plane + k) i
 row_held shape s at k i rows is size plane held within inside =
@@ -141,7 +147,8 @@ row_held shape s at k i rows is size plane held within inside =
     read : nat_bit (row_word shape rows k) i ≡ memory_in s at (64 * c + i) y
     read =
         ap (λ ny. nat_bit (get_or rows (64 * (c * column_words ny + y / 64) + y % 64) 0) i) (sym size.rows)
-        ∙ (held c (y / 64) (y % 64) i (rw size.columns in_row_words) (rw size.rows (omega (arith, low))) (omega arith) inside
+        ∙ (held c (y / 64) (y % 64) i (rw size.columns in_row_words) (rw size.rows (omega (arith, low))) (omega arith)
+        inside
         (rw (size.rows, whole) low)
         ∙ ap (memory_in s at (64 * c + i)) whole)
 

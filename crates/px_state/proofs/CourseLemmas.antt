@@ -1,5 +1,6 @@
 -- The broadcasts of operations, one operation after another.
-use Rattle.std.proofs.Common.{◌≡◌, ℕ, suc, ◌+◌, ◌-◌, ◌<◌, ◌≤◌, min, List, ◌∷◌, ◌++◌, length, take, drop, get_or, Some, sym, ap, ◌∙◌, arith}
+use Rattle.std.proofs.Common.{◌≡◌, ℕ, suc, ◌+◌, ◌-◌, ◌<◌, ◌≤◌, min, List, ◌∷◌, ◌++◌, length, take, drop, get_or}
+use Rattle.std.proofs.Common.{Some, sym, ap, ◌∙◌, arith}
 use Rattle.std.proofs.Common.{inl, inr, length-append}
 use Rattle.std.specs.List.{between, flat_map, slice_get}
 use Rattle.std.proofs.Math.Seq.{drop-cons, take-append-add, take-append_seam}
@@ -18,18 +19,19 @@ use Rattle.px_macro.specs.declared.operation.Macro.{Macro}
 use Rattle.px_macro.specs.declared.operation.Macro.TheVariants as op
 use Rattle.px_listing.specs.Listings.{ListingView}
 use Rattle.px_control.proofs.StepLemmas.{below_total, micro_here, start_more}
-use Rattle.px_state.specs.Courses.{IsNext, broadcasts, device_after, start_of, total}
+use Rattle.px_state.specs.Courses.{IsNextBroadcast, broadcasts, device_after, start_in_listing, total_of_listing}
 
 -- the micro of a cycle is the broadcast at its clock
 pub broadcast_here : (l : ListingView) (k i : ℕ) (m : Macro) → slice_get l.macros k ≡ Some m → i < cycles m l.nx l.ny
-    → slice_get (broadcasts l) (start_of l k + i) ≡ Some (micro_at m l.nx l.ny i)
+    → slice_get (broadcasts l) (start_in_listing l k + i) ≡ Some (micro_at m l.nx l.ny i)
 broadcast_here l k i m here within =
     let d = micro_at m l.nx l.ny i in
-    slice_get-get_or (broadcasts l) (start_of l k + i) d (below_total l.macros l.nx l.ny k i m here within)
+    slice_get-get_or (broadcasts l) (start_in_listing l k + i) d (below_total l.macros l.nx l.ny k i m here within)
     ∙ ap (λ x. Some x) (micro_here l.macros l.nx l.ny k i m d here within)
 
 pub next_here : (l : ListingView) (n k i : ℕ) (m : Macro) (micro : Micro) → slice_get l.macros k ≡ Some m
-    → i < cycles m l.nx l.ny → n ≡ start_of l k + i → micro ≡ micro_at m l.nx l.ny i → IsNext l n k i micro
+    → i < cycles m l.nx l.ny → n ≡ start_in_listing l k + i → micro ≡ micro_at m l.nx l.ny i
+    → IsNextBroadcast l n k i micro
 next_here l n k i m micro here within at is = record {
   clock = at;
   has = record { m = m; is = here; within = within };
@@ -38,16 +40,17 @@ next_here l n k i m micro here within at is = record {
 
 -- operation k of a list, and where the next begins
 pub begins : (l : ListingView) (k : ℕ) (m : Macro) → slice_get l.macros k ≡ Some m
-    → start_of l (k + 1) ≡ start_of l k + cycles m l.nx l.ny
+    → start_in_listing l (k + 1) ≡ start_in_listing l k + cycles m l.nx l.ny
 begins l k m here = start_more l.macros l.nx l.ny k m here
 
 -- behind the last operation all is broadcast
-pub begins_all : (l : ListingView) (k : ℕ) → length l.macros ≤ k → start_of l k ≡ total l
+pub begins_all : (l : ListingView) (k : ℕ) → length l.macros ≤ k → start_in_listing l k ≡ total_of_listing l
 begins_all l k past = ap (λ ms. length (all_micros ms l.nx l.ny)) (take_all k l.macros past)
 
 -- the broadcasts up to a cycle of an operation
 pub front_with : (l : ListingView) (k i : ℕ) (m : Macro) → slice_get l.macros k ≡ Some m → i ≤ cycles m l.nx l.ny →
-    take (start_of l k + i) (broadcasts l) ≡ take (start_of l k) (broadcasts l) ++ take i (micros m l.nx l.ny)
+    take (start_in_listing l k + i) (broadcasts l) ≡ take (start_in_listing l k) (broadcasts l)
+    ++ take i (micros m l.nx l.ny)
 front_with l k i m here within =
     let f : Macro → List Micro = λ m. micros m l.nx l.ny in
     let inside = slice_get_within l.macros k m here in
@@ -71,33 +74,37 @@ front_with l k i m here within =
 -- a new array goes on by the first cycles of an operation
 pub device_with : (bits : ℕ) (l : ListingView) (k i : ℕ) (m : Macro) → slice_get l.macros k ≡ Some m
     → i ≤ cycles m l.nx l.ny →
-    all_clocked (between 0 i (micros m l.nx l.ny)) (device_after bits l (start_of l k)) ≡ device_after bits l (start_of l k + i)
+    all_clocked (between 0 i (micros m l.nx l.ny)) (device_after bits l (start_in_listing l k))
+    ≡ device_after bits l (start_in_listing l k + i)
 device_with bits l k i m here within =
     let zeros = zero_state bits l.nx l.ny in
     let ms = take i (micros m l.nx l.ny) in
     let front = between_from_start (micros m l.nx l.ny) i in
     let count : length ms ≡ i =
-    length-take-le i (micros m l.nx l.ny) (omega (arith, length-tabulate (cycles m l.nx l.ny) (micro_at m l.nx l.ny), within)) in
-    let state : after_clocks (take (start_of l k + i) (broadcasts l)) zeros
-    ≡ after_clocks ms (after_clocks (take (start_of l k) (broadcasts l)) zeros) =
+    length-take-le i (micros m l.nx l.ny)
+    (omega (arith, length-tabulate (cycles m l.nx l.ny) (micro_at m l.nx l.ny), within)) in
+    let state : after_clocks (take (start_in_listing l k + i) (broadcasts l)) zeros
+    ≡ after_clocks ms (after_clocks (take (start_in_listing l k) (broadcasts l)) zeros) =
     ap (λ ms. after_clocks ms zeros) (front_with l k i m here within)
-    ∙ after_clocks-append (take (start_of l k) (broadcasts l)) ms zeros in
-    ap (λ ms. all_clocked ms (device_after bits l (start_of l k))) front
-    ∙ (ap (λ s. record { state = s; clocks = start_of l k + length ms }) (sym state)
+    ∙ after_clocks-append (take (start_in_listing l k) (broadcasts l)) ms zeros in
+    ap (λ ms. all_clocked ms (device_after bits l (start_in_listing l k))) front
+    ∙ (ap (λ s. record { state = s; clocks = start_in_listing l k + length ms }) (sym state)
     ∙ ap (λ n. record {
-      state = after_clocks (take (start_of l k + i) (broadcasts l)) zeros;
-      clocks = start_of l k + n;
+      state = after_clocks (take (start_in_listing l k + i) (broadcasts l)) zeros;
+      clocks = start_in_listing l k + n;
     }) count)
 
 -- the operation at a place
 pub here_in : (ms : List Macro) (i : ℕ) → i < length ms → slice_get ms i ≡ Some (get_or ms i op.All)
 here_in ms i within = slice_get-get_or ms i op.All within
 
-pub start_within : (l : ListingView) (k : ℕ) → start_of l k ≤ total l
+pub start_within : (l : ListingView) (k : ℕ) → start_in_listing l k ≤ total_of_listing l
 start_within l k =
     let f : Macro → List Micro = λ m. micros m l.nx l.ny in
-    let parts = sym (ap (flat_map f) (take-append-drop k l.macros)) ∙ flat_map-append f (take k l.macros) (drop k l.macros) in
-    let count = ap length parts ∙ length-append (all_micros (take k l.macros) l.nx l.ny) (all_micros (drop k l.macros) l.nx l.ny) in
+    let parts = sym (ap (flat_map f) (take-append-drop k l.macros))
+    ∙ flat_map-append f (take k l.macros) (drop k l.macros) in
+    let count = ap length parts ∙ length-append (all_micros (take k l.macros) l.nx l.ny)
+    (all_micros (drop k l.macros) l.nx l.ny) in
     omega (arith, count)
 
 -- the grid is that of the listing
@@ -119,13 +126,14 @@ none_made ms d =
 
 -- an array goes on by an operation, as far as clocks are left
 pub goes_on : (bits : ℕ) (l : ListingView) (i : ℕ) (m : Macro) (clock left made : ℕ) (d new : Device)
-    → slice_get l.macros i ≡ Some m → d ≡ device_after bits l (clock - left) → clock - left ≡ min clock (start_of l i)
+    → slice_get l.macros i ≡ Some m → d ≡ device_after bits l (clock - left)
+    → clock - left ≡ min clock (start_in_listing l i)
     → left ≤ clock → made ≡ min left (cycles m l.nx l.ny) → new ≡ all_clocked (between 0 made (micros m l.nx l.ny)) d
     → new ≡ device_after bits l (clock - (left - made))
 goes_on bits l i m clock left made d new here at so_far low is clocked = elim (cases_lt 0 left) [
   | inl some ↦
-      let begun : clock - left ≡ start_of l i = omega (arith, so_far, some, low) in
-      let end : start_of l i + made ≡ clock - (left - made) = omega (arith, begun, is, low) in
+      let begun : clock - left ≡ start_in_listing l i = omega (arith, so_far, some, low) in
+      let end : start_in_listing l i + made ≡ clock - (left - made) = omega (arith, begun, is, low) in
       clocked
       ∙ (ap (all_clocked (between 0 made (micros m l.nx l.ny))) (at ∙ ap (device_after bits l) begun)
       ∙ (device_with bits l i made m here (omega (arith, is)) ∙ ap (device_after bits l) end))

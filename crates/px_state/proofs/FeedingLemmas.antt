@@ -1,5 +1,7 @@
 -- A feed of the nodes whose latches stand in words.
-use Rattle.std.proofs.Common.{◌≡◌, ℕ, ◌+◌, ◌-◌, ◌*◌, ◌/◌, ◌%◌, ◌^◌, ◌<◌, ◌≤◌, ◌==◌, ◌&&◌, eqb, nat_lt, nat_le, ◌⊎◌, ◌≢◌, Bool, true, false, cond, List, length, get_or, set, length-set, refl, sym, ap, ◌∙◌, arith}
+use Rattle.std.proofs.Common.{◌≡◌, ℕ, ◌+◌, ◌-◌, ◌*◌, ◌/◌, ◌%◌, ◌^◌, ◌<◌, ◌≤◌, ◌==◌, ◌&&◌, eqb, nat_lt, nat_le}
+use Rattle.std.proofs.Common.{◌⊎◌, ◌≢◌, Bool, true, false, cond, List, length, get_or, set, length-set, refl}
+use Rattle.std.proofs.Common.{sym, ap, ◌∙◌, arith}
 use Rattle.std.proofs.Common.{inl, inr}
 use Rattle.std.proofs.lemmas.Bool.{cases_lt}
 use Rattle.std.proofs.lemmas.Bool.Decides.{nat_tests}
@@ -59,11 +61,13 @@ module _ (shape : Shape) (lines : Lines) (words : List ℕ) (w j : ℕ) (within 
           let parent_word : w / 2 ≡ (64 * w + j) / 2 / 64 = omega arith in
           let parent_bit : 32 * (w % 2) + j / 2 ≡ (64 * w + j) / 2 % 64 = omega arith in
           let carry_word : w ≡ (64 * w + j) / 64 = omega arith in
-          let carry_bit : nat_bit carry j ≡ word_bit words (nodes_at shape + shape.nodes + (64 * w + j) / 64) ((64 * w + j) % 64) =
+          let carry_bit : nat_bit carry j ≡ word_bit words (nodes_at shape + shape.nodes + (64 * w + j) / 64)
+          ((64 * w + j) % 64) =
           let bit : j ≡ (64 * w + j) % 64 = omega arith in
           ap (λ n. nat_bit n j) (carry_is ∙ ap (λ k. get_or words (nodes_at shape + shape.nodes + k) 0) carry_word)
           ∙ ap (λ i. word_bit words (nodes_at shape + shape.nodes + (64 * w + j) / 64) i) bit in
-          let parent : nat_bit parents j ≡ cond (nat_lt (64 * w + j) 4) lines.c (output_in shape words ((64 * w + j) / 2)) =
+          let parent : nat_bit parents j ≡ cond (nat_lt (64 * w + j) 4) lines.c
+          (output_in shape words ((64 * w + j) / 2)) =
           parent_is some ∙ ap (λ b. cond (nat_lt (64 * w + j) 4) lines.c b)
           (ap (λ k. word_bit words (nodes_at shape + k) (32 * (w % 2) + j / 2)) parent_word
           ∙ ap (λ i. word_bit words (nodes_at shape + (64 * w + j) / 2 / 64) i) parent_bit) in
@@ -81,19 +85,22 @@ module _ (shape : Shape) (lines : Lines) (words : List ℕ) (w j : ℕ) (within 
   ]
 
 -- a feed reads the outputs of the parents and the carries
-fed_same : (shape : Shape) (lines : Lines) (start words : List ℕ) (p : ℕ) → output_in shape words (p / 2) ≡ output_in shape start (p / 2)
+fed_same : (shape : Shape) (lines : Lines) (start words : List ℕ) (p : ℕ) → output_in shape words (p / 2)
+    ≡ output_in shape start (p / 2)
     → carry_in shape words p ≡ carry_in shape start p → fed_in shape lines words p ≡ fed_in shape lines start p
 unfolding fed_in
 fed_same shape lines start words p output carry = rw (output, carry) refl
 
 -- the words from `w` on are fed, and those before them are not
 pub record FedDown (shape : Shape) (lines : Lines) (w : ℕ) (start words : List ℕ) : Type 0 where
-  pub output : (p : ℕ) → 64 * w ≤ p → p < 64 * shape.nodes → output_in shape words p ≡ (fed_in shape lines start p).output
+  pub output : (p : ℕ) → 64 * w ≤ p → p < 64 * shape.nodes → output_in shape words p
+      ≡ (fed_in shape lines start p).output
   pub carry : (p : ℕ) → 64 * w ≤ p → p < 64 * shape.nodes → carry_in shape words p ≡ (fed_in shape lines start p).carry
   pub outputs : (k : ℕ) → k < w → get_or words (nodes_at shape + k) 0 ≡ get_or start (nodes_at shape + k) 0
   pub carries : (k : ℕ) → k < w
       → get_or words (nodes_at shape + shape.nodes + k) 0 ≡ get_or start (nodes_at shape + shape.nodes + k) 0
-  pub others : (j : ℕ) → (j < nodes_at shape) ⊎ (nodes_at shape + 2 * shape.nodes ≤ j) → get_or words j 0 ≡ get_or start j 0
+  pub others : (j : ℕ) → (j < nodes_at shape) ⊎ (nodes_at shape + 2 * shape.nodes ≤ j)
+      → get_or words j 0 ≡ get_or start j 0
   pub same : length words ≡ length start
 
 module _ (shape : Shape) (lines : Lines) (start words : List ℕ) (v output carry : ℕ) (within : v < shape.nodes)
@@ -154,7 +161,8 @@ module _ (shape : Shape) (lines : Lines) (start words : List ℕ) (v output carr
           ∙ before.carry p above high
     ];
     outputs = λ k low. kept (nodes_at shape + k) (omega arith) (omega arith) ∙ before.outputs k (omega arith);
-    carries = λ k low. kept (nodes_at shape + shape.nodes + k) (omega arith) (omega arith) ∙ before.carries k (omega arith);
+    carries = λ k low. kept (nodes_at shape + shape.nodes + k) (omega arith) (omega arith)
+        ∙ before.carries k (omega arith);
     others = λ j out. kept j (elim out [ inl low ↦ omega arith | inr high ↦ omega arith ])
         (elim out [ inl low ↦ omega arith | inr high ↦ omega arith ]) ∙ before.others j out;
     same = length-set first (nodes_at shape + shape.nodes + v) carry

@@ -1,5 +1,6 @@
 -- The operations of a text, one after another.
-use Rattle.std.proofs.Common.{◌≡◌, ℕ, ◌+◌, ◌<◌, ◌≤◌, true, false, List, [], ◌∷◌, ◌++◌, length, take, drop, get_or, Some, None, Result, Ok, Err, OnOk, inl, inr, sym, subst, ap, ◌∙◌, arith}
+use Rattle.std.proofs.Common.{◌≡◌, ℕ, ◌+◌, ◌<◌, ◌≤◌, true, false, List, [], ◌∷◌, ◌++◌, length, take, drop}
+use Rattle.std.proofs.Common.{get_or, Some, None, Result, Ok, Err, OnOk, inl, inr, sym, subst, ap, ◌∙◌, arith}
 use Rattle.std.proofs.Common.{length-append}
 use Rattle.std.specs.List.{flat_map, slice_get}
 use Rattle.std.proofs.lemmas.Bool.{cases_lt}
@@ -21,8 +22,8 @@ use Rattle.px_sched.specs.Passes.{operations, passes, steps}
 use Rattle.px_sched.specs.StepCursors.{literals_in}
 use Rattle.px_listing.specs.Listings.{ListingView}
 use Rattle.px_playing.specs.PassesText.{passes_listing}
-use Rattle.px_state.specs.Courses.{start_of}
-use Rattle.px_state.specs.Operations.{HasOperations, IsListed, IsOperationBy, IsOperationOf, IsPassed, no_operation}
+use Rattle.px_state.specs.Courses.{start_in_listing}
+use Rattle.px_state.specs.Operations.{HasOperations, IsOfListing, IsOperationBy, IsOperationOf, IsPassed, no_operation}
 use Rattle.px_state.specs.Operations.{operations_before, purpose_of, told}
 use Rattle.px_state.specs.Putting.{IsPutTo}
 use Rattle.px_state.specs.Refusals.{course_of, is_listing}
@@ -79,11 +80,13 @@ module _ (scene : SceneView) (pass : ℕ) (step : Step) (here : slice_get (steps
   operation_here i within =
       let there : i < length (each (get_or (steps scene) pass step)) = rw step_is within in
       let below = length-flat_map-take each (steps scene) pass step inside in
-      slice_get-get_or (flat_map each (steps scene)) (operations_before scene pass + i) m.All (omega (arith, below, there))
+      slice_get-get_or (flat_map each (steps scene)) (operations_before scene pass + i) m.All
+      (omega (arith, below, there))
       ∙ ap (λ x. Some x) (get_or-flat_map each (steps scene) pass i step m.All inside there
       ∙ ap (λ s. get_or (each s) i m.All) step_is)
 
-  -- what a layout of the scene gives for a place of the step is the operation there, which pixels of 256 bits can carry out
+  -- what a layout of the scene gives for a place of the step is the operation there, which pixels of 256 bits
+  -- can carry out
   module _ (l : LayoutView) (i : ℕ) (op : Macro) (layout : l ≡ layout_of scene) (within : i < length own)
       (is : op ≡ get_or (operations scene l step) i m.All) where
     pub op_is : op ≡ get_or own i m.All
@@ -96,20 +99,24 @@ module _ (scene : SceneView) (pass : ℕ) (step : Step) (here : slice_get (steps
     lawful_op more good =
         let need = need_of (layout_of scene) in
         let k = operations_before scene pass + i in
-        more op need 256 (omega (arith, good.bits)) (lawful_here need (passes scene) k op (found_here k (omega arith)) good.lawful)
+        more op need 256 (omega (arith, good.bits))
+        (lawful_here need (passes scene) k op (found_here k (omega arith)) good.lawful)
 
   pub before_more : operations_before scene (pass + 1) ≡ operations_before scene pass + length own
   before_more =
       let front = take pass (steps scene) in
-      let single : length (flat_map each (step ∷ [])) ≡ length own = simp (flat_map-cons, length-append) (omega arith) in
-      ap (λ ss. length (flat_map each ss)) (take_more (steps scene) pass step inside ∙ ap (λ s. front ++ s ∷ []) step_is)
+      let single : length (flat_map each (step ∷ [])) ≡ length own = simp (flat_map-cons, length-append) (omega arith)
+      in
+      ap (λ ss. length (flat_map each ss)) (take_more (steps scene) pass step inside
+      ∙ ap (λ s. front ++ s ∷ []) step_is)
       ∙ (ap length (flat_map-append each front (step ∷ []))
       ∙ (length-append (flat_map each front) (flat_map each (step ∷ []))
       ∙ ap (λ n. length (flat_map each front) + n) single))
 
   -- an operation of the step is told as one of it
-  pub is_passed : (i k clock : ℕ) (op : Macro) (purpose : Operation) → i < length own → k ≡ operations_before scene pass + i
-      → op ≡ get_or own i m.All → clock ≡ start_of (passes_listing scene) k → purpose.pass ≡ pass
+  pub is_passed : (i k clock : ℕ) (op : Macro) (purpose : Operation) → i < length own
+      → k ≡ operations_before scene pass + i
+      → op ≡ get_or own i m.All → clock ≡ start_in_listing (passes_listing scene) k → purpose.pass ≡ pass
       → purpose ≡ purpose_of scene step purpose.pass (literals_in (take (purpose.pass + 1) (steps scene)))
       → IsPassed scene k (told op clock purpose)
   is_passed i k clock op purpose within at is begins pass_is for = record {
@@ -120,12 +127,13 @@ module _ (scene : SceneView) (pass : ℕ) (step : Step) (here : slice_get (steps
     operation_is = record {
       m = op;
       is = ap (slice_get (passes scene)) at ∙ (operation_here i within ∙ ap (λ x. Some x) (sym is));
-      told_is = ap (λ n. told op n purpose) begins ∙ ap (told op (start_of (passes_listing scene) k)) for;
+      told_is = ap (λ n. told op n purpose) begins ∙ ap (told op (start_in_listing (passes_listing scene) k)) for;
     };
   }
 
 -- behind the last step all operations are there
-pub before_all : (scene : SceneView) (pass : ℕ) → length (steps scene) ≤ pass → operations_before scene pass ≡ length (passes scene)
+pub before_all : (scene : SceneView) (pass : ℕ) → length (steps scene) ≤ pass → operations_before scene pass
+    ≡ length (passes scene)
 unfolding passes
 before_all scene pass past =
     ap (λ ss. length (flat_map (operations scene (layout_of scene)) ss)) (take_all pass (steps scene) past)
@@ -140,16 +148,18 @@ before_within scene pass =
     omega (arith, ap length parts ∙ length-append (flat_map each front) (flat_map each rest))
 
 -- the operations of a text are those of the listing or of the scene that it writes
-pub of_listing : (text : List ℕ) (l : ListingView) (first : ℕ) (list : List Operation) (result : Result Course StateFault)
-    → is_listing text ≡ true → course_of text ≡ l → OnOk result (HasOperations (IsListed l) first list)
+pub of_listing : (text : List ℕ) (l : ListingView) (first : ℕ) (list : List Operation)
+    (result : Result Course StateFault)
+    → is_listing text ≡ true → course_of text ≡ l → OnOk result (HasOperations (IsOfListing l) first list)
     → OnOk result (HasOperations (IsOperationOf text) first list)
 of_listing text l first list (Err fault) flagged is listed = tt
 of_listing text l first list (Ok counts) flagged is listed = λ j within.
     let operation = get_or list j no_operation in
     subst (λ b. IsOperationBy b text (first + j) operation) (sym flagged)
-    (subst (λ l. IsListed l (first + j) operation) (sym is ∙ list_course text flagged) (listed j within))
+    (subst (λ l. IsOfListing l (first + j) operation) (sym is ∙ list_course text flagged) (listed j within))
 
-pub of_scene : (text : List ℕ) (scene : SceneView) (first : ℕ) (list : List Operation) (result : Result Course StateFault)
+pub of_scene : (text : List ℕ) (scene : SceneView) (first : ℕ) (list : List Operation)
+    (result : Result Course StateFault)
     → is_listing text ≡ false → scene ≡ scene_of (worded text) → OnOk result (HasOperations (IsPassed scene) first list)
     → OnOk result (HasOperations (IsOperationOf text) first list)
 of_scene text scene first list (Err fault) flagged is passed = tt

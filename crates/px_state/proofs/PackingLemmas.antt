@@ -8,10 +8,11 @@ use Rattle.px_pixel.specs.declared.act.Act.TheVariants as act
 use Rattle.px_array.specs.declared.micro.Micro.{Micro}
 use Rattle.px_array.specs.declared.micro.TreeOp.{TreeOp}
 use Rattle.px_array.specs.declared.micro.TreeOp.TheVariants as tree
-use Rattle.px_state.specs.Packing.{act_number, act_with, bit_number, is_micro, lines_number, micro_in, packed, place_of}
-use Rattle.px_state.specs.Packing.{tree_number, tree_with, value_of}
+use Rattle.px_state.specs.Packing.{act_number, act_with, packed_bit, is_micro, lines_number, micro_in, packed}
+use Rattle.px_state.specs.Packing.{memory_place}
+use Rattle.px_state.specs.Packing.{tree_number, tree_with, packed_value}
 
-pub act_back : (a : Act) → act_with (act_number a) (value_of a) (place_of a) ≡ a
+pub act_back : (a : Act) → act_with (act_number a) (packed_value a) (memory_place a) ≡ a
 act_back act.Nop = refl
 act_back act.EnableAll = refl
 act_back (act.EnableCarry v) = refl
@@ -40,7 +41,7 @@ tree_back (tree.Feed true true false) = refl
 tree_back (tree.Feed true true true) = refl
 
 -- the number of a bit tells the bit
-pub bit_back : (v : Bool) → (bit_number v == 1) ≡ v
+pub bit_back : (v : Bool) → (packed_bit v == 1) ≡ v
 bit_back true = refl
 bit_back false = refl
 
@@ -60,7 +61,7 @@ act_below (act.CarryTree at) = omega arith
 act_below (act.CarryLatch at) = omega arith
 act_below (act.AddTree at) = omega arith
 
-bit_below : (v : Bool) → bit_number v < 2
+bit_below : (v : Bool) → packed_bit v < 2
 bit_below true = omega arith
 bit_below false = omega arith
 
@@ -70,7 +71,7 @@ tree_below tree.Clear = omega arith
 tree_below (tree.Feed a b c) = omega arith
 
 -- the place of an act is one of the memory's, or none is named
-pub place_within : (bits : ℕ) (a : Act) → 1 ≤ bits → HasPlace bits a → place_of a < bits
+pub place_within : (bits : ℕ) (a : Act) → 1 ≤ bits → HasPlace bits a → memory_place a < bits
 place_within bits act.Nop some h = some
 place_within bits act.EnableAll some h = some
 place_within bits (act.EnableCarry v) some h = some
@@ -86,7 +87,7 @@ place_within bits (act.CarryTree at) some h = h
 place_within bits (act.CarryLatch at) some h = h
 place_within bits (act.AddTree at) some h = h
 
-pub has_place : (bits : ℕ) (a : Act) → place_of a < bits → HasPlace bits a
+pub has_place : (bits : ℕ) (a : Act) → memory_place a < bits → HasPlace bits a
 has_place bits act.Nop h = tt
 has_place bits act.EnableAll h = tt
 has_place bits (act.EnableCarry v) h = tt
@@ -111,18 +112,20 @@ fields_in at number value op lines a n v o word is =
     (omega arith, omega arith, omega arith, omega arith, omega arith)
 
 -- the micro of the fields of a micro's word is it
-pub unpacked : (m : Micro) → place_of m.act < 2 ^ 32 → micro_in (packed m) ≡ m
+pub unpacked : (m : Micro) → memory_place m.act < 2 ^ 32 → micro_in (packed m) ≡ m
 unfolding packed micro_in
 unpacked m small =
-    let fields = fields_in (place_of m.act) (act_number m.act) (bit_number (value_of m.act)) (tree_number m.tree)
-    (lines_number m.tree) small (act_below m.act) (bit_below (value_of m.act)) (tree_below m.tree) (packed m) refl in
+    let fields = fields_in (memory_place m.act) (act_number m.act) (packed_bit (packed_value m.act))
+    (tree_number m.tree)
+    (lines_number m.tree) small (act_below m.act) (bit_below (packed_value m.act)) (tree_below m.tree) (packed m) refl
+    in
     rw (
       fields.0,
       fields.1,
       fields.2,
       fields.3,
       fields.4,
-      bit_back (value_of m.act),
+      bit_back (packed_value m.act),
       act_back m.act,
       tree_back m.tree,
     ) refl
@@ -130,14 +133,16 @@ unpacked m small =
 same_holds : (m n : ℕ) → (m == n) ≡ true → m ≡ n
 same_holds m n h = grind (arith, nat_tests)
 
-pub micro_back : (bits : ℕ) (m : Micro) → 1 ≤ bits → bits ≤ 2 ^ 32 → HasPlace bits m.act → is_micro bits (packed m) ≡ true
+pub micro_back : (bits : ℕ) (m : Micro) → 1 ≤ bits → bits ≤ 2 ^ 32 → HasPlace bits m.act → is_micro bits (packed m)
+    ≡ true
 unfolding is_micro
 micro_back bits m some few place =
     let within = place_within bits m.act some place in
     let same = unpacked m (omega (arith, within)) in
-    rw (same, itself_true (packed m), lt_true (place_of m.act) bits within) refl
+    rw (same, itself_true (packed m), lt_true (memory_place m.act) bits within) refl
 
-pub micro_only : (bits word : ℕ) → is_micro bits word ≡ true → HasPlace bits (micro_in word).act × (packed (micro_in word) ≡ word)
+pub micro_only : (bits word : ℕ) → is_micro bits word ≡ true → HasPlace bits (micro_in word).act
+    × (packed (micro_in word) ≡ word)
 unfolding is_micro
 micro_only bits word is = (
   has_place bits (micro_in word).act (lt_holds _ _ (and_right (packed (micro_in word) == word) _ is)),

@@ -4,7 +4,7 @@ use Rattle.std.proofs.Math.Pow.{pow_mono}
 use Rattle.std.proofs.lemmas.Bool.{cases_lt, lt-ltb}
 use Rattle.px_num.proofs.TruthLaws.{lt_false}
 use Rattle.px_array.specs.Arrays.{State}
-use Rattle.px_state.specs.Parts.{IsPart, part_bit}
+use Rattle.px_state.specs.Parts.{IsPartOfWord, part_bit}
 use Rattle.px_state.specs.Words.{node_words, plane_words, state_bit}
 use Rattle.px_state.specs.declared.words.Part.{Part}
 use Rattle.px_state.specs.declared.words.Part.TheVariants.{Plane, Outputs, Carries}
@@ -16,7 +16,7 @@ exponent_below e f less = elim (cases_lt e f) [
 ]
 
 -- the bits of a part are those of its word
-pub part_is : (bits : ℕ) (s : State) (k : ℕ) (part : Part) (i : ℕ) → IsPart bits s.tree.nx s.tree.ny k part
+pub part_is : (bits : ℕ) (s : State) (k : ℕ) (part : Part) (i : ℕ) → IsPartOfWord bits s.tree.nx s.tree.ny k part
     → part_bit bits s part i ≡ state_bit bits s k i
 part_is bits s k (Plane plane y column) i p =
     rw (lt-ltb k (plane_words bits s.tree.nx s.tree.ny) p.0, p.1.plane_is, p.1.row_is, p.1.column_is) refl

@@ -11,32 +11,34 @@ use Rattle.px_control.specs.Standing.{LeavesOnRefusal}
 use Rattle.px_control.specs.declared.fault.JobFault.{JobFault}
 use Rattle.px_control.specs.declared.fault.JobFault.TheVariants as job
 use Rattle.px_listing.specs.Listings.{ListingView}
-use Rattle.px_state.specs.Refusals.{HasSmallCount, IsRefusedBy, clock_refusal, course_refusal, job_fault, job_refusal, operation_refusal, refused_by, refused_where}
-use Rattle.px_state.specs.Courses.{total}
+use Rattle.px_state.specs.Refusals.{HasSmallCount, IsRefusedBy, clock_refusal, course_refusal, fault_of_job}
+use Rattle.px_state.specs.Refusals.{refusal_by_bits, operation_refusal, refused_by, refused_where}
+use Rattle.px_state.specs.Courses.{total_of_listing}
 use Rattle.px_state.specs.Words.{room_of}
-use Rattle.px_state.specs.States.{LeavesArray}
+use Rattle.px_state.specs.States.{FaultLeaves}
 use Rattle.px_state.specs.declared.fault.StateFault.{StateFault}
 use Rattle.px_state.specs.declared.fault.StateFault.TheVariants as f
 
 -- pixels that have the bits, and products that are few, are not refused
 pub not_refused : (bits : ℕ) (scene : SceneView) → need_of (layout_of scene) ≤ bits → crowd_of scene ≡ None
-    → job_refusal bits scene ≡ None
+    → refusal_by_bits bits scene ≡ None
 not_refused bits scene enough few = rw (lt_false bits (need_of (layout_of scene)) enough, few) refl
 
 pub short_refused : (bits need : ℕ) (scene : SceneView) → bits < need_of (layout_of scene)
-    → need ≡ need_of (layout_of scene) → job_refusal bits scene ≡ Some (f.Job (job.PixelMemory need))
+    → need ≡ need_of (layout_of scene) → refusal_by_bits bits scene ≡ Some (f.Job (job.PixelMemory need))
 short_refused bits need scene short is = rw (lt-ltb bits (need_of (layout_of scene)) short, is) refl
 
 pub many_refused : (bits count : ℕ) (scene : SceneView) → need_of (layout_of scene) ≤ bits → crowd_of scene ≡ Some count
-    → job_refusal bits scene ≡ Some (f.Job (job.Products count))
+    → refusal_by_bits bits scene ≡ Some (f.Job (job.Products count))
 many_refused bits count scene enough many = rw (lt_false bits (need_of (layout_of scene)) enough, many) refl
 
 -- the fault of a job is its refusal
 pub job_refused : (bits : ℕ) (scene : SceneView) (fault : JobFault)
-    → ((need : ℕ) → fault ≡ job.PixelMemory need → (bits < need_of (layout_of scene)) × (need ≡ need_of (layout_of scene)))
+    → ((need : ℕ) → fault ≡ job.PixelMemory need → (bits < need_of (layout_of scene))
+    × (need ≡ need_of (layout_of scene)))
     → ((count : ℕ) → fault ≡ job.Products count
     → (need_of (layout_of scene) ≤ bits) × (crowd_of scene ≡ Some count) × (count ≤ 2 ^ 21))
-    → IsRefusedBy (job_fault fault) (job_refusal bits scene)
+    → IsRefusedBy (fault_of_job fault) (refusal_by_bits bits scene)
 job_refused bits scene (job.PixelMemory need) short many =
     let is = short need refl in inr (short_refused bits need scene is.0 is.1)
 job_refused bits scene (job.Products count) short many =
@@ -46,19 +48,21 @@ job_refused bits scene (job.Memory _) short many = inl refl
 pub job_small : (bits : ℕ) (scene : SceneView) (fault : JobFault)
     → ((count : ℕ) → fault ≡ job.Products count
     → (need_of (layout_of scene) ≤ bits) × (crowd_of scene ≡ Some count) × (count ≤ 2 ^ 21))
-    → HasSmallCount (job_fault fault)
+    → HasSmallCount (fault_of_job fault)
 job_small bits scene (job.PixelMemory need) many = tt
 job_small bits scene (job.Products count) many = let is = many count refl in is.2
 job_small bits scene (job.Memory _) many = tt
 
-pub job_leaves : (fault : JobFault) (bits : ℕ) (l : ListingView) (before now : ArrayView) → LeavesOnRefusal fault before now
-    → LeavesArray (job_fault fault) bits l before now
+pub job_leaves : (fault : JobFault) (bits : ℕ) (l : ListingView) (before now : ArrayView)
+    → LeavesOnRefusal fault before now
+    → FaultLeaves (fault_of_job fault) bits l before now
 job_leaves (job.PixelMemory need) bits l before now leaves = leaves
 job_leaves (job.Products count) bits l before now leaves = leaves
 job_leaves (job.Memory _) bits l before now leaves = leaves
 
 -- what is refused by the first is refused by both
-pub first_refused : (fault : StateFault) (a b : Option StateFault) → IsRefusedBy fault a → IsRefusedBy fault (option_or a b)
+pub first_refused : (fault : StateFault) (a b : Option StateFault) → IsRefusedBy fault a
+    → IsRefusedBy fault (option_or a b)
 first_refused fault a b (inl memory) = inl memory
 first_refused fault a b (inr is) = inr (rw is refl)
 
@@ -71,7 +75,7 @@ pub both_none : (a b : Option StateFault) → a ≡ None → b ≡ None → opti
 both_none a b none is = rw none is
 
 -- the refusals by what is counted
-pub clock_same : (l : ListingView) (clocks clock : ℕ) → clocks ≡ total l
+pub clock_same : (l : ListingView) (clocks clock : ℕ) → clocks ≡ total_of_listing l
     → clock_refusal l clock ≡ refused_where (nat_lt clocks clock) (f.NoClock clocks)
 clock_same l clocks clock is = ap (λ n. refused_where (nat_lt n clock) (f.NoClock n)) (sym is)
 
@@ -79,7 +83,9 @@ pub operation_same : (l : ListingView) (operations operation : ℕ) → operatio
     → operation_refusal l operation ≡ refused_where (nat_lt operations operation) (f.NoOperation operations)
 operation_same l operations operation is = ap (λ n. refused_where (nat_lt n operation) (f.NoOperation n)) (sym is)
 
-pub course_same : (bits : ℕ) (l : ListingView) (clock clocks words due : ℕ) → clocks ≡ total l → due ≡ room_of bits l.nx l.ny
+pub course_same : (bits : ℕ) (l : ListingView) (clock clocks words due : ℕ) → clocks ≡ total_of_listing l
+    → due ≡ room_of bits l.nx l.ny
     → course_refusal bits l clock words ≡ refused_by clock clocks words due
 course_same bits l clock clocks words due is room =
-    ap (λ n. refused_by clock n words (room_of bits l.nx l.ny)) (sym is) ∙ ap (λ n. refused_by clock clocks words n) (sym room)
+    ap (λ n. refused_by clock n words (room_of bits l.nx l.ny)) (sym is)
+    ∙ ap (λ n. refused_by clock clocks words n) (sym room)

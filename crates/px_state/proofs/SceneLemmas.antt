@@ -11,9 +11,9 @@ use Rattle.px_control.specs.Standing.{StandsFor}
 use Rattle.px_control.specs.declared.place.Place.{Place}
 use Rattle.px_control.proofs.PlaceLemmas.{at_end, micro_is, operation_is}
 use Rattle.px_playing.specs.PassesText.{passes_listing}
-use Rattle.px_state.specs.Courses.{HasCycle, IsNext, device_after, total}
+use Rattle.px_state.specs.Courses.{HasCycle, IsNextBroadcast, device_after, total_of_listing}
 
-pub same_total : (scene : SceneView) → program.total scene ≡ total (passes_listing scene)
+pub same_total : (scene : SceneView) → program.total scene ≡ total_of_listing (passes_listing scene)
 unfolding program
 same_total scene = refl
 
@@ -32,7 +32,7 @@ running scene p (Some m) stands e less = record { m = m; is = stands.current ∙
 pub next_at : (scene : SceneView) (p : Place) (operation cycle : ℕ) (micro : Micro) → StandsFor scene p
     → p.clock < program.total scene → operation ≡ operation_at scene p.clock → cycle ≡ micro_at_clock scene p.clock
     → slice_get (program scene) p.clock ≡ Some micro
-    → IsNext (passes_listing scene) p.clock operation cycle micro
+    → IsNextBroadcast (passes_listing scene) p.clock operation cycle micro
 unfolding program
 next_at scene p operation cycle micro stands less op cy is =
     let same_operation = op ∙ sym (operation_is scene p stands) in

@@ -14,23 +14,25 @@ use Rattle.px_playing.specs.PassesText.{passes_listing}
 use Rattle.px_listing.specs.Reading.{listing_of}
 use Rattle.px_listing.specs.Reading as listing
 use Rattle.px_listing.specs.Reading.{ListFault}
-use Rattle.px_state.specs.Refusals.{HasSmallCount, IsRefusedBy, course_of, is_listing, job_refusal, list_fault, scene_fault, text_refusal, too_long}
+use Rattle.px_state.specs.Refusals.{HasSmallCount, IsRefusedBy, course_of, is_listing, refusal_by_bits}
+use Rattle.px_state.specs.Refusals.{list_fault, fault_of_scene, input_refusal, past_text_limit}
 use Rattle.px_state.specs.Keeping.{KeepsArray}
 use Rattle.px_state.specs.declared.fault.StateFault.{StateFault}
 
-pub long_text : (bits : ℕ) (text : List ℕ) → MAX_TEXT_BYTES < length text → text_refusal bits text ≡ Some too_long
-unfolding text_refusal
+pub long_text : (bits : ℕ) (text : List ℕ) → MAX_TEXT_BYTES < length text → input_refusal bits text
+    ≡ Some past_text_limit
+unfolding input_refusal
 long_text bits text long = rw (lt-ltb MAX_TEXT_BYTES (length text) long) refl
 
 pub list_text : (bits : ℕ) (text : List ℕ) → length text ≤ MAX_TEXT_BYTES → is_listing text ≡ true
-    → text_refusal bits text ≡ option_map list_fault (listing.refusal_of bits text)
-unfolding text_refusal
+    → input_refusal bits text ≡ option_map list_fault (listing.listing_refusal_of bits text)
+unfolding input_refusal
 list_text bits text short flagged = rw (lt_false MAX_TEXT_BYTES (length text) short, flagged) refl
 
 pub scene_text : (bits : ℕ) (text : List ℕ) → length text ≤ MAX_TEXT_BYTES → is_listing text ≡ false
-    → text_refusal bits text
-    ≡ option_or (option_map scene_fault (reading.refusal_of text)) (job_refusal bits (scene_of (worded text)))
-unfolding text_refusal
+    → input_refusal bits text
+    ≡ option_or (option_map fault_of_scene (reading.refusal_of text)) (refusal_by_bits bits (scene_of (worded text)))
+unfolding input_refusal
 scene_text bits text short flagged = rw (lt_false MAX_TEXT_BYTES (length text) short, flagged) refl
 
 pub list_course : (text : List ℕ) → is_listing text ≡ true → course_of text ≡ listing_of (worded text)
@@ -41,15 +43,16 @@ pub scene_course : (text : List ℕ) → is_listing text ≡ false → course_of
 unfolding course_of
 scene_course text flagged = rw flagged refl
 
-pub list_refused : (fault : ListFault) (refusal : Option ListFault) → (fault ≡ text_fault.Memory want) ⊎ (refusal ≡ Some fault)
+pub list_refused : (fault : ListFault) (refusal : Option ListFault) → (fault ≡ text_fault.Memory want)
+    ⊎ (refusal ≡ Some fault)
     → IsRefusedBy (list_fault fault) (option_map list_fault refusal)
 list_refused fault refusal (inl memory) = inl (ap list_fault memory)
 list_refused fault refusal (inr is) = inr (ap (option_map list_fault) is)
 
 pub scene_refused : (fault : SceneFault) (refusal : Option SceneFault) (job : Option StateFault)
     → (fault ≡ text_fault.Memory want) ⊎ (refusal ≡ Some fault)
-    → IsRefusedBy (scene_fault fault) (option_or (option_map scene_fault refusal) job)
-scene_refused fault refusal job (inl memory) = inl (ap scene_fault memory)
+    → IsRefusedBy (fault_of_scene fault) (option_or (option_map fault_of_scene refusal) job)
+scene_refused fault refusal job (inl memory) = inl (ap fault_of_scene memory)
 scene_refused fault refusal job (inr is) = inr (rw is refl)
 
 pub list_small : (fault : ListFault) → HasSmallCount (list_fault fault)
@@ -57,7 +60,7 @@ list_small (text_fault.Malformed line cause) = tt
 list_small (text_fault.Limit line kind found) = tt
 list_small (text_fault.Memory _) = tt
 
-pub scene_small : (fault : SceneFault) → HasSmallCount (scene_fault fault)
+pub scene_small : (fault : SceneFault) → HasSmallCount (fault_of_scene fault)
 scene_small (text_fault.Malformed line cause) = tt
 scene_small (text_fault.Limit line kind found) = tt
 scene_small (text_fault.Memory _) = tt
@@ -67,7 +70,7 @@ list_keeps (text_fault.Malformed line cause) bits l array = refl
 list_keeps (text_fault.Limit line kind found) bits l array = refl
 list_keeps (text_fault.Memory _) bits l array = inl refl
 
-pub scene_keeps : (fault : SceneFault) → KeepsArray (scene_fault fault)
+pub scene_keeps : (fault : SceneFault) → KeepsArray (fault_of_scene fault)
 scene_keeps (text_fault.Malformed line cause) bits l array = refl
 scene_keeps (text_fault.Limit line kind found) bits l array = refl
 scene_keeps (text_fault.Memory _) bits l array = inl refl

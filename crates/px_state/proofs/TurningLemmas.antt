@@ -1,5 +1,7 @@
 -- The stages by which a block is turned over.
-use Rattle.std.proofs.Common.{◌≡◌, ℕ, zero, suc, ◌+◌, ◌-◌, ◌*◌, ◌/◌, ◌%◌, ◌^◌, ◌==◌, ◌<◌, ◌≤◌, nat_le, nat_lt, Bool, true, false, cond, if◌then◌else◌, List, get_or, refl, ap, ◌∙◌, arith, inl, inr}
+use Rattle.std.proofs.Common.{◌≡◌, ℕ, zero, suc, ◌+◌, ◌-◌, ◌*◌, ◌/◌, ◌%◌, ◌^◌, ◌==◌, ◌<◌, ◌≤◌, nat_le, nat_lt}
+use Rattle.std.proofs.Common.{Bool, true, false, cond, if◌then◌else◌, List, get_or, refl, ap, ◌∙◌, arith, inl}
+use Rattle.std.proofs.Common.{inr}
 use Rattle.std.proofs.lemmas.Bool.{agree_below_at, cases_Bool}
 use Rattle.std.proofs.lemmas.Bool.Decides.{nat_tests}
 use Rattle.std.proofs.lemmas.Nat.Bits.{bit_at_cat_high}
@@ -8,7 +10,7 @@ use Rattle.px_num.proofs.BitLaws.{pow_above}
 use Rattle.px_num.proofs.TruthLaws.{itself_true, lt_holds}
 use Rattle.px_rows.proofs.BitLaws.{bit_down, bit_of_low}
 use Rattle.px_rows.specs.Rows.{row_bit}
-use Rattle.px_state.specs.Turning.{HasLow, crossed, exchanged, rest_at}
+use Rattle.px_state.specs.Turning.{HasLow, turned_place, exchanged, rest_at}
 
 same : (a b : ℕ) → (a == b) ≡ true → a ≡ b
 same a b e = grind (arith, nat_tests)
@@ -20,7 +22,8 @@ exchanged_below k p few within = by_test (in_block k p few within)
     in_block : (k p : ℕ) → k < 6 → p < 4096 → nat_lt (exchanged k p) 4096 ≡ true
     in_block zero p few within = agree_below_at (λ p. nat_lt (exchanged 0 p) 4096) (λ _. true) 4096 p refl within
     in_block (suc zero) p few within = agree_below_at (λ p. nat_lt (exchanged 1 p) 4096) (λ _. true) 4096 p refl within
-    in_block (suc (suc zero)) p few within = agree_below_at (λ p. nat_lt (exchanged 2 p) 4096) (λ _. true) 4096 p refl within
+    in_block (suc (suc zero)) p few within = agree_below_at (λ p. nat_lt (exchanged 2 p) 4096) (λ _. true) 4096 p refl
+        within
     in_block (suc (suc (suc zero))) p few within =
         agree_below_at (λ p. nat_lt (exchanged 3 p) 4096) (λ _. true) 4096 p refl within
     in_block (suc (suc (suc (suc zero)))) p few within =
@@ -33,25 +36,25 @@ exchanged_below k p few within = by_test (in_block k p few within)
     by_test e = lt_holds _ _ e
 
 -- each stage brings the bits nearer to their places, and after six they are there
-pub crossed_none : (p : ℕ) → crossed 0 p ≡ p
+pub crossed_none : (p : ℕ) → turned_place 0 p ≡ p
 crossed_none p = omega arith
 
-pub crossed_all : (p : ℕ) → p < 4096 → crossed 6 p ≡ 64 * (p % 64) + p / 64
+pub crossed_all : (p : ℕ) → p < 4096 → turned_place 6 p ≡ 64 * (p % 64) + p / 64
 crossed_all p within = omega (arith, within)
 
-pub crossed_more : (k p : ℕ) → k < 6 → p < 4096 → crossed k (exchanged k p) ≡ crossed (k + 1) p
+pub crossed_more : (k p : ℕ) → k < 6 → p < 4096 → turned_place k (exchanged k p) ≡ turned_place (k + 1) p
 crossed_more zero p few within =
-    same _ _ (agree_below_at (λ p. crossed 0 (exchanged 0 p) == crossed 1 p) (λ _. true) 4096 p refl within)
+    same _ _ (agree_below_at (λ p. turned_place 0 (exchanged 0 p) == turned_place 1 p) (λ _. true) 4096 p refl within)
 crossed_more (suc zero) p few within =
-    same _ _ (agree_below_at (λ p. crossed 1 (exchanged 1 p) == crossed 2 p) (λ _. true) 4096 p refl within)
+    same _ _ (agree_below_at (λ p. turned_place 1 (exchanged 1 p) == turned_place 2 p) (λ _. true) 4096 p refl within)
 crossed_more (suc (suc zero)) p few within =
-    same _ _ (agree_below_at (λ p. crossed 2 (exchanged 2 p) == crossed 3 p) (λ _. true) 4096 p refl within)
+    same _ _ (agree_below_at (λ p. turned_place 2 (exchanged 2 p) == turned_place 3 p) (λ _. true) 4096 p refl within)
 crossed_more (suc (suc (suc zero))) p few within =
-    same _ _ (agree_below_at (λ p. crossed 3 (exchanged 3 p) == crossed 4 p) (λ _. true) 4096 p refl within)
+    same _ _ (agree_below_at (λ p. turned_place 3 (exchanged 3 p) == turned_place 4 p) (λ _. true) 4096 p refl within)
 crossed_more (suc (suc (suc (suc zero)))) p few within =
-    same _ _ (agree_below_at (λ p. crossed 4 (exchanged 4 p) == crossed 5 p) (λ _. true) 4096 p refl within)
+    same _ _ (agree_below_at (λ p. turned_place 4 (exchanged 4 p) == turned_place 5 p) (λ _. true) 4096 p refl within)
 crossed_more (suc (suc (suc (suc (suc zero))))) p few within =
-    same _ _ (agree_below_at (λ p. crossed 5 (exchanged 5 p) == crossed 6 p) (λ _. true) 4096 p refl within)
+    same _ _ (agree_below_at (λ p. turned_place 5 (exchanged 5 p) == turned_place 6 p) (λ _. true) 4096 p refl within)
 crossed_more (suc (suc (suc (suc (suc (suc k)))))) p few within = absurd (omega (arith, few))
 
 -- the places that a stage asks for are in the block
@@ -106,14 +109,16 @@ module _ (words : List ℕ) (k w i low : ℕ) (few : k < 6) (word : w < 64) (bit
   bit_is : (64 * w + i) % 64 ≡ i
   bit_is = omega arith
 
-  here : (r : ℕ) → rest_at k w ≡ r → rest_at k i ≡ r → nat_bit (get_or words w 0) i ≡ row_bit words (exchanged k (64 * w + i))
+  here : (r : ℕ) → rest_at k w ≡ r → rest_at k i ≡ r → nat_bit (get_or words w 0) i
+      ≡ row_bit words (exchanged k (64 * w + i))
   here r one other =
       let both : (rest_at k w == rest_at k i) ≡ true = rw (one, other) (itself_true r) in
       rw (word_is, bit_is, both, word_is, bit_is) refl
 
   -- the word whose number has a 0 at bit k takes the low bits of the next
   pub from_next : (rest_at k w == 0) ≡ true
-      → cond (nat_bit low i) (nat_bit (get_or words w 0) i) (nat_bit (get_or words (w + 2 ^ k) 0 * 2 ^ (2 ^ k) % 2 ^ 64) i)
+      → cond (nat_bit low i) (nat_bit (get_or words w 0) i)
+      (nat_bit (get_or words (w + 2 ^ k) 0 * 2 ^ (2 ^ k) % 2 ^ 64) i)
       ≡ row_bit words (exchanged k (64 * w + i))
   from_next zero_word = elim (cases_Bool (rest_at k i == 0)) [
     | inl none ↦ rw (masks i bit, none) (here 0 (zero_bit k w zero_word) (zero_bit k i none))

@@ -35,8 +35,8 @@ pub record IsCell (at i : ℕ) (cells : Cells) (p : PixelState) : Type 0 where
   pub latch : nat_bit cells.latch i ≡ p.latch
 
 -- the pixel at bit i of word k of each plane
-abbrev pub pixel_in : (bits plane : ℕ) → List ℕ → (k i : ℕ) → PixelState
-pixel_in bits plane words k i = record {
+abbrev pub pixel_in_words : (bits plane : ℕ) → List ℕ → (k i : ℕ) → PixelState
+pixel_in_words bits plane words k i = record {
   memory = tabulate bits (λ at. word_bit words (at * plane + k) i);
   enable = word_bit words (bits * plane + k) i;
   carry = word_bit words ((bits + 1) * plane + k) i;
@@ -88,7 +88,8 @@ leaf_here shape tree k i =
 
 -- the words hold the pixels of a state, the leaves of a tree, and the nodes of one
 pub record HoldsPixels (shape : Shape) (s : State) (words : List ℕ) : Type 0 where
-  pub each : (k i : ℕ) → k < shape.plane → i < 64 → pixel_in shape.bits shape.plane words k i ≡ pixel_here shape s k i
+  pub each : (k i : ℕ) → k < shape.plane → i < 64 → pixel_in_words shape.bits shape.plane words k i
+      ≡ pixel_here shape s k i
 
 pub record HoldsLeaves (shape : Shape) (tree : TreeState) (words : List ℕ) : Type 0 where
   pub each : (k i : ℕ) → k < shape.plane → i < 64 → leaf_in shape.bits shape.plane words k i ≡ leaf_here shape tree k i

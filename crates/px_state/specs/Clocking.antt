@@ -5,7 +5,7 @@ use Rattle.px_num.specs.Bits.{nat_bit}
 use Rattle.px_array.specs.Arrays.{HasGrid, State}
 use Rattle.px_array.specs.Clocks.{after_clocks}
 use Rattle.px_state.specs.Packing.{is_micro, micro_in}
-use Rattle.px_state.specs.Words.{HasWords, room_of, state_bit}
+use Rattle.px_state.specs.Words.{BeginsWithState, room_of, state_bit}
 use Rattle.std.specs.Prelude.{Option}
 
 -- the words begin with those of a state of so many pixels with so many bits
@@ -20,4 +20,5 @@ first_stray bits micros = position (λ word. not (is_micro bits word)) micros
 -- whatever state the words held, they hold the one that these micros leave of it
 abbrev pub AreClocked : (bits nx ny : ℕ) → (micros before now : List ℕ) → Type 0
 AreClocked bits nx ny micros before now =
-    (s : State) → HoldsState bits nx ny s before → HasWords bits (after_clocks (map micro_in micros) s) before now
+    (s : State) → HoldsState bits nx ny s before → BeginsWithState bits (after_clocks (map micro_in micros) s) before
+    now

@@ -32,6 +32,6 @@ row_word shape rows k =
     get_or rows (64 * (k % row_words shape.nx * column_words shape.ny + y / 64) + y % 64) 0
 
 -- a shape has the columns and rows of a state
-pub record HasSize (shape : Shape) (s : State) : Type 0 where
+pub record IsShapeOf (shape : Shape) (s : State) : Type 0 where
   pub columns : s.tree.nx ≡ shape.nx
   pub rows : s.tree.ny ≡ shape.ny

@@ -2,9 +2,9 @@
 use Rattle.std.specs.Prelude.{ℕ}
 use Rattle.px_array.specs.Slots.{ArrayView}
 use Rattle.px_listing.specs.Listings.{ListingView}
-use Rattle.px_state.specs.States.{LeavesArray}
+use Rattle.px_state.specs.States.{FaultLeaves}
 use Rattle.px_state.specs.declared.fault.StateFault.{StateFault}
 
 -- a fault with which the array is as it was
 abbrev pub KeepsArray : StateFault → Type 0
-KeepsArray fault = (bits : ℕ) (l : ListingView) (array : ArrayView) → LeavesArray fault bits l array array
+KeepsArray fault = (bits : ℕ) (l : ListingView) (array : ArrayView) → FaultLeaves fault bits l array array

@@ -20,7 +20,7 @@ use Rattle.px_listing.specs.Kinds.{operands_of}
 use Rattle.px_listing.specs.Listings.{ListingView}
 use Rattle.px_listing.specs.Reading.{listing_of}
 use Rattle.px_playing.specs.PassesText.{passes_listing}
-use Rattle.px_state.specs.Courses.{start_of}
+use Rattle.px_state.specs.Courses.{start_in_listing}
 use Rattle.px_state.specs.Refusals.{is_listing}
 use Rattle.px_state.specs.declared.operation.Operation.{Operation}
 
@@ -43,18 +43,18 @@ no_operation = record {
 }
 
 -- the kinds of operations in the order of docs/MACHINE.md, "Broadcast operations"
-abbrev pub kind_number : Macro → ℕ
-kind_number m.All = 1
-kind_number (m.KeepSign form) = 2
-kind_number (m.KeepBit at v) = 3
-kind_number (m.LoadLinear form f) = 4
-kind_number (m.KeepAtMost form f) = 5
-kind_number (m.AddLinear form f) = 6
-kind_number (m.LoadConst f c) = 7
-kind_number (m.SetBit at v) = 8
-kind_number (m.Toggle at) = 9
-kind_number (m.Copy f g) = 10
-kind_number (m.KeepLess f g) = 11
+abbrev pub operation_kind : Macro → ℕ
+operation_kind m.All = 1
+operation_kind (m.KeepSign form) = 2
+operation_kind (m.KeepBit at v) = 3
+operation_kind (m.LoadLinear form f) = 4
+operation_kind (m.KeepAtMost form f) = 5
+operation_kind (m.AddLinear form f) = 6
+operation_kind (m.LoadConst f c) = 7
+operation_kind (m.SetBit at v) = 8
+operation_kind (m.Toggle at) = 9
+operation_kind (m.Copy f g) = 10
+operation_kind (m.KeepLess f g) = 11
 
 -- a number of an operation's line, and 0 behind the last
 abbrev pub operand : Macro → (place : ℕ) → ℤ
@@ -138,7 +138,7 @@ told m clock purpose = record purpose {
   fourth = operand m 3;
   fifth = operand m 4;
   clock = clock;
-  kind = kind_number m;
+  kind = operation_kind m;
   count = length (operands_of m);
 }
 
@@ -146,11 +146,11 @@ told m clock purpose = record purpose {
 pub record IsOperation (l : ListingView) (k : ℕ) (purpose : Operation) (operation : Operation) : Type 0 where
   pub m : Macro
   pub is : slice_get l.macros k ≡ Some m
-  pub told_is : operation ≡ told m (start_of l k) purpose
+  pub told_is : operation ≡ told m (start_in_listing l k) purpose
 
 -- of a listing nothing is known of what it is for
-abbrev pub IsListed : ListingView → (k : ℕ) → Operation → Type 0
-IsListed l k operation = IsOperation l k no_operation operation
+abbrev pub IsOfListing : ListingView → (k : ℕ) → Operation → Type 0
+IsOfListing l k operation = IsOperation l k no_operation operation
 
 -- how many operations the first steps of a scene have
 abbrev pub operations_before : SceneView → (pass : ℕ) → ℕ
@@ -171,7 +171,7 @@ HasOperations Is first list = (j : ℕ) → j < length list → Is (first + j) (
 
 -- operation k of a listing, or of a scene
 abbrev pub IsOperationBy : (listed : Bool) → List ℕ → (k : ℕ) → Operation → Type 0
-IsOperationBy true text k operation = IsListed (listing_of (worded text)) k operation
+IsOperationBy true text k operation = IsOfListing (listing_of (worded text)) k operation
 IsOperationBy false text k operation = IsPassed (scene_of (worded text)) k operation
 
 -- operation k of a text

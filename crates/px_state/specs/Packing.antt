@@ -28,38 +28,38 @@ act_number (act.CarryLatch at) = 13
 act_number (act.AddTree at) = 14
 
 -- the value that an act names, and else 0
-abbrev pub value_of : Act → Bool
-value_of act.Nop = false
-value_of act.EnableAll = false
-value_of (act.EnableCarry v) = v
-value_of (act.EnableTree v) = v
-value_of (act.EnableBit at v) = v
-value_of (act.SetCarry v) = v
-value_of (act.Fetch at) = false
-value_of (act.StoreTree at) = false
-value_of (act.StoreLatch at) = false
-value_of (act.StoreConst at v) = v
-value_of (act.Toggle at) = false
-value_of (act.CarryTree at) = false
-value_of (act.CarryLatch at) = false
-value_of (act.AddTree at) = false
+abbrev pub packed_value : Act → Bool
+packed_value act.Nop = false
+packed_value act.EnableAll = false
+packed_value (act.EnableCarry v) = v
+packed_value (act.EnableTree v) = v
+packed_value (act.EnableBit at v) = v
+packed_value (act.SetCarry v) = v
+packed_value (act.Fetch at) = false
+packed_value (act.StoreTree at) = false
+packed_value (act.StoreLatch at) = false
+packed_value (act.StoreConst at v) = v
+packed_value (act.Toggle at) = false
+packed_value (act.CarryTree at) = false
+packed_value (act.CarryLatch at) = false
+packed_value (act.AddTree at) = false
 
 -- the place of memory that an act names, and else 0
-abbrev pub place_of : Act → ℕ
-place_of act.Nop = 0
-place_of act.EnableAll = 0
-place_of (act.EnableCarry v) = 0
-place_of (act.EnableTree v) = 0
-place_of (act.EnableBit at v) = at
-place_of (act.SetCarry v) = 0
-place_of (act.Fetch at) = at
-place_of (act.StoreTree at) = at
-place_of (act.StoreLatch at) = at
-place_of (act.StoreConst at v) = at
-place_of (act.Toggle at) = at
-place_of (act.CarryTree at) = at
-place_of (act.CarryLatch at) = at
-place_of (act.AddTree at) = at
+abbrev pub memory_place : Act → ℕ
+memory_place act.Nop = 0
+memory_place act.EnableAll = 0
+memory_place (act.EnableCarry v) = 0
+memory_place (act.EnableTree v) = 0
+memory_place (act.EnableBit at v) = at
+memory_place (act.SetCarry v) = 0
+memory_place (act.Fetch at) = at
+memory_place (act.StoreTree at) = at
+memory_place (act.StoreLatch at) = at
+memory_place (act.StoreConst at v) = at
+memory_place (act.Toggle at) = at
+memory_place (act.CarryTree at) = at
+memory_place (act.CarryLatch at) = at
+memory_place (act.AddTree at) = at
 
 -- what the tree does: nothing, a clear, or a feed
 abbrev pub tree_number : TreeOp → ℕ
@@ -67,26 +67,26 @@ tree_number tree.Hold = 0
 tree_number tree.Clear = 1
 tree_number (tree.Feed a b c) = 2
 
-abbrev pub bit_number : Bool → ℕ
-bit_number v = if v then 1 else 0
+abbrev pub packed_bit : Bool → ℕ
+packed_bit v = if v then 1 else 0
 
 -- the lines a, b and c of a feed, in bits 0, 1 and 2
 abbrev pub lines_number : TreeOp → ℕ
 lines_number tree.Hold = 0
 lines_number tree.Clear = 0
-lines_number (tree.Feed a b c) = bit_number a + 2 * bit_number b + 4 * bit_number c
+lines_number (tree.Feed a b c) = packed_bit a + 2 * packed_bit b + 4 * packed_bit c
 
 -- the word of a micro
 unfoldable pub packed : Micro → ℕ
 packed m =
-    place_of m.act + 2 ^ 32 * (act_number m.act + 256 * (bit_number (value_of m.act)
+    memory_place m.act + 2 ^ 32 * (act_number m.act + 256 * (packed_bit (packed_value m.act)
     + 256 * (tree_number m.tree + 256 * lines_number m.tree)))
 
 -- a word has the fields of a micro, each in its bits
 pub record HasFields (word : ℕ) (m : Micro) : Type 0 where
-  pub place : word % 2 ^ 32 ≡ place_of m.act
+  pub place : word % 2 ^ 32 ≡ memory_place m.act
   pub number : word / 2 ^ 32 % 256 ≡ act_number m.act
-  pub value : word / 2 ^ 40 % 256 ≡ bit_number (value_of m.act)
+  pub value : word / 2 ^ 40 % 256 ≡ packed_bit (packed_value m.act)
   pub tree : word / 2 ^ 48 % 256 ≡ tree_number m.tree
   pub lines : word / 2 ^ 56 ≡ lines_number m.tree
 
@@ -121,7 +121,7 @@ micro_in word = record {
 
 -- whether a word is that of a micro for pixels of so many memory bits
 unfoldable pub is_micro : (bits word : ℕ) → Bool
-is_micro bits word = (packed (micro_in word) == word) && nat_lt (place_of (micro_in word).act) bits
+is_micro bits word = (packed (micro_in word) == word) && nat_lt (memory_place (micro_in word).act) bits
 
 -- the words of micros are those of the micros that are found in them, and no others are
 pub record AreUnpacked : Type 0 where

@@ -24,10 +24,10 @@ pub record IsInNodes (nx ny k start first : ℕ) : Type 0 where
   pub first_is : first ≡ 64 * (k - start)
 
 -- the part is that of word k
-abbrev pub IsPart : (bits nx ny k : ℕ) → Part → Type 0
-IsPart bits nx ny k (Plane plane y column) = (k < plane_words bits nx ny) × IsInPlanes nx ny k plane y column
-IsPart bits nx ny k (Outputs first) = IsInNodes nx ny k (plane_words bits nx ny) first
-IsPart bits nx ny k (Carries first) = IsInNodes nx ny k (plane_words bits nx ny + node_words nx ny) first
+abbrev pub IsPartOfWord : (bits nx ny k : ℕ) → Part → Type 0
+IsPartOfWord bits nx ny k (Plane plane y column) = (k < plane_words bits nx ny) × IsInPlanes nx ny k plane y column
+IsPartOfWord bits nx ny k (Outputs first) = IsInNodes nx ny k (plane_words bits nx ny) first
+IsPartOfWord bits nx ny k (Carries first) = IsInNodes nx ny k (plane_words bits nx ny + node_words nx ny) first
 
 -- the row is one of the grid, and the numbers are small
 abbrev pub IsInGrid : (ny : ℕ) → Part → Type 0

@@ -22,21 +22,21 @@ use Rattle.px_playing.specs.PassesText.{passes_listing}
 use Rattle.px_listing.specs.Reading.{listing_of}
 use Rattle.px_listing.specs.Reading as listing
 use Rattle.px_listing.specs.Reading.{ListFault}
-use Rattle.px_state.specs.Courses.{total}
+use Rattle.px_state.specs.Courses.{total_of_listing}
 use Rattle.px_state.specs.Words.{room_of}
 use Rattle.px_state.specs.declared.fault.StateFault.{StateFault}
 use Rattle.px_state.specs.declared.fault.StateFault.TheVariants as f
 
 -- the faults of the parts; the want of memory is one for all
-abbrev pub scene_fault : SceneFault → StateFault
-scene_fault (text_fault.Malformed line cause) = f.Scene (text_fault.Malformed line cause)
-scene_fault (text_fault.Limit line kind found) = f.Scene (text_fault.Limit line kind found)
-scene_fault (text_fault.Memory m) = f.Memory m
+abbrev pub fault_of_scene : SceneFault → StateFault
+fault_of_scene (text_fault.Malformed line cause) = f.Scene (text_fault.Malformed line cause)
+fault_of_scene (text_fault.Limit line kind found) = f.Scene (text_fault.Limit line kind found)
+fault_of_scene (text_fault.Memory m) = f.Memory m
 
-abbrev pub job_fault : JobFault → StateFault
-job_fault (job.PixelMemory need) = f.Job (job.PixelMemory need)
-job_fault (job.Products count) = f.Job (job.Products count)
-job_fault (job.Memory m) = f.Memory m
+abbrev pub fault_of_job : JobFault → StateFault
+fault_of_job (job.PixelMemory need) = f.Job (job.PixelMemory need)
+fault_of_job (job.Products count) = f.Job (job.Products count)
+fault_of_job (job.Memory m) = f.Memory m
 
 abbrev pub list_fault : ListFault → StateFault
 list_fault (text_fault.Malformed line cause) = f.Listing (text_fault.Malformed line cause)
@@ -55,26 +55,26 @@ is_listing text =
     false
 
 -- more bytes than a text may have
-abbrev pub too_long : StateFault
-too_long = f.Scene (text_fault.Limit 0 kind.Text (pos (MAX_TEXT_BYTES + 1)))
+abbrev pub past_text_limit : StateFault
+past_text_limit = f.Scene (text_fault.Limit 0 kind.Text (pos (MAX_TEXT_BYTES + 1)))
 
 abbrev pub refused_where : Bool → StateFault → Option StateFault
 refused_where true fault = Some fault
 refused_where false fault = None
 
 -- pixels of so many memory bits must have those that the scene needs, and then its products must be few enough
-abbrev pub job_refusal : (bits : ℕ) → SceneView → Option StateFault
-job_refusal bits scene =
+abbrev pub refusal_by_bits : (bits : ℕ) → SceneView → Option StateFault
+refusal_by_bits bits scene =
     let need = need_of (layout_of scene) in
     option_or (refused_where (nat_lt bits need) (f.Job (job.PixelMemory need)))
     (option_map (λ count. f.Job (job.Products count)) (crowd_of scene))
 
 -- a text is too long, or no listing, or no scene that such pixels can hold
-unfoldable pub text_refusal : (bits : ℕ) → List ℕ → Option StateFault
-text_refusal bits text =
-    if nat_lt MAX_TEXT_BYTES (length text) then Some too_long else
-    if is_listing text then option_map list_fault (listing.refusal_of bits text) else
-    option_or (option_map scene_fault (reading.refusal_of text)) (job_refusal bits (scene_of (worded text)))
+unfoldable pub input_refusal : (bits : ℕ) → List ℕ → Option StateFault
+input_refusal bits text =
+    if nat_lt MAX_TEXT_BYTES (length text) then Some past_text_limit else
+    if is_listing text then option_map list_fault (listing.listing_refusal_of bits text) else
+    option_or (option_map fault_of_scene (reading.refusal_of text)) (refusal_by_bits bits (scene_of (worded text)))
 
 -- what a text broadcasts
 unfoldable pub course_of : List ℕ → ListingView
@@ -82,7 +82,7 @@ course_of text = if is_listing text then listing_of (worded text) else passes_li
 
 -- a clock must not be past the last
 abbrev pub clock_refusal : ListingView → (clock : ℕ) → Option StateFault
-clock_refusal l clock = refused_where (nat_lt (total l) clock) (f.NoClock (total l))
+clock_refusal l clock = refused_where (nat_lt (total_of_listing l) clock) (f.NoClock (total_of_listing l))
 
 -- and then there must be as many words as are due
 abbrev pub refused_by : (clock clocks words due : ℕ) → Option StateFault
@@ -90,17 +90,17 @@ refused_by clock clocks words due =
     option_or (refused_where (nat_lt clocks clock) (f.NoClock clocks)) (refused_where (nat_lt words due) (f.NoRoom due))
 
 abbrev pub course_refusal : (bits : ℕ) → ListingView → (clock words : ℕ) → Option StateFault
-course_refusal bits l clock words = refused_by clock (total l) words (room_of bits l.nx l.ny)
+course_refusal bits l clock words = refused_by clock (total_of_listing l) words (room_of bits l.nx l.ny)
 
 -- why there is no state of a text after so many clocks, in a list of so many words
 abbrev pub state_refusal : (bits : ℕ) → List ℕ → (clock room : ℕ) → Option StateFault
 state_refusal bits text clock room =
-    option_or (text_refusal bits text) (course_refusal bits (course_of text) clock room)
+    option_or (input_refusal bits text) (course_refusal bits (course_of text) clock room)
 
 -- why a text has not so many micros from a clock on
 abbrev pub micros_refusal : (bits : ℕ) → List ℕ → (first count : ℕ) → Option StateFault
 micros_refusal bits text first count =
-    option_or (text_refusal bits text) (clock_refusal (course_of text) (first + count))
+    option_or (input_refusal bits text) (clock_refusal (course_of text) (first + count))
 
 -- why a text has not so many operations from one on
 abbrev pub operation_refusal : ListingView → (operation : ℕ) → Option StateFault
@@ -108,7 +108,7 @@ operation_refusal l operation = refused_where (nat_lt (length l.macros) operatio
 
 abbrev pub operations_refusal : (bits : ℕ) → List ℕ → (first count : ℕ) → Option StateFault
 operations_refusal bits text first count =
-    option_or (text_refusal bits text) (operation_refusal (course_of text) (first + count))
+    option_or (input_refusal bits text) (operation_refusal (course_of text) (first + count))
 
 -- a list of products that is past the limit has at most so many
 abbrev pub HasFewProducts : JobFault → Type 0

@@ -18,6 +18,6 @@ abbrev pub HasLow : (k low : ℕ) → Type 0
 HasLow k low = (i : ℕ) → i < 64 → nat_bit low i ≡ (rest_at k i == 0)
 
 -- the place of the bit that the stages below k bring to a place
-abbrev pub crossed : (k p : ℕ) → ℕ
-crossed k p =
+abbrev pub turned_place : (k p : ℕ) → ℕ
+turned_place k p =
     64 * (p / 64 / 2 ^ k * 2 ^ k + p % 64 % 2 ^ k) + (p % 64 / 2 ^ k * 2 ^ k + p / 64 % 2 ^ k)

@@ -64,7 +64,7 @@ state_bit bits s k i =
     node_bit (λ n. n.carry) s.tree (64 * (k - (planes + nodes)) + i)
 
 -- the words begin with those of a state, and what is behind them is as before
-pub record HasWords (bits : ℕ) (s : State) (before now : List ℕ) : Type 0 where
+pub record BeginsWithState (bits : ℕ) (s : State) (before now : List ℕ) : Type 0 where
   pub bit : (k i : ℕ) → k < room_of bits s.tree.nx s.tree.ny → i < 64 → nat_bit (get_or now k 0) i
       ≡ state_bit bits s k i
   pub behind : drop (room_of bits s.tree.nx s.tree.ny) now ≡ drop (room_of bits s.tree.nx s.tree.ny) before

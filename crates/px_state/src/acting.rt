@@ -5,8 +5,8 @@ ghost use Rattle.px_num.specs.Bits.{nat_bit, xor};
 ghost use Rattle.px_pixel.specs.Acts.{HasPlace};
 ghost use Rattle.px_pixel.specs.Pixels.{PixelState};
 ghost use Rattle.px_planes.specs.Pixels.{acted_at};
-ghost use Rattle.px_state.specs.Cells.{IsCell, IsShape, leaf_in, pixel_in};
-ghost use Rattle.px_state.specs.Packing.{place_of};
+ghost use Rattle.px_state.specs.Cells.{IsCell, IsShape, leaf_in, pixel_in_words};
+ghost use Rattle.px_state.specs.Packing.{memory_place};
 
 use crate::packing::place_of;
 use crate::shape::Shape;
@@ -26,11 +26,11 @@ pub(crate) struct Cells {
 /// Makes every pixel do an act, by its leaf.
 pub(crate) fn act_all(words: &mut [u64], shape: &Shape, act: &Act)
     requires shape { IsShape shape.now }
-    requires place { place_of act.now < shape.now.bits }
+    requires place { memory_place act.now < shape.now.bits }
     requires room { (shape.now.bits + 4) * shape.now.plane ≤ length words.old }
-    ensures acted { (k i : ℕ) → k < shape.now.plane → i < 64 → pixel_in shape.now.bits shape.now.plane words.new k i
+    ensures acted { (k i : ℕ) → k < shape.now.plane → i < 64 → pixel_in_words shape.now.bits shape.now.plane words.new k i
         ≡ acted_at (nat_bit shape.now.full i) act.now (leaf_in shape.now.bits shape.now.plane words.old k i)
-        (pixel_in shape.now.bits shape.now.plane words.old k i) }
+        (pixel_in_words shape.now.bits shape.now.plane words.old k i) }
     ensures behind { (j : ℕ) → (shape.now.bits + 3) * shape.now.plane ≤ j → get_or words.new j 0 ≡ get_or words.old j 0 }
     ensures length { length words.new ≡ length words.old }
 {
@@ -42,14 +42,14 @@ pub(crate) fn act_all(words: &mut [u64], shape: &Shape, act: &Act)
 /// The same of the pixels of word `k` of each plane.
 fn act_word(words: &mut [u64], shape: &Shape, k: usize, act: &Act)
     requires shape { IsShape shape.now }
-    requires place { place_of act.now < shape.now.bits }
+    requires place { memory_place act.now < shape.now.bits }
     requires room { (shape.now.bits + 4) * shape.now.plane ≤ length words.old }
     requires within { k < shape.now.plane }
-    ensures acted { (i : ℕ) → i < 64 → pixel_in shape.now.bits shape.now.plane words.new k i
+    ensures acted { (i : ℕ) → i < 64 → pixel_in_words shape.now.bits shape.now.plane words.new k i
         ≡ acted_at (nat_bit shape.now.full i) act.now (leaf_in shape.now.bits shape.now.plane words.old k i)
-        (pixel_in shape.now.bits shape.now.plane words.old k i) }
-    ensures others { (j i : ℕ) → j < shape.now.plane → j ≢ k → pixel_in shape.now.bits shape.now.plane words.new j i
-        ≡ pixel_in shape.now.bits shape.now.plane words.old j i }
+        (pixel_in_words shape.now.bits shape.now.plane words.old k i) }
+    ensures others { (j i : ℕ) → j < shape.now.plane → j ≢ k → pixel_in_words shape.now.bits shape.now.plane words.new j i
+        ≡ pixel_in_words shape.now.bits shape.now.plane words.old j i }
     ensures behind { (j : ℕ) → (shape.now.bits + 3) * shape.now.plane ≤ j → get_or words.new j 0 ≡ get_or words.old j 0 }
     ensures length { length words.new ≡ length words.old }
 {
@@ -73,8 +73,8 @@ fn act_word(words: &mut [u64], shape: &Shape, k: usize, act: &Act)
 
 /// What an act makes of 64 pixels; `full` is 1 where there is one.
 fn acted(act: &Act, old: Cells, full: u64) -> Cells
-    ensures { (i : ℕ) (p : PixelState) → i < 64 → place_of act.now < length p.memory → IsCell (place_of act.now) i old p
-        → IsCell (place_of act.now) i result (acted_at (nat_bit full i) act.now (nat_bit old.leaf i) p) }
+    ensures { (i : ℕ) (p : PixelState) → i < 64 → memory_place act.now < length p.memory → IsCell (memory_place act.now) i old p
+        → IsCell (memory_place act.now) i result (acted_at (nat_bit full i) act.now (nat_bit old.leaf i) p) }
 {
     match act {
         Act::Nop => old,

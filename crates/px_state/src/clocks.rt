@@ -5,7 +5,7 @@ ghost use Rattle.px_array.specs.Arrays.{State};
 ghost use Rattle.px_tree.specs.Nodes.{IsGrid};
 ghost use Rattle.px_state.specs.Cells.{IsShape};
 ghost use Rattle.px_state.specs.Clocking.{AreClocked, HoldsState, first_stray};
-ghost use Rattle.px_state.specs.Packing.{place_of};
+ghost use Rattle.px_state.specs.Packing.{memory_place};
 ghost use Rattle.px_state.specs.Words.{room_of};
 
 use crate::acting::act_all;
@@ -71,7 +71,7 @@ fn first_stray(micros: &[u64], bits: usize) -> Option<usize>
 /// One clock.
 fn clock(words: &mut [u64], shape: &Shape, m: &Micro)
     requires shape { IsShape shape.now }
-    requires place { place_of m.now.act < shape.now.bits }
+    requires place { memory_place m.now.act < shape.now.bits }
     requires room { room_of shape.now.bits shape.now.nx shape.now.ny ≤ length words.old }
     ensures clocked { (s : State) → HoldsState shape.now.bits shape.now.nx shape.now.ny s words.old
         → HoldsState shape.now.bits shape.now.nx shape.now.ny (after_clock m.now s) words.new }

@@ -3,7 +3,7 @@ ghost use Rattle.std.specs.Prelude.{◌≡◌, ◌≤◌, ◌<◌, ◌+◌, ◌*
 ghost use Rattle.px_num.specs.Bits.{bit_at, nat_bit};
 ghost use Rattle.px_array.specs.Arrays.{IsOpen, pixel_of};
 ghost use Rattle.px_state.specs.Cells.{IsShape};
-ghost use Rattle.px_state.specs.Columns.{HasSize, HoldsBlock, HoldsRows, column_words, row_word};
+ghost use Rattle.px_state.specs.Columns.{IsShapeOf, HoldsBlock, HoldsRows, column_words, row_word};
 ghost use Rattle.px_state.specs.Words.{state_bit};
 
 use crate::shape::Shape;
@@ -20,7 +20,7 @@ pub(crate) fn write_memory<A: Array>(array: &A, shape: &Shape, words: &mut [u64]
     requires is_open { IsOpen (A.device array.now) }
     requires shape { IsShape shape.now }
     requires bits { shape.now.bits ≡ A.BITS }
-    requires size { HasSize shape.now (A.device array.now).state }
+    requires size { IsShapeOf shape.now (A.device array.now).state }
     requires room { shape.now.bits * shape.now.plane ≤ length words.old }
     ensures bit { (k i : ℕ) → k < shape.now.bits * shape.now.plane → i < 64
         → nat_bit (get_or words.new k 0) i ≡ state_bit shape.now.bits (A.device array.now).state k i }
@@ -39,7 +39,7 @@ pub(crate) fn write_memory<A: Array>(array: &A, shape: &Shape, words: &mut [u64]
 fn take_rows<A: Array>(array: &A, shape: &Shape, at: u32, rows: &mut [u64; MOST_WORDS])
     requires is_open { IsOpen (A.device array.now) }
     requires shape { IsShape shape.now }
-    requires size { HasSize shape.now (A.device array.now).state }
+    requires size { IsShapeOf shape.now (A.device array.now).state }
     requires place { at < A.BITS }
     ensures { HoldsRows (A.device array.now).state at rows.new }
 {

@@ -55,9 +55,9 @@ impl From<Memory> for StateFault {
 
 impl From<SceneFault> for StateFault {
     ghost use Rattle.std.specs.Prelude.{◌≡◌};
-    ghost use Rattle.px_state.specs.Refusals.{scene_fault};
+    ghost use Rattle.px_state.specs.Refusals.{fault_of_scene};
 
-    ghost from_gives = { λ cause fault. fault ≡ scene_fault cause };
+    ghost from_gives = { λ cause fault. fault ≡ fault_of_scene cause };
 
     fn from(cause: SceneFault) -> Self {
         match cause {
@@ -69,9 +69,9 @@ impl From<SceneFault> for StateFault {
 
 impl From<JobFault> for StateFault {
     ghost use Rattle.std.specs.Prelude.{◌≡◌};
-    ghost use Rattle.px_state.specs.Refusals.{job_fault};
+    ghost use Rattle.px_state.specs.Refusals.{fault_of_job};
 
-    ghost from_gives = { λ cause fault. fault ≡ job_fault cause };
+    ghost from_gives = { λ cause fault. fault ≡ fault_of_job cause };
 
     fn from(cause: JobFault) -> Self {
         match cause {

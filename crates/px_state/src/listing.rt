@@ -2,11 +2,11 @@
 ghost use Rattle.std.specs.Prelude.{◌≡◌, ◌≤◌, ◌<◌, ◌^◌, All, IfErr, IfOk, IfSome, IfNone, None, OnErr, OnOk, Some, length};
 ghost use Rattle.px_array.specs.Arrays.{opened};
 ghost use Rattle.px_macro.specs.Macros.{IsLawful};
-ghost use Rattle.px_state.specs.Courses.{IsNext, device_after, total};
+ghost use Rattle.px_state.specs.Courses.{IsNextBroadcast, device_after, total_of_listing};
 ghost use Rattle.px_state.specs.Refusals.{HasSmallCount, IsRefusedBy, course_refusal};
 ghost use Rattle.px_array.specs.Slots.{array_view, worked};
-ghost use Rattle.px_state.specs.States.{IsDrawn, IsState, LeavesArray};
-ghost use Rattle.px_state.specs.Words.{HasWords};
+ghost use Rattle.px_state.specs.States.{IsRunTo, IsState, FaultLeaves};
+ghost use Rattle.px_state.specs.Words.{BeginsWithState};
 
 use crate::fault::StateFault;
 use crate::room::judge;
@@ -27,16 +27,16 @@ pub(crate) fn state_of_listing<A: Operating>(
     requires lawful { All (λ m. IsLawful m A.BITS) listing.now.macros }
     ensures ok { OnOk result (course_refusal A.BITS listing.now clock (length words.old) ≡ None) }
     ensures state { IfOk result (λ s. IsState A.BITS listing.now clock s) }
-    ensures words { OnOk result (HasWords A.BITS
+    ensures words { OnOk result (BeginsWithState A.BITS
         (device_after A.BITS listing.now clock).state words.old words.new) }
     ensures err { IfErr result (λ fault.
         IsRefusedBy fault (course_refusal A.BITS listing.now clock (length words.old))) }
     ensures small { IfErr result HasSmallCount }
     ensures kept { OnErr result (words.new ≡ words.old) }
     ensures length { length words.new ≡ length words.old }
-    ensures array { OnOk result (IsDrawn A.BITS listing.now clock
+    ensures array { OnOk result (IsRunTo A.BITS listing.now clock
         (array_view (A.device array.new) (A.slots array.new) (A.work array.new))) }
-    ensures refused { IfErr result (λ fault. LeavesArray fault A.BITS listing.now
+    ensures refused { IfErr result (λ fault. FaultLeaves fault A.BITS listing.now
         (array_view (A.device array.old) (A.slots array.old) (A.work array.old))
         (array_view (A.device array.new) (A.slots array.new) (A.work array.new))) }
 {
@@ -59,7 +59,7 @@ pub(crate) fn state_of_listing<A: Operating>(
 
 /// How many clocks a listing takes.
 pub(crate) fn clocks_of(listing: &Listing) -> u64
-    ensures clocks { result ≡ total listing.now }
+    ensures clocks { result ≡ total_of_listing listing.now }
     ensures few { result < 2 ^ 43 }
 {
     let mut clocks = 0;
@@ -73,7 +73,7 @@ pub(crate) fn clocks_of(listing: &Listing) -> u64
 fn play_to<A: Array>(listing: &Listing, array: &mut A, clock: u64)
     requires lawful { All (λ m. IsLawful m A.BITS) listing.now.macros }
     requires new { A.device array.old ≡ opened A.BITS listing.now.nx listing.now.ny }
-    requires within { clock ≤ total listing.now }
+    requires within { clock ≤ total_of_listing listing.now }
     ensures device { A.device array.new ≡ device_after A.BITS listing.now clock }
     ensures slots { A.slots array.new ≡ A.slots array.old }
     ensures work { A.work array.new ≡ worked clock (A.work array.old) }
@@ -89,9 +89,9 @@ fn play_to<A: Array>(listing: &Listing, array: &mut A, clock: u64)
 
 /// The broadcast behind the first clocks of a listing.
 fn next_of(listing: &Listing, clock: u64) -> Option<Next>
-    requires within { clock ≤ total listing.now }
-    ensures some { IfSome result (λ n. IsNext listing.now clock n.operation n.cycle n.micro) }
-    ensures end { IfNone result (clock ≡ total listing.now) }
+    requires within { clock ≤ total_of_listing listing.now }
+    ensures some { IfSome result (λ n. IsNextBroadcast listing.now clock n.operation n.cycle n.micro) }
+    ensures end { IfNone result (clock ≡ total_of_listing listing.now) }
 {
     let mut start = 0;
     for (operation, m) in listing.macros.iter().enumerate() {

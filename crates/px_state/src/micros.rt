@@ -5,13 +5,13 @@ ghost use Rattle.px_asm.specs.Micros.{cycles as cycles_of, micro_at as micro_of}
 ghost use Rattle.px_normal.specs.declared.product.TheConstants.{MAX_PRODUCTS};
 ghost use Rattle.px_prune.specs.Kept.{plan_of};
 ghost use Rattle.px_sched.specs.Layouts.{layout_of};
-ghost use Rattle.px_state.specs.Courses.{total};
+ghost use Rattle.px_state.specs.Courses.{total_of_listing};
 ghost use Rattle.px_state.specs.Packing.{packed};
 ghost use Rattle.px_playing.specs.PassesText.{passes_listing};
 ghost use Rattle.px_macro.specs.Macros.{IsLawful};
 ghost use Rattle.px_tree.specs.Nodes.{IsGrid};
 ghost use Rattle.px_state.specs.Packed.{HasMicros};
-ghost use Rattle.px_state.specs.Refusals.{HasSmallCount, IsRefusedBy, clock_refusal, job_refusal};
+ghost use Rattle.px_state.specs.Refusals.{HasSmallCount, IsRefusedBy, clock_refusal, refusal_by_bits};
 ghost use Rattle.px_state.specs.States.{IsCourse};
 
 use crate::fault::StateFault;
@@ -54,8 +54,8 @@ pub(crate) fn micros_of_listing(
 
 /// Writes the micros of a listing's operations from a clock on.
 fn put_listing(listing: &Listing, first: u64, micros: &mut [u64])
-    requires within { first + length micros.old ≤ total listing.now }
-    requires few { total listing.now < 2 ^ 43 }
+    requires within { first + length micros.old ≤ total_of_listing listing.now }
+    requires few { total_of_listing listing.now < 2 ^ 43 }
     ensures micros { HasMicros listing.now first micros.new }
     ensures length { length micros.new ≡ length micros.old }
 {
@@ -77,11 +77,11 @@ pub(crate) fn micros_of_scene(
     first: u64,
     micros: &mut [u64],
 ) -> Result<Course, StateFault>
-    ensures ok { OnOk result (option_or (job_refusal bits scene.now)
+    ensures ok { OnOk result (option_or (refusal_by_bits bits scene.now)
         (clock_refusal (passes_listing scene.now) (first + length micros.old)) ≡ None) }
     ensures course { IfOk result (λ c. IsCourse (passes_listing scene.now) c) }
     ensures micros { OnOk result (HasMicros (passes_listing scene.now) first micros.new) }
-    ensures err { IfErr result (λ fault. IsRefusedBy fault (option_or (job_refusal bits scene.now)
+    ensures err { IfErr result (λ fault. IsRefusedBy fault (option_or (refusal_by_bits bits scene.now)
         (clock_refusal (passes_listing scene.now) (first + length micros.old)))) }
     ensures small { IfErr result HasSmallCount }
     ensures kept { OnErr result (micros.new ≡ micros.old) }
@@ -105,8 +105,8 @@ pub(crate) fn drawing_of(
     ensures layout { IfOk result (λ found. found.0 ≡ layout_of scene.now) }
     ensures kept { IfOk result (λ found. found.1.products.items ≡ plan_of scene.now) }
     ensures few { OnOk result (length (plan_of scene.now) ≤ MAX_PRODUCTS) }
-    ensures ok { OnOk result (job_refusal bits scene.now ≡ None) }
-    ensures err { IfErr result (λ fault. IsRefusedBy fault (job_refusal bits scene.now)) }
+    ensures ok { OnOk result (refusal_by_bits bits scene.now ≡ None) }
+    ensures err { IfErr result (λ fault. IsRefusedBy fault (refusal_by_bits bits scene.now)) }
     ensures small { IfErr result HasSmallCount }
 {
     match px_control::drawing_of(alloc, scene, bits) {
@@ -120,7 +120,7 @@ fn put_passes(scene: &Scene, plan: &Plan, layout: &Layout, first: u64, micros: &
     requires products { plan.now.products.items ≡ plan_of scene.now }
     requires layout { layout.now ≡ layout_of scene.now }
     requires few { length (plan_of scene.now) ≤ MAX_PRODUCTS }
-    requires within { first + length micros.old ≤ total (passes_listing scene.now) }
+    requires within { first + length micros.old ≤ total_of_listing (passes_listing scene.now) }
     ensures micros { HasMicros (passes_listing scene.now) first micros.new }
     ensures length { length micros.new ≡ length micros.old }
 {

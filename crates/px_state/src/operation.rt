@@ -7,7 +7,7 @@ ghost use Rattle.px_sched.specs.Steps.{IsStep};
 ghost use Rattle.px_face.specs.Faces.{face_count, face_number};
 ghost use Rattle.px_sched.specs.Passes.{solid_of};
 ghost use Rattle.px_state.specs.Operations.{
-  kind_number,
+  operation_kind,
   no_operation,
   number_of_face,
   other_number,
@@ -126,7 +126,7 @@ fn number_at(numbers: &[i64], place: usize) -> i64
 
 /// The number of an operation's kind.
 fn kind_number(m: &Macro) -> u32
-    ensures { result ≡ kind_number m.now }
+    ensures { result ≡ operation_kind m.now }
 {
     match m {
         Macro::All => 1,

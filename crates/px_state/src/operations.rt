@@ -8,17 +8,17 @@ ghost use Rattle.px_sched.specs.Passes.{passes, steps};
 ghost use Rattle.px_sched.specs.StepCursors.{literals_in};
 ghost use Rattle.px_sched.specs.Steps.{IsStep};
 ghost use Rattle.px_playing.specs.PassesText.{passes_listing};
-ghost use Rattle.px_state.specs.Courses.{start_of};
+ghost use Rattle.px_state.specs.Courses.{start_in_listing};
 ghost use Rattle.px_state.specs.Operations.{
   HasOperations,
-  IsListed,
+  IsOfListing,
   IsPassed,
   no_operation,
   operations_before,
   purpose_of,
 };
 ghost use Rattle.px_state.specs.Putting.{IsPutTo};
-ghost use Rattle.px_state.specs.Refusals.{HasSmallCount, IsRefusedBy, job_refusal, operation_refusal};
+ghost use Rattle.px_state.specs.Refusals.{HasSmallCount, IsRefusedBy, refusal_by_bits, operation_refusal};
 ghost use Rattle.px_state.specs.States.{IsCourse};
 
 use crate::fault::StateFault;
@@ -44,7 +44,7 @@ pub(crate) fn operations_of_listing(
 ) -> Result<Course, StateFault>
     ensures ok { OnOk result (operation_refusal listing.now (first + length list.old) ≡ None) }
     ensures course { IfOk result (λ c. IsCourse listing.now c) }
-    ensures operations { OnOk result (HasOperations (IsListed listing.now) first list.new) }
+    ensures operations { OnOk result (HasOperations (IsOfListing listing.now) first list.new) }
     ensures err { IfErr result (λ fault.
         operation_refusal listing.now (first + length list.old) ≡ Some fault) }
     ensures small { IfErr result HasSmallCount }
@@ -72,7 +72,7 @@ fn count_of(listing: &Listing) -> u64
 fn put_listing(listing: &Listing, first: u64, list: &mut [Operation])
     requires within { first + length list.old ≤ length listing.now.macros }
     requires end { first + length list.old < 2 ^ 64 }
-    ensures operations { HasOperations (IsListed listing.now) first list.new }
+    ensures operations { HasOperations (IsOfListing listing.now) first list.new }
     ensures length { length list.new ≡ length list.old }
 {
     let end = first as usize + list.len();
@@ -92,11 +92,11 @@ pub(crate) fn operations_of_scene(
     first: u64,
     list: &mut [Operation],
 ) -> Result<Course, StateFault>
-    ensures ok { OnOk result (option_or (job_refusal bits scene.now)
+    ensures ok { OnOk result (option_or (refusal_by_bits bits scene.now)
         (operation_refusal (passes_listing scene.now) (first + length list.old)) ≡ None) }
     ensures course { IfOk result (λ c. IsCourse (passes_listing scene.now) c) }
     ensures operations { OnOk result (HasOperations (IsPassed scene.now) first list.new) }
-    ensures err { IfErr result (λ fault. IsRefusedBy fault (option_or (job_refusal bits scene.now)
+    ensures err { IfErr result (λ fault. IsRefusedBy fault (option_or (refusal_by_bits bits scene.now)
         (operation_refusal (passes_listing scene.now) (first + length list.old)))) }
     ensures small { IfErr result HasSmallCount }
     ensures kept { OnErr result (list.new ≡ list.old) }
@@ -155,10 +155,10 @@ fn put_step(
     requires purpose { purpose.now ≡ purpose_of scene.now step purpose.now.pass
         (literals_in (take (purpose.now.pass + 1) (steps scene.now))) }
     requires operation { begin.0 ≡ operations_before scene.now purpose.now.pass }
-    requires clock { begin.1 ≡ start_of (passes_listing scene.now) begin.0 }
+    requires clock { begin.1 ≡ start_in_listing (passes_listing scene.now) begin.0 }
     requires put { IsPutTo (IsPassed scene.now) first begin.0 list.old }
     ensures operation { result.0 ≡ operations_before scene.now (purpose.now.pass + 1) }
-    ensures clock { result.1 ≡ start_of (passes_listing scene.now) result.0 }
+    ensures clock { result.1 ≡ start_in_listing (passes_listing scene.now) result.0 }
     ensures put { IsPutTo (IsPassed scene.now) first result.0 list.new }
     ensures length { length list.new ≡ length list.old }
 {

@@ -6,15 +6,15 @@ ghost use Rattle.px_state.specs.Packing.{
   HasFields,
   act_number,
   act_with,
-  bit_number,
+  packed_bit,
   is_micro,
   lines_number,
   micro_in,
   packed,
-  place_of,
+  memory_place,
   tree_number,
   tree_with,
-  value_of,
+  packed_value,
 };
 
 use px_array::{Micro, TreeOp};
@@ -63,7 +63,7 @@ fn act_number(act: &Act) -> u32
 
 /// The value that an act names.
 fn value_of(act: &Act) -> bool
-    ensures { result ≡ value_of act.now }
+    ensures { result ≡ packed_value act.now }
 {
     match act {
         Act::EnableCarry(v)
@@ -77,7 +77,7 @@ fn value_of(act: &Act) -> bool
 
 /// The place of memory that an act names.
 pub(crate) fn place_of(act: &Act) -> u32
-    ensures { result ≡ place_of act.now }
+    ensures { result ≡ memory_place act.now }
 {
     match act {
         Act::EnableBit(at, _)
@@ -114,7 +114,7 @@ fn lines_number(tree: &TreeOp) -> u64
 }
 
 fn bit_number(v: bool) -> u64
-    ensures { result ≡ bit_number v }
+    ensures { result ≡ packed_bit v }
 {
     u64::from(v)
 }

@@ -3,7 +3,7 @@ ghost use Rattle.std.specs.Prelude.{◌≡◌, ◌+◌, ◌<◌, ◌≤◌, ℕ,
 ghost use Rattle.px_array.specs.Slots.{ArrayView};
 ghost use Rattle.px_listing.specs.Listings.{ListingView};
 ghost use Rattle.px_state.specs.Refusals.{HasSmallCount, refused_by, refused_where};
-ghost use Rattle.px_state.specs.States.{IsDrawn, LeavesArray};
+ghost use Rattle.px_state.specs.States.{IsRunTo, FaultLeaves};
 ghost use Rattle.px_state.specs.declared.fault.StateFault.{StateFault};
 
 use crate::fault::StateFault;
@@ -16,7 +16,7 @@ pub(crate) fn judge(clock: u64, clocks: u64, words: usize, due: usize) -> Result
     ensures err { IfErr result (λ fault. refused_by clock clocks words due ≡ Some fault) }
     ensures small { IfErr result HasSmallCount }
     ensures opened { IfErr result (λ fault. (bits : ℕ) (l : ListingView) (before now : ArrayView)
-        → IsDrawn bits l 0 now → LeavesArray fault bits l before now) }
+        → IsRunTo bits l 0 now → FaultLeaves fault bits l before now) }
 {
     if clocks < clock {
         return Err(StateFault::NoClock { clocks });

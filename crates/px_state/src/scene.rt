@@ -2,11 +2,11 @@
 ghost use Rattle.std.specs.Prelude.{◌≡◌, ◌≤◌, ◌<◌, IfErr, IfOk, IfSome, IfNone, None, OnErr, OnOk, Some, length};
 ghost use Rattle.px_playing.specs.PassesText.{passes_listing};
 ghost use Rattle.px_control.specs.Program.{IsAt, total};
-ghost use Rattle.px_state.specs.Courses.{IsNext, device_after};
-ghost use Rattle.px_state.specs.Refusals.{HasSmallCount, IsRefusedBy, course_refusal, job_refusal};
+ghost use Rattle.px_state.specs.Courses.{IsNextBroadcast, device_after};
+ghost use Rattle.px_state.specs.Refusals.{HasSmallCount, IsRefusedBy, course_refusal, refusal_by_bits};
 ghost use Rattle.px_array.specs.Slots.{IsRunOnce, array_view};
-ghost use Rattle.px_state.specs.States.{IsDrawn, IsState, LeavesArray};
-ghost use Rattle.px_state.specs.Words.{HasWords};
+ghost use Rattle.px_state.specs.States.{IsRunTo, IsState, FaultLeaves};
+ghost use Rattle.px_state.specs.Words.{BeginsWithState};
 ghost use Rattle.std.specs.Option.{option_or};
 
 use crate::fault::StateFault;
@@ -27,19 +27,19 @@ pub(crate) fn state_of_scene<A: Operating>(
     array: &mut A,
 ) -> Result<State, StateFault>
     requires bits { A.BITS ≤ 256 }
-    ensures ok { OnOk result (option_or (job_refusal A.BITS scene.now)
+    ensures ok { OnOk result (option_or (refusal_by_bits A.BITS scene.now)
         (course_refusal A.BITS (passes_listing scene.now) clock (length words.old)) ≡ None) }
     ensures state { IfOk result (λ s. IsState A.BITS (passes_listing scene.now) clock s) }
-    ensures words { OnOk result (HasWords A.BITS
+    ensures words { OnOk result (BeginsWithState A.BITS
         (device_after A.BITS (passes_listing scene.now) clock).state words.old words.new) }
-    ensures err { IfErr result (λ fault. IsRefusedBy fault (option_or (job_refusal A.BITS scene.now)
+    ensures err { IfErr result (λ fault. IsRefusedBy fault (option_or (refusal_by_bits A.BITS scene.now)
         (course_refusal A.BITS (passes_listing scene.now) clock (length words.old)))) }
     ensures small { IfErr result HasSmallCount }
     ensures kept { OnErr result (words.new ≡ words.old) }
     ensures length { length words.new ≡ length words.old }
-    ensures array { OnOk result (IsDrawn A.BITS (passes_listing scene.now) clock
+    ensures array { OnOk result (IsRunTo A.BITS (passes_listing scene.now) clock
         (array_view (A.device array.new) (A.slots array.new) (A.work array.new))) }
-    ensures refused { IfErr result (λ fault. LeavesArray fault A.BITS (passes_listing scene.now)
+    ensures refused { IfErr result (λ fault. FaultLeaves fault A.BITS (passes_listing scene.now)
         (array_view (A.device array.old) (A.slots array.old) (A.work array.old))
         (array_view (A.device array.new) (A.slots array.new) (A.work array.new))) }
 {
@@ -72,12 +72,12 @@ fn open_job<'s, A: Operating>(
 ) -> Result<Job<'s>, StateFault>
     ensures job { IfOk result (λ job. (job.scene ≡ scene.now) × (job.place.clock ≡ 0)) }
     ensures at { OnOk result (IsAt A.BITS scene.now 0 (A.device array.new)) }
-    ensures ok { OnOk result (job_refusal A.BITS scene.now ≡ None) }
+    ensures ok { OnOk result (refusal_by_bits A.BITS scene.now ≡ None) }
     ensures once { OnOk result (IsRunOnce
         (array_view (A.device array.new) (A.slots array.new) (A.work array.new))) }
-    ensures err { IfErr result (λ fault. IsRefusedBy fault (job_refusal A.BITS scene.now)) }
+    ensures err { IfErr result (λ fault. IsRefusedBy fault (refusal_by_bits A.BITS scene.now)) }
     ensures small { IfErr result HasSmallCount }
-    ensures refused { IfErr result (λ fault. LeavesArray fault A.BITS (passes_listing scene.now)
+    ensures refused { IfErr result (λ fault. FaultLeaves fault A.BITS (passes_listing scene.now)
         (array_view (A.device array.old) (A.slots array.old) (A.work array.old))
         (array_view (A.device array.new) (A.slots array.new) (A.work array.new))) }
 {
@@ -89,7 +89,7 @@ fn open_job<'s, A: Operating>(
 
 /// The broadcast before which a job stands.
 fn next_of(job: &Job<'_>) -> Option<Next>
-    ensures some { IfSome result (λ n. IsNext (passes_listing job.now.scene) job.now.place.clock
+    ensures some { IfSome result (λ n. IsNextBroadcast (passes_listing job.now.scene) job.now.place.clock
         n.operation n.cycle n.micro) }
     ensures end { IfNone result (job.now.place.clock ≡ total job.now.scene) }
 {

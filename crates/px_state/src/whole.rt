@@ -8,11 +8,11 @@ ghost use Rattle.px_text.specs.Text.{worded};
 ghost use Rattle.px_scene.specs.Reading.{scene_of};
 ghost use Rattle.px_state.specs.Operations.{HasOperations, IsOperationOf};
 ghost use Rattle.px_state.specs.Packed.{HasMicros};
-ghost use Rattle.px_state.specs.Refusals.{HasSmallCount, IsRefusedBy, course_of, is_listing, job_refusal, micros_refusal, operations_refusal, state_refusal, text_refusal, too_long};
+ghost use Rattle.px_state.specs.Refusals.{HasSmallCount, IsRefusedBy, course_of, is_listing, refusal_by_bits, micros_refusal, operations_refusal, state_refusal, input_refusal, past_text_limit};
 ghost use Rattle.px_array.specs.Slots.{array_view};
 ghost use Rattle.px_state.specs.Keeping.{KeepsArray};
-ghost use Rattle.px_state.specs.States.{IsCourse, IsDrawn, IsState, LeavesArray};
-ghost use Rattle.px_state.specs.Words.{HasWords};
+ghost use Rattle.px_state.specs.States.{IsCourse, IsRunTo, IsState, FaultLeaves};
+ghost use Rattle.px_state.specs.Words.{BeginsWithState};
 
 use crate::fault::StateFault;
 use crate::listing::state_of_listing;
@@ -46,16 +46,16 @@ pub fn write_state<A: Operating>(
     requires bits { A.BITS ≤ 256 }
     ensures ok { OnOk result (state_refusal A.BITS text.now clock (length words.old) ≡ None) }
     ensures state { IfOk result (λ s. IsState A.BITS (course_of text.now) clock s) }
-    ensures words { OnOk result (HasWords A.BITS
+    ensures words { OnOk result (BeginsWithState A.BITS
         (device_after A.BITS (course_of text.now) clock).state words.old words.new) }
     ensures err { IfErr result (λ fault.
         IsRefusedBy fault (state_refusal A.BITS text.now clock (length words.old))) }
     ensures small { IfErr result HasSmallCount }
     ensures kept { OnErr result (words.new ≡ words.old) }
     ensures length { length words.new ≡ length words.old }
-    ensures array { OnOk result (IsDrawn A.BITS (course_of text.now) clock
+    ensures array { OnOk result (IsRunTo A.BITS (course_of text.now) clock
         (array_view (A.device array.new) (A.slots array.new) (A.work array.new))) }
-    ensures refused { IfErr result (λ fault. LeavesArray fault A.BITS (course_of text.now)
+    ensures refused { IfErr result (λ fault. FaultLeaves fault A.BITS (course_of text.now)
         (array_view (A.device array.old) (A.slots array.old) (A.work array.old))
         (array_view (A.device array.new) (A.slots array.new) (A.work array.new))) }
 {
@@ -205,10 +205,10 @@ fn read_course(alloc: Global, text: &[u8], bits: u32) -> Result<Listing, StateFa
     requires bits { bits ≤ 256 }
     requires short { length text.now ≤ MAX_TEXT_BYTES }
     requires flagged { is_listing text.now ≡ true }
-    ensures ok { OnOk result (text_refusal bits text.now ≡ None) }
+    ensures ok { OnOk result (input_refusal bits text.now ≡ None) }
     ensures course { IfOk result (λ listing. course_of text.now ≡ listing) }
     ensures lawful { IfOk result (λ listing. All (λ m. IsLawful m bits) listing.macros) }
-    ensures err { IfErr result (λ fault. IsRefusedBy fault (text_refusal bits text.now)) }
+    ensures err { IfErr result (λ fault. IsRefusedBy fault (input_refusal bits text.now)) }
     ensures small { IfErr result HasSmallCount }
     ensures keeps { IfErr result KeepsArray }
 {
@@ -222,10 +222,10 @@ fn read_course(alloc: Global, text: &[u8], bits: u32) -> Result<Listing, StateFa
 fn read_drawing(alloc: Global, text: &[u8]) -> Result<Scene, StateFault>
     requires short { length text.now ≤ MAX_TEXT_BYTES }
     requires flagged { is_listing text.now ≡ false }
-    ensures ok { IfOk result (λ scene. (bits : ℕ) → text_refusal bits text.now ≡ job_refusal bits scene) }
+    ensures ok { IfOk result (λ scene. (bits : ℕ) → input_refusal bits text.now ≡ refusal_by_bits bits scene) }
     ensures scene { IfOk result (λ scene. scene ≡ scene_of (worded text.now)) }
     ensures course { IfOk result (λ scene. course_of text.now ≡ passes_listing scene) }
-    ensures err { IfErr result (λ fault. (bits : ℕ) → IsRefusedBy fault (text_refusal bits text.now)) }
+    ensures err { IfErr result (λ fault. (bits : ℕ) → IsRefusedBy fault (input_refusal bits text.now)) }
     ensures small { IfErr result HasSmallCount }
     ensures keeps { IfErr result KeepsArray }
 {
@@ -237,7 +237,7 @@ fn read_drawing(alloc: Global, text: &[u8]) -> Result<Scene, StateFault>
 
 /// The refusal of a text that has more bytes than it may have.
 fn too_long() -> StateFault
-    ensures { result ≡ too_long }
+    ensures { result ≡ past_text_limit }
 {
     StateFault::Scene(SceneFault::Limit {
         line: 0,

@@ -3,8 +3,8 @@ ghost use Rattle.std.specs.Prelude.{◌≡◌, ℕ, ◌+◌, ◌*◌, ◌^◌, �
 ghost use Rattle.px_num.specs.Bits.{nat_bit};
 ghost use Rattle.px_array.specs.Arrays.{HasPixel, IsOpen, levels_of};
 ghost use Rattle.px_tree.specs.Nodes.{IsGrid, at_place};
-ghost use Rattle.px_state.specs.Parts.{IsInGrid, IsPart, part_bit};
-ghost use Rattle.px_state.specs.Words.{HasWords, node_words, plane_bit, plane_words, room_of, row_words, state_bit};
+ghost use Rattle.px_state.specs.Parts.{IsInGrid, IsPartOfWord, part_bit};
+ghost use Rattle.px_state.specs.Words.{BeginsWithState, node_words, plane_bit, plane_words, room_of, row_words, state_bit};
 
 use crate::columns::write_memory;
 use crate::shape::Shape;
@@ -65,7 +65,7 @@ pub fn write_words<A: Array>(array: &A, words: &mut [u64])
     requires bits { A.BITS ≤ 256 }
     requires room { room_of A.BITS (A.device array.now).state.tree.nx (A.device array.now).state.tree.ny
         ≤ length words.old }
-    ensures words { HasWords A.BITS (A.device array.now).state words.old words.new }
+    ensures words { BeginsWithState A.BITS (A.device array.now).state words.old words.new }
     ensures length { length words.new ≡ length words.old }
 {
     let (nx, ny) = array.size();
@@ -84,7 +84,7 @@ fn write_rest<A: Array>(array: &A, words: &mut [u64], first: usize)
         ≤ room_of A.BITS (A.device array.now).state.tree.nx (A.device array.now).state.tree.ny }
     requires written { (k i : ℕ) → k < first → i < 64
         → nat_bit (get_or words.old k 0) i ≡ state_bit A.BITS (A.device array.now).state k i }
-    ensures words { HasWords A.BITS (A.device array.now).state words.old words.new }
+    ensures words { BeginsWithState A.BITS (A.device array.now).state words.old words.new }
     ensures length { length words.new ≡ length words.old }
 {
     let (nx, ny) = array.size();
@@ -99,7 +99,7 @@ fn part_of(bits: usize, nx: u32, ny: u32, k: usize) -> Part
     requires bits { bits ≤ 256 }
     requires grid { IsGrid nx ny }
     requires within { k < room_of bits nx ny }
-    ensures part { IsPart bits nx ny k result }
+    ensures part { IsPartOfWord bits nx ny k result }
     ensures within { IsInGrid ny result }
 {
     let planes = plane_words(bits, nx, ny);

@@ -43,7 +43,7 @@ planned scene = within_products scene (done (plan_text
 
 -- the text of the scene's grid and passes, where an array with pixels of so many bits can draw the scene
 abbrev pub listed : SceneView → (bits : ℕ) → Outcome
-listed scene bits = drawable bits scene (done (listing.canonical_text (passes_listing scene)))
+listed scene bits = drawable bits scene (done (listing.canonical_listing (passes_listing scene)))
 
 -- what comes of a scene
 abbrev pub made : Work → SceneView → (bits : ℕ) → Outcome

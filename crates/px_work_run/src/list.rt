@@ -5,7 +5,7 @@ ghost use Rattle.px_io.specs.Counts.{HasCause};
 ghost use Rattle.px_io.specs.Told.{TakesFront, Tells};
 ghost use Rattle.px_prune.specs.Kept.{plan_of};
 ghost use Rattle.px_sched.specs.Layouts.{layout_of};
-ghost use Rattle.px_listing.specs.Listings.{canonical_text};
+ghost use Rattle.px_listing.specs.Listings.{canonical_listing};
 ghost use Rattle.px_playing.specs.PassesText.{passes_listing};
 ghost use Rattle.px_outcome.specs.declared.stop.Stop.{Stop};
 ghost use Rattle.px_work_run.specs.Works.{listed};
@@ -47,9 +47,9 @@ fn deliver_passes<O: Sink>(
     requires few { length (plan_of scene.now) ≤ MAX_PRODUCTS }
     requires layout { layout.now ≡ layout_of scene.now }
     ensures ok { OnOk result (Appends (O.state out.old).written (O.state out.new).written
-        (canonical_text (passes_listing scene.now))) }
+        (canonical_listing (passes_listing scene.now))) }
     ensures end { OnOk result (Tells (O.state out.new).finished true) }
-    ensures err { OnErr result (TakesFront (O.state out.old) (O.state out.new) (canonical_text (passes_listing scene.now))) }
+    ensures err { OnErr result (TakesFront (O.state out.old) (O.state out.new) (canonical_listing (passes_listing scene.now))) }
     ensures cause { HasCause (O.state out.old).faults (O.state out.new).faults result }
 {
     write_passes(scene, plan, layout, out)?;

@@ -8,7 +8,8 @@ pub returns-clause-device : goal.returns-clause-device
 returns-clause-device g c =
     let ops = c.args.operations.now in
     all_is_made c.law_of_renewal.ensures.again g.A.Array.BITS c.args.operations.now c.first_left-first.result
-    (g.A.Array.device c.args.array.now) _ _ c.requires.can c.first_left-first.ensures.within c.operate_each.ensures.nearly
+    (g.A.Array.device c.args.array.now) _ _ c.requires.can c.first_left-first.ensures.within
+    c.operate_each.ensures.nearly
     c.first_left-first.ensures.enough
     (c.make_each.ensures.device
     ∙ ap (λ os. all_made os (g.A.Array.device c.operate_each.new.array))

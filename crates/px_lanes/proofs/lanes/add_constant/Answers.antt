@@ -1,4 +1,6 @@
-use Rattle.std.proofs.Common.{◌≡◌, ◌≢◌, ℕ, suc, ℤ, pos, ◌+◌, ◌<◌, ◌∙◌, ap, arith, inl, inr, if◌then◌else◌, get_or, get_or-set_other, get_or-set_same, length-set, bit_and, w64, to_z, of_z, refl}
+use Rattle.std.proofs.Common.{◌≡◌, ◌≢◌, ℕ, suc, ℤ, pos, ◌+◌, ◌<◌, ◌∙◌, ap, arith, inl, inr, if◌then◌else◌}
+use Rattle.std.proofs.Common.{get_or, get_or-set_other, get_or-set_same, length-set, bit_and, w64, to_z, of_z}
+use Rattle.std.proofs.Common.{refl}
 use Rattle.std.proofs.lemmas.Bool.{cases_lt}
 use Rattle.px_num.specs.Bits.{bit_of, nat_bit}
 use Rattle.px_rows.proofs.BitLaws.{bit-and}
@@ -20,7 +22,11 @@ loop-t-preserved c =
     let second : (j : ℕ) → j < 64 → nat_bit addend j ≡ bit_of (if nat_bit mask j then k else pos 0) t =
     λ j within.
     bit-and mask c.all_of.result j
-    ∙ (rw (c.all_of.ensures.each j within, c.word_bit.ensures, c.word_of-number.ensures t (omega (arith, c.requires.few))) (addend_bit (nat_bit mask j) k t)) in
+    ∙ (rw (
+      c.all_of.ensures.each j within,
+      c.word_bit.ensures,
+      c.word_of-number.ensures t (omega (arith, c.requires.few)),
+    ) (addend_bit (nat_bit mask j) k t)) in
     let next : t + 1 ≡ suc t = omega arith in
     let inside = c.loop-t-test.true in
     record {

@@ -9,4 +9,5 @@ xor_true true = refl
 xor_true false = refl
 
 pub returns : goal.returns
-returns c = λ j within. bit-xor c.args.word 18446744073709551615 j ∙ rw (all_ones.each j within) (xor_true (nat_bit c.args.word j))
+returns c = λ j within. bit-xor c.args.word 18446744073709551615 j
+    ∙ rw (all_ones.each j within) (xor_true (nat_bit c.args.word j))

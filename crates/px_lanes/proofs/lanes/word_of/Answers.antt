@@ -10,4 +10,6 @@ same_word (pos n) fits = let small = fits.sfits in omega arith
 same_word (negsuc n) fits = let small = fits.sfits in omega arith
 
 pub returns : goal.returns
-returns c t low = ap (λ (n : ℕ). nat_bit n t) (c.cast_unsigned.ensures ∙ (ap (of_z w64) (to_z-of_z w64 c.args.k c.ranges.k) ∙ same_word c.args.k c.ranges.k)) ∙ sym (modulo_bit c.args.k 64 t low)
+returns c t low = ap (λ (n : ℕ). nat_bit n t)
+    (c.cast_unsigned.ensures ∙ (ap (of_z w64) (to_z-of_z w64 c.args.k c.ranges.k) ∙ same_word c.args.k c.ranges.k))
+    ∙ sym (modulo_bit c.args.k 64 t low)

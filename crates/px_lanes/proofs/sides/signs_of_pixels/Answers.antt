@@ -16,7 +16,8 @@ loop-j-preserved c =
     let s = to_z w64 (of_z w64 (to_z w64 (of_z w64 o) +ℤ b)) in
     let size = c.offset_of.ensures.size in
     let sum : s ≡ o +ℤ b = omega (arith, ints, size.0, size.1, c.requires.base.0, c.requires.base.1) in
-    let bit = c.with_bit-word.ensures.here ∙ ap (λ w. lt_z s (pos 0) || w) (i.rest j (omega arith)) ∙ or_false (lt_z s (pos 0))
+    let bit = c.with_bit-word.ensures.here ∙ ap (λ w. lt_z s (pos 0) || w) (i.rest j (omega arith))
+    ∙ or_false (lt_z s (pos 0))
     ∙ of_sum o b s sum ∙ ap (λ (v : ℤ). is_negative (v +ℤ b)) c.offset_of.ensures.value in
     record {
       done = λ k less. elim (cases_eq k j) [

@@ -1,4 +1,5 @@
-use Rattle.std.proofs.Common.{◌≡◌, ℕ, ◌*◌, ◌%◌, ◌^◌, ◌<◌, pos, length, get_or, replicate, sym, ap, ◌∙◌, arith, w64, to_z, of_z, rules}
+use Rattle.std.proofs.Common.{◌≡◌, ℕ, ◌*◌, ◌%◌, ◌^◌, ◌<◌, pos, length, get_or, replicate, sym, ap, ◌∙◌, arith}
+use Rattle.std.proofs.Common.{w64, to_z, of_z, rules}
 use Rattle.std.proofs.Math.Nat.{mod-eq_of_lt}
 use Rattle.std.proofs.lemmas.Int.{to_z-of_z}
 use Rattle.std.proofs.lemmas.Nat.{pow_below}
@@ -36,7 +37,8 @@ loop-k-init c =
     }
 
 pub offset_of-requires-clause-lane : goal.offset_of-requires-clause-lane
-offset_of-requires-clause-lane c = rw (below_64 c.loop-k.k c.loop-k-test.true) (pow_below c.loop-k.k 6 c.loop-k-test.true)
+offset_of-requires-clause-lane c =
+    rw (below_64 c.loop-k.k c.loop-k-test.true) (pow_below c.loop-k.k 6 c.loop-k-test.true)
 
 pub loop-k-preserved : goal.loop-k-preserved
 loop-k-preserved c =

@@ -1,4 +1,5 @@
-use Rattle.std.proofs.Common.{◌≡◌, ◌∙◌, ℕ, ◌+◌, ◌*◌, ◌%◌, ◌^◌, ◌<◌, ◌≤◌, ℤ, pos, ◌+ℤ◌, ◌≤ℤ◌, Bool, true, false, if◌then◌else◌, ap, arith, w64, to_z, of_z, rules}
+use Rattle.std.proofs.Common.{◌≡◌, ◌∙◌, ℕ, ◌+◌, ◌*◌, ◌%◌, ◌^◌, ◌<◌, ◌≤◌, ℤ, pos, ◌+ℤ◌, ◌≤ℤ◌, Bool, true, false}
+use Rattle.std.proofs.Common.{if◌then◌else◌, ap, arith, w64, to_z, of_z, rules}
 use Rattle.std.proofs.Math.Nat.{mod-eq_of_lt}
 use Rattle.std.proofs.lemmas.Int.{clamps, ints, to_z-of_z}
 use mir.Val.{SFits}
@@ -14,7 +15,8 @@ below_64 : (k : ℕ) → k < 6 → 1 * 2 ^ k % 4294967296 ≡ 2 ^ k
 below_64 k low = let s : 2 ^ k < 64 = pow_below k 6 low in omega arith
 
 pub offset_of-step-requires-clause-lane : goal.offset_of-step-requires-clause-lane
-offset_of-step-requires-clause-lane c = rw (below_64 c.loop-k.k c.loop-k-test.true) (pow_below c.loop-k.k 6 c.loop-k-test.true)
+offset_of-step-requires-clause-lane c =
+    rw (below_64 c.loop-k.k c.loop-k-test.true) (pow_below c.loop-k.k 6 c.loop-k-test.true)
 
 pub overflow_add-low : goal.overflow_add-low
 overflow_add-low c =
@@ -29,19 +31,23 @@ overflow_add-low c =
       c.loop-k.invariant.low.1,
     )
 
-low_more : (low m s o n : ℤ) (b : Bool) → low ≤ℤ o → m ≤ℤ s → m ≤ℤ pos 0 → o +ℤ (if b then s else pos 0) ≡ n → (low +ℤ m) ≤ℤ n
+low_more : (low m s o n : ℤ) (b : Bool) → low ≤ℤ o → m ≤ℤ s → m ≤ℤ pos 0 → o +ℤ (if b then s else pos 0) ≡ n
+    → (low +ℤ m) ≤ℤ n
 low_more low m s o n true below first second sum = omega (arith, ints)
 low_more low m s o n false below first second sum = omega (arith, ints)
 
-high_more : (high m s o n : ℤ) (b : Bool) → o ≤ℤ high → s ≤ℤ m → pos 0 ≤ℤ m → o +ℤ (if b then s else pos 0) ≡ n → n ≤ℤ (high +ℤ m)
+high_more : (high m s o n : ℤ) (b : Bool) → o ≤ℤ high → s ≤ℤ m → pos 0 ≤ℤ m → o +ℤ (if b then s else pos 0) ≡ n
+    → n ≤ℤ (high +ℤ m)
 high_more high m s o n true above first second sum = omega (arith, ints)
 high_more high m s o n false above first second sum = omega (arith, ints)
 
 -- a sum of numbers that are small is itself
-sum_is : (a b : ℤ) → IsWithin (2 ^ 42) a → IsWithin (2 ^ 42) b → to_z w64 (of_z w64 (a +ℤ to_z w64 (of_z w64 b))) ≡ a +ℤ b
+sum_is : (a b : ℤ) → IsWithin (2 ^ 42) a → IsWithin (2 ^ 42) b → to_z w64 (of_z w64 (a +ℤ to_z w64 (of_z w64 b)))
+    ≡ a +ℤ b
 sum_is a b (a_low, a_high) (b_low, b_high) = omega (arith, ints)
 
-within_more : (n : ℕ) (a b : ℤ) → n < 6 → IsWithin (n * 549755813888) a → IsWithin 549755813888 b → IsWithin ((n + 1) * 549755813888) (a +ℤ b)
+within_more : (n : ℕ) (a b : ℤ) → n < 6 → IsWithin (n * 549755813888) a → IsWithin 549755813888 b
+    → IsWithin ((n + 1) * 549755813888) (a +ℤ b)
 within_more n a b few (a_low, a_high) (b_low, b_high) = (omega (arith, ints), omega (arith, ints))
 
 small : (n : ℕ) (a : ℤ) → n < 6 → IsWithin (n * 549755813888) a → IsWithin (2 ^ 42) a
@@ -76,10 +82,12 @@ loop-k-preserved c =
     let low_is = sum_is low c.min-low.result (small k low few i.low) (one_small c.min-low.result m) in
     let high_is = sum_is high c.max-high.result (small k high few i.high) (one_small c.max-high.result n) in
     record {
-      least = λ j below. rw low_is (low_more low c.min-low.result s (offset form ny (j % 2 ^ k)) (offset form ny (j % 2 ^ (k + 1)))
+      least = λ j below. rw low_is (low_more low c.min-low.result s (offset form ny (j % 2 ^ k))
+          (offset form ny (j % 2 ^ (k + 1)))
           (nat_bit j k) (i.least j below) (rw same at c.min-low.ensures.self_bound) c.min-low.ensures.other_bound
           (rw weight (offset_step form ny j k)));
-      most = λ j below. rw high_is (high_more high c.max-high.result s (offset form ny (j % 2 ^ k)) (offset form ny (j % 2 ^ (k + 1)))
+      most = λ j below. rw high_is (high_more high c.max-high.result s (offset form ny (j % 2 ^ k))
+          (offset form ny (j % 2 ^ (k + 1)))
           (nat_bit j k) (i.most j below) (rw same at c.max-high.ensures.self_bound) c.max-high.ensures.other_bound
           (rw weight (offset_step form ny j k)));
       low = rw low_is (within_more k low c.min-low.result few i.low m);

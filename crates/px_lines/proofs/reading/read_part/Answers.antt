@@ -25,7 +25,8 @@ find-part-requires g c =
     let same : take c.min.result c.deref.result.now ≡ take (c.args.limit - 1) c.read_piece.new.bytes.items =
     least_front _ _ _ _ _ c.deref.ensures.value (search rules) c.min.ensures in
     record {
-      seen = rw same (seen_more c.loop-piece.search c.loop-piece.text.items c.read_piece.new.bytes.items (c.args.limit - 1)
+      seen = rw same (seen_more c.loop-piece.search c.loop-piece.text.items c.read_piece.new.bytes.items
+          (c.args.limit - 1)
           _ c.loop-piece.invariant.seen c.in_ok-count.ensures.bytes);
     }
 

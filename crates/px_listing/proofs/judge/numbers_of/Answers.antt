@@ -14,5 +14,6 @@ loop-word-preserved c =
 pub returns-clause-small : goal.returns-clause-small
 returns-clause-small c =
     let whole =
-    read_whole c.args.words.now _ c.loop-word.word-index c.loop-word.invariant (omega (arith, c.loop-word-test.false)) in
+    read_whole c.args.words.now _ c.loop-word.word-index c.loop-word.invariant (omega (arith, c.loop-word-test.false))
+    in
     subst (All (IsWithin (10 ^ 18))) (sym whole.1) (are_small (now_of c.args.words.now))

@@ -1,12 +1,12 @@
 use Rattle.std.proofs.Common.{◌≡◌, ◌++◌, [], take}
 use Rattle.std.specs.List.{flat_map}
-use Rattle.px_listing.specs.Listings.{first_lines, macro_line}
+use Rattle.px_listing.specs.Listings.{listing_head, macro_line}
 use Rattle.px_listing.specs.Pieces.{Puts}
 use Rattle.px_listing.proofs.write.write_listing.Given as goal
 
 abbrev pub invariant-loop-m : goal.invariant-loop-m
 invariant-loop-m g l = record {
   put : Puts (g.O.Sink.state l.fn.out) (g.O.Sink.state l.out) []
-      (first_lines l.listing.nx l.listing.ny ++ flat_map macro_line (take l.m-index l.listing.macros)) l.piece.bytes;
+      (listing_head l.listing.nx l.listing.ny ++ flat_map macro_line (take l.m-index l.listing.macros)) l.piece.bytes;
   calm : (g.O.Sink.state l.out).faults ≡ (g.O.Sink.state l.fn.out).faults;
 }

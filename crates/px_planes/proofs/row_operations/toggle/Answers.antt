@@ -12,7 +12,8 @@ returns c =
     let at = c.args.at in
     let old : c.index_mut.result.now ≡ get_or planes.memory.items at [] = c.index_mut.ensures.value
     ∙ get_or_default planes.memory.items at c.index_mut.result.now [] c.requires.place in
-    stored_in_rows (Toggle at) c.args.ny planes at c.flip.new.self (λ p. not (row_bit (get_or planes.memory.items at []) p))
+    stored_in_rows (Toggle at) c.args.ny planes at c.flip.new.self
+    (λ p. not (row_bit (get_or planes.memory.items at []) p))
     c.requires.words c.requires.place
     (c.flip.ensures.words ∙ (ap length old ∙ c.requires.words.memory at c.requires.place))
     (λ p within. rw (← c.words.ensures, ← old) (c.flip.ensures.bits p within))

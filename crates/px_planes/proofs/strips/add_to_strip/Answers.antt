@@ -1,4 +1,6 @@
-use Rattle.std.proofs.Common.{◌≡◌, ◌≢◌, ◌∙◌, ℕ, suc, ℤ, pos, false, ◌+ℤ◌, ◌+◌, ◌*◌, ◌/◌, ◌^◌, ◌<◌, ◌≤◌, ◌%◌, [], length, get_or, get_or-set_other, get_or-set_same, length-set, replicate, ap, sym, refl, arith, inl, inr, w64, rules}
+use Rattle.std.proofs.Common.{◌≡◌, ◌≢◌, ◌∙◌, ℕ, suc, ℤ, pos, false, ◌+ℤ◌, ◌+◌, ◌*◌, ◌/◌, ◌^◌, ◌<◌, ◌≤◌, ◌%◌, []}
+use Rattle.std.proofs.Common.{length, get_or, get_or-set_other, get_or-set_same, length-set, replicate, ap, sym}
+use Rattle.std.proofs.Common.{refl, arith, inl, inr, w64, rules}
 use Rattle.std.proofs.lemmas.Bool.{cases_lt}
 use Rattle.std.proofs.lemmas.Int.{ints, to_z-of_z}
 use mir.Val.{SFits}
@@ -23,7 +25,8 @@ use Rattle.px_planes.proofs.strips.add_to_strip.Goals as goal
 pub loop-t-init : goal.loop-t-init
 loop-t-init c =
     let planes = c.args.planes.now in
-    let none : (q : ℕ) → q < 32768 → row_bit (replicate 512 0) q ≡ false = λ q low. filled_bit 512 0 q low ∙ bit_of_zero (q % 64) in
+    let none : (q : ℕ) → q < 32768 → row_bit (replicate 512 0) q ≡ false = λ q low. filled_bit 512 0 q low
+    ∙ bit_of_zero (q % 64) in
     record {
       worked = none_worked 32768 c.args.strip (length planes.enable) planes c.requires.words;
       first = none;
@@ -56,10 +59,12 @@ loop-t-preserved c =
     let bit = c.bit_of-bit.result in
     let fit : SFits w64 c.block_step-step.result = search rules in
     let is : bit ≡ bit_of step t =
-    c.bit_of-bit.ensures.value ∙ ap (λ (z : ℤ). bit_of z t) (to_z-of_z w64 c.block_step-step.result fit ∙ c.block_step-step.ensures) in
+    c.bit_of-bit.ensures.value
+    ∙ ap (λ (z : ℤ). bit_of z t) (to_z-of_z w64 c.block_step-step.result fit ∙ c.block_step-step.ensures) in
     let work = rw long at c.add_bit.ensures.worked in
     let second = rw long at c.add_bit.ensures.second in
-    let begins : (j : ℕ) → j < 512 → nat_bit (get_or a (j / 64) 0) (j % 64) ≡ bit_of (value (512 * (64 * strip) + j)) t =
+    let begins : (j : ℕ) → j < 512 → nat_bit (get_or a (j / 64) 0) (j % 64) ≡ bit_of (value (512 * (64 * strip) + j))
+    t =
     λ j small. rw (i.rest t (omega arith)) (c.requires.values.each t j low small) in
     let in_strip = value_in_strip form ny strip t a first c.requires.rows begins i.first in
     let value_bit : (q : ℕ) → q < 32768 → value_on a bit first q ≡ bit_of (value (32768 * strip + q)) t =
@@ -73,7 +78,8 @@ loop-t-preserved c =
     let place : 32768 * strip + p % 32768 ≡ p = omega arith in
     let within : p % 32768 < 32768 = omega arith in
     rw place at (value_bit (p % 32768) within) in
-    let held : (p : ℕ) → p < 64 * n → p / 32768 ≡ strip → bit_at (pixel_in c.loop-t.planes p).memory (f.at + t) ≡ bit_of (number p) t =
+    let held : (p : ℕ) → p < 64 * n → p / 32768 ≡ strip → bit_at (pixel_in c.loop-t.planes p).memory (f.at + t)
+    ≡ bit_of (number p) t =
     λ p within here.
     ap (λ (x : PixelState). bit_at x.memory (f.at + t)) (i.worked.each p within here)
     ∙ (bit_above f.at (λ s. bit_of (value p +ℤ number p) s) t (f.at + t) (pixel_in planes p) (omega arith)

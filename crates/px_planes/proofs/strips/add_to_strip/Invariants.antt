@@ -16,7 +16,8 @@ invariant-loop-t l =
     in record {
       worked : IsWorkedIn 32768 l.strip n (λ p x. stored_bits l.field.at (λ s. bit_of (value p +ℤ number p) s) l.t x)
           l.fn.planes l.planes;
-      first : (q : ℕ) → q < 32768 → row_bit l.first q ≡ carry_from false (value (32768 * l.strip + q)) (offset l.form l.ny 512) l.t;
+      first : (q : ℕ) → q < 32768 → row_bit l.first q ≡ carry_from false (value (32768 * l.strip + q))
+          (offset l.form l.ny 512) l.t;
       second : (p : ℕ) → p < 64 * n → p / 32768 ≡ l.strip
           → row_bit l.second (p % 32768) ≡ carry_from false (value p) (number p) l.t;
       first_words : length l.first ≡ 512;

@@ -1,4 +1,5 @@
-use Rattle.std.proofs.Common.{◌≡◌, ◌∙◌, ℕ, suc, ℤ, pos, ◌+ℤ◌, ◌+◌, ◌*◌, ◌/◌, ◌^◌, ◌<◌, ◌%◌, length, get_or, ap, sym, arith, w64, to_z, of_z, rules}
+use Rattle.std.proofs.Common.{◌≡◌, ◌∙◌, ℕ, suc, ℤ, pos, ◌+ℤ◌, ◌+◌, ◌*◌, ◌/◌, ◌^◌, ◌<◌, ◌%◌, length, get_or, ap}
+use Rattle.std.proofs.Common.{sym, arith, w64, to_z, of_z, rules}
 use Rattle.std.proofs.lemmas.Int.{ints, to_z-of_z}
 use mir.Val.{SFits}
 use Rattle.px_lanes.specs.Lanes.{offset}
@@ -30,7 +31,8 @@ loop-t-preserved c =
     λ p. let small : p % 64 < 64 = omega arith in (c.requires.offsets (p % 64) small).each t c.loop-t-test.true in
     let second : (p : ℕ) → nat_bit c.bit_of_all.result (p % 64) ≡ bit_of base t =
     λ p. let small : p % 64 < 64 = omega arith in c.bit_of_all.ensures (p % 64) small in
-    let third : (p : ℕ) → p < 64 * n → p / 64 ≡ c.args.w → nat_bit c.memory_word-held.result (p % 64) ≡ bit_of (number p) t =
+    let third : (p : ℕ) → p < 64 * n → p / 64 ≡ c.args.w → nat_bit c.memory_word-held.result (p % 64)
+    ≡ bit_of (number p) t =
     λ p within here.
     c.memory_word-held.ensures p (rw long within) here
     ∙ (ap (λ (x : PixelState). bit_at x.memory (f.at + t)) (i.worked.each p within here)
@@ -46,7 +48,8 @@ loop-t-preserved c =
           (i.carries p within here)));
       carries = λ p within here.
           let small : p % 64 < 64 = omega arith in
-          c.added_bit-sum.ensures.carries (p % 64) t (o p) base (number p) small (first p) (second p) (third p within here)
+          c.added_bit-sum.ensures.carries (p % 64) t (o p) base (number p) small (first p) (second p)
+          (third p within here)
           (i.carries p within here);
     }
 
@@ -63,12 +66,14 @@ returns c =
     let base = to_z w64 (of_z w64 c.base_of-base.result) in
     let base_is : base ≡ c.base_of-base.result = to_z-of_z w64 c.base_of-base.result fit in
     let end : c.loop-t.t ≡ f.len = omega (arith, c.requires.long) in
-    done_by_work (AddLinear form f) ny c.args.w (length planes.enable) _ planes c.loop-t.planes c.loop-t.invariant.worked
+    done_by_work (AddLinear form f) ny c.args.w (length planes.enable) _ planes c.loop-t.planes
+    c.loop-t.invariant.worked
     (λ p within here.
     let v = value_at form (p / 2 ^ ny) (p % 2 ^ ny) in
     let number = pos (number_in f (pixel_in planes p).memory) in
     let o = offset form ny (p % 64) in
-    let value : v ≡ o +ℤ base = rw base_is (value_here form ny c.args.w p c.base_of-base.result c.base_of-base.ensures.value here) in
+    let value : v ≡ o +ℤ base =
+    rw base_is (value_here form ny c.args.w p c.base_of-base.result c.base_of-base.ensures.value here) in
     let same = turned o base number v value in
     stored_law f (modulo (number +ℤ v) f.len) (λ s. bit_of ((o +ℤ base) +ℤ number) s) c.loop-t.t planes p end
     c.requires.field.within

@@ -16,7 +16,8 @@ loop-t-preserved c p u within here h =
     let turned : nat_bit c.turned.result j ≡ bit_of (flipped u) t =
     c.turned.ensures j small ∙ (ap not (h.each t (omega arith)) ∙ sym (flipped_bit u t)) in
     let bit : nat_bit c.memory_word-bit.result j ≡ nat_bit (number_in f memory) t =
-    c.memory_word-bit.ensures p within here ∙ sym (c.laws_of_fields.ensures.bits f memory t (omega (arith, c.requires.long))) in
+    c.memory_word-bit.ensures p within here
+    ∙ sym (c.laws_of_fields.ensures.bits f memory t (omega (arith, c.requires.long))) in
     let next : t + 1 ≡ suc t = omega arith in
     c.majority_word-most.ensures j small ∙ rw (next, turned, bit, c.loop-t.invariant p u within here h) refl
 

@@ -20,7 +20,8 @@ returns c =
     (λ p within here.
     let small : p % 64 < 64 = omega arith in
     let v = value_at form (p / 2 ^ ny) (p % 2 ^ ny) in
-    let h : HasValue values (p % 64) v = rw (place_in_word p c.args.w here) at (c.word_values.ensures.value (p % 64) small) in
+    let h : HasValue values (p % 64) v =
+    rw (place_in_word p c.args.w here) at (c.word_values.ensures.value (p % 64) small) in
     stored_law f (modulo v f.len) (λ t. nat_bit (get_or values t 0) (p % 64)) (length values) planes p long
     c.requires.field.within
     (λ t low. h.each t (omega (arith, long)) ∙ modulo_bit v f.len t low))

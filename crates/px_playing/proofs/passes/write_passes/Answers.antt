@@ -2,7 +2,7 @@ use Rattle.std.proofs.Common.{arith}
 use Rattle.std.specs.List.{flat_map}
 use Rattle.px_model.specs.Grids.{exponent_of}
 use Rattle.px_sched.specs.Passes.{passes}
-use Rattle.px_listing.specs.Listings.{end_line, first_lines, macro_line}
+use Rattle.px_listing.specs.Listings.{end_line, listing_head, macro_line}
 use Rattle.px_playing.proofs.PassesLemmas.{err_to_last, front_of_first, front_of_middle, ok_to_last}
 use Rattle.px_playing.proofs.PassesLemmas.{passes_lawful_in_all}
 use Rattle.px_io.proofs.ToldLaws.{on_err}
@@ -23,7 +23,7 @@ pub returns-in_err-put_first_lines-clause-err : goal.returns-in_err-put_first_li
 returns-in_err-put_first_lines-clause-err g c =
     let scene = c.args.scene.now in
     let first = rw (c.grid-nx.ensures.columns, c.grid-nx.ensures.rows) at c.in_err-put_first_lines.ensures.err in
-    on_err _ (front_of_first _ _ _ (first_lines (exponent_of scene.width) (exponent_of scene.height))
+    on_err _ (front_of_first _ _ _ (listing_head (exponent_of scene.width) (exponent_of scene.height))
     (flat_map macro_line (passes scene)) end_line
     c.new-piece.ensures first)
 
@@ -31,7 +31,7 @@ pub returns-in_err-put_passes-clause-err : goal.returns-in_err-put_passes-clause
 returns-in_err-put_passes-clause-err g c =
     let scene = c.args.scene.now in
     let first = rw (c.grid-nx.ensures.columns, c.grid-nx.ensures.rows) at c.in_ok-put_first_lines.ensures.ok in
-    on_err _ (front_of_middle _ _ _ _ _ (first_lines (exponent_of scene.width) (exponent_of scene.height))
+    on_err _ (front_of_middle _ _ _ _ _ (listing_head (exponent_of scene.width) (exponent_of scene.height))
     (flat_map macro_line (passes scene)) end_line
     c.new-piece.ensures first c.in_err-put_passes.ensures.err)
 
@@ -39,7 +39,7 @@ pub returns-clause-ok : goal.returns-clause-ok
 returns-clause-ok g c =
     let scene = c.args.scene.now in
     let first = rw (c.grid-nx.ensures.columns, c.grid-nx.ensures.rows) at c.in_ok-put_first_lines.ensures.ok in
-    ok_to_last _ _ _ _ _ _ _ _ (first_lines (exponent_of scene.width) (exponent_of scene.height))
+    ok_to_last _ _ _ _ _ _ _ _ (listing_head (exponent_of scene.width) (exponent_of scene.height))
     (flat_map macro_line (passes scene)) end_line
     c.new-piece.ensures first c.in_ok-put_passes.ensures.ok c.put_end.ensures.ok
 
@@ -47,6 +47,6 @@ pub returns-clause-err : goal.returns-clause-err
 returns-clause-err g c =
     let scene = c.args.scene.now in
     let first = rw (c.grid-nx.ensures.columns, c.grid-nx.ensures.rows) at c.in_ok-put_first_lines.ensures.ok in
-    err_to_last _ _ _ _ _ _ _ _ (first_lines (exponent_of scene.width) (exponent_of scene.height))
+    err_to_last _ _ _ _ _ _ _ _ (listing_head (exponent_of scene.width) (exponent_of scene.height))
     (flat_map macro_line (passes scene)) end_line
     c.new-piece.ensures first c.in_ok-put_passes.ensures.ok c.put_end.ensures.err

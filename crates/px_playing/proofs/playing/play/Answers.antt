@@ -35,6 +35,7 @@ returns-clause-played g c x y column row =
     let bits = g.A.Array.BITS in
     let kept : IsListing l = subst IsListing c.listing.view_is c.listing.invariant in
     ap (λ (d : Device). bits_of (pixel_of d.state x y)) (returns-clause-device g c)
-    ∙ (c.law_of_microprograms.ensures.meanings bits l.nx l.ny kept.grid l.macros c.requires.lawful (zero_state bits l.nx l.ny)
+    ∙ (c.law_of_microprograms.ensures.meanings bits l.nx l.ny kept.grid l.macros c.requires.lawful
+    (zero_state bits l.nx l.ny)
     (grid_of_zero_state bits l.nx l.ny) x y column row
     ∙ ap (after_macros l.macros x y) (zero_in_grid bits l.nx l.ny x y column row))

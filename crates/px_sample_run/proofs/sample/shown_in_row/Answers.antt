@@ -24,5 +24,6 @@ loop-x-preserved g c =
 
 pub returns-clause-most : goal.returns-clause-most
 returns-clause-most g c =
-    most_grows _ 8589934592 _ (omega (arith, c.width-x-end.ensures.value, c.laws_of_scenes.ensures.scene.sizes.width_limit))
+    most_grows _ 8589934592 _
+    (omega (arith, c.width-x-end.ensures.value, c.laws_of_scenes.ensures.scene.sizes.width_limit))
     c.loop-x.invariant.most

@@ -16,9 +16,11 @@ loop-k-preserved c =
         | inl same ↦
             let leaf = ap (λ w. nat_bit w i) (before.behind ((bits + 3) * plane + k) (omega arith)) in
             rw same (act.acted i inside ∙ rw (leaf, before.rest k i (omega arith) in_plane) refl)
-        | inr other ↦ act.others j i (omega (arith, in_plane, low)) other ∙ before.done j i (omega (arith, low, other)) inside
+        | inr other ↦ act.others j i (omega (arith, in_plane, low)) other
+            ∙ before.done j i (omega (arith, low, other)) inside
       ];
-      rest = λ j i high within. act.others j i within (omega (arith, high)) ∙ before.rest j i (omega (arith, high)) within;
+      rest = λ j i high within. act.others j i within (omega (arith, high))
+          ∙ before.rest j i (omega (arith, high)) within;
       behind = λ j past. act.behind j past ∙ before.behind j past;
       same = act.length ∙ before.same;
     }

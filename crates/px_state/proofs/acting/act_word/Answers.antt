@@ -2,8 +2,8 @@ use Rattle.std.proofs.Common.{◌≡◌, ℕ, ◌+◌, ◌*◌, ◌<◌, false, 
 use Rattle.px_num.proofs.ListLaws.{get_or-tabulate, length-tabulate}
 use Rattle.px_num.specs.Bits.{bit_at, nat_bit}
 use Rattle.px_planes.specs.Pixels.{acted_at}
-use Rattle.px_state.specs.Cells.{leaf_in, pixel_in, word_bit}
-use Rattle.px_state.specs.Packing.{place_of}
+use Rattle.px_state.specs.Cells.{leaf_in, pixel_in_words, word_bit}
+use Rattle.px_state.specs.Packing.{memory_place}
 use Rattle.px_state.proofs.ActingLemmas.{length-acted, other_bits, other_pixel, written_pixel}
 use Rattle.px_state.proofs.acting.act_word.Goals as goal
 
@@ -11,11 +11,11 @@ pub returns-clause-acted : goal.returns-clause-acted
 returns-clause-acted c = λ i within.
     let bits = c.args.shape.now.bits in
     let plane = c.args.shape.now.plane in
-    let at = place_of c.args.act.now in
+    let at = memory_place c.args.act.now in
     let words = c.args.words.now in
     let inside = nat_bit c.args.shape.now.full i in
     let t = leaf_in bits plane words c.args.k i in
-    let old = pixel_in bits plane words c.args.k i in
+    let old = pixel_in_words bits plane words c.args.k i in
     let long = length-tabulate bits (λ at. word_bit words (at * plane + c.args.k) i) in
     let bit : (b : ℕ) → b < bits → bit_at old.memory b ≡ word_bit words (b * plane + c.args.k) i =
     λ b below. get_or-tabulate bits (λ at. word_bit words (at * plane + c.args.k) i) b false below in
@@ -42,6 +42,6 @@ returns-clause-acted c = λ i within.
 pub returns-clause-others : goal.returns-clause-others
 returns-clause-others c = λ j i in_plane other.
     rw (c.word-memory.ensures, c.place_of.ensures, c.word-enable.ensures, c.word-carry.ensures, c.word-latch.ensures)
-    (other_pixel c.args.shape.now.bits c.args.shape.now.plane (place_of c.args.act.now) c.args.k c.args.words.now
+    (other_pixel c.args.shape.now.bits c.args.shape.now.plane (memory_place c.args.act.now) c.args.k c.args.words.now
     c.acted-new.result.memory c.acted-new.result.enable c.acted-new.result.carry c.acted-new.result.latch
     c.requires.place c.requires.within c.requires.room j i in_plane other)

@@ -34,11 +34,13 @@ returns-in-Clear-clause-clocked c = λ s held.
     let parts = parts_of shape s c.requires.shape c.args.words.now held in
     let end = plane_end (shape.bits + 3) (shape.bits + 4) shape.plane (omega arith) in
     let tree = cleared s.tree.nx s.tree.ny in
-    let nodes = cleared_nodes shape s.tree c.requires.shape grid.columns grid.rows acted moved c.clear_all.ensures.cleared in
+    let nodes = cleared_nodes shape s.tree c.requires.shape grid.columns grid.rows acted moved
+    c.clear_all.ensures.cleared in
     subst (λ op. HoldsState shape.bits shape.nx shape.ny (after_clock (record { tree = op; act = act }) s) new)
     (sym c.in-Clear.is)
     (clock_law shape s (record { tree = Clear; act = act }) new c.requires.shape grid
-    (kept_pixels shape (acted_state shape s c.requires.shape grid act c.args.words.now acted parts.0 parts.1 c.act_all.ensures.acted)
+    (kept_pixels shape (acted_state shape s c.requires.shape grid act c.args.words.now acted parts.0 parts.1
+    c.act_all.ensures.acted)
     acted new (λ j low. c.write_leaves.ensures.others j (inl low)
     ∙ c.clear_all.ensures.others j (inl (omega (arith, low, end))))
     (acted_pixels shape s c.requires.shape grid act c.args.words.now acted parts.0 parts.1 c.act_all.ensures.acted))
@@ -63,9 +65,11 @@ returns-in-Feed-clause-clocked c = λ s held.
     subst (λ op. HoldsState shape.bits shape.nx shape.ny (after_clock (record { tree = op; act = act }) s) new)
     (sym c.in-Feed.is)
     (clock_law shape s (record { tree = Feed c.in-Feed.a c.in-Feed.b c.in-Feed.c; act = act }) new c.requires.shape grid
-    (kept_pixels shape (acted_state shape s c.requires.shape grid act c.args.words.now acted parts.0 parts.1 c.act_all.ensures.acted)
+    (kept_pixels shape (acted_state shape s c.requires.shape grid act c.args.words.now acted parts.0 parts.1
+    c.act_all.ensures.acted)
     acted new (λ j low. c.write_leaves-in-Feed.ensures.others j (inl low)
     ∙ c.feed_all.ensures.others j (inl (omega (arith, low, end))))
     (acted_pixels shape s c.requires.shape grid act c.args.words.now acted parts.0 parts.1 c.act_all.ensures.acted))
-    (written_leaves shape tree c.requires.shape grid.columns grid.rows moved new nodes c.write_leaves-in-Feed.ensures.leaves)
+    (written_leaves shape tree c.requires.shape grid.columns grid.rows moved new nodes
+    c.write_leaves-in-Feed.ensures.leaves)
     (kept_nodes shape tree moved new (λ j past. c.write_leaves-in-Feed.ensures.others j (inr past)) nodes))

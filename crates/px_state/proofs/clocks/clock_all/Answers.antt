@@ -14,7 +14,8 @@ loop-word-preserved c =
     record {
       clocked = λ s held.
           rw (one_more c.args.micros.now c.loop-word.word-index s c.loop-word-test.true)
-          (clock.clocked (after_clocks (map micro_in (take c.loop-word.word-index c.args.micros.now)) s) (before.clocked s held));
+          (clock.clocked (after_clocks (map micro_in (take c.loop-word.word-index c.args.micros.now)) s)
+          (before.clocked s held));
       behind = λ j past. clock.behind j past ∙ before.behind j past;
       same = clock.length ∙ before.same;
     }
@@ -30,6 +31,7 @@ pub returns-clause-clocked : goal.returns-clause-clocked
 returns-clause-clocked c = λ s held.
     let shape = c.args.shape.now in
     let all = take_all c.loop-word.word-index c.args.micros.now (omega arith) in
-    has_words shape.bits shape.nx shape.ny (after_clocks (map micro_in c.args.micros.now) s) c.args.words.now c.loop-word.words
+    has_words shape.bits shape.nx shape.ny (after_clocks (map micro_in c.args.micros.now) s) c.args.words.now
+    c.loop-word.words
     (subst (λ ws. HoldsState shape.bits shape.nx shape.ny (after_clocks (map micro_in ws) s) c.loop-word.words) all
     (c.loop-word.invariant.clocked s held)) c.loop-word.invariant.same c.loop-word.invariant.behind

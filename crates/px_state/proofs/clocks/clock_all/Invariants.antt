@@ -11,7 +11,8 @@ invariant-loop-word l =
     let shape = l.shape in
     record {
       clocked : (s : State) → HoldsState shape.bits shape.nx shape.ny s l.fn.words
-          → HoldsState shape.bits shape.nx shape.ny (after_clocks (map micro_in (take l.word-index l.micros)) s) l.words;
+          → HoldsState shape.bits shape.nx shape.ny (after_clocks (map micro_in (take l.word-index l.micros)) s)
+          l.words;
       behind : (j : ℕ) → room_of shape.bits shape.nx shape.ny ≤ j → get_or l.words j 0 ≡ get_or l.fn.words j 0;
       same : length l.words ≡ length l.fn.words;
     }

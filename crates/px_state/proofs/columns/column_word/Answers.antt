@@ -4,7 +4,8 @@ use Rattle.px_state.proofs.columns.column_word.Goals as goal
 pub word-requires-clause-word : goal.word-requires-clause-word
 word-requires-clause-word g c =
     let tree = (g.A.Array.device c.args.array.now).state.tree in
-    rw (c.power.ensures, c.size-ny.ensures.size) (in_row tree.nx tree.ny c.args.x c.args.w c.requires.column c.requires.row)
+    rw (c.power.ensures, c.size-ny.ensures.size)
+    (in_row tree.nx tree.ny c.args.x c.args.w c.requires.column c.requires.row)
 
 pub returns : goal.returns
 returns g c =

@@ -9,6 +9,7 @@ loop-b-preserved g c =
     let each : c.column_words-each.result ≡ column_words s.tree.ny =
     c.column_words-each.ensures.words ∙ ap column_words (sym c.requires.size.rows) in
     let held = rw each at c.block_of-block.ensures in
-    more_rows s c.args.at c.loop-b.b c.loop-b.rows c.put_block.new.rows c.turned_block.result (omega arith) c.loop-b.invariant
+    more_rows s c.args.at c.loop-b.b c.loop-b.rows c.put_block.new.rows c.turned_block.result (omega arith)
+    c.loop-b.invariant
     (turned_in s c.args.at _ _ c.block_of-block.result c.turned_block.result held c.turned_block.ensures)
     c.put_block.ensures.block c.put_block.ensures.others

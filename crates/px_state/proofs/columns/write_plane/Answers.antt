@@ -19,7 +19,8 @@ loop-k-preserved c =
     rw c.word.ensures (record {
       done = λ j i low inside. elim (cases_eq j k) [
         | inl same ↦
-            rw same (ap (λ w. nat_bit w i) (get_or-set_same words (first + k) row 0 in_words) ∙ ap (λ w. nat_bit w i) c.row_word.ensures)
+            rw same (ap (λ w. nat_bit w i) (get_or-set_same words (first + k) row 0 in_words)
+            ∙ ap (λ w. nat_bit w i) c.row_word.ensures)
         | inr other ↦
             ap (λ w. nat_bit w i) (get_or-set_other words (first + k) (first + j) row 0 (omega (arith, other)))
             ∙ before.done j i (omega (arith, low, other)) inside

@@ -7,7 +7,8 @@ loop-w-preserved c =
     let shape = c.args.shape.now in
     let v = c.loop-w.w - 1 in
     let next : c.loop-w.w ≡ v + 1 = omega arith in
-    let before = subst (λ w. FedDown shape c.args.lines w c.args.words.now c.loop-w.words) next c.loop-w.invariant.down in
+    let before = subst (λ w. FedDown shape c.args.lines w c.args.words.now c.loop-w.words) next
+    c.loop-w.invariant.down in
     record {
       down = rw c.nodes_at-outputs.ensures
           (fed_more shape c.args.lines c.args.words.now c.loop-w.words v c.fed_word-output.result.0

@@ -33,6 +33,7 @@ loop-k-preserved c =
       ];
       others = λ j out.
           get_or-set_other words place j leaf 0
-          (elim out [ inl low ↦ omega (arith, low) | inr high ↦ omega (arith, high, end, in_plane) ]) ∙ before.others j out;
+          (elim out [ inl low ↦ omega (arith, low) | inr high ↦ omega (arith, high, end, in_plane) ])
+          ∙ before.others j out;
       same = length-set words place leaf ∙ before.same;
     })

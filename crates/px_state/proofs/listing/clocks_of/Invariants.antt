@@ -1,9 +1,9 @@
 use Rattle.std.proofs.Common.{◌≡◌, ◌*◌, ◌≤◌}
-use Rattle.px_state.specs.Courses.{start_of}
+use Rattle.px_state.specs.Courses.{start_in_listing}
 use Rattle.px_state.proofs.listing.clocks_of.Given as goal
 
 abbrev pub invariant-loop-m : goal.invariant-loop-m
 invariant-loop-m l = record {
-  clocks : l.clocks ≡ start_of l.listing l.m-index;
+  clocks : l.clocks ≡ start_in_listing l.listing l.m-index;
   few : l.clocks ≤ 82 * l.m-index;
 }

@@ -11,7 +11,8 @@ make_micros-requires-clause-grid g c =
     let before = c.loop-m.invariant in
     let kept : IsListing l = subst IsListing c.listing.view_is c.listing.invariant in
     let device = g.A.Array.device c.loop-m.array in
-    let columns : device.state.tree.nx ≡ l.nx = columns_are g.A.Array.BITS l (c.args.clock - c.loop-m.left) _ before.at in
+    let columns : device.state.tree.nx ≡ l.nx = columns_are g.A.Array.BITS l (c.args.clock - c.loop-m.left) _
+    before.at in
     let rows : device.state.tree.ny ≡ l.ny = rows_are g.A.Array.BITS l (c.args.clock - c.loop-m.left) _ before.at in
     rw (columns, rows) kept.grid
 
@@ -27,7 +28,8 @@ make_micros-requires-clause-within g c =
     let op = get_or l.macros i m.All in
     let here = here_in l.macros i within in
     let device = g.A.Array.device c.loop-m.array in
-    let columns : device.state.tree.nx ≡ l.nx = columns_are g.A.Array.BITS l (c.args.clock - c.loop-m.left) _ before.at in
+    let columns : device.state.tree.nx ≡ l.nx = columns_are g.A.Array.BITS l (c.args.clock - c.loop-m.left) _
+    before.at in
     let rows : device.state.tree.ny ≡ l.ny = rows_are g.A.Array.BITS l (c.args.clock - c.loop-m.left) _ before.at in
     let count : c.from.result ≡ cycles op l.nx l.ny =
     c.from.ensures ∙ (rw (items, nx, ny) at c.cycles-cycles.ensures.value) in
@@ -45,7 +47,8 @@ loop-m-preserved g c =
     let op = get_or l.macros i m.All in
     let here = here_in l.macros i within in
     let device = g.A.Array.device c.loop-m.array in
-    let columns : device.state.tree.nx ≡ l.nx = columns_are g.A.Array.BITS l (c.args.clock - c.loop-m.left) _ before.at in
+    let columns : device.state.tree.nx ≡ l.nx = columns_are g.A.Array.BITS l (c.args.clock - c.loop-m.left) _
+    before.at in
     let rows : device.state.tree.ny ≡ l.ny = rows_are g.A.Array.BITS l (c.args.clock - c.loop-m.left) _ before.at in
     let count : c.from.result ≡ cycles op l.nx l.ny =
     c.from.ensures ∙ (rw (items, nx, ny) at c.cycles-cycles.ensures.value) in
@@ -54,7 +57,8 @@ loop-m-preserved g c =
     let clocked = rw (items, columns, rows) at c.make_micros.ensures.device in
     let after = begins l i op here in
     record {
-      at = rw made (goes_on g.A.Array.BITS l i op c.args.clock c.loop-m.left c.min-made.result _ _ here before.at before.made
+      at = rw made (goes_on g.A.Array.BITS l i op c.args.clock c.loop-m.left c.min-made.result _ _ here before.at
+          before.made
           before.low is clocked);
       made = omega (arith, made, is, before.made, before.low, after);
       low = omega (arith, before.low);

@@ -13,4 +13,5 @@ returns-in-Err-clause-err c =
 
 pub returns-in-Err-clause-small : goal.returns-in-Err-clause-small
 returns-in-Err-clause-small c =
-    rw c.from.ensures (job_small c.args.bits c.args.scene.now c.in-Err.fault (λ count is. c.in-Err.ensures.many count (ap Err is)))
+    rw c.from.ensures (job_small c.args.bits c.args.scene.now c.in-Err.fault
+    (λ count is. c.in-Err.ensures.many count (ap Err is)))

@@ -24,8 +24,10 @@ returns-then-end-start-clause-micros c j inside =
     let op = get_or l.macros i m.All in
     let here = here_in l.macros i within in
     let made = c.put_micros-start.ensures in
-    put_next l c.args.first i op c.loop-m.start c.put_micros-start.result c.loop-m.micros c.put_micros-start.new.micros here
-    before.start (rw (items, nx, ny) at made.end) made.length before.put (rw (items, nx, ny) at made.put) made.kept j inside
+    put_next l c.args.first i op c.loop-m.start c.put_micros-start.result c.loop-m.micros
+    c.put_micros-start.new.micros here
+    before.start (rw (items, nx, ny) at made.end) made.length before.put (rw (items, nx, ny) at made.put) made.kept j
+    inside
     (omega (arith, inside, c.if-end-start.true, made.length, before.same))
 
 pub loop-m-preserved : goal.loop-m-preserved
@@ -46,6 +48,7 @@ loop-m-preserved c =
       start = omega (arith, end, before.start, begins l i op here);
       few = omega (arith, end, before.few, few_cycles op l.nx l.ny kept.grid (kept.lawful i m.All within));
       put = put_next l c.args.first i op c.loop-m.start c.put_micros-start.result c.loop-m.micros
-          c.put_micros-start.new.micros here before.start end made.length before.put (rw (items, nx, ny) at made.put) made.kept;
+          c.put_micros-start.new.micros here before.start end made.length before.put (rw (items, nx, ny) at made.put)
+          made.kept;
       same = made.length ∙ before.same;
     }

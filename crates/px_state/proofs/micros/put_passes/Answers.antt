@@ -5,7 +5,7 @@ use Rattle.px_sched.specs.Layouts.{layout_of, need_of}
 use Rattle.px_control.proofs.ProgramLemmas.{good_program}
 use Rattle.px_control.proofs.StepLemmas.{lawful_here}
 use Rattle.px_playing.specs.PassesText.{passes_listing}
-use Rattle.px_state.specs.Courses.{start_of, total}
+use Rattle.px_state.specs.Courses.{start_in_listing, total_of_listing}
 use Rattle.px_state.proofs.CourseLemmas.{begins, begins_all, start_within}
 use Rattle.px_state.proofs.PutLemmas.{put_next}
 use Rattle.px_state.proofs.SceneLemmas.{same_total}
@@ -13,48 +13,86 @@ use Rattle.px_state.proofs.micros.put_passes.Goals as goal
 
 pub overflow_add-end : goal.overflow_add-end
 overflow_add-end c =
-    let good = good_program c.laws_of_passes.ensures.layout c.laws_of_passes.ensures.lawful c.law_of_clocks.ensures.bound
+    let good = good_program c.laws_of_passes.ensures.layout c.laws_of_passes.ensures.lawful
+    c.law_of_clocks.ensures.bound
     c.law_of_clocks.ensures.some c.args.scene.now
-    (record { lawful = c.laws_of_scenes.ensures.scene; solids = c.laws_of_scenes.ensures.solids; few = c.requires.few }) in
+    (record {
+      lawful = c.laws_of_scenes.ensures.scene;
+      solids = c.laws_of_scenes.ensures.solids;
+      few =
+          c.requires.few;
+    }) in
     omega (arith, c.requires.within, good.clocks, same_total c.args.scene.now)
 
 pub put_micros-start-requires-clause-lawful : goal.put_micros-start-requires-clause-lawful
 put_micros-start-requires-clause-lawful c =
     let scene = c.args.scene.now in
-    let good = good_program c.laws_of_passes.ensures.layout c.laws_of_passes.ensures.lawful c.law_of_clocks.ensures.bound
+    let good = good_program c.laws_of_passes.ensures.layout c.laws_of_passes.ensures.lawful
+    c.law_of_clocks.ensures.bound
     c.law_of_clocks.ensures.some scene
-    (record { lawful = c.laws_of_scenes.ensures.scene; solids = c.laws_of_scenes.ensures.solids; few = c.requires.few }) in
-    let here : slice_get (passes scene) c.loop-m.cursor.given ≡ Some c.in-Some.m = sym c.next_macro.ensures.operation ∙ c.in-Some.is in
+    (record {
+      lawful = c.laws_of_scenes.ensures.scene;
+      solids = c.laws_of_scenes.ensures.solids;
+      few =
+          c.requires.few;
+    }) in
+    let here : slice_get (passes scene) c.loop-m.cursor.given ≡ Some c.in-Some.m = sym c.next_macro.ensures.operation
+    ∙ c.in-Some.is in
     c.laws_of_operations.ensures.more c.in-Some.m (need_of (layout_of scene)) 256 (omega (arith, good.bits))
     (lawful_here (need_of (layout_of scene)) (passes scene) c.loop-m.cursor.given c.in-Some.m here good.lawful)
 
 pub put_micros-start-requires-clause-grid : goal.put_micros-start-requires-clause-grid
 put_micros-start-requires-clause-grid c =
-    let good = good_program c.laws_of_passes.ensures.layout c.laws_of_passes.ensures.lawful c.law_of_clocks.ensures.bound
+    let good = good_program c.laws_of_passes.ensures.layout c.laws_of_passes.ensures.lawful
+    c.law_of_clocks.ensures.bound
     c.law_of_clocks.ensures.some c.args.scene.now
-    (record { lawful = c.laws_of_scenes.ensures.scene; solids = c.laws_of_scenes.ensures.solids; few = c.requires.few }) in
+    (record {
+      lawful = c.laws_of_scenes.ensures.scene;
+      solids = c.laws_of_scenes.ensures.solids;
+      few =
+          c.requires.few;
+    }) in
     rw (c.grid-nx.ensures.columns, c.grid-nx.ensures.rows) good.grid
 
 pub put_micros-start-requires-clause-first : goal.put_micros-start-requires-clause-first
 put_micros-start-requires-clause-first c =
-    let good = good_program c.laws_of_passes.ensures.layout c.laws_of_passes.ensures.lawful c.law_of_clocks.ensures.bound
+    let good = good_program c.laws_of_passes.ensures.layout c.laws_of_passes.ensures.lawful
+    c.law_of_clocks.ensures.bound
     c.law_of_clocks.ensures.some c.args.scene.now
-    (record { lawful = c.laws_of_scenes.ensures.scene; solids = c.laws_of_scenes.ensures.solids; few = c.requires.few }) in
+    (record {
+      lawful = c.laws_of_scenes.ensures.scene;
+      solids = c.laws_of_scenes.ensures.solids;
+      few =
+          c.requires.few;
+    }) in
     omega (arith, c.requires.within, good.clocks, same_total c.args.scene.now, c.loop-m.invariant.same)
 
 pub put_micros-start-requires-clause-start : goal.put_micros-start-requires-clause-start
 put_micros-start-requires-clause-start c =
     let scene = c.args.scene.now in
-    let good = good_program c.laws_of_passes.ensures.layout c.laws_of_passes.ensures.lawful c.law_of_clocks.ensures.bound
+    let good = good_program c.laws_of_passes.ensures.layout c.laws_of_passes.ensures.lawful
+    c.law_of_clocks.ensures.bound
     c.law_of_clocks.ensures.some scene
-    (record { lawful = c.laws_of_scenes.ensures.scene; solids = c.laws_of_scenes.ensures.solids; few = c.requires.few }) in
-    omega (arith, c.loop-m.invariant.start, start_within (passes_listing scene) c.loop-m.cursor.given, good.clocks, same_total scene)
+    (record {
+      lawful = c.laws_of_scenes.ensures.scene;
+      solids = c.laws_of_scenes.ensures.solids;
+      few =
+          c.requires.few;
+    }) in
+    omega (
+      arith,
+      c.loop-m.invariant.start,
+      start_within (passes_listing scene) c.loop-m.cursor.given,
+      good.clocks,
+      same_total scene,
+    )
 
 pub returns-then-end-start-clause-micros : goal.returns-then-end-start-clause-micros
 returns-then-end-start-clause-micros c j within =
     let scene = c.args.scene.now in
     let l = passes_listing scene in
-    let here : slice_get (passes scene) c.loop-m.cursor.given ≡ Some c.in-Some.m = sym c.next_macro.ensures.operation ∙ c.in-Some.is in
+    let here : slice_get (passes scene) c.loop-m.cursor.given ≡ Some c.in-Some.m = sym c.next_macro.ensures.operation
+    ∙ c.in-Some.is in
     let made = c.put_micros-start.ensures in
     let before = c.loop-m.invariant in
     let end = rw (c.grid-nx.ensures.columns, c.grid-nx.ensures.rows) at made.end in
@@ -87,6 +125,6 @@ returns-clause-micros c j within =
     let scene = c.args.scene.now in
     let l = passes_listing scene in
     let before = c.loop-m.invariant in
-    let all : start_of l c.loop-m.cursor.given ≡ total l =
+    let all : start_in_listing l c.loop-m.cursor.given ≡ total_of_listing l =
     begins_all l c.loop-m.cursor.given (omega (arith, c.in_default.ensures.end)) in
     before.put j within (omega (arith, within, before.same, before.start, all, c.requires.within))

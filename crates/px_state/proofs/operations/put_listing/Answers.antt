@@ -3,8 +3,8 @@ use Rattle.std.specs.List.{slice_get}
 use Rattle.std.proofs.lemmas.Option.{slice_get-get_or}
 use Rattle.px_asm.specs.Micros.{cycles}
 use Rattle.px_listing.specs.Listings.{ListingView}
-use Rattle.px_state.specs.Courses.{start_of}
-use Rattle.px_state.specs.Operations.{IsListed, told}
+use Rattle.px_state.specs.Courses.{start_in_listing}
+use Rattle.px_state.specs.Operations.{IsOfListing, told}
 use Rattle.px_state.proofs.CourseLemmas.{begins}
 use Rattle.px_state.proofs.OperationLemmas.{put_next}
 use Rattle.px_state.proofs.operations.put_listing.Goals as goal
@@ -25,15 +25,16 @@ loop-k-preserved c =
     let count : c.from-clock.result ≡ cycles op l.nx l.ny =
     c.from-clock.ensures ∙ (rw (nx, ny) at c.cycles.ensures.value) in
     let none = c.no_operation.result in
-    let is : IsListed l k c.told.result = record {
+    let is : IsOfListing l k c.told.result = record {
       m = op;
       is = here;
-      told_is = c.told.ensures ∙ (ap (λ n. told op n none) before.clock ∙ ap (told op (start_of l k)) c.no_operation.ensures);
+      told_is = c.told.ensures
+          ∙ (ap (λ n. told op n none) before.clock ∙ ap (told op (start_in_listing l k)) c.no_operation.ensures);
     } in
     record {
       clock = omega (arith, before.clock, count, begins l k op here);
       few = omega (arith, before.few, c.from-clock.ensures, c.cycles.ensures.few);
-      put = put_next (IsListed l) c.args.first k c.told.result c.loop-k.list c.put.new.list c.put.ensures.length
+      put = put_next (IsOfListing l) c.args.first k c.told.result c.loop-k.list c.put.new.list c.put.ensures.length
           c.put.ensures.put c.put.ensures.kept before.put is;
       same = c.put.ensures.length ∙ before.same;
     }

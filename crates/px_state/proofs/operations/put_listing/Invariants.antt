@@ -1,13 +1,13 @@
 use Rattle.std.proofs.Common.{◌≡◌, ◌*◌, ◌≤◌, length}
-use Rattle.px_state.specs.Courses.{start_of}
-use Rattle.px_state.specs.Operations.{IsListed}
+use Rattle.px_state.specs.Courses.{start_in_listing}
+use Rattle.px_state.specs.Operations.{IsOfListing}
 use Rattle.px_state.specs.Putting.{IsPutTo}
 use Rattle.px_state.proofs.operations.put_listing.Given as goal
 
 abbrev pub invariant-loop-k : goal.invariant-loop-k
 invariant-loop-k l = record {
-  clock : l.clock ≡ start_of l.listing l.k;
+  clock : l.clock ≡ start_in_listing l.listing l.k;
   few : l.clock ≤ 82 * l.k;
-  put : IsPutTo (IsListed l.listing) l.first l.k l.list;
+  put : IsPutTo (IsOfListing l.listing) l.first l.k l.list;
   same : length l.list ≡ length l.fn.list;
 }

@@ -2,7 +2,7 @@ use Rattle.std.proofs.Common.{◌≡◌, ◌-◌, length}
 use Rattle.px_playing.specs.PassesText.{passes_listing}
 use Rattle.px_sched.specs.Passes.{steps}
 use Rattle.px_sched.specs.StepCursors.{StandsAtStep}
-use Rattle.px_state.specs.Courses.{start_of}
+use Rattle.px_state.specs.Courses.{start_in_listing}
 use Rattle.px_state.specs.Operations.{IsPassed, operations_before}
 use Rattle.px_state.specs.Putting.{IsPutTo}
 use Rattle.px_state.proofs.operations.put_passes.Given as goal
@@ -14,7 +14,7 @@ abbrev pub invariant-loop-step : goal.invariant-loop-step
 invariant-loop-step l = record {
   stands : StandsAtStep l.scene l.cursor;
   operation : l.begin.0 ≡ operations_before l.scene l.cursor.given;
-  clock : l.begin.1 ≡ start_of (passes_listing l.scene) l.begin.0;
+  clock : l.begin.1 ≡ start_in_listing (passes_listing l.scene) l.begin.0;
   put : IsPutTo (IsPassed l.scene) l.first l.begin.0 l.list;
   same : length l.list ≡ length l.fn.list;
 }

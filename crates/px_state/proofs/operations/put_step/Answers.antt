@@ -3,11 +3,12 @@ use Rattle.px_asm.specs.Micros.{cycles}
 use Rattle.px_playing.specs.PassesText.{passes_listing}
 use Rattle.px_sched.specs.Layouts.{layout_of}
 use Rattle.px_sched.specs.Passes.{operations}
-use Rattle.px_state.specs.Courses.{start_of}
+use Rattle.px_state.specs.Courses.{start_in_listing}
 use Rattle.px_state.specs.Operations.{IsPassed, operations_before}
 use Rattle.px_state.specs.Putting.{IsPutTo}
 use Rattle.px_state.proofs.CourseLemmas.{begins, start_within}
-use Rattle.px_state.proofs.OperationLemmas.{before_more, before_within, found_here, is_passed, lawful_op, op_is, put_next}
+use Rattle.px_state.proofs.OperationLemmas.{before_more, before_within, found_here, is_passed, lawful_op, op_is}
+use Rattle.px_state.proofs.OperationLemmas.{put_next}
 use Rattle.px_state.proofs.SceneLemmas.{same_total}
 use Rattle.px_state.proofs.operations.put_step.Goals as goal
 
@@ -66,19 +67,23 @@ loop-at-preserved c =
     let low : at < length (operations scene (layout_of scene) c.args.step) =
     omega (arith, c.loop-at-test.true, c.count-count.ensures.count (layout_of scene)) in
     let place : k ≡ operations_before scene pass + at = omega (arith, c.requires.operation) in
-    let is = op_is scene pass c.args.step c.requires.here c.args.layout.now at op c.requires.layout low c.operation-m.ensures in
+    let is = op_is scene pass c.args.step c.requires.here c.args.layout.now at op c.requires.layout low
+    c.operation-m.ensures in
     let here =
-    found_here scene pass c.args.step c.requires.here c.args.layout.now at op c.requires.layout low c.operation-m.ensures k place in
+    found_here scene pass c.args.step c.requires.here c.args.layout.now at op c.requires.layout low
+    c.operation-m.ensures k place in
     let count : c.from-clock.result ≡ cycles op l.nx l.ny =
     c.from-clock.ensures ∙ (rw (c.grid-nx.ensures.columns, c.grid-nx.ensures.rows) at c.cycles.ensures.value) in
     let next : k + 1 ≡ c.args.begin.0 + (at + 1) = omega arith in
-    let passed = is_passed scene pass c.args.step c.requires.here at k c.loop-at.clock op c.args.purpose.now low place is
+    let passed = is_passed scene pass c.args.step c.requires.here at k c.loop-at.clock op c.args.purpose.now low place
+    is
     before.clock refl c.requires.purpose in
     let made = c.put.ensures in
     record {
-      clock = omega (arith, before.clock, count, begins l k op here, ap (start_of l) next);
+      clock = omega (arith, before.clock, count, begins l k op here, ap (start_in_listing l) next);
       put = subst (λ n. IsPutTo (IsPassed scene) c.args.first n c.put.new.list) next
-          (put_next (IsPassed scene) c.args.first k c.told.result c.loop-at.list c.put.new.list made.length made.put made.kept
+          (put_next (IsPassed scene) c.args.first k c.told.result c.loop-at.list c.put.new.list made.length made.put
+          made.kept
           before.put (subst (IsPassed scene k) (sym c.told.ensures) passed));
       same = made.length ∙ before.same;
     }

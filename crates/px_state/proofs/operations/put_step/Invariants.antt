@@ -1,13 +1,13 @@
 use Rattle.std.proofs.Common.{◌≡◌, ◌+◌, length}
 use Rattle.px_playing.specs.PassesText.{passes_listing}
-use Rattle.px_state.specs.Courses.{start_of}
+use Rattle.px_state.specs.Courses.{start_in_listing}
 use Rattle.px_state.specs.Operations.{IsPassed}
 use Rattle.px_state.specs.Putting.{IsPutTo}
 use Rattle.px_state.proofs.operations.put_step.Given as goal
 
 abbrev pub invariant-loop-at : goal.invariant-loop-at
 invariant-loop-at l = record {
-  clock : l.clock ≡ start_of (passes_listing l.scene) (l.operation + l.at);
+  clock : l.clock ≡ start_in_listing (passes_listing l.scene) (l.operation + l.at);
   put : IsPutTo (IsPassed l.scene) l.first (l.operation + l.at) l.list;
   same : length l.list ≡ length l.fn.list;
 }

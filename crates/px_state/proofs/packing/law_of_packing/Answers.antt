@@ -1,5 +1,6 @@
 use Rattle.std.proofs.Common.{◌==◌, sym, ap, ◌∙◌}
-use Rattle.px_state.specs.Packing.{act_number, act_with, lines_number, place_of, tree_number, tree_with, value_of}
+use Rattle.px_state.specs.Packing.{act_number, act_with, lines_number, memory_place, tree_number, tree_with}
+use Rattle.px_state.specs.Packing.{packed_value}
 use Rattle.px_state.proofs.PackingLemmas.{act_back, bit_back, tree_back}
 use Rattle.px_state.proofs.packing.law_of_packing.Goals as goal
 
@@ -8,12 +9,12 @@ returns c word m n one other =
     let place = sym one.place ∙ other.place in
     let number = sym one.number ∙ other.number in
     let bit = sym one.value ∙ other.value in
-    let value = sym (bit_back (value_of m.act)) ∙ (ap (λ b. b == 1) bit ∙ bit_back (value_of n.act)) in
+    let value = sym (bit_back (packed_value m.act)) ∙ (ap (λ b. b == 1) bit ∙ bit_back (packed_value n.act)) in
     let op = sym one.tree ∙ other.tree in
     let lines = sym one.lines ∙ other.lines in
-    let act = sym (act_back m.act) ∙ (ap (λ k. act_with k (value_of m.act) (place_of m.act)) number
-    ∙ (ap (λ v. act_with (act_number n.act) v (place_of m.act)) value
-    ∙ (ap (λ at. act_with (act_number n.act) (value_of n.act) at) place ∙ act_back n.act))) in
+    let act = sym (act_back m.act) ∙ (ap (λ k. act_with k (packed_value m.act) (memory_place m.act)) number
+    ∙ (ap (λ v. act_with (act_number n.act) v (memory_place m.act)) value
+    ∙ (ap (λ at. act_with (act_number n.act) (packed_value n.act) at) place ∙ act_back n.act))) in
     let tree = sym (tree_back m.tree) ∙ (ap (λ k. tree_with k (lines_number m.tree)) op
     ∙ (ap (λ k. tree_with (tree_number n.tree) k) lines ∙ tree_back n.tree)) in
     ap (λ t. record { tree = t; act = m.act }) tree ∙ ap (λ a. record { tree = n.tree; act = a }) act

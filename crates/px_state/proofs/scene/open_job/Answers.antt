@@ -14,8 +14,10 @@ returns-in-Err-clause-err g c =
 
 pub returns-in-Err-clause-refused : goal.returns-in-Err-clause-refused
 returns-in-Err-clause-refused g c =
-    rw c.from.ensures (job_leaves c.in-Err.fault g.A.Array.BITS (passes_listing c.args.scene.now) _ _ c.in-Err.ensures.array)
+    rw c.from.ensures (job_leaves c.in-Err.fault g.A.Array.BITS (passes_listing c.args.scene.now) _ _
+    c.in-Err.ensures.array)
 
 pub returns-in-Err-clause-small : goal.returns-in-Err-clause-small
 returns-in-Err-clause-small g c =
-    rw c.from.ensures (job_small g.A.Array.BITS c.args.scene.now c.in-Err.fault (λ count is. c.in-Err.ensures.many count (ap Err is)))
+    rw c.from.ensures (job_small g.A.Array.BITS c.args.scene.now c.in-Err.fault
+    (λ count is. c.in-Err.ensures.many count (ap Err is)))

@@ -5,8 +5,8 @@ use Rattle.px_control.specs.Program as program
 use Rattle.px_control.specs.Program.{IsAt}
 use Rattle.px_control.proofs.PictureLemmas.{scene_grid}
 use Rattle.px_playing.specs.PassesText.{passes_listing}
-use Rattle.px_state.specs.Courses.{total}
-use Rattle.px_state.specs.Words.{HasWords, room_of}
+use Rattle.px_state.specs.Courses.{total_of_listing}
+use Rattle.px_state.specs.Words.{BeginsWithState, room_of}
 use Rattle.px_state.proofs.CourseLemmas.{columns_are, rows_are}
 use Rattle.px_state.proofs.RefusalLemmas.{both_none, course_same, second_refused}
 use Rattle.px_state.proofs.SceneLemmas.{device_is, same_total}
@@ -20,12 +20,13 @@ pub returns-in-Err-clause-err : goal.returns-in-Err-clause-err
 returns-in-Err-clause-err g c =
     let bits = g.A.Array.BITS in
     let l = passes_listing c.args.scene.now in
-    let clocks : c.total_clocks-clocks.result ≡ total l =
+    let clocks : c.total_clocks-clocks.result ≡ total_of_listing l =
     c.total_clocks-clocks.ensures.value ∙ (ap program.total c.in_ok-job.ensures.job.0 ∙ same_total c.args.scene.now) in
     let due : c.room_of-due.result ≡ room_of bits l.nx l.ny =
     rw (c.BITS.ensures, c.grid-nx.ensures.columns, c.grid-nx.ensures.rows) at c.room_of-due.ensures in
     second_refused _ _ _ c.in_ok-job.ensures.ok
-    (course_same bits l c.args.clock c.total_clocks-clocks.result (length c.args.words.now) c.room_of-due.result clocks due
+    (course_same bits l c.args.clock c.total_clocks-clocks.result (length c.args.words.now) c.room_of-due.result
+    clocks due
     ∙ c.in-Err.ensures.err)
 
 pub returns-in-Err-clause-refused : goal.returns-in-Err-clause-refused
@@ -42,8 +43,16 @@ write_words-requires-clause-is_open g c =
     let job = c.in_ok-job.ensures.job in
     let scene_is = c.advance.ensures.scene ∙ job.0 in
     let clock_is : c.advance.new.self.place.clock ≡ c.args.clock =
-    omega (arith, c.advance.ensures.clock, c.advance.ensures.made, job.1, c.in_default.ensures.clock, c.total_clocks-clocks.ensures.value) in
-    let at : IsAt bits scene c.args.clock (g.A.Array.device c.advance.new.array) = rw (scene_is, clock_is) at c.advance.ensures.at in
+    omega (
+      arith,
+      c.advance.ensures.clock,
+      c.advance.ensures.made,
+      job.1,
+      c.in_default.ensures.clock,
+      c.total_clocks-clocks.ensures.value,
+    ) in
+    let at : IsAt bits scene c.args.clock (g.A.Array.device c.advance.new.array) =
+    rw (scene_is, clock_is) at c.advance.ensures.at in
     let columns = columns_are bits (passes_listing scene) c.args.clock _ (device_is bits scene c.args.clock _ at) in
     omega (arith, columns, scene_grid scene c.laws_of_scenes.ensures.scene)
 
@@ -55,23 +64,33 @@ write_words-requires-clause-room g c =
     let job = c.in_ok-job.ensures.job in
     let scene_is = c.advance.ensures.scene ∙ job.0 in
     let clock_is : c.advance.new.self.place.clock ≡ c.args.clock =
-    omega (arith, c.advance.ensures.clock, c.advance.ensures.made, job.1, c.in_default.ensures.clock, c.total_clocks-clocks.ensures.value) in
-    let at : IsAt bits scene c.args.clock (g.A.Array.device c.advance.new.array) = rw (scene_is, clock_is) at c.advance.ensures.at in
+    omega (
+      arith,
+      c.advance.ensures.clock,
+      c.advance.ensures.made,
+      job.1,
+      c.in_default.ensures.clock,
+      c.total_clocks-clocks.ensures.value,
+    ) in
+    let at : IsAt bits scene c.args.clock (g.A.Array.device c.advance.new.array) =
+    rw (scene_is, clock_is) at c.advance.ensures.at in
     let device = device_is bits scene c.args.clock _ at in
     let due : c.room_of-due.result ≡ room_of bits l.nx l.ny =
     rw (c.BITS.ensures, c.grid-nx.ensures.columns, c.grid-nx.ensures.rows) at c.room_of-due.ensures in
-    rw (columns_are bits l c.args.clock _ device, rows_are bits l c.args.clock _ device, ← due) c.in_default.ensures.room
+    rw (columns_are bits l c.args.clock _ device, rows_are bits l c.args.clock _ device, ← due)
+    c.in_default.ensures.room
 
 pub returns-clause-ok : goal.returns-clause-ok
 returns-clause-ok g c =
     let bits = g.A.Array.BITS in
     let l = passes_listing c.args.scene.now in
-    let clocks : c.total_clocks-clocks.result ≡ total l =
+    let clocks : c.total_clocks-clocks.result ≡ total_of_listing l =
     c.total_clocks-clocks.ensures.value ∙ (ap program.total c.in_ok-job.ensures.job.0 ∙ same_total c.args.scene.now) in
     let due : c.room_of-due.result ≡ room_of bits l.nx l.ny =
     rw (c.BITS.ensures, c.grid-nx.ensures.columns, c.grid-nx.ensures.rows) at c.room_of-due.ensures in
     both_none _ _ c.in_ok-job.ensures.ok
-    (course_same bits l c.args.clock c.total_clocks-clocks.result (length c.args.words.now) c.room_of-due.result clocks due
+    (course_same bits l c.args.clock c.total_clocks-clocks.result (length c.args.words.now) c.room_of-due.result
+    clocks due
     ∙ c.in_default.ensures.ok)
 
 pub returns-clause-state : goal.returns-clause-state
@@ -81,7 +100,14 @@ returns-clause-state g c =
     let job = c.in_ok-job.ensures.job in
     let scene_is = c.advance.ensures.scene ∙ job.0 in
     let clock_is : c.advance.new.self.place.clock ≡ c.args.clock =
-    omega (arith, c.advance.ensures.clock, c.advance.ensures.made, job.1, c.in_default.ensures.clock, c.total_clocks-clocks.ensures.value) in
+    omega (
+      arith,
+      c.advance.ensures.clock,
+      c.advance.ensures.made,
+      job.1,
+      c.in_default.ensures.clock,
+      c.total_clocks-clocks.ensures.value,
+    ) in
     record {
       columns = c.grid-nx.ensures.columns;
       rows = c.grid-nx.ensures.rows;
@@ -101,9 +127,17 @@ returns-clause-words g c =
     let job = c.in_ok-job.ensures.job in
     let scene_is = c.advance.ensures.scene ∙ job.0 in
     let clock_is : c.advance.new.self.place.clock ≡ c.args.clock =
-    omega (arith, c.advance.ensures.clock, c.advance.ensures.made, job.1, c.in_default.ensures.clock, c.total_clocks-clocks.ensures.value) in
-    let at : IsAt bits scene c.args.clock (g.A.Array.device c.advance.new.array) = rw (scene_is, clock_is) at c.advance.ensures.at in
-    subst (λ (d : Device). HasWords bits d.state c.args.words.now c.write_words.new.words)
+    omega (
+      arith,
+      c.advance.ensures.clock,
+      c.advance.ensures.made,
+      job.1,
+      c.in_default.ensures.clock,
+      c.total_clocks-clocks.ensures.value,
+    ) in
+    let at : IsAt bits scene c.args.clock (g.A.Array.device c.advance.new.array) =
+    rw (scene_is, clock_is) at c.advance.ensures.at in
+    subst (λ (d : Device). BeginsWithState bits d.state c.args.words.now c.write_words.new.words)
     (device_is bits scene c.args.clock _ at) c.write_words.ensures.words
 
 pub returns-clause-array : goal.returns-clause-array
@@ -114,8 +148,16 @@ returns-clause-array g c =
     let once = c.in_ok-job.ensures.once in
     let scene_is = c.advance.ensures.scene ∙ job.0 in
     let clock_is : c.advance.new.self.place.clock ≡ c.args.clock =
-    omega (arith, c.advance.ensures.clock, c.advance.ensures.made, job.1, c.in_default.ensures.clock, c.total_clocks-clocks.ensures.value) in
-    let at : IsAt bits scene c.args.clock (g.A.Array.device c.advance.new.array) = rw (scene_is, clock_is) at c.advance.ensures.at in
+    omega (
+      arith,
+      c.advance.ensures.clock,
+      c.advance.ensures.made,
+      job.1,
+      c.in_default.ensures.clock,
+      c.total_clocks-clocks.ensures.value,
+    ) in
+    let at : IsAt bits scene c.args.clock (g.A.Array.device c.advance.new.array) =
+    rw (scene_is, clock_is) at c.advance.ensures.at in
     let device = device_is bits scene c.args.clock _ at in
     let opened = device_is bits scene 0 _ c.in_ok-job.ensures.at in
     record {

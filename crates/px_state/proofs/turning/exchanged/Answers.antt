@@ -15,10 +15,12 @@ loop-w-preserved c =
     record {
       done = λ j i low inside.
           below_more
-          (λ j. (i : ℕ) → i < 64 → nat_bit (get_or (set now w word) j 0) i ≡ row_bit c.args.words.now (exchanged k (64 * j + i))) w
+          (λ j. (i : ℕ) → i < 64 → nat_bit (get_or (set now w word) j 0) i ≡ row_bit c.args.words.now
+          (exchanged k (64 * j + i))) w
           (λ j low i inside. let other : j ≢ w = omega (arith, low) in
           ap (λ n. nat_bit n i) (get_or-set_other now w j word 0 other) ∙ before.done j i low inside)
-          (λ i inside. ap (λ n. nat_bit n i) (get_or-set_same now w word 0 (omega (arith, before.same, c.loop-w-test.true)))
+          (λ i inside. ap (λ n. nat_bit n i)
+          (get_or-set_same now w word 0 (omega (arith, before.same, c.loop-w-test.true)))
           ∙ c.exchanged_word.ensures i inside)
           j low i inside;
       same = length-set now w word ∙ before.same;

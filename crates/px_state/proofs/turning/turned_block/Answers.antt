@@ -1,6 +1,6 @@
 use Rattle.std.proofs.Common.{◌≡◌, ap, sym, ◌∙◌, arith}
 use Rattle.px_rows.specs.Rows.{row_bit}
-use Rattle.px_state.specs.Turning.{crossed, exchanged}
+use Rattle.px_state.specs.Turning.{turned_place, exchanged}
 use Rattle.px_state.proofs.TurningLemmas.{crossed_all, crossed_more, crossed_none, exchanged_below}
 use Rattle.px_state.proofs.turning.turned_block.Goals as goal
 
@@ -18,4 +18,4 @@ pub returns : goal.returns
 returns c = λ p within.
     let last : c.loop-k.k ≡ 6 = omega (arith, c.loop-k-test.false, c.loop-k.auto.k-end) in
     c.loop-k.invariant p within
-    ∙ ap (row_bit c.args.block.now) (ap (λ k. crossed k p) last ∙ crossed_all p within)
+    ∙ ap (row_bit c.args.block.now) (ap (λ k. turned_place k p) last ∙ crossed_all p within)

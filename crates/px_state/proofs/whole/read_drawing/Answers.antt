@@ -3,14 +3,15 @@ use Rattle.std.specs.Option.{option_map, option_or}
 use Rattle.px_text.specs.Text.{worded}
 use Rattle.px_scene.specs.Reading.{scene_of}
 use Rattle.px_playing.specs.PassesText.{passes_listing}
-use Rattle.px_state.specs.Refusals.{job_refusal, scene_fault}
+use Rattle.px_state.specs.Refusals.{refusal_by_bits, fault_of_scene}
 use Rattle.px_state.proofs.TextLemmas.{scene_course, scene_keeps, scene_refused, scene_small, scene_text}
 use Rattle.px_state.proofs.whole.read_drawing.Goals as goal
 
 pub returns-in-Ok-clause-ok : goal.returns-in-Ok-clause-ok
 returns-in-Ok-clause-ok c bits =
     scene_text bits c.args.text.now c.requires.short c.requires.flagged
-    ∙ (ap (λ r. option_or (option_map scene_fault r) (job_refusal bits (scene_of (worded c.args.text.now)))) c.in-Ok.ensures.ok.0 ∙ ap (job_refusal bits) (sym c.in-Ok.ensures.ok.1))
+    ∙ (ap (λ r. option_or (option_map fault_of_scene r) (refusal_by_bits bits (scene_of (worded c.args.text.now))))
+    c.in-Ok.ensures.ok.0 ∙ ap (refusal_by_bits bits) (sym c.in-Ok.ensures.ok.1))
 
 pub returns-in-Ok-clause-course : goal.returns-in-Ok-clause-course
 returns-in-Ok-clause-course c =

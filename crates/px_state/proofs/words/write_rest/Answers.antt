@@ -1,7 +1,7 @@
 use Rattle.std.proofs.Common.{◌≡◌, ◌≢◌, ℕ, ◌<◌, length, get_or, set, ap, ◌∙◌, arith, length-set, below_more}
 use Rattle.std.proofs.lemmas.List.{drop-set-lt, get_or-set_other, get_or-set_same}
 use Rattle.px_num.specs.Bits.{nat_bit}
-use Rattle.px_state.specs.Parts.{IsPart}
+use Rattle.px_state.specs.Parts.{IsPartOfWord}
 use Rattle.px_state.specs.Words.{room_of, state_bit}
 use Rattle.px_state.proofs.PlaceLemmas.{part_is}
 use Rattle.px_state.proofs.words.write_rest.Goals as goal
@@ -16,7 +16,7 @@ loop-k-preserved g c =
     let in_room : k < room_of bits s.tree.nx s.tree.ny =
     rw (c.room_of-k-end.ensures, c.BITS.ensures, c.size-nx.ensures.size) at c.loop-k-test.true in
     let in_words : k < length words = omega (arith, in_room, before.same, c.requires.room) in
-    let part : IsPart bits s.tree.nx s.tree.ny k c.part_of-part.result =
+    let part : IsPartOfWord bits s.tree.nx s.tree.ny k c.part_of-part.result =
     rw (c.BITS-in-loop-k.ensures, c.size-nx.ensures.size) at c.part_of-part.ensures.part in
     record {
       bit = λ j i below inside.

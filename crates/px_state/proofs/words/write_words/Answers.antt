@@ -8,7 +8,8 @@ pub write_rest-requires-clause-first : goal.write_rest-requires-clause-first
 write_rest-requires-clause-first g c =
     let size = c.size-nx.ensures.size in
     let is = c.of-shape.ensures in
-    memory_first c.of-shape.result _ _ _ is.shape (is.bits ∙ c.BITS.ensures) (rw size at is.columns) (rw size at is.rows)
+    memory_first c.of-shape.result _ _ _ is.shape (is.bits ∙ c.BITS.ensures) (rw size at is.columns)
+    (rw size at is.rows)
 
 pub returns-clause-words : goal.returns-clause-words
 returns-clause-words g c =
@@ -20,6 +21,7 @@ returns-clause-words g c =
     record {
       bit = c.write_rest.ensures.words.bit;
       behind = c.write_rest.ensures.words.behind
-          ∙ same_behind (room_of g.A.Array.BITS tree.nx tree.ny) c.write_memory.new.words c.args.words.now c.write_memory.ensures.length
+          ∙ same_behind (room_of g.A.Array.BITS tree.nx tree.ny) c.write_memory.new.words c.args.words.now
+          c.write_memory.ensures.length
           (λ j past. c.write_memory.ensures.behind j (omega (arith, past, first)));
     }

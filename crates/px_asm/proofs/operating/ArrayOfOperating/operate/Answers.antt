@@ -14,7 +14,8 @@ returns-then-not-operate_at_once-clause-operated g c =
       grid = rw (made.device) (grid_after_clocks g.G.Grid.BITS before.state.tree.nx before.state.tree.ny
           (micros_on before c.args.m.now) before.state c.requires.pixels);
       meaning = made.meaning;
-      kept = rw (made.device) (kept_by_micros g.G.Grid.BITS before.state.tree.nx before.state.tree.ny c.args.m.now before.state
+      kept = rw (made.device) (kept_by_micros g.G.Grid.BITS before.state.tree.nx before.state.tree.ny c.args.m.now
+          before.state
           c.requires.pixels);
       clocks = made.clocks;
     }

@@ -1,6 +1,6 @@
 use Rattle.std.proofs.Common.{◌∙◌}
 use Rattle.px_text.specs.LentWords.{now_of}
-use Rattle.px_listing.specs.Drafts.{view_of}
+use Rattle.px_listing.specs.Drafts.{listing_view_of}
 use Rattle.px_listing.proofs.ReadLemmas.{read_next, told}
 use Rattle.px_listing.proofs.read.ReadingDrafting.add_line.Goals as goal
 
@@ -9,18 +9,20 @@ add_words-requires c = record { bits = c.requires.1.0 }
 
 pub returns-clause-bad : goal.returns-clause-bad
 returns-clause-bad c before so f is =
-    rw (← c.as_slice.ensures.value) (told c.args.self.now.bits (view_of c.args.self.now.draft) before _ so.1.says
+    rw (← c.as_slice.ensures.value)
+    (told c.args.self.now.bits (listing_view_of c.args.self.now.draft) before _ so.1.says
     ∙ c.add_words.ensures.bad f is)
 
 pub returns-clause-good : goal.returns-clause-good
 returns-clause-good c before so =
     rw (
       ← c.as_slice.ensures.value,
-      told c.args.self.now.bits (view_of c.args.self.now.draft) before (now_of c.as_slice.result.now) so.1.says,
+      told c.args.self.now.bits (listing_view_of c.args.self.now.draft) before (now_of c.as_slice.result.now) so.1.says,
     ) c.add_words.ensures.good
 
 pub returns-clause-says : goal.returns-clause-says
 returns-clause-says c before so =
-    rw (← c.as_slice.ensures.value) (read_next c.add_words.result c.args.self.now.bits (view_of c.args.self.now.draft)
-    (view_of c.add_words.new.self) before (now_of c.as_slice.result.now) so c.add_words.ensures.taken
+    rw (← c.as_slice.ensures.value)
+    (read_next c.add_words.result c.args.self.now.bits (listing_view_of c.args.self.now.draft)
+    (listing_view_of c.add_words.new.self) before (now_of c.as_slice.result.now) so c.add_words.ensures.taken
     (c.add_words.ensures.keeps _ so.1.keeps))

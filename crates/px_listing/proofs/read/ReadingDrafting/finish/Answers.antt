@@ -1,7 +1,7 @@
 use Rattle.std.proofs.Common.{◌≡◌, ◌∙◌, IfSome, ap, arith, subst}
-use Rattle.px_listing.specs.Drafts.{DraftView, view_of}
+use Rattle.px_listing.specs.Drafts.{ListingDraft, listing_view_of}
 use Rattle.px_listing.specs.Listings.{ListingView}
-use Rattle.px_listing.specs.Reading.{is_nothing}
+use Rattle.px_listing.specs.Reading.{is_listing_over}
 use Rattle.px_listing.proofs.ReadLemmas.{listing_is}
 use Rattle.px_listing.proofs.read.ReadingDrafting.finish.Goals as goal
 
@@ -12,9 +12,10 @@ pub into_listing-requires-clause-few : goal.into_listing-requires-clause-few
 into_listing-requires-clause-few c = omega (arith, c.requires.1.1.keeps.few, c.requires.2)
 
 pub returns-clause-ended : goal.returns-clause-ended
-returns-clause-ended c lines so = c.into_listing.ensures.ended ∙ ap (λ (d : DraftView). is_nothing d.due) so.1.says
+returns-clause-ended c lines so = c.into_listing.ensures.ended ∙ ap (λ (d : ListingDraft). is_listing_over d.due)
+    so.1.says
 
 pub returns-clause-whole : goal.returns-clause-whole
 returns-clause-whole c lines so =
     subst (λ (l : ListingView). IfSome c.into_listing.result (λ whole. whole ≡ l))
-    (listing_is c.args.self.bits (view_of c.args.self.draft) lines so.1) c.into_listing.ensures.listing
+    (listing_is c.args.self.bits (listing_view_of c.args.self.draft) lines so.1) c.into_listing.ensures.listing

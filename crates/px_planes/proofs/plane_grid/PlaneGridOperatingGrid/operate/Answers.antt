@@ -9,6 +9,8 @@ returns-clause-operated g c = λ _.
     let op = c.args.m.now in
     let done = rw (c.size-nx.ensures.size) at c.operate_planes-self-inside.ensures in
     let count : c.self.inside.clocks + c.from.result ≡ c.self.inside.clocks + cycles op tree.nx tree.ny =
-    ap (λ n. c.self.inside.clocks + n) (c.from.ensures ∙ (c.cycles.ensures.value ∙ ap (λ s. cycles op s.0 s.1) c.size-nx.ensures.size)) in
-    rw (← c.self.view_is) (operated_law g.row.N op tree c.self.inside.planes c.operate_planes-self-inside.new.planes c.self.inside.clocks
+    ap (λ n. c.self.inside.clocks + n)
+    (c.from.ensures ∙ (c.cycles.ensures.value ∙ ap (λ s. cycles op s.0 s.1) c.size-nx.ensures.size)) in
+    rw (← c.self.view_is) (operated_law g.row.N op tree c.self.inside.planes c.operate_planes-self-inside.new.planes
+    c.self.inside.clocks
     (c.self.inside.clocks + c.from.result) done.pixels done.each done.carry done.latch count)

@@ -20,4 +20,5 @@ returns-clause-good c before so =
 pub returns-clause-says : goal.returns-clause-says
 returns-clause-says c before so =
     rw (← c.as_slice.ensures.value) (read_next c.add_words.result (view_of c.args.self.now)
-    (view_of c.add_words.new.self) before (now_of c.as_slice.result.now) so c.add_words.ensures.taken c.add_words.ensures.lawful)
+    (view_of c.add_words.new.self) before (now_of c.as_slice.result.now) so c.add_words.ensures.taken
+    c.add_words.ensures.lawful)

@@ -8,7 +8,8 @@ returns-clause-shape c =
       bits = c.requires.bits;
       grid = c.requires.grid;
       plane = refl;
-      few_words = few_words c.args.nx c.args.ny c.requires.grid.1.1 (rw c.row_words.ensures.words at c.row_words.ensures.few);
+      few_words = few_words c.args.nx c.args.ny c.requires.grid.1.1
+          (rw c.row_words.ensures.words at c.row_words.ensures.few);
       nodes = c.node_words.ensures.words;
       few_nodes = c.node_words.ensures.few;
       full = λ k i within inside.
