@@ -96,20 +96,18 @@ has_answered bytes bits =
     [ true ↦ refl | false ↦ refl ]
 
 -- `z` was taken behind what was read before, and `rest` stands behind that
-record Sat (bits : ℕ) (o : Opening) (scene : SceneView) (now : SessionView) (z rest : List ℕ) (after : Ends) : Type 0
-  where
-    pub quit : QuitEnds
-    pub few : length o.text.items ≤ 1048577
-    pub end : IsAtEnd after.rest → rest ≡ []
-    pub taken : Holds bits o scene z (o.text.items ++ z)
-    pub all : Holds bits o scene (z ++ rest) ((o.text.items ++ z) ++ rest)
-    pub fits : Fits bits now after.array.device after.array.slots
+record Sat (bits : ℕ) (o : Opening) (scene : SceneView) (z rest : List ℕ) (after : Ends) : Type 0 where
+  pub quit : QuitEnds
+  pub few : length o.text.items ≤ 1048577
+  pub end : IsAtEnd after.rest → rest ≡ []
+  pub taken : Holds bits o scene z (o.text.items ++ z)
+  pub all : Holds bits o scene (z ++ rest) ((o.text.items ++ z) ++ rest)
 
 -- the commands of all bytes are those of the bytes that were taken, and what counts of the rest
-behind : (bits : ℕ) (o : Opening) (scene : SceneView) (now : SessionView) (z rest : List ℕ) (after : Ends)
-    → Sat bits o scene now z rest after → command_text ((o.text.items ++ z) ++ rest)
+behind : (bits : ℕ) (o : Opening) (scene : SceneView) (z rest : List ℕ) (after : Ends)
+    → Sat bits o scene z rest after → command_text ((o.text.items ++ z) ++ rest)
     ≡ command_text (o.text.items ++ z) ++ take (more_than o.text.items - 1 - length z) rest
-behind bits o scene now z rest after sat =
+behind bits o scene z rest after sat =
     let first = command_text o.text.items in
     let more = more_than o.text.items in
     sat.all.behind ∙ ap (λ t. first ++ t) (cut_both (more - 1) z rest)
@@ -123,14 +121,15 @@ Comes result bits taken bytes before after =
     after
 
 comes : (ending : Ending) (bits : ℕ) (o : Opening) (scene : SceneView) (now : SessionView) (z rest : List ℕ)
-    (before after : Ends) → Sat bits o scene now z rest after → (ending ≡ e.ReadFault → is_some o.part ≡ true)
+    (before after : Ends) → Sat bits o scene z rest after → Fits bits now after.array.device after.array.slots
+    → (ending ≡ e.ReadFault → is_some o.part ≡ true)
     → HasRead ending z (more_than o.text.items) after.rest
     → HasServed ending true bits (stand (session_opened scene) 0 before.out) (stand now after.array.work after.out)
     (lines_in (command_text (o.text.items ++ z)))
     → Comes (result_of ending) bits (o.text.items ++ z) ((o.text.items ++ z) ++ rest) before after
-comes e.Quit bits o scene now z rest before after sat part read served =
+comes e.Quit bits o scene now z rest before after sat fits part read served =
     let bytes = (o.text.items ++ z) ++ rest in
-    let more = behind bits o scene now z rest after sat in
+    let more = behind bits o scene z rest after sat in
     let stays = sat.quit (command_text (o.text.items ++ z)) (take (more_than o.text.items - 1 - length z) rest)
     served.1 in
     let quits : has_quit (whole_commands bytes) ≡ true = rw more stays.quits in
@@ -138,40 +137,40 @@ comes e.Quit bits o scene now z rest before after sat part read served =
     rw more stays.lines in
     let is = sat.all.outcome
     ∙ answered_all bytes bits (and_not (is_long bytes) (has_quit (whole_commands bytes)) quits) in
-    (rw is refl, record { now = now; answered = rw (sat.all.scene, lines) served.0; fits = sat.fits })
-comes e.End bits o scene now z rest before after sat part read served =
+    (rw is refl, record { now = now; answered = rw (sat.all.scene, lines) served.0; fits = fits })
+comes e.End bits o scene now z rest before after sat fits part read served =
     let bytes = (o.text.items ++ z) ++ rest in
     let same : bytes ≡ o.text.items ++ z = rw (sat.end read.1) (append-nil (o.text.items ++ z)) in
     let short : is_long bytes ≡ false =
     rw same (short_is (o.text.items ++ z) (omega (arith, length-append o.text.items z, read.0))) in
     let is = sat.all.outcome ∙ answered_all bytes bits (rw short refl) in
-    (rw is refl, record { now = now; answered = rw (sat.all.scene, same) served.0; fits = sat.fits })
-comes e.Long bits o scene now z rest before after sat part read served =
+    (rw is refl, record { now = now; answered = rw (sat.all.scene, same) served.0; fits = fits })
+comes e.Long bits o scene now z rest before after sat fits part read served =
     let bytes = (o.text.items ++ z) ++ rest in
     let none : more_than o.text.items - 1 - length z ≡ 0 = omega (arith, read) in
     let same : command_text bytes ≡ command_text (o.text.items ++ z) =
-    behind bits o scene now z rest after sat ∙ ap (λ k. command_text (o.text.items ++ z) ++ take k rest) none
+    behind bits o scene z rest after sat ∙ ap (λ k. command_text (o.text.items ++ z) ++ take k rest) none
     ∙ append-nil (command_text (o.text.items ++ z)) in
     let long = long_is bytes
     (omega (arith, length-append (o.text.items ++ z) rest, length-append o.text.items z, read, sat.few)) in
     let is = sat.all.outcome ∙ answered_long bytes bits long (rw same served.1) in
-    (rw is refl, rw is (record { now = now; answered = rw (sat.all.scene, same) served.0; fits = sat.fits }))
-comes e.ReadFault bits o scene now z rest before after sat part read served = (
+    (rw is refl, rw is (record { now = now; answered = rw (sat.all.scene, same) served.0; fits = fits }))
+comes e.ReadFault bits o scene now z rest before after sat fits part read served = (
   tt,
   record {
     whole = λ whole. record {
       admits = sat.taken.admits;
       quiet = served.1;
-      answered = record { now = now; answered = rw sat.taken.scene served.0; fits = sat.fits };
+      answered = record { now = now; answered = rw sat.taken.scene served.0; fits = fits };
     };
     other = λ none. absurd (let two : true ≡ false = sym (sat.taken.whole ∙ part refl) ∙ none in cc);
   },
 )
-comes e.WriteFault bits o scene now z rest before after sat part read served = (
+comes e.WriteFault bits o scene now z rest before after sat fits part read served = (
   ap has_output sat.all.outcome ∙ has_answered ((o.text.items ++ z) ++ rest) bits,
   record {
     admits = sat.taken.admits;
-    broken = record { now = now; broken = rw sat.taken.scene served; fits = sat.fits };
+    broken = record { now = now; broken = rw sat.taken.scene served; fits = fits };
   },
 )
 
@@ -198,8 +197,7 @@ performs_sat quit ending bits o scene now z before after begins consumed all fit
       taken = holds bits o scene begins z (text ++ z) (λ none. ((all none).0, begins.short none)) refl;
       all = holds bits o scene begins (z ++ ext.more) ((text ++ z) ++ ext.more)
           (λ none. (neither z ext.more (all none).0 (ext.end (all none).1), begins.short none)) both;
-      fits = fits;
-    }) part read served in
+    }) fits part read served in
     performs_over (result_of ending) bits before after (text ++ z) consumed ext comes.0 comes.1
 
 -- command lines behind a whole scene part were answered

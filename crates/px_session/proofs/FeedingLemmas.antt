@@ -21,7 +21,7 @@ use Rattle.px_session.specs.Buffers.{short}
 use Rattle.px_session.specs.Servings.{Answered, Broken}
 use Rattle.px_session.specs.Sessions.{Obeyed, Stand, after, after_line, answer_line, answers, clocks_over, has_quit}
 use Rattle.px_session.specs.Sessions.{is_last, is_quit, line_clocks, stand, until_quit}
-use Rattle.px_session.specs.Turns.{Fed}
+use Rattle.px_session.specs.Turns.{Fed, typed}
 
 -- the lines of bytes and of more
 pub ended-append : (line xs ys : List ℕ) → ended line (xs ++ ys) ≡ ended line xs ++ ended (left line xs) ys
@@ -287,18 +287,19 @@ answers_grow bits s ls n =
     )
 
 -- bytes were fed, none of whose lines is a quit
-pub fed_answered : {bits : ℕ} {line xs : List ℕ} {s t : Stand} {held : List ℕ} → Fed g.More bits line xs s t held
+pub fed_answered : {bits : ℕ} {line xs : List ℕ} {s t : Stand} {held : List ℕ}
+    → Fed g.More bits (typed line xs) s t held
     → Answered false bits s t (ended line xs)
 fed_answered fed = rw (until_quiet _ (sym fed.going)) at fed.answered
 
 pub fed_none : (bits : ℕ) (line : List ℕ) (s : Stand) (held : List ℕ) → held ≡ short line
-    → Fed g.More bits line [] s s held
+    → Fed g.More bits (typed line []) s s held
 fed_none bits line s held is = record { answered = answered_none bits s; going = refl; held = λ more. is }
 
 -- and then others behind them
 pub fed_both : (on : Going) (bits : ℕ) (line xs ys : List ℕ) (s t u : Stand) (held kept : List ℕ)
-    → Fed g.More bits line xs s t held
-    → Fed on bits (left line xs) ys t u kept → Fed on bits line (xs ++ ys) s u kept
+    → Fed g.More bits (typed line xs) s t held
+    → Fed on bits (typed (left line xs) ys) t u kept → Fed on bits (typed line (xs ++ ys)) s u kept
 fed_both on bits line xs ys s t u held kept first second = record {
   answered = rw (ended-append line xs ys)
       (answered_until bits s t u (ended line xs) (ended (left line xs) ys) (fed_answered first) (sym first.going)
@@ -310,8 +311,8 @@ fed_both on bits line xs ys s t u held kept first second = record {
 }
 
 -- the bytes behind a quit count for nothing
-pub fed_quit : (bits : ℕ) (line xs ys : List ℕ) (s t : Stand) (held : List ℕ) → Fed g.Quit bits line xs s t held
-    → Fed g.Quit bits line (xs ++ ys) s t held
+pub fed_quit : (bits : ℕ) (line xs ys : List ℕ) (s t : Stand) (held : List ℕ) → Fed g.Quit bits (typed line xs) s t held
+    → Fed g.Quit bits (typed line (xs ++ ys)) s t held
 fed_quit bits line xs ys s t held fed = record {
   answered = rw (ended-append line xs ys, until_more (ended line xs) (ended (left line xs) ys) (sym fed.going))
       fed.answered;
@@ -320,7 +321,8 @@ fed_quit bits line xs ys s t held fed = record {
 }
 
 -- a write failed in the answer to a line behind bytes that were fed, or before others
-pub broke_fed : (bits : ℕ) (line xs ys : List ℕ) (s t u : Stand) (held : List ℕ) → Fed g.More bits line xs s t held
+pub broke_fed : (bits : ℕ) (line xs ys : List ℕ) (s t u : Stand) (held : List ℕ)
+    → Fed g.More bits (typed line xs) s t held
     → Broken false bits t u (until_quit (ended (left line xs) ys))
     → Broken false bits s u (until_quit (ended line (xs ++ ys)))
 broke_fed bits line xs ys s t u held first broke =
@@ -347,22 +349,22 @@ kept_full held line b is full =
 -- byte after byte
 pub fed_more : (on : Going) (bits : ℕ) (line bytes : List ℕ) (i : ℕ) (s t u : Stand) (held kept : List ℕ)
     → i < length bytes
-    → Fed g.More bits line (take i bytes) s t held → Fed on bits (left line (take i bytes)) (get_or bytes i 0 ∷ []) t
-    u kept
-    → Fed on bits line (take (i + 1) bytes) s u kept
+    → Fed g.More bits (typed line (take i bytes)) s t held
+    → Fed on bits (typed (left line (take i bytes)) (get_or bytes i 0 ∷ [])) t u kept
+    → Fed on bits (typed line (take (i + 1) bytes)) s u kept
 fed_more on bits line bytes i s t u held kept less first second =
     rw (take_more bytes i 0 less) (fed_both on bits line (take i bytes) (get_or bytes i 0 ∷ []) s t u held kept first
     second)
 
 pub fed_quit_in : (bits : ℕ) (line bytes : List ℕ) (i : ℕ) (s t : Stand) (held : List ℕ)
-    → Fed g.Quit bits line (take i bytes) s t held
-    → Fed g.Quit bits line bytes s t held
+    → Fed g.Quit bits (typed line (take i bytes)) s t held
+    → Fed g.Quit bits (typed line bytes) s t held
 fed_quit_in bits line bytes i s t held fed =
-    subst (λ k. Fed g.Quit bits line k s t held) (take-append-drop i bytes)
+    subst (λ k. Fed g.Quit bits (typed line k) s t held) (take-append-drop i bytes)
     (fed_quit bits line (take i bytes) (drop i bytes) s t held fed)
 
 pub broke_in : (bits : ℕ) (line bytes : List ℕ) (i : ℕ) (s t u : Stand) (held : List ℕ) → i < length bytes
-    → Fed g.More bits line (take i bytes) s t held
+    → Fed g.More bits (typed line (take i bytes)) s t held
     → Broken false bits t u (until_quit (ended (left line (take i bytes)) (get_or bytes i 0 ∷ [])))
     → Broken false bits s u (until_quit (ended line bytes))
 broke_in bits line bytes i s t u held less fed broke =

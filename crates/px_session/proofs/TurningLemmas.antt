@@ -13,7 +13,7 @@ use Rattle.px_lines.specs.Lines.{ended, last_of, left, whole_lines}
 use Rattle.px_session.specs.Prompts.{Moment, Prompt, Prompts}
 use Rattle.px_session.specs.Servings.{Answered, Broken, HasEndingCauses, HasRead, HasServed, lines_in, seen}
 use Rattle.px_session.specs.Sessions.{Stand, answers, has_quit, until_quit}
-use Rattle.px_session.specs.Turns.{Fed}
+use Rattle.px_session.specs.Turns.{Fed, typed}
 use Rattle.px_session.specs.Catching.{Begun, Caught, Stopped, begun}
 use Rattle.px_session.specs.declared.serving.Ending.{Ending}
 use Rattle.px_session.specs.declared.serving.Ending.TheVariants as e
@@ -41,7 +41,7 @@ line_of caught = left [] (text_of caught)
 pub caught_begun : (bits : ℕ) (read : List ℕ) (n : ℕ) (was p : Moment) (held : List ℕ) → p.asks ≡ was.asks
     → p.rest ≡ was.rest
     → p.faults ≡ was.faults → p.at.out.faults ≡ was.at.out.faults
-    → Fed g.More bits [] read was.at p.at held → Caught bits (begun was read n) n p held
+    → Fed g.More bits (typed [] read) was.at p.at held → Caught bits (begun was read n) n p held
 caught_begun bits read n was p held asks rest calm_in calm_out fed = record {
   asks = [];
   asked = rw asks (asked_none was.asks);
@@ -87,7 +87,7 @@ prompts_ask bits b n p held now bytes caught some noted took =
 pub caught_fed : (bits : ℕ) (b : Begun) (n m : ℕ) (p q : Moment) (held kept bytes fed : List ℕ)
     → (caught : Caught bits b n p held)
     → 0 < m → n ≡ length bytes + m → Notes p.asks q.asks p.at.out.written bytes → Consumes p.rest q.rest bytes
-    → fed ≡ seen n bytes → Fed g.More bits (line_of caught) fed p.at q.at kept
+    → fed ≡ seen n bytes → Fed g.More bits (typed (line_of caught) fed) p.at q.at kept
     → q.faults ≡ p.faults → q.at.out.faults ≡ p.at.out.faults → Caught bits b m q kept
 unfolding prompts_ask
 caught_fed bits b n m p q held kept bytes fed caught some count noted took is more calm_in calm_out =
@@ -144,7 +144,7 @@ stopped_by ending bits b n p now held bytes caught some few took read served cau
 pub stopped_quit : (bits : ℕ) (b : Begun) (n : ℕ) (p now : Moment) (held kept bytes fed : List ℕ)
     → (caught : Caught bits b n p held)
     → 0 < n → length bytes ≤ n → Consumes p.rest now.rest bytes → fed ≡ seen n bytes
-    → Fed g.Quit bits (line_of caught) fed p.at now.at kept → HasEndingCauses e.Quit p now
+    → Fed g.Quit bits (typed (line_of caught) fed) p.at now.at kept → HasEndingCauses e.Quit p now
     → Prompts bits b.read b.more b.was now → Stopped e.Quit bits b now
 stopped_quit bits b n p now held kept bytes fed caught some few took is more causes prompts =
     let both = fed_both g.Quit bits [] (text_of caught) fed b.was.at p.at now.at held kept caught.fed more in
@@ -154,7 +154,7 @@ stopped_quit bits b n p now held kept bytes fed caught some few took is more cau
 pub stopped_long : (bits : ℕ) (b : Begun) (n : ℕ) (p now : Moment) (held kept bytes fed : List ℕ)
     → (caught : Caught bits b n p held)
     → 0 < n → length bytes ≡ n → Consumes p.rest now.rest bytes → fed ≡ seen n bytes
-    → Fed g.More bits (line_of caught) fed p.at now.at kept → HasEndingCauses e.Long p now
+    → Fed g.More bits (typed (line_of caught) fed) p.at now.at kept → HasEndingCauses e.Long p now
     → Prompts bits b.read b.more b.was now → Stopped e.Long bits b now
 stopped_long bits b n p now held kept bytes fed caught some full took is more causes prompts =
     let both = fed_both g.More bits [] (text_of caught) fed b.was.at p.at now.at held kept caught.fed more in
@@ -242,7 +242,7 @@ prompts_none bits read n was now asks rest =
 pub begun_quit : (bits : ℕ) (read : List ℕ) (n : ℕ) (was now : Moment) (held : List ℕ) → now.asks ≡ was.asks
     → now.rest ≡ was.rest
     → now.faults ≡ was.faults → now.at.out.faults ≡ was.at.out.faults
-    → Fed g.Quit bits [] read was.at now.at held → Stopped e.Quit bits (begun was read n) now
+    → Fed g.Quit bits (typed [] read) was.at now.at held → Stopped e.Quit bits (begun was read n) now
 begun_quit bits read n was now held asks rest calm_in calm_out fed = record {
   bytes = [];
   few = omega arith;

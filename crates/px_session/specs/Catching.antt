@@ -6,7 +6,7 @@ use Rattle.px_asked.specs.Asks.{Ask, Asked, all_given}
 use Rattle.px_debug.specs.declared.session.Going.TheVariants as g
 use Rattle.px_session.specs.Prompts.{Moment, Prompt, Prompts}
 use Rattle.px_session.specs.Servings.{HasEndingCauses, HasRead, HasServed, lines_in, seen}
-use Rattle.px_session.specs.Turns.{Fed}
+use Rattle.px_session.specs.Turns.{Fed, typed}
 use Rattle.px_session.specs.declared.serving.Ending.{Ending}
 
 -- how things stood where the session began, what had been read, and how many bytes more might be
@@ -28,7 +28,7 @@ pub record Caught (bits : ℕ) (b : Begun) (more : ℕ) (now : Moment) (held : L
   pub left : b.more ≡ length (all_given asks) + more
   pub seen : seen b.more (all_given asks) ≡ all_given asks
   pub prompt : Prompt bits b.was.at b.more b.read asks
-  pub fed : Fed g.More bits [] (b.read ++ all_given asks) b.was.at now.at held
+  pub fed : Fed g.More bits (typed [] (b.read ++ all_given asks)) b.was.at now.at held
   pub calm_in : now.faults ≡ b.was.faults
   pub calm_out : now.at.out.faults ≡ b.was.at.out.faults
 

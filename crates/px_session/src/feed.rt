@@ -6,7 +6,7 @@ ghost use Rattle.px_lines.specs.Lines.{ended, last_of};
 ghost use Rattle.px_session.specs.Buffers.{short};
 ghost use Rattle.px_session.specs.Servings.{Answered, Broken};
 ghost use Rattle.px_session.specs.Sessions.{has_quit, is_last, stand, until_quit};
-ghost use Rattle.px_session.specs.Turns.{Fed};
+ghost use Rattle.px_session.specs.Turns.{Fed, typed};
 
 use arrayvec::ArrayVec;
 use px_asm::Operating;
@@ -62,9 +62,7 @@ fn take_byte<A: Operating, O: Sink>(
     requires counted { session.old.lines < 2 ^ 64 - 1 }
     ensures fits { Fits A.BITS session.new (A.device array.new) (A.slots array.new) }
     ensures ok { (line : List ℕ) → held.old.items ≡ short line →
-        IfOk result (λ on. Fed on A.BITS line (byte ∷ [])
-        (stand session.old (A.work array.old) (O.state out.old))
-        (stand session.new (A.work array.new) (O.state out.new)) held.new.items) }
+        IfOk result (λ on. Fed on A.BITS (typed line (byte ∷ [])) (stand session.old (A.work array.old) (O.state out.old)) (stand session.new (A.work array.new) (O.state out.new)) held.new.items) }
     ensures err { (line : List ℕ) → held.old.items ≡ short line → OnErr result (Broken false A.BITS
         (stand session.old (A.work array.old) (O.state out.old))
         (stand session.new (A.work array.new) (O.state out.new)) (until_quit (ended line (byte ∷ [])))) }
@@ -93,9 +91,7 @@ pub(crate) fn feed<A: Operating, O: Sink>(
     requires counted { session.old.lines + length bytes.now < 2 ^ 64 - 1 }
     ensures fits { Fits A.BITS session.new (A.device array.new) (A.slots array.new) }
     ensures ok { (line : List ℕ) → held.old.items ≡ short line →
-        IfOk result (λ on. Fed on A.BITS line bytes.now
-        (stand session.old (A.work array.old) (O.state out.old))
-        (stand session.new (A.work array.new) (O.state out.new)) held.new.items) }
+        IfOk result (λ on. Fed on A.BITS (typed line bytes.now) (stand session.old (A.work array.old) (O.state out.old)) (stand session.new (A.work array.new) (O.state out.new)) held.new.items) }
     ensures err { (line : List ℕ) → held.old.items ≡ short line → OnErr result (Broken false A.BITS
         (stand session.old (A.work array.old) (O.state out.old))
         (stand session.new (A.work array.new) (O.state out.new)) (until_quit (ended line bytes.now))) }
