@@ -9,7 +9,7 @@ use Rattle.px_expr.specs.Tree.{HasLeavesBelow}
 use Rattle.px_model.specs.declared.solid.Face.{Face}
 use Rattle.px_text.specs.Text.{Words, is_name}
 use Rattle.px_model.specs.Scenes.{SolidView, IsColour, IsLawfulSolid, IsPlane, faces_in, names_of, SceneView}
-use Rattle.px_model.specs.Scenes.{IsLawfulScene, IsNumberedFrom, AreNumberedFrom, faces_of, has_number}
+use Rattle.px_model.specs.Scenes.{IsNumberedFrom, AreNumberedFrom, faces_of, has_number}
 use Rattle.px_show.specs.Printed.{printed, named_by}
 use Rattle.px_show.specs.Versions.{version_word}
 use Rattle.px_canonical.specs.Writable.{IsWritable}

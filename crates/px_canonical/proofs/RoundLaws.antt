@@ -3,7 +3,7 @@ use Rattle.std.proofs.Common.{◌≡◌, ℕ, ℤ, pos, ◌+◌, ◌-◌, min, �
 use Rattle.std.proofs.Common.{Some, None, Ok, true, false, codes, decimal, refl, ap, sym, subst, ◌∙◌, arith}
 use Rattle.std.proofs.Common.{map, append_assoc, append-nil, length-append}
 use Prim.Native.Nat.{suc}
-use Rattle.std.specs.List.{All, list_all}
+use Rattle.std.specs.List.{All}
 use Rattle.std.specs.Fmt.{signed_decimal}
 use Rattle.std.specs.Option.{option_or}
 use Rattle.std.proofs.lemmas.Int.{ints}

@@ -1,6 +1,6 @@
 -- The lines of all solids, and of a whole scene.
 use Rattle.std.proofs.Common.{◌≡◌, ◌≢◌, ℕ, ◌+◌, ◌<◌, ◌≤◌, ◌==◌, if◌then◌else◌, not, List, [], ◌∷◌, ◌++◌, length, Bool}
-use Rattle.std.proofs.Common.{true, false, ◌||◌, codes, decimal, map, Some, refl, ap, sym, subst, ◌∙◌, arith}
+use Rattle.std.proofs.Common.{true, false, ◌||◌, codes, map, Some, refl, ap, sym, subst, ◌∙◌, arith}
 use Rattle.std.proofs.Common.{append_assoc, append-nil, length-append, zero-add}
 use Prim.Native.Nat.{suc}
 use Rattle.std.specs.List.{All, AllPass, AllPairs, flat_map, range_with_len}

@@ -1,5 +1,5 @@
 -- The line of an expression, and what is read of it.
-use Rattle.std.proofs.Common.{◌≡◌, [], ◌∷◌, ◌++◌, filter, true, map, codes, refl, ap, sym, ◌∙◌, append-nil}
+use Rattle.std.proofs.Common.{◌≡◌, [], ◌∷◌, ◌++◌, filter, true, codes, refl, ap, sym, ◌∙◌, append-nil}
 use Rattle.std.specs.List.{list_all, slice_split}
 use Rattle.std.proofs.lemmas.List.Folds.{list_all-append}
 use Rattle.px_text.specs.Text.{is_some_byte, is_blank, words_of}

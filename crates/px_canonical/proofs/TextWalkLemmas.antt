@@ -1,9 +1,9 @@
 -- The canonical text of a scene is read as it.
-use Rattle.std.proofs.Common.{◌≡◌, ℕ, ◌≤◌, List, [], ◌∷◌, ◌++◌, length, take, codes, refl, ap, sym, subst, ◌∙◌}
+use Rattle.std.proofs.Common.{◌≡◌, ℕ, ◌≤◌, List, [], ◌++◌, length, take, codes, refl, ap, sym, subst, ◌∙◌}
 use Rattle.std.specs.List.{All, flat_map}
 use Rattle.std.proofs.lemmas.List.{take_all}
 use Rattle.px_expr.specs.Tree.{IsLawfulTree}
-use Rattle.px_model.specs.Scenes.{IsLawfulScene, IsLawfulSolid, SceneView, SolidView}
+use Rattle.px_model.specs.Scenes.{IsLawfulScene, IsLawfulSolid, SceneView}
 use Rattle.px_canonical.specs.Canonical.{canonical_text, first_lines, show_line, solid_lines, written_line}
 use Rattle.px_canonical.specs.Writable.{IsReadAs, IsWritable}
 use Rattle.px_canonical.proofs.CanonicalLemmas.{text_is}
