@@ -218,7 +218,8 @@ module _ (bits nx ny : ℕ) (k : Known) (s t : State) (h : Alike bits nx ny k s 
       (omega arith) (rw early tt) (rw early refl)
       (λ i low high.
       let op = tree_at form nx ny i in
-      keeps_act op (i == last) (act.EnableTree false) act.Nop _ (keeps_fed op (act.EnableTree false) k.carry k.latch refl refl)
+      keeps_act op (i == last) (act.EnableTree false) act.Nop _
+      (keeps_fed op (act.EnableTree false) k.carry k.latch refl refl)
       (keeps_fed op act.Nop k.carry k.latch tt refl)) h
   steps_alike (m.LoadLinear form f) lawful =
       first_then bits nx ny (micro_at (m.LoadLinear form f) nx ny) k (while_fed k.carry k.latch) (nx + ny + f.len)
@@ -230,11 +231,12 @@ module _ (bits nx ny : ℕ) (k : Known) (s t : State) (h : Alike bits nx ny k s 
   steps_alike (m.KeepAtMost form f) lawful =
       let last = 1 + (nx + ny) + f.len in
       let early : (0 == last) ≡ false = not_first 0 last (omega arith) in
-      first_then bits nx ny (micro_at (m.KeepAtMost form f) nx ny) k (while_fed true k.latch) last (2 + (nx + ny) + f.len)
-      s t (omega arith) (rw early tt) (rw early refl)
+      first_then bits nx ny (micro_at (m.KeepAtMost form f) nx ny) k (while_fed true k.latch) last
+      (2 + (nx + ny) + f.len) s t (omega arith) (rw early tt) (rw early refl)
       (λ i low high.
       let op = tree_at form nx ny i in
-      keeps_choice (i == last) (record { tree = Hold; act = act.EnableCarry true }) _ _ (record { fit = refl; same = refl })
+      keeps_choice (i == last) (record { tree = Hold; act = act.EnableCarry true }) _ _
+      (record { fit = refl; same = refl })
       (bits_keep op (nx + ny) i (act.SetCarry true) (λ u. act.CarryTree (f.at + u)) true k.latch low
       (λ u. keeps_fed op (act.CarryTree (f.at + u)) true k.latch refl refl))) h
   steps_alike (m.AddLinear form f) lawful =
@@ -291,7 +293,8 @@ all_micros_alike bits nx ny (op ∷ ops) lawful k s t h =
 
 -- ---- where all is known, the states are the same
 
-pub same_pixel : (p q : PixelState) → p.memory ≡ q.memory → p.enable ≡ q.enable → p.carry ≡ q.carry → p.latch ≡ q.latch → p ≡ q
+pub same_pixel : (p q : PixelState) → p.memory ≡ q.memory → p.enable ≡ q.enable → p.carry ≡ q.carry
+    → p.latch ≡ q.latch → p ≡ q
 same_pixel p q memory enable carry latch =
     ap (λ (x : List Bool). record { memory = x; enable = p.enable; carry = p.carry; latch = p.latch }) memory
     ∙ (ap (λ (x : Bool). record { memory = q.memory; enable = x; carry = p.carry; latch = p.latch }) enable

@@ -24,8 +24,9 @@ like_self : (n : ℕ) (planes : Planes) → HasWords n planes → IsLike n plane
 like_self n planes words = record { words = words; memory = refl; carry = refl; latch = refl; full = refl }
 
 -- planes of which one row of memory is another
-pub like_stored : (old : Planes) (at : ℕ) (row : List ℕ) → HasWords (length old.enable) old → at < length old.memory.items
-    → length row ≡ length old.enable → IsLike (length old.enable) old (record old { memory = with_item old.memory at row })
+pub like_stored : (old : Planes) (at : ℕ) (row : List ℕ) → HasWords (length old.enable) old
+    → at < length old.memory.items → length row ≡ length old.enable
+    → IsLike (length old.enable) old (record old { memory = with_item old.memory at row })
 like_stored old at row words place long = record {
   words = record {
     memory = words_stored old.enable old at row place words long;
@@ -82,7 +83,8 @@ keep_law old w mask words inside =
     record {
       each = λ p within here.
           ap (λ (e : Bool). record (pixel_in old p) { enable = e })
-          (bit_set old.enable w word p inside here ∙ (bit-and (get_or old.enable w 0) mask (p % 64) ∙ rw (← here) refl));
+          (bit_set old.enable w word p inside here
+          ∙ (bit-and (get_or old.enable w 0) mask (p % 64) ∙ rw (← here) refl));
       others = λ p within other.
           ap (λ (e : Bool). record (pixel_in old p) { enable = e }) (bit_beside old.enable w word p other);
       like = record {
