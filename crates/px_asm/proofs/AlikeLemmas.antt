@@ -75,9 +75,21 @@ act_alike (act.StoreConst at v) k b c p q fit tree h =
 act_alike (act.Toggle at) k b c p q fit tree h =
     record { memory = rw (h.memory, h.enable) refl; enable = h.enable; carry = h.carry; latch = h.latch }
 act_alike (act.CarryTree at) k b c p q fit tree h =
-    record { memory = h.memory; enable = h.enable; carry = λ e. rw (h.memory, h.carry e, tree fit) refl; latch = h.latch }
+    record {
+      memory = h.memory;
+      enable = h.enable;
+      carry = λ e. rw (h.memory, h.carry e, tree fit) refl;
+      latch =
+          h.latch;
+    }
 act_alike (act.CarryLatch at) k b c p q fit tree h =
-    record { memory = h.memory; enable = h.enable; carry = λ e. rw (h.memory, h.carry e, h.latch fit) refl; latch = h.latch }
+    record {
+      memory = h.memory;
+      enable = h.enable;
+      carry = λ e. rw (h.memory, h.carry e, h.latch fit) refl;
+      latch =
+          h.latch;
+    }
 act_alike (act.AddTree at) k b c p q fit tree h =
     let same = h.carry fit.1 in
     let bit = tree fit.0 in
@@ -147,7 +159,8 @@ run_alike bits nx ny micro k from (suc n) s t keeps h =
     let before = run_alike bits nx ny micro k from n s t (λ i low high. keeps i low (omega arith)) h in
     let here = keeps (from + n) (omega arith) (omega arith) in
     let e : from + suc n ≡ suc (from + n) = omega arith in
-    let one = clock_alike bits nx ny (micro (from + n)) k (steps micro (from + n) s) (steps micro (from + n) t) here.fit before in
+    let one = clock_alike bits nx ny (micro (from + n)) k (steps micro (from + n) s) (steps micro (from + n) t)
+    here.fit before in
     rw e (rw here.same at one)
 
 -- ---- the operations
@@ -281,14 +294,19 @@ micros_alike bits nx ny k s t op lawful h =
     rw (run_is_steps (micro_at op nx ny) (cycles op nx ny) s, run_is_steps (micro_at op nx ny) (cycles op nx ny) t)
     (steps_alike bits nx ny k s t h op lawful)
 
-pub all_micros_alike : (bits nx ny : ℕ) (ops : List Macro) → All (λ op. IsLawful op bits) ops → (k : Known) (s t : State)
+pub all_micros_alike : (bits nx ny : ℕ) (ops : List Macro) → All (λ op. IsLawful op bits) ops
+    → (k : Known) (s t : State)
     → Alike bits nx ny k s t
-    → Alike bits nx ny (all_renewed ops k) (after_clocks (all_micros ops nx ny) s) (after_clocks (all_micros ops nx ny) t)
+    → Alike bits nx ny (all_renewed ops k) (after_clocks (all_micros ops nx ny) s)
+    (after_clocks (all_micros ops nx ny) t)
 all_micros_alike bits nx ny [] lawful k s t h = h
 all_micros_alike bits nx ny (op ∷ ops) lawful k s t h =
     let rest : All (λ m. IsLawful m bits) ops = λ i d low. lawful (suc i) d (omega arith) in
     let first = micros_alike bits nx ny k s t op (lawful 0 op (omega arith)) h in
-    rw (after_clocks-append (micros op nx ny) (all_micros ops nx ny) s, after_clocks-append (micros op nx ny) (all_micros ops nx ny) t)
+    rw (
+      after_clocks-append (micros op nx ny) (all_micros ops nx ny) s,
+      after_clocks-append (micros op nx ny) (all_micros ops nx ny) t,
+    )
     (all_micros_alike bits nx ny ops rest (renewed op k) _ _ first)
 
 -- ---- where all is known, the states are the same

@@ -1,5 +1,6 @@
 -- What is done to the pixels of one word.
-use Rattle.std.proofs.Common.{◌≡◌, ◌≢◌, ℕ, zero, suc, ◌+◌, ◌*◌, ◌/◌, ◌<◌, ◌%◌, ◌≤◌, Bool, false, cond, List, [], length, length-set}
+use Rattle.std.proofs.Common.{◌≡◌, ◌≢◌, ℕ, zero, suc, ◌+◌, ◌*◌, ◌/◌, ◌<◌, ◌%◌, ◌≤◌, Bool, false, cond, List, []}
+use Rattle.std.proofs.Common.{length, length-set}
 use Rattle.std.proofs.Common.{get_or, get_or-set_other, get_or-set_same, set, refl, sym, ap, ◌∙◌, arith, bit_and}
 use Rattle.std.specs.Vec.{with_item}
 use Rattle.px_num.specs.Bits.{bit_at, nat_bit}
@@ -14,7 +15,8 @@ use Rattle.px_planes.specs.declared.planes.Planes.{Planes}
 use Rattle.px_planes.proofs.StoredLemmas.{stored_row, words_stored}
 
 -- a row of which one word was set
-pub bit_set : (row : List ℕ) (w word p : ℕ) → w < length row → p / 64 ≡ w → row_bit (set row w word) p ≡ nat_bit word (p % 64)
+pub bit_set : (row : List ℕ) (w word p : ℕ) → w < length row → p / 64 ≡ w → row_bit (set row w word) p
+    ≡ nat_bit word (p % 64)
 bit_set row w word p inside here = rw here (ap (λ (n : ℕ). nat_bit n (p % 64)) (get_or-set_same row w word 0 inside))
 
 pub bit_beside : (row : List ℕ) (w word p : ℕ) → p / 64 ≢ w → row_bit (set row w word) p ≡ row_bit row p
