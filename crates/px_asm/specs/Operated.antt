@@ -1,6 +1,5 @@
--- What an operation that is made at once leaves of an array, and when two arrays that differ only in what it
--- leaves open
--- become the same again. Clauses of public calls stand on it.
+-- What an operation that is made at once leaves of an array, and when two arrays that differ only in what it leaves
+-- open become the same again. Clauses of public calls stand on it.
 use Rattle.std.specs.Prelude.{◌≡◌, ℕ, ◌+◌, ◌^◌, ◌<◌, ◌&&◌, not, Bool, true, false, All, List, [], ◌∷◌}
 use Rattle.px_array.specs.Arrays.{Device, HasGrid, State, pixel_at, pixel_of}
 use Rattle.px_array.specs.Clocks.{after_clocks}
@@ -89,9 +88,8 @@ untouched op k =
     let new = renewed op none_known in
     record { tree = k.tree && not new.tree; carry = k.carry && not new.carry; latch = k.latch && not new.latch }
 
--- an operation that is made at once on one of two states, and by its micros on the other, leaves the same what
--- was the same,
--- but for what it begins anew
+-- an operation that is made at once on one of two states, and by its micros on the other, leaves the same what was
+-- the same, but for what it begins anew
 abbrev pub StayKnown : Type 0
 StayKnown = (bits nx ny : ℕ) → IsGrid nx ny → (op : Macro) → IsLawful op bits
     → (k : Known) (before now : Device) (s : State) →

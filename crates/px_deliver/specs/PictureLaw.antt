@@ -14,8 +14,7 @@ use Rattle.px_sched.specs.Layouts.{layout_of, need_of}
 use Rattle.px_deliver.specs.Refusals.{job_refusal}
 
 -- two pixel maps: at each pixel the depth of its first cell that belongs to the scene's expression, and the
--- lowest-numbered face
--- shown there; the background where no cell belongs
+-- lowest-numbered face shown there; the background where no cell belongs
 pub record AreMapsOf (scene : SceneView) (maps : List ℕ) : Type 0 where
   pub sights : (x y : ℕ) → Sight
   pub written : maps ≡ image_of scene.width scene.height (λ x y. (sights x y).depth)
@@ -27,9 +26,8 @@ abbrev pub TextsHavePictures : Type 0
 TextsHavePictures = (text : List ℕ) → refusal_of text ≡ None →
     AreMapsOf (scene_of (worded text)) (depth_image (scene_of (worded text)) ++ face_image (scene_of (worded text)))
 
--- an array draws a scene whose passes need no more memory bits than a pixel has, and whose expression has no
--- "^" and at most
--- so many products in its whole sum
+-- an array draws a scene whose passes need no more memory bits than a pixel has, and whose expression has no "^"
+-- and at most so many products in its whole sum
 abbrev pub SmallScenesAreDrawn : Type 0
 SmallScenesAreDrawn = (bits : ℕ) (scene : SceneView) → need_of (layout_of scene) ≤ bits → HasNoDiffer scene.show →
     length (sum_of_products scene.show) ≤ MAX_PRODUCTS → job_refusal bits scene ≡ None

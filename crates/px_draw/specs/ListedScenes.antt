@@ -38,9 +38,8 @@ pub record PlaysTheScene (bits : ℕ) (scene : SceneView) (text answer : List �
   pub picture : (device : Device) → IsPlayed bits (listing_written text) device →
       ShowsThePicture scene (layout_of scene) (λ x y. (pixel_of device.state x y).memory)
 
--- so it is wherever `play` answers `Done` for a text that `list` wrote, however many bits each of the two
--- arrays has: the passes of a
--- scene may need fewer than the scene
+-- so it is wherever `play` answers `Done` for a text that `list` wrote, however many bits each of the two arrays
+-- has: the passes of a scene may need fewer than the scene
 abbrev pub DoneShowsThePicture : Type 0
 DoneShowsThePicture = (listed_bits bits : ℕ) (scene : SceneView) (text answer : List ℕ)
     → IsListed listed_bits scene text →

@@ -1,8 +1,7 @@
--- What an expression is at a cell of a ray: a member or not, and the faces shown or hidden there. Clauses of
--- public calls stand on it.
--- It follows from what each solid is at that cell, whatever that may be. All that is said of an operator
--- follows from its
--- combination: which cells are members, the faces shown and hidden there, and the products of its normal form.
+-- What an expression is at a cell of a ray: a member or not, and the faces shown or hidden there. Clauses of public
+-- calls stand on it. It follows from what each solid is at that cell, whatever that may be. All that is said of an
+-- operator follows from its combination: which cells are members, the faces shown and hidden there, and the
+-- products of its normal form.
 use Rattle.std.specs.Prelude.{Bool, ◌&&◌, ◌||◌, not, ℕ, ◌≡◌, ◌<◌, ◌==◌, true, false, List, [], ◌++◌, length}
 use Rattle.std.specs.Prelude.{if◌then◌else◌, slice_index_or}
 use Rattle.px_expr.specs.declared.node.Op.{Op}

@@ -1,6 +1,6 @@
 -- What a pixel of a picture shows, said without how it is found: the first cell that belongs to the shown
--- expression and the
--- lowest-numbered face shown there, or the background where no cell belongs. Clauses of public calls stand on it.
+-- expression and the lowest-numbered face shown there, or the background where no cell belongs. Clauses of public
+-- calls stand on it.
 use Rattle.std.specs.Prelude.{◌≡◌, ◌<◌, ◌≤◌, ◌⊎◌, ℕ, true, false}
 use Rattle.px_expr.specs.Cells.{has_face}
 use Rattle.px_model.specs.Scenes.{IsLawfulScene, SceneView}

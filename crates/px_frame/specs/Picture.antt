@@ -1,6 +1,5 @@
 -- The picture of a scene as three images in the raw form of Netpbm's pixel maps: the depth of each pixel, the
--- number of its
--- face, and that face's colour. Clauses of public calls stand on it.
+-- number of its face, and that face's colour. Clauses of public calls stand on it.
 use Rattle.std.specs.Prelude.{ℕ, ◌/◌, ◌%◌, List, [], ◌∷◌, ◌++◌, codes, decimal}
 use Rattle.std.specs.List.{flat_map, range_with_len}
 use Rattle.px_model.specs.declared.solid.Colour.{Colour}

@@ -4,9 +4,8 @@ use Rattle.std.specs.Io.KnownBytes.{Consumes}
 use Rattle.px_asked.specs.Asks.{Ask, Asked, all_given}
 use Rattle.px_lines.specs.Parts.{part_end}
 
--- each time, the sink had taken what it had at first, and no scene part was whole in what was read before, of
--- which the last byte
--- that may be read does not count
+-- each time, the sink had taken what it had at first, and no scene part was whole in what was read before, of which
+-- the last byte that may be read does not count
 abbrev pub Silent : (limit : ℕ) → (written : Option (List ℕ)) → (text : List ℕ) → List Ask → Type 0
 Silent limit written text [] = ⊤
 Silent limit written text (a ∷ later) =

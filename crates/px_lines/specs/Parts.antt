@@ -12,9 +12,8 @@ are_end (word ∷ other ∷ more) = false
 unfoldable pub is_end_line : List ℕ → Bool
 is_end_line line = are_end (words_of line)
 
--- where the scene part ends: behind the first line feed of a line whose one word is `end`; so much of a line,
--- and so many
--- bytes in all, stand before
+-- where the scene part ends: behind the first line feed of a line whose one word is `end`; so much of a line, and
+-- so many bytes in all, stand before
 abbrev pub end_after : (line : List ℕ) → (count : ℕ) → (bytes : List ℕ) → Option ℕ
 end_after line count [] = None
 end_after line count (b ∷ bs) =

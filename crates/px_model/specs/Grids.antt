@@ -1,6 +1,5 @@
 -- The exponents of a scene's grid: for its columns and its rows the least power of 2 from 2 to 512. Clauses of
--- public calls
--- stand on it.
+-- public calls stand on it.
 use Rattle.std.specs.Prelude.{ℕ, zero, suc, ◌+◌, ◌^◌, nat_le, if◌then◌else◌}
 
 -- the first exponent from one on, of so many, whose power of 2 is at least the size

@@ -11,8 +11,7 @@ abbrev pub IsKeptOrClosed : (before now : ArrayView) → Type 0
 IsKeptOrClosed before now = (now ≡ before) ⊎ (now ≡ none_open)
 
 -- what is left of the array, of its slots and its work too, where a scene is drawn: a new array with the drawn
--- scene, also where it
--- could not be written, and else the array as before
+-- scene, also where it could not be written, and else the array as before
 abbrev pub Draws : Status → (bits : ℕ) → SceneView → (before now : ArrayView) → Type 0
 Draws status.Done bits scene before now = IsDrawn bits scene now.device × IsRunOnce now
 Draws status.WriteFault bits scene before now = IsDrawn bits scene now.device × IsRunOnce now

@@ -1,6 +1,5 @@
--- What a command does over an input: what it answers for the bytes, what it leaves, and what it takes. Clauses
--- of public calls stand
--- on it.
+-- What a command does over an input: what it answers for the bytes, what it leaves, and what it takes. Clauses of
+-- public calls stand on it.
 use Rattle.std.specs.Prelude.{ℕ, ◌≡◌, ◌++◌, List, ⊤, Option, Some, None, Result, drop}
 use Rattle.std.specs.Io.KnownBytes.{Consumes}
 use Rattle.px_io.specs.Told.{ConsumesAtMost}

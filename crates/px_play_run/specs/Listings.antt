@@ -46,9 +46,8 @@ pub record IsPlayed (bits : ℕ) (l : ListingView) (device : Device) : Type 0 wh
   pub clocks : device.clocks ≡ sum_by (λ m. cycles m l.nx l.ny) l.macros
   pub pixels : HasPlayed bits l device.state
 
--- what is left of the array, of its slots and its work too, where a listing is played: the listing played on a
--- new array, also
--- where its memory could not be written, and else the array as before
+-- what is left of the array, of its slots and its work too, where a listing is played: the listing played on a new
+-- array, also where its memory could not be written, and else the array as before
 abbrev pub Plays : Status → (bits : ℕ) → ListingView → (before now : ArrayView) → Type 0
 Plays status.Done bits l before now = IsPlayed bits l now.device × IsRunOnce now
 Plays status.WriteFault bits l before now = IsPlayed bits l now.device × IsRunOnce now

@@ -126,9 +126,8 @@ scenes_grid scene lawful = record {
   rows = exponent_is scene.height lawful.sizes.height_limit;
 }
 
--- the picture law holds of a memory with as many zeros behind it as the layout may need, whose first bits come
--- out as those of
--- the memory
+-- the picture law holds of a memory with as many zeros behind it as the layout may need, whose first bits come out
+-- as those of the memory
 pub show_the_picture : MemoryStaysLong → PassesLaw → PlayedPassesShowThePicture
 show_the_picture stays law bits scene state can has x y left above =
     let grid = scenes_grid scene can.scene_is in

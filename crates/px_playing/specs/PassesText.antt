@@ -26,9 +26,8 @@ pub record HasScenesGrid (scene : SceneView) (l : ListingView) : Type 0 where
 abbrev pub PassesHaveTheScenesGrid : Type 0
 PassesHaveTheScenesGrid = (scene : SceneView) → IsLawfulScene scene → HasScenesGrid scene (passes_listing scene)
 
--- pixels that can carry out each of a scene's passes: those that have the bits that its layout needs, and where
--- its passes use
--- fewer, as those of products of one literal do, pixels with fewer
+-- pixels that can carry out each of a scene's passes: those that have the bits that its layout needs, and where its
+-- passes use fewer, as those of products of one literal do, pixels with fewer
 pub record CanPlay (bits : ℕ) (scene : SceneView) : Type 0 where
   pub scene_is : IsLawfulScene scene
   pub solids : All IsLawfulSolid scene.solids

@@ -1,6 +1,5 @@
--- The passes law: one after another on the numbers of a pixel of the picture, whatever they were, the passes
--- leave in key B
--- the depth and the face number that the pixel shows. Clauses of public calls stand on it.
+-- The passes law: one after another on the numbers of a pixel of the picture, whatever they were, the passes leave
+-- in key B the depth and the face number that the pixel shows. Clauses of public calls stand on it.
 use Rattle.std.specs.Prelude.{◌≡◌, ℕ, ◌<◌, ◌≤◌, All, Bool, List, length}
 use Rattle.px_macro.specs.Fields.{number_in}
 use Rattle.px_macro.specs.Macros.{PixelBits, after_macros}

@@ -79,9 +79,8 @@ unfoldable pub shadowed : (bytes : List ℕ) → (bits : ℕ) → Outcome
 shadowed bytes bits =
     if is_long bytes then refused too_long else parts_lit bits (scene_part bytes) (behind_part bytes)
 
--- what is left of the array, of its slots and its work too: the shadow passes were made on the drawn scene,
--- also where the image
--- could not be written, and else the array is as before, or closed for want of memory
+-- what is left of the array, of its slots and its work too: the shadow passes were made on the drawn scene, also
+-- where the image could not be written, and else the array is as before, or closed for want of memory
 abbrev pub ShadesBy : Status → (bits : ℕ) → SceneView → List SolidSet → (before now : ArrayView) → Type 0
 ShadesBy status.Done bits scene lights before now = IsShaded bits scene lights now.device × IsRunOnce now
 ShadesBy status.WriteFault bits scene lights before now = IsShaded bits scene lights now.device × IsRunOnce now

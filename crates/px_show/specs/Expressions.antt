@@ -1,11 +1,8 @@
--- Expressions over names: their tokens, how they are written, how they are read, and why those of a `show` line
--- are bad.
--- Clauses of public calls stand on it.
--- Writing and reading agree: what is written is read, and what is read was written (`expression_law` in src/show.rt).
--- Clauses speak of what tokens are read to (`expression_of`), which keeps a stack of parts. It need not be
--- believed: by that
--- law it is the one way to have an expression of which `written` is the tokens, and `written` is what is to be
--- believed.
+-- Expressions over names: their tokens, how they are written, how they are read, and why those of a `show` line are
+-- bad. Clauses of public calls stand on it. Writing and reading agree: what is written is read, and what is read
+-- was written (`expression_law` in src/show.rt). Clauses speak of what tokens are read to (`expression_of`), which
+-- keeps a stack of parts. It need not be believed: by that law it is the one way to have an expression of which
+-- `written` is the tokens, and `written` is what is to be believed.
 use Rattle.std.specs.Prelude.{ℕ, ◌==◌, List, [], ◌∷◌, if◌then◌else◌, Option, Some, None, ◌≡◌, ◌+◌, max, ◌++◌}
 use Rattle.std.specs.Prelude.{true, Bool, ◌&&◌, fold, pos, nat_le}
 use Rattle.std.specs.List.{flat_map, list_any}

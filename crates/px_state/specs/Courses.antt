@@ -1,6 +1,5 @@
--- What operations broadcast on a grid, clock by clock, and a new array after so many clocks. A scene's
--- operations are those
--- of the listing of its passes. Clauses of public calls stand on it.
+-- What operations broadcast on a grid, clock by clock, and a new array after so many clocks. A scene's operations
+-- are those of the listing of its passes. Clauses of public calls stand on it.
 use Rattle.std.specs.Prelude.{◌≡◌, ℕ, ◌+◌, ◌<◌, List, Some, length, slice_get, take}
 use Rattle.px_array.specs.Arrays.{Device, zero_state}
 use Rattle.px_array.specs.Clocks.{after_clocks}

@@ -1,6 +1,5 @@
--- The operations of a text as data: of each its kind, its numbers and its first clock, and of a scene's passes
--- what it is for
--- (docs/PASSES.md, "Steps"). Clauses of public calls stand on it.
+-- The operations of a text as data: of each its kind, its numbers and its first clock, and of a scene's passes what
+-- it is for (docs/PASSES.md, "Steps"). Clauses of public calls stand on it.
 use Rattle.std.specs.Prelude.{◌≡◌, ℕ, ℤ, ◌+◌, ◌<◌, ◌≤◌, pos, Bool, true, false, List, Some, get_or, length}
 use Rattle.std.specs.Prelude.{slice_get, take}
 use Rattle.std.specs.List.{flat_map}

@@ -1,9 +1,7 @@
--- A state of an array in words of 64 bits. Clauses of public calls stand on it.
--- First the planes, each of them row by row from row 0, and each row from column 0: the bits of memory from bit
--- 0 on, then
--- enable, carry, latch and leaf, which is the output of the tree over the pixel. Then the outputs of all nodes
--- of the tree,
--- and then their carries: node i of level k is bit 2^k + i, so that the levels stand one behind another.
+-- A state of an array in words of 64 bits. Clauses of public calls stand on it. First the planes, each of them row
+-- by row from row 0, and each row from column 0: the bits of memory from bit 0 on, then enable, carry, latch and
+-- leaf, which is the output of the tree over the pixel. Then the outputs of all nodes of the tree, and then their
+-- carries: node i of level k is bit 2^k + i, so that the levels stand one behind another.
 use Rattle.std.specs.Prelude.{◌≡◌, ℕ, ◌+◌, ◌-◌, ◌*◌, ◌/◌, ◌%◌, ◌^◌, ◌<◌, ◌==◌, Bool, false, if◌then◌else◌, List}
 use Rattle.std.specs.Prelude.{drop, get_or, nat_lt}
 use Rattle.px_num.specs.Bits.{bit_at, nat_bit}

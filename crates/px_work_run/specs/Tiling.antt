@@ -42,9 +42,8 @@ wide_images size scene =
 abbrev pub tiled : Size → SceneView → (bits : ℕ) → Outcome
 tiled size scene bits = unless_refused (tiles_refusal size scene bits) (done (wide_images size scene))
 
--- what is left of the array, of its slots and its work too: the last tile is drawn, also where the images could
--- not be written; for want of memory the array is
--- as before, or closed, or a tile is drawn; and else it is as before
+-- what is left of the array, of its slots and its work too: the last tile is drawn, also where the images could not
+-- be written; for want of memory the array is as before, or closed, or a tile is drawn; and else it is as before
 abbrev pub DrawsTiles : Status → (bits : ℕ) → Size → SceneView → (before now : ArrayView) → Type 0
 DrawsTiles status.Done bits size scene before now = IsLastDrawn bits scene size.width size.height now
 DrawsTiles status.WriteFault bits size scene before now = IsLastDrawn bits scene size.width size.height now
