@@ -1,6 +1,6 @@
 -- The bits of what the calls on rows make of words, and of the words in vectors.
 use Rattle.std.proofs.Common.{◌≡◌, ℕ, ◌-◌, ◌^◌, ◌==◌, ◌<◌, Bool, true, false, cond, ◌&&◌, List, length, get_or}
-use Rattle.std.proofs.Common.{replicate, refl, sym, ap, ◌∙◌, arith, bit_and, bit_xor}
+use Rattle.std.proofs.Common.{replicate, sym, ap, ◌∙◌, arith, bit_and, bit_xor}
 use Rattle.std.proofs.lemmas.Nat.Bits.{bit_at_ones}
 use Rattle.std.proofs.lemmas.Simd.{get_or-replicate, get_or-zip2, length-replicate, length-zip2}
 use Rattle.std.specs.Simd.Lanes.{zip2}
@@ -21,14 +21,7 @@ kept_law mask other turn = record {
 }
 
 chosen : (t v m : Bool) → xor t (xor t v && m) ≡ cond m v t
-chosen true true true = refl
-chosen true true false = refl
-chosen true false true = refl
-chosen true false false = refl
-chosen false true true = refl
-chosen false true false = refl
-chosen false false true = refl
-chosen false false false = refl
+chosen t v m = grind arith
 
 pub chosen_law : (target value mask : ℕ) → IsChosen (bit_xor target (bit_and (bit_xor target value) mask)) target
     value mask
@@ -40,14 +33,7 @@ chosen_law target value mask = record {
 }
 
 outvoted : (a b c : Bool) → xor a (xor a b && xor a c) ≡ majority a b c
-outvoted true true true = refl
-outvoted true true false = refl
-outvoted true false true = refl
-outvoted true false false = refl
-outvoted false true true = refl
-outvoted false true false = refl
-outvoted false false true = refl
-outvoted false false false = refl
+outvoted a b c = grind arith
 
 pub majority_law : (carry other value turn : ℕ)
     → IsMajority (bit_xor carry (bit_and (bit_xor carry other) (bit_xor carry (bit_xor value turn)))) carry other
@@ -65,22 +51,7 @@ majority_law carry other value turn = record {
 }
 
 added : (t k v m : Bool) → xor t (xor v k && m) ≡ cond m (xor v (xor t k)) t
-added true true true true = refl
-added true true true false = refl
-added true true false true = refl
-added true true false false = refl
-added true false true true = refl
-added true false true false = refl
-added true false false true = refl
-added true false false false = refl
-added false true true true = refl
-added false true true false = refl
-added false true false true = refl
-added false true false false = refl
-added false false true true = refl
-added false false true false = refl
-added false false false true = refl
-added false false false false = refl
+added t k v m = grind arith
 
 pub added_law : (target carry value mask : ℕ) → IsAdded (bit_xor target (bit_and (bit_xor value carry) mask)) target
     carry value mask
@@ -92,14 +63,7 @@ added_law target carry value mask = record {
 }
 
 carried : (t k v : Bool) → xor k (xor v k && xor k t) ≡ majority v t k
-carried true true true = refl
-carried true true false = refl
-carried true false true = refl
-carried true false false = refl
-carried false true true = refl
-carried false true false = refl
-carried false false true = refl
-carried false false false = refl
+carried t k v = grind arith
 
 pub carried_law : (target carry value : ℕ)
     → IsCarried (bit_xor carry (bit_and (bit_xor value carry) (bit_xor carry target))) target carry value
