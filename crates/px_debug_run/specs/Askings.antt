@@ -5,9 +5,8 @@ use Rattle.px_asked.specs.Asks.{Ask, Asked, all_given}
 use Rattle.px_session.specs.Sessions.{answers, has_quit}
 use Rattle.px_debug_run.specs.Debugs.{Admits, has_part, session_of, whole_commands}
 
--- what is to be written before more is asked for behind these bytes: nothing until the scene part is whole, and
--- then the
--- answers to all command lines that line feeds end
+-- what is to be written before more is asked for behind these bytes: nothing until the scene part is whole, and then
+-- the answers to all command lines that line feeds end
 unfoldable pub due : (bits : ℕ) → (taken : List ℕ) → List ℕ
 due bits taken = if has_part taken then answers bits (session_of taken) (whole_commands taken) else []
 

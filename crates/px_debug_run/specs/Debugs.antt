@@ -59,9 +59,8 @@ session_of bytes = session_opened (part_scene bytes)
 unfoldable pub admitted : (part : List ℕ) → (bits : ℕ) → Outcome → Outcome
 admitted part bits outcome = unless_refused (text_refusal part) (drawable bits (scene_written part) outcome)
 
--- the answers to the commands up to a quit; past the limit of a text, where no whole line before is a quit, to
--- those lines,
--- and then the refusal
+-- the answers to the commands up to a quit; past the limit of a text, where no whole line before is a quit, to those
+-- lines, and then the refusal
 unfoldable pub answered : (bytes : List ℕ) → (bits : ℕ) → Outcome
 answered bytes bits =
     if is_long bytes && not (has_quit (whole_commands bytes))
@@ -74,9 +73,8 @@ debugged bytes bits =
     if is_long bytes && not (has_part bytes) then refused too_long else admitted (scene_part_of bytes) bits
     (answered bytes bits)
 
--- from the start of a session on all of the lines were answered, and the output was then finished where `ends`
--- is true; the array is as
--- the session leaves it
+-- from the start of a session on all of the lines were answered, and the output was then finished where `ends` is
+-- true; the array is as the session leaves it
 pub record IsAnswered (ends : Bool) (bits : ℕ) (from : SessionView) (lines : List (List ℕ)) (before after : Ends) :
     Type 0 where
   pub now : SessionView

@@ -18,9 +18,8 @@ pub record Begun : Type 0 where
 abbrev pub begun : Moment → (read : List ℕ) → (more : ℕ) → Begun
 begun was read more = record { was = was; read = read; more = more }
 
--- all whole lines of what was read have been answered: how things stand, with so many bytes left to be read,
--- and what a buffer keeps
--- of the line that is not whole
+-- all whole lines of what was read have been answered: how things stand, with so many bytes left to be read, and what
+-- a buffer keeps of the line that is not whole
 pub record Caught (bits : ℕ) (b : Begun) (more : ℕ) (now : Moment) (held : List ℕ) : Type 0 where
   pub asks : List Ask
   pub asked : Asked b.was.asks now.asks asks

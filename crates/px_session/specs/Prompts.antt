@@ -19,9 +19,8 @@ abbrev pub moment : SessionView → (work : ℕ) → (out : SinkState) → (asks
 moment session work out asks rest faults =
     record { at = stand session work out; asks = asks; rest = rest; faults = faults }
 
--- each time, the whole lines of what was read before had been answered, and nothing else, none of them was a
--- `quit`, and some of so
--- many bytes were left to be read
+-- each time, the whole lines of what was read before had been answered, and nothing else, none of them was a `quit`,
+-- and some of so many bytes were left to be read
 abbrev pub Prompt : (bits : ℕ) (from : Stand) → (more : ℕ) → (text : List ℕ) → List Ask → Type 0
 Prompt bits from more text [] = ⊤
 Prompt bits from more text (a ∷ later) =

@@ -19,9 +19,8 @@ pub record Answered (ends : Bool) (bits : ℕ) (from now : Stand) (lines : List 
   pub state : Obeyed from now lines
   pub wrote : Gives ends from.out now.out (answers bits from.session lines)
 
--- a write failed in the answer to one of the lines, or, where `ends` is true, in finishing behind the last: so
--- many lines were
--- obeyed, of whose answers a front was written, with all answers but the last in it
+-- a write failed in the answer to one of the lines, or, where `ends` is true, in finishing behind the last: so many
+-- lines were obeyed, of whose answers a front was written, with all answers but the last in it
 pub record Broken (ends : Bool) (bits : ℕ) (from now : Stand) (lines : List (List ℕ)) : Type 0 where
   pub count : ℕ
   pub within : count ≤ length lines
