@@ -1,19 +1,12 @@
 -- Words as numbers in lanes.
-use Rattle.std.proofs.Common.{◌≡◌, ℕ, ℤ, pos, ◌+ℤ◌, Bool, true, false}
+use Rattle.std.proofs.Common.{arith, ◌≡◌, ℕ, ℤ, pos, ◌+ℤ◌, Bool, true, false}
 use Rattle.std.proofs.Common.{◌&&◌, if◌then◌else◌, refl, sym, ◌∙◌, bit_and, bit_xor}
 use Rattle.px_num.specs.Bits.{bit_of, carry_from, majority, nat_bit, xor}
 use Rattle.px_num.proofs.AdderLaws.{sum_bit}
 use Rattle.px_rows.proofs.BitLaws.{bit-and, bit-xor, bit_of_zero}
 
 outvoted : (a b c : Bool) → xor a (xor a b && xor a c) ≡ majority a b c
-outvoted true true true = refl
-outvoted true true false = refl
-outvoted true false true = refl
-outvoted true false false = refl
-outvoted false true true = refl
-outvoted false true false = refl
-outvoted false false true = refl
-outvoted false false false = refl
+outvoted a b c = grind arith
 
 pub majority_of_words : (a b c j : ℕ) → nat_bit (bit_xor a (bit_and (bit_xor a b) (bit_xor a c))) j
     ≡ majority (nat_bit a j) (nat_bit b j) (nat_bit c j)
@@ -23,11 +16,7 @@ majority_of_words a b c j =
     (outvoted (nat_bit a j) (nat_bit b j) (nat_bit c j))
 
 xor_assoc : (a b c : Bool) → xor (xor a b) c ≡ xor a (xor b c)
-xor_assoc true true true = refl
-xor_assoc true true false = refl
-xor_assoc true false true = refl
-xor_assoc true false false = refl
-xor_assoc false b c = refl
+xor_assoc a b c = grind arith
 
 -- the bits of what is added in a lane
 pub addend_bit : (m : Bool) (k : ℤ) (t : ℕ) → (m && bit_of k t) ≡ bit_of (if m then k else pos 0) t

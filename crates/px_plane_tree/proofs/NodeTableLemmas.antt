@@ -47,63 +47,23 @@ even_of j h = grind (arith, nat_tests)
 
 output_by : (odd p d k : Bool) → (odd ≡ false → d ≡ false) → (odd ≡ false → k ≡ false) → xor p (xor k d)
     ≡ (next_node odd p d k).output
-output_by true p true true hd hk = refl
-output_by true p true false hd hk = refl
-output_by true p false true hd hk = refl
-output_by true p false false hd hk = refl
-output_by false p d k hd hk = rw (hd refl, hk refl) (none p)
-  where
-    none : (p : Bool) → xor p false ≡ p
-    none true = refl
-    none false = refl
+output_by odd p d k hd hk = grind arith
 
 carry_by : (odd p d k : Bool) → (odd ≡ false → d ≡ false) → (odd ≡ false → k ≡ false) → ((p && (k || d)) || (k && d))
     ≡ (next_node odd p d k).carry
-carry_by true true true true hd hk = refl
-carry_by true true true false hd hk = refl
-carry_by true true false true hd hk = refl
-carry_by true true false false hd hk = refl
-carry_by true false true true hd hk = refl
-carry_by true false true false hd hk = refl
-carry_by true false false true hd hk = refl
-carry_by true false false false hd hk = refl
-carry_by false p d k hd hk = rw (hd refl, hk refl) (none p)
-  where
-    none : (p : Bool) → ((p && (false || false)) || (false && false)) ≡ false
-    none true = refl
-    none false = refl
+carry_by odd p d k hd hk = grind arith
 
 output_on : (odd p k : Bool) → (odd ≡ false → k ≡ false) → xor p (xor k odd) ≡ (next_node odd p true k).output
-output_on true true true hk = refl
-output_on true true false hk = refl
-output_on true false true hk = refl
-output_on true false false hk = refl
-output_on false true k hk = rw (hk refl) refl
-output_on false false k hk = rw (hk refl) refl
+output_on odd p k hk = grind arith
 
 carry_on : (odd p k : Bool) → (odd ≡ false → k ≡ false) → ((p && odd) || k) ≡ (next_node odd p true k).carry
-carry_on true true true hk = refl
-carry_on true true false hk = refl
-carry_on true false true hk = refl
-carry_on true false false hk = refl
-carry_on false true k hk = rw (hk refl) refl
-carry_on false false k hk = rw (hk refl) refl
+carry_on odd p k hk = grind arith
 
 output_off : (odd p k : Bool) → (odd ≡ false → k ≡ false) → xor p k ≡ (next_node odd p false k).output
-output_off true true true hk = refl
-output_off true true false hk = refl
-output_off true false true hk = refl
-output_off true false false hk = refl
-output_off false true k hk = rw (hk refl) refl
-output_off false false k hk = rw (hk refl) refl
+output_off odd p k hk = grind arith
 
 carry_off : (odd p k : Bool) → (odd ≡ false → k ≡ false) → (p && k) ≡ (next_node odd p false k).carry
-carry_off true true true hk = refl
-carry_off true true false hk = refl
-carry_off true false true hk = refl
-carry_off true false false hk = refl
-carry_off false true k hk = rw (hk refl) refl
-carry_off false false k hk = refl
+carry_off odd p k hk = grind arith
 
 module _ (both old : List ℕ) (hb : length both ≡ 2) (ho : length old ≡ 2) (e : IsOdd old) where
   old_even : (i j : ℕ) → i < 2 → j < 64 → eqb (j % 2) 1 ≡ false → nat_bit (get_or old i 0) j ≡ false
