@@ -46,7 +46,7 @@ closing parts = None
 -- the nesting of a side
 abbrev pub nesting_in : Part → Option ℕ
 nesting_in (p.Side n) = Some n
-nesting_in other = None
+nesting_in part = None
 
 -- of the part that stands alone
 abbrev pub nesting_of : List Part → Option ℕ
