@@ -47,7 +47,7 @@ OF_SOURCES = (("BITS", "crates/px_program/src/main.rt", r"run_with::<_, _, _, (\
               ("FORM", "crates/px_macro/src/limits.rt", r"is_within\(form.a, 1 << (\d+)\)"),
               ("FORM_C", "crates/px_macro/src/limits.rt", r"is_within\(form.c, 1 << (\d+)\)"),
               ("FIELD", "crates/px_macro/src/limits.rt", r"field.len <= (\d+)"),
-              ("GRID", "crates/px_listing/src/limit.rt", r"ListKind::Grid, 1, (\d+), \*nx"))
+              ("GRID", "crates/px_listing/src/limit.rt", r"ListKind::Grid, 1, (\d+), nx\)"))
 OF_LIGHTS = ("unexpected", "word-count", "bad-name", "unknown-name")
 OF_SCENES_ALONE = ("bad-name", "second-name", "bad-expression", "unknown-name", "missing-end")
 OWN_TROUBLE = "1"

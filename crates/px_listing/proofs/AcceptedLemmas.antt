@@ -1,10 +1,11 @@
 -- A line that is not refused writes an operation that the pixels can carry out.
 use Rattle.std.proofs.Common.{◌≡◌, ℕ, ℤ, pos, ◌+◌, ◌-◌, ◌^◌, ◌<◌, ◌≤◌, ◌≤ℤ◌, All, List, [], ◌∷◌, ◌++◌, length}
-use Rattle.std.proofs.Common.{Option, Some, None, IfOk, IfSome, Result, Ok, Err, refl, arith}
-use Rattle.std.specs.List.{cons_option, filter_map}
+use Rattle.std.proofs.Common.{Option, Some, None, IfOk, IfSome, Result, Ok, Err, refl, sym, subst, arith}
+use Rattle.std.proofs.Common.{append_assoc, append-nil}
 use Rattle.std.specs.Option.{option_or}
 use Rattle.std.proofs.lemmas.Int.{ints}
-use Rattle.std.proofs.lemmas.List.Elements.{All-cons, All-nil}
+use Rattle.std.proofs.lemmas.List.Elements.{All-nil, All-push}
+use Rattle.std.proofs.lemmas.List.Sums.{fold-append}
 use lib.IntN.{negsuc}
 use Rattle.px_num.proofs.BitLaws.{pow_above}
 use Rattle.px_num.proofs.TruthLaws.{none_first, none_second}
@@ -14,21 +15,18 @@ use Rattle.px_macro.specs.declared.operation.Macro.{Macro}
 use Rattle.px_macro.specs.declared.operation.Macro.TheVariants as m
 use Rattle.px_show.specs.Judged.{first_bad, past, size_past}
 use Rattle.px_text.specs.Text.{Words, worded}
-use Rattle.px_show.proofs.FaultLaws.{within_limits}
+use Rattle.px_show.specs.declared.fault.Cause.{Cause}
 use Rattle.px_show.proofs.JudgedLaws.{none_here, not_memory, not_refused}
 use Rattle.px_scene.specs.Lines.{plane_of, size_of}
-use Rattle.px_listing.specs.Lines.{cause_of, numbers_of}
 use Rattle.px_listing.specs.AcceptedLaw.{AcceptedListingIsLawful, MemoryIsNoRefusal}
 use Rattle.px_listing.specs.Keywords.{listing_keyword_of}
-use Rattle.px_listing.specs.Kinds.{field_of, operation_of, operation_with, shape_of}
-use Rattle.px_listing.specs.Limits.{end_past, field_past, fields_past, form_past, listing_limit_of, overlap, shape_past}
-use Rattle.px_listing.specs.Limits.{value_past}
-use Rattle.px_listing.specs.Reading.{ListFault, due_behind, listing_fault_behind, listing_fault_of, listing_of}
-use Rattle.px_listing.specs.Reading.{operation_in, listing_refusal_of}
+use Rattle.px_listing.specs.Kinds.{field_of, operation_with, shape_of}
+use Rattle.px_listing.specs.Limits.{end_past, field_past, fields_past, form_past, overlap, shape_past, value_past}
+use Rattle.px_listing.specs.Lines.{ListForm, operation, timely_form}
 use Rattle.px_listing.specs.Listings.{ListingView}
-use Rattle.px_listing.specs.declared.keyword.Due.{Due}
-use Rattle.px_listing.specs.declared.keyword.Keyword.{Keyword}
-use Rattle.px_listing.specs.declared.keyword.Keyword.TheVariants as k
+use Rattle.px_listing.specs.Reading.{ListingDraft, ListFault, bad_by, bad_in, extended_by, listing_draft_of}
+use Rattle.px_listing.specs.Reading.{listing_fault_behind, listing_of, listing_refusal_of, listing_taken, unwritten}
+use Rattle.px_listing.specs.Reading.{with_operation}
 use Rattle.px_listing.specs.declared.kind.Kind.{Kind}
 use Rattle.px_listing.specs.declared.kind.Kind.TheVariants as n
 use Rattle.px_listing.specs.declared.limit.ListKind.TheVariants as kind
@@ -131,7 +129,7 @@ constant_is bits at len number none = (
 )
 
 -- the operation that numbers write which pass no limit; another count of numbers writes none
-kind_lawful : (bits : ℕ) (kind : Kind) (zs : List ℤ) → shape_past bits (shape_of kind) zs ≡ None
+pub kind_lawful : (bits : ℕ) (kind : Kind) (zs : List ℤ) → shape_past bits (shape_of kind) zs ≡ None
     → IfSome (operation_with kind zs) (λ op. IsLawful op bits)
 kind_lawful bits n.All [] none = tt
 kind_lawful bits n.KeepSign (a ∷ b ∷ c ∷ []) none = form_in_range a b c none
@@ -146,39 +144,45 @@ kind_lawful bits n.Copy (at ∷ len ∷ to ∷ []) none = copies bits at len to 
 kind_lawful bits n.KeepLess (at ∷ len ∷ to ∷ []) none = of_one_length bits at len to none
 kind_lawful bits kind zs none = tt
 
--- the operation of a line that passes no limit
-op_lawful : (bits : ℕ) (keyword : Keyword) (zs : List ℤ) → listing_limit_of bits keyword zs ≡ None
-    → IfSome (operation_of keyword zs) (λ op. IsLawful op bits)
-op_lawful bits (k.Operation kind) zs none = kind_lawful bits kind zs none
-op_lawful bits k.Pxlist zs none = tt
-op_lawful bits k.Grid zs none = tt
-op_lawful bits k.End zs none = tt
-op_lawful bits k.Other zs none = tt
+pub all_more : (bits : ℕ) (o : Option Macro) (ops : List Macro) → IfSome o (λ op. IsLawful op bits)
+    → All (λ op. IsLawful op bits) ops → All (λ op. IsLawful op bits) (with_operation o ops)
+all_more bits None ops one all = all
+all_more bits (Some op) ops one all = All-push (λ q. IsLawful q bits) ops op all one
 
-line_lawful : (bits : ℕ) (due : Due) (l : Words) → listing_fault_of bits due l ≡ None
-    → IfSome (operation_in l) (λ op. IsLawful op bits)
-line_lawful bits due [] none = tt
-line_lawful bits due (w ∷ ws) none =
-    op_lawful bits (listing_keyword_of w) (numbers_of ws)
-    (within_limits (cause_of due w ws) (listing_limit_of bits (listing_keyword_of w) (numbers_of ws)) none)
+form_lawful : (bits : ℕ) (draft : ListingDraft) (r : Result ListForm Cause) → bad_by bits r ≡ None
+    → All (λ op. IsLawful op bits) draft.macros → All (λ op. IsLawful op bits) (extended_by draft r).macros
+form_lawful bits draft (Ok (operation kind zs)) none all =
+    all_more bits (operation_with kind zs) draft.macros (kind_lawful bits kind zs none) all
+form_lawful bits draft r none all = all
 
-listed : (bits : ℕ) (o : Option Macro) (ops : List Macro) → IfSome o (λ op. IsLawful op bits)
-    → All (λ op. IsLawful op bits) ops → All (λ op. IsLawful op bits) (cons_option o ops)
-listed bits None ops one all = all
-listed bits (Some op) ops one all = All-cons (λ q. IsLawful q bits) op ops one all
+line_lawful : (bits : ℕ) (draft : ListingDraft) (l : Words) → bad_in bits draft.due l ≡ None
+    → All (λ op. IsLawful op bits) draft.macros → All (λ op. IsLawful op bits) (listing_taken draft l).macros
+line_lawful bits draft [] none all = all
+line_lawful bits draft (w ∷ ws) none all =
+    form_lawful bits draft (timely_form draft.due (listing_keyword_of w) ws) none all
 
-lines_lawful : (bits : ℕ) (before ls : List Words) → first_bad (listing_fault_behind bits) before ls ≡ None
-    → All (λ op. IsLawful op bits) (filter_map operation_in ls)
-lines_lawful bits before [] none = All-nil (λ op. IsLawful op bits)
-lines_lawful bits before (l ∷ ls) none =
+pub draft_more : (before : List Words) (l : Words)
+    → listing_draft_of (before ++ l ∷ []) ≡ listing_taken (listing_draft_of before) l
+draft_more before l = fold-append listing_taken unwritten before (l ∷ [])
+
+lines_lawful : (bits : ℕ) (before ls : List Words) → All (λ op. IsLawful op bits) (listing_draft_of before).macros
+    → first_bad (listing_fault_behind bits) before ls ≡ None
+    → All (λ op. IsLawful op bits) (listing_draft_of (before ++ ls)).macros
+lines_lawful bits before [] all none = rw append-nil all
+lines_lawful bits before (l ∷ ls) all none =
     let each = none_here (length before + 1) (listing_fault_behind bits before l)
     (first_bad (listing_fault_behind bits) (before ++ l ∷ []) ls) none in
-    listed bits (operation_in l) (filter_map operation_in ls) (line_lawful bits (due_behind before) l each.0)
-    (lines_lawful bits (before ++ l ∷ []) ls each.1)
+    let here = line_lawful bits (listing_draft_of before) l each.0 all in
+    subst (λ (lines : List Words). All (λ op. IsLawful op bits) (listing_draft_of lines).macros)
+    (append_assoc before (l ∷ []) ls)
+    (lines_lawful bits (before ++ l ∷ []) ls
+    (subst (λ (draft : ListingDraft). All (λ op. IsLawful op bits) draft.macros) (sym (draft_more before l)) here)
+    each.1)
 
 pub accepted_is_lawful : AcceptedListingIsLawful
 accepted_is_lawful bits text none =
-    lines_lawful bits [] (worded text) (not_refused (first_bad (listing_fault_behind bits) [] (worded text)) _ _ none).0
+    lines_lawful bits [] (worded text) (All-nil (λ op. IsLawful op bits))
+    (not_refused (first_bad (listing_fault_behind bits) [] (worded text)) _ _ none).0
 
 -- such pixels can carry out each operation of the listing that is read
 pub read_is_lawful : (bits : ℕ) (text : List ℕ) (r : Result ListingView ListFault)

@@ -1,7 +1,6 @@
 pub mod AcceptedLemmas
 pub mod LimitLemmas
 pub mod PieceLaws
-pub mod PlainLemmas
 pub mod ReadLemmas
 pub mod RoundLemmas
 pub mod RowLaws

@@ -1,6 +1,6 @@
 -- What is read of the canonical text of a listing.
 use Rattle.std.proofs.Common.{◌≡◌, ℕ, ℤ, pos, ◌+◌, ◌-◌, ◌^◌, ◌<◌, ◌≤◌, ◌≤ℤ◌, List, [], ◌∷◌, Bool, ◌==◌}
-use Rattle.std.proofs.Common.{true, false, Some, None, map, length, if◌then◌else◌, ◌∙◌}
+use Rattle.std.proofs.Common.{true, false, Some, None, Ok, Err, map, length, if◌then◌else◌, not, ◌∙◌}
 use Rattle.std.proofs.Common.{inl, inr, ◌⊎◌, refl, ap, arith}
 use Rattle.std.proofs.Math.Pow.{pow_mono}
 use Rattle.std.proofs.lemmas.Int.{ints}
@@ -14,18 +14,18 @@ use Rattle.px_macro.specs.declared.operation.Macro.TheVariants as m
 use Rattle.px_num.specs.Forms.{IsInTreeRange, IsWithin}
 use Rattle.px_num.specs.declared.linear.Linear.{Linear}
 use Rattle.px_num.proofs.TruthLaws.{same_true}
-use Rattle.px_listing.specs.Lines.{are_numbers, listing_form_of, numbers_of}
-use Rattle.px_show.specs.Judged.{judged, past}
+use Rattle.px_listing.specs.Lines.{are_numbers, numbers_of, operation, operation_form, timely_form}
+use Rattle.px_show.specs.Judged.{past}
 use Rattle.px_show.specs.declared.fault.Cause.TheVariants as c
-use Rattle.px_text.specs.Text.{Words, number_of}
+use Rattle.px_text.specs.Text.{Words}
 use Rattle.px_text.specs.Written.{are_plain, is_plain}
+use Rattle.px_text.proofs.DecimalLaws.{signed_read}
 use Rattle.px_text.proofs.LineLaws.{small_size}
-use Rattle.px_listing.specs.Keywords.{due_next, is_operation_due, listing_keyword_of}
-use Rattle.px_listing.specs.Kinds.{bit_number, is_set, kind_of, number_count, operands_of, operation_of}
-use Rattle.px_listing.specs.Kinds.{operation_with, shape_of, word_of}
-use Rattle.px_listing.specs.Limits.{end_past, field_past, form_past, listing_limit_of, overlap, shape_past}
-use Rattle.px_listing.specs.Reading.{due_behind_line, exponents_of, listing_fault_of, grid_in, operation_in}
-use Rattle.px_listing.specs.declared.keyword.Keyword.{Keyword}
+use Rattle.px_text.proofs.PlainLaws.{signed_plain}
+use Rattle.px_listing.specs.Keywords.{listing_keyword_of}
+use Rattle.px_listing.specs.Kinds.{bit_number, is_set, kind_of, number_count, operands_of, operation_with, shape_of}
+use Rattle.px_listing.specs.Kinds.{word_of}
+use Rattle.px_listing.specs.Limits.{end_past, field_past, form_past, overlap, shape_past}
 use Rattle.px_listing.specs.declared.keyword.Keyword.TheVariants as k
 use Rattle.px_listing.specs.declared.kind.Kind.{Kind}
 use Rattle.px_listing.specs.declared.kind.Kind.TheVariants as n
@@ -34,12 +34,7 @@ use Rattle.px_listing.specs.declared.kind.Shape.TheVariants as s
 use Rattle.px_listing.specs.declared.keyword.Due.TheVariants as d
 use Rattle.px_listing.specs.declared.limit.ListKind.{ListKind}
 use Rattle.px_listing.specs.declared.limit.ListKind.TheVariants as kind
-use Rattle.px_listing.proofs.PlainLemmas.{number_plain}
 use lib.Signed.{mag}
-
--- written numbers are read as they were
-abbrev pub NumbersAreRead : Type 0
-NumbersAreRead = (z : ℤ) → mag z < 10 ^ 18 → number_of (signed_decimal z) ≡ Some z
 
 -- a number within its range
 pub past_none : (k : ListKind) (low high z : ℤ) → low ≤ℤ z → z ≤ℤ high → past k low high z ≡ None
@@ -91,20 +86,17 @@ abbrev AreShort : List ℤ → Type 0
 AreShort [] = ⊤
 AreShort (z ∷ zs) = (mag z < 10 ^ 18) × AreShort zs
 
-pub plain_number : NumbersAreRead → (z : ℤ) → mag z < 10 ^ 18 → is_plain (signed_decimal z) ≡ true
-plain_number law z few = number_plain (signed_decimal z) z (law z few)
+are_read : (zs : List ℤ) → AreShort zs → numbers_of (map signed_decimal zs) ≡ zs
+are_read [] short = refl
+are_read (z ∷ zs) short = rw (signed_read z short.0, are_read zs short.1) refl
 
-are_read : NumbersAreRead → (zs : List ℤ) → AreShort zs → numbers_of (map signed_decimal zs) ≡ zs
-are_read law [] short = refl
-are_read law (z ∷ zs) short = rw (law z short.0, are_read law zs short.1) refl
+are_numeric : (zs : List ℤ) → AreShort zs → are_numbers (map signed_decimal zs) ≡ true
+are_numeric [] short = refl
+are_numeric (z ∷ zs) short = rw (signed_read z short.0, are_numeric zs short.1) refl
 
-are_numeric : NumbersAreRead → (zs : List ℤ) → AreShort zs → are_numbers (map signed_decimal zs) ≡ true
-are_numeric law [] short = refl
-are_numeric law (z ∷ zs) short = rw (law z short.0, are_numeric law zs short.1) refl
-
-plain_numbers : NumbersAreRead → (zs : List ℤ) → AreShort zs → are_plain (map signed_decimal zs) ≡ true
-plain_numbers law [] short = refl
-plain_numbers law (z ∷ zs) short = rw (plain_number law z short.0, plain_numbers law zs short.1) refl
+plain_numbers : (zs : List ℤ) → AreShort zs → are_plain (map signed_decimal zs) ≡ true
+plain_numbers [] short = refl
+plain_numbers (z ∷ zs) short = rw (signed_plain z short.0, plain_numbers zs short.1) refl
 
 -- numbers that write a shape, within its limits
 record Fits (bits : ℕ) (shape : Shape) (zs : List ℤ) : Type 0 where
@@ -250,13 +242,6 @@ module _ (bits : ℕ) (most : bits ≤ 256) where
   written (m.Copy f g) lawful = ap (λ len. Some (m.Copy f (record { at = g.at; len = len }))) lawful.0.length
   written (m.KeepLess f g) lawful = ap (λ len. Some (m.KeepLess f (record { at = g.at; len = len }))) lawful.length
 
-  good_line : (keyword : Keyword) (kind : Kind) (ws : Words) (zs : List ℤ) → keyword ≡ k.Operation kind
-      → (length ws == number_count (shape_of kind)) ≡ true → are_numbers ws ≡ true → numbers_of ws ≡ zs
-      → shape_past bits (shape_of kind) zs ≡ None
-      → judged (if is_operation_due d.Operation keyword then listing_form_of keyword ws else Some c.Unexpected)
-      (listing_limit_of bits keyword (numbers_of ws)) ≡ None
-  good_line keyword kind ws zs is count numeric read good = rw (is, count, numeric, read) good
-
 -- the word of an operation is its own, and plain
 word_is : (kind : Kind) → listing_keyword_of (word_of kind) ≡ k.Operation kind
 word_is n.All = refl
@@ -284,31 +269,37 @@ plain_word n.Toggle = refl
 plain_word n.Copy = refl
 plain_word n.KeepLess = refl
 
+-- so many numbers, by which an operation of a kind is due
+counted_by : (counts are : Bool) (kind : Kind) (ws : Words) → counts ≡ true → are ≡ true
+    → operation_form kind (if not counts then Err c.WordCount else if are then Ok (numbers_of ws) else Err c.NotNumber)
+    ≡ Ok (operation kind (numbers_of ws))
+counted_by true true kind ws one two = refl
+counted_by true false kind ws one two = cc
+counted_by false are kind ws one two = cc
+
 -- a line of an operation that such pixels can carry out is good, and is read as it
 pub record IsRead (bits : ℕ) (op : Macro) : Type 0 where
-  pub good : listing_fault_of bits d.Operation (op_words op) ≡ None
-  pub due : due_behind_line (op_words op) ≡ Some d.Operation
-  pub grid : grid_in (op_words op) ≡ None
-  pub read : operation_in (op_words op) ≡ Some op
+  pub reads : timely_form d.Operation (listing_keyword_of (word_of (kind_of op))) (map signed_decimal (operands_of op))
+      ≡ Ok (operation (kind_of op) (operands_of op))
+  pub good : shape_past bits (shape_of (kind_of op)) (operands_of op) ≡ None
+  pub writes : operation_with (kind_of op) (operands_of op) ≡ Some op
   pub word : is_plain (word_of (kind_of op)) ≡ true
   pub plain : are_plain (map signed_decimal (operands_of op)) ≡ true
 
-pub op_read : NumbersAreRead → (bits : ℕ) → bits ≤ 256 → (op : Macro) → IsLawful op bits → IsRead bits op
-op_read law bits most op lawful =
+pub op_read : (bits : ℕ) → bits ≤ 256 → (op : Macro) → IsLawful op bits → IsRead bits op
+op_read bits most op lawful =
     let kind = kind_of op in
     let zs = operands_of op in
     let ws = map signed_decimal zs in
     let fit = fits bits most op lawful in
-    let is = word_is kind in
-    let read = are_read law zs fit.short in
     let count = same_true (length ws) (number_count (shape_of kind)) (length-map zs signed_decimal ∙ fit.count) in
     record {
-      good = good_line bits most (listing_keyword_of (word_of kind)) kind ws zs is count
-          (are_numeric law zs fit.short) read fit.good;
-      due = ap (λ keyword. Some (due_next keyword)) is;
-      grid = ap (λ keyword. exponents_of keyword (numbers_of ws)) is;
-      read = ap (λ keyword. operation_of keyword (numbers_of ws)) is
-          ∙ (ap (operation_with kind) read ∙ written bits most op lawful);
+      reads = ap (λ keyword. timely_form d.Operation keyword ws) (word_is kind)
+          ∙ counted_by (length ws == number_count (shape_of kind)) (are_numbers ws) kind ws count
+          (are_numeric zs fit.short)
+          ∙ ap (λ ns. Ok (operation kind ns)) (are_read zs fit.short);
+      good = fit.good;
+      writes = written bits most op lawful;
       word = plain_word kind;
-      plain = plain_numbers law zs fit.short;
+      plain = plain_numbers zs fit.short;
     }

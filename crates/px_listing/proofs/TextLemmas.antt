@@ -1,32 +1,33 @@
 -- The lines and the words of the canonical text of a listing, and what is read of them.
 use Prim.Native.Nat.{suc}
 use Rattle.std.proofs.Common.{◌≡◌, ℕ, pos, ◌+◌, ◌≤◌, All, List, [], ◌∷◌, ◌++◌, true}
-use Rattle.std.proofs.Common.{Some, None, length, map, codes, refl, ap, sym, ◌∙◌, arith, append_assoc}
+use Rattle.std.proofs.Common.{None, Ok, length, map, codes, refl, ap, sym, ◌∙◌, arith, append_assoc}
 use Rattle.std.proofs.lemmas.Int.{ints}
 use Rattle.std.proofs.lemmas.List.{append-nil}
+use Rattle.std.proofs.lemmas.List.Folds.{list_all-append}
 use Rattle.std.specs.Fmt.{signed_decimal}
-use Rattle.std.specs.List.{cons_option, filter_map, flat_map, list_all}
+use Rattle.std.specs.List.{flat_map, list_all}
 use Rattle.px_macro.specs.Macros.{IsLawful}
 use Rattle.px_macro.specs.declared.operation.Macro.{Macro}
 use Rattle.px_show.specs.Judged.{at_line, first_bad}
-use Rattle.px_text.specs.Text.{Words, lines_of, words_of, worded}
-use Rattle.px_text.specs.Written.{are_plain, fed, is_no_feed, is_plain, spaced}
+use Rattle.px_text.specs.Text.{Words, is_some_byte, words_of, worded}
+use Rattle.px_text.specs.Written.{are_plain, fed, is_no_feed, is_plain, is_plain_byte, spaced}
+use Rattle.px_text.proofs.DecimalLaws.{signed_read}
+use Rattle.px_text.proofs.PlainLaws.{both, plain_fed, signed_plain, spaced_fed}
+use Rattle.px_text.proofs.SpacedLaws.{lines_read, words_read}
 use Rattle.px_tree.specs.Nodes.{IsGrid}
-use Rattle.px_listing.specs.Lines.{number_line}
+use Rattle.px_listing.specs.Limits.{grid_past}
+use Rattle.px_listing.specs.Lines.{closing, grid, grid_form, number_line, opening}
 use Rattle.px_listing.specs.Listings.{ListingView, canonical_listing, end_line, header_line, macro_line}
 use Rattle.px_listing.specs.Kinds.{kind_of, operands_of, word_of}
-use Rattle.px_listing.specs.Reading.{Exponents, due_behind, due_behind_line, listing_fault_behind}
-use Rattle.px_listing.specs.Reading.{listing_fault_of, grid_in}
-use Rattle.px_listing.specs.Reading.{last_or, least_grid, listing_of, operation_in}
+use Rattle.px_listing.specs.Reading.{ListingDraft, bad_by, bad_in, extended, extended_by, is_listing_over}
+use Rattle.px_listing.specs.Reading.{listing_draft_of, listing_fault_behind, listing_in, listing_of, listing_taken}
+use Rattle.px_listing.specs.Reading.{unwritten, with_operation}
 use Rattle.px_listing.specs.RoundTrip.{TextsAreReadBack}
-use Rattle.px_listing.specs.declared.keyword.Due.{Due}
 use Rattle.px_listing.specs.declared.keyword.Due.TheVariants as d
-use Rattle.px_listing.specs.Drafts.{or_else}
 use Rattle.px_listing.specs.declared.limit.ListKind.TheVariants as kind
-use Rattle.px_listing.proofs.PlainLemmas.{line_fed}
-use Rattle.px_listing.proofs.ReadLemmas.{said_more}
-use Rattle.px_listing.proofs.RoundLemmas.{NumbersAreRead, op_read, op_words, past_none, plain_number}
-use Rattle.px_listing.proofs.RoundLemmas.{small_place}
+use Rattle.px_listing.proofs.AcceptedLemmas.{draft_more}
+use Rattle.px_listing.proofs.RoundLemmas.{op_read, op_words, past_none, small_place}
 
 -- a line by its words, without the line feed
 abbrev bare : Words → List ℕ
@@ -47,12 +48,11 @@ grid_words nx ny = codes "grid" ∷ map signed_decimal (pos nx ∷ pos ny ∷ []
 abbrev all_words : ListingView → List Words
 all_words l = header_words ∷ grid_words l.nx l.ny ∷ words_from l.macros
 
-abbrev WordsAreRead : Type 0
-WordsAreRead = (w : List ℕ) (ws : Words) → is_plain w ≡ true → are_plain ws ≡ true → words_of (w ++ spaced ws) ≡ w ∷ ws
-
-abbrev LinesAreRead : Type 0
-LinesAreRead = (lines : List (List ℕ)) → list_all (λ l. list_all is_no_feed l) lines ≡ true
-    → lines_of (fed lines) ≡ lines
+bare_fed : (w : List ℕ) (ws : Words) → is_plain w ≡ true → are_plain ws ≡ true
+    → list_all is_no_feed (w ++ spaced ws) ≡ true
+bare_fed w ws plain others =
+    list_all-append is_no_feed w (spaced ws)
+    ∙ rw (plain_fed w (both (is_some_byte w) (list_all is_plain_byte w) plain).1, spaced_fed ws others) refl
 
 -- the lines are the text
 lines_from : (ops : List Macro) → fed (map bare (words_from ops)) ≡ flat_map macro_line ops ++ end_line
@@ -81,124 +81,90 @@ first_of bits op ops lawful = lawful 0 op (omega arith)
 rest_of : (bits : ℕ) (op : Macro) (ops : List Macro) → AreLawful bits (op ∷ ops) → AreLawful bits ops
 rest_of bits op ops lawful k d low = lawful (suc k) d (omega arith)
 
-fed_from : NumbersAreRead → (bits : ℕ) → bits ≤ 256 → (ops : List Macro) → AreLawful bits ops
-    → list_all (λ l. list_all is_no_feed l) (map bare (words_from ops)) ≡ true
-fed_from law bits most [] lawful = refl
-fed_from law bits most (op ∷ ops) lawful =
-    let is = op_read law bits most op (first_of bits op ops lawful) in
-    rw (
-      line_fed (word_of (kind_of op)) (map signed_decimal (operands_of op)) is.word is.plain,
-      fed_from law bits most ops (rest_of bits op ops lawful),
-    ) refl
+-- what is read of the lines of operations
+pub record AreRead (bits : ℕ) (before : List Words) (nx ny : ℕ) (done ops : List Macro) : Type 0 where
+  pub fed : list_all (λ l. list_all is_no_feed l) (map bare (words_from ops)) ≡ true
+  pub words : map words_of (map bare (words_from ops)) ≡ words_from ops
+  pub good : first_bad (listing_fault_behind bits) before (words_from ops) ≡ None
+  pub says : listing_draft_of (before ++ words_from ops)
+      ≡ record { due = d.Nothing; nx = nx; ny = ny; macros = done ++ ops }
 
-read_from : NumbersAreRead → WordsAreRead → (bits : ℕ) → bits ≤ 256 → (ops : List Macro) → AreLawful bits ops
-    → map words_of (map bare (words_from ops)) ≡ words_from ops
-read_from law words bits most [] lawful = ap (λ ws. ws ∷ []) (words (codes "end") [] refl refl)
-read_from law words bits most (op ∷ ops) lawful =
-    let is = op_read law bits most op (first_of bits op ops lawful) in
-    rw (
-      words (word_of (kind_of op)) (map signed_decimal (operands_of op)) is.word is.plain,
-      read_from law words bits most ops (rest_of bits op ops lawful),
-    ) refl
+abbrev open_listing : (nx ny : ℕ) → List Macro → ListingDraft
+open_listing nx ny ops = record { due = d.Operation; nx = nx; ny = ny; macros = ops }
 
--- no line is bad
-good_from : NumbersAreRead → (bits : ℕ) → bits ≤ 256 → (before : List Words) (ops : List Macro) → due_behind before
-    ≡ d.Operation → AreLawful bits ops
-    → first_bad (listing_fault_behind bits) before (words_from ops) ≡ None
-good_from law bits most before [] due lawful =
-    ap (λ due. at_line (length before + 1) (listing_fault_of bits due (codes "end" ∷ [])) None) due
-good_from law bits most before (op ∷ ops) due lawful =
-    let is = op_read law bits most op (first_of bits op ops lawful) in
-    let next : due_behind (before ++ op_words op ∷ []) ≡ d.Operation =
-    said_more d.Header due_behind_line before (op_words op) ∙ ap (λ o. or_else o (due_behind before)) is.due in
-    ap (λ due. at_line (length before + 1) (listing_fault_of bits due (op_words op))
-    (first_bad (listing_fault_behind bits) (before ++ op_words op ∷ []) (words_from ops))) due
-    ∙ (ap (λ f. at_line (length before + 1) f
-    (first_bad (listing_fault_behind bits) (before ++ op_words op ∷ []) (words_from ops))) is.good
-    ∙ good_from law bits most (before ++ op_words op ∷ []) ops next (rest_of bits op ops lawful))
-
--- the last line is the end
-ended_from : NumbersAreRead → (bits : ℕ) → bits ≤ 256 → (due : Due) (ops : List Macro) → AreLawful bits ops
-    → last_or due (filter_map due_behind_line (words_from ops)) ≡ d.Nothing
-ended_from law bits most due [] lawful = refl
-ended_from law bits most due (op ∷ ops) lawful =
-    let is = op_read law bits most op (first_of bits op ops lawful) in
-    ap (λ o. last_or due (cons_option o (filter_map due_behind_line (words_from ops)))) is.due
-    ∙ ended_from law bits most d.Operation ops (rest_of bits op ops lawful)
-
--- none of these lines says the grid
-gridless_from : NumbersAreRead → (bits : ℕ) → bits ≤ 256 → (ops : List Macro) → AreLawful bits ops
-    → filter_map grid_in (words_from ops) ≡ []
-gridless_from law bits most [] lawful = refl
-gridless_from law bits most (op ∷ ops) lawful =
-    let is = op_read law bits most op (first_of bits op ops lawful) in
-    ap (λ o. cons_option o (filter_map grid_in (words_from ops))) is.grid
-    ∙ gridless_from law bits most ops (rest_of bits op ops lawful)
-
--- and they say the operations
-said_from : NumbersAreRead → (bits : ℕ) → bits ≤ 256 → (ops : List Macro) → AreLawful bits ops
-    → filter_map operation_in (words_from ops) ≡ ops
-said_from law bits most [] lawful = refl
-said_from law bits most (op ∷ ops) lawful =
-    let is = op_read law bits most op (first_of bits op ops lawful) in
-    ap (λ o. cons_option o (filter_map operation_in (words_from ops))) is.read
-    ∙ ap (λ os. op ∷ os) (said_from law bits most ops (rest_of bits op ops lawful))
+ops_read : (bits : ℕ) → bits ≤ 256 → (nx ny : ℕ) (done ops : List Macro) (before : List Words)
+    → listing_draft_of before ≡ open_listing nx ny done → AreLawful bits ops → AreRead bits before nx ny done ops
+ops_read bits most nx ny done [] before is lawful =
+    let last = codes "end" ∷ [] in record {
+      fed = refl;
+      words = ap (λ ws. ws ∷ []) (words_read (codes "end") [] refl refl);
+      good = ap (λ (v : ListingDraft). at_line (length before + 1) (bad_in bits v.due last) None) is;
+      says = draft_more before last ∙ ap (λ v. listing_taken v last) is
+          ∙ ap (λ ops. extended (open_listing nx ny ops) closing) (sym (append-nil done));
+    }
+ops_read bits most nx ny done (op ∷ ops) before is lawful =
+    let read = op_read bits most op (first_of bits op ops lawful) in
+    let word = word_of (kind_of op) in
+    let numbers = map signed_decimal (operands_of op) in
+    let words = op_words op in
+    let next : listing_draft_of (before ++ words ∷ []) ≡ open_listing nx ny (done ++ op ∷ []) =
+    draft_more before words ∙ ap (λ v. listing_taken v words) is ∙ ap (extended_by (open_listing nx ny done)) read.reads
+    ∙ ap (λ o. open_listing nx ny (with_operation o done)) read.writes in
+    let more = ops_read bits most nx ny (done ++ op ∷ []) ops (before ++ words ∷ []) next
+    (rest_of bits op ops lawful) in
+    let later = first_bad (listing_fault_behind bits) (before ++ words ∷ []) (words_from ops) in
+    record {
+      fed = rw (bare_fed word numbers read.word read.plain, more.fed) refl;
+      words = rw (words_read word numbers read.word read.plain, more.words) refl;
+      good = ap (λ (v : ListingDraft). at_line (length before + 1) (bad_in bits v.due words) later) is
+          ∙ ap (λ r. at_line (length before + 1) (bad_by bits r) later) read.reads
+          ∙ ap (λ f. at_line (length before + 1) f later) read.good ∙ more.good;
+      says = ap listing_draft_of (sym (append_assoc before (words ∷ []) (words_from ops))) ∙ more.says
+          ∙ ap (λ ops. extended (open_listing nx ny ops) closing) (append_assoc done (op ∷ []) ops);
+    }
 
 -- the line of the grid
 pub record IsGridRead (bits nx ny : ℕ) : Type 0 where
-  good : listing_fault_of bits d.Grid (grid_words nx ny) ≡ None
-  grid : grid_in (grid_words nx ny) ≡ Some (record { nx = nx; ny = ny })
-  plain : are_plain (map signed_decimal (pos nx ∷ pos ny ∷ [])) ≡ true
+  pub reads : grid_form (map signed_decimal (pos nx ∷ pos ny ∷ [])) ≡ Ok (grid (pos nx) (pos ny))
+  pub good : grid_past (pos nx) (pos ny) ≡ None
+  pub plain : are_plain (map signed_decimal (pos nx ∷ pos ny ∷ [])) ≡ true
 
-grid_read : NumbersAreRead → (bits nx ny : ℕ) → IsGrid nx ny → IsGridRead bits nx ny
-grid_read law bits nx ny grid =
-    let x = small_place nx (omega (arith, grid)) in
-    let y = small_place ny (omega (arith, grid)) in
+grid_read : (bits nx ny : ℕ) → IsGrid nx ny → IsGridRead bits nx ny
+grid_read bits nx ny within =
+    let x = small_place nx (omega (arith, within)) in
+    let y = small_place ny (omega (arith, within)) in
     record {
+      reads = rw (signed_read (pos nx) x, signed_read (pos ny) y) refl;
       good = rw (
-        law (pos nx) x,
-        law (pos ny) y,
-        past_none kind.Grid (pos 1) (pos 9) (pos nx) (omega (arith, ints, grid)) (omega (arith, ints, grid)),
-        past_none kind.Grid (pos 1) (pos 9) (pos ny) (omega (arith, ints, grid)) (omega (arith, ints, grid)),
+        past_none kind.Grid (pos 1) (pos 9) (pos nx) (omega (arith, ints, within)) (omega (arith, ints, within)),
+        past_none kind.Grid (pos 1) (pos 9) (pos ny) (omega (arith, ints, within)) (omega (arith, ints, within)),
       ) refl;
-      grid = rw (law (pos nx) x, law (pos ny) y) refl;
-      plain = rw (plain_number law (pos nx) x, plain_number law (pos ny) y) refl;
+      plain = rw (signed_plain (pos nx) x, signed_plain (pos ny) y) refl;
     }
 
-worded_text : NumbersAreRead → WordsAreRead → LinesAreRead → (bits : ℕ) (l : ListingView) → bits ≤ 256
-    → IsGrid l.nx l.ny → AreLawful bits l.macros
-    → worded (canonical_listing l) ≡ all_words l
-worded_text law words lines bits l most grid lawful =
-    let of_grid = grid_read law bits l.nx l.ny grid in
+pub read_back : TextsAreReadBack
+read_back bits l most within lawful =
+    let of_grid = grid_read bits l.nx l.ny within in
     let second = map signed_decimal (pos l.nx ∷ pos l.ny ∷ []) in
+    let before = header_words ∷ grid_words l.nx l.ny ∷ [] in
+    let start : listing_draft_of before ≡ open_listing l.nx l.ny [] =
+    ap (extended_by (extended unwritten opening)) of_grid.reads in
+    let ops = ops_read bits most l.nx l.ny [] l.macros before start lawful in
     let fed_all : list_all (λ l. list_all is_no_feed l) (map bare (all_words l)) ≡ true =
-    rw (line_fed (codes "grid") second refl of_grid.plain, fed_from law bits most l.macros lawful) refl in
-    let cut = ap lines_of (sym (text_is l)) ∙ lines (map bare (all_words l)) fed_all in
-    ap (map words_of) cut
+    rw (bare_fed (codes "grid") second refl of_grid.plain, ops.fed) refl in
+    let text : worded (canonical_listing l) ≡ all_words l =
+    ap worded (sym (text_is l)) ∙ ap (map words_of) (lines_read (map bare (all_words l)) fed_all)
     ∙ rw (
-      words (codes "pxlist") (codes "1" ∷ []) refl refl,
-      words (codes "grid") second refl of_grid.plain,
-      read_from law words bits most l.macros lawful,
-    ) refl
-
-pub read_back : NumbersAreRead → WordsAreRead → LinesAreRead → TextsAreReadBack
-read_back law words lines bits l most grid lawful =
-    let text = worded_text law words lines bits l most grid lawful in
-    let of_grid = grid_read law bits l.nx l.ny grid in
+      words_read (codes "pxlist") (codes "1" ∷ []) refl refl,
+      words_read (codes "grid") second refl of_grid.plain,
+      ops.words,
+    ) refl in
     let good : first_bad (listing_fault_behind bits) [] (all_words l) ≡ None =
-    ap (λ f. at_line 2 f (first_bad (listing_fault_behind bits) (header_words ∷ grid_words l.nx l.ny ∷ [])
-    (words_from l.macros))) of_grid.good
-    ∙ good_from law bits most (header_words ∷ grid_words l.nx l.ny ∷ []) l.macros refl lawful in
-    let ended : due_behind (all_words l) ≡ d.Nothing = ended_from law bits most d.Operation l.macros lawful in
+    let rest = first_bad (listing_fault_behind bits) before (words_from l.macros) in
+    ap (λ r. at_line 2 (bad_by bits r) rest) of_grid.reads ∙ ap (λ f. at_line 2 f rest) of_grid.good ∙ ops.good in
+    let ended : is_listing_over (listing_draft_of (all_words l)).due ≡ true =
+    ap (λ (v : ListingDraft). is_listing_over v.due) ops.says in
     record {
       good = rw (text, good, ended) refl;
-      read = ap listing_of text ∙ same_listing _ _ _ _ _ (
-          ap (λ o. last_or least_grid (cons_option o (filter_map grid_in (words_from l.macros)))) of_grid.grid
-          ∙ ap (last_or (record { nx = l.nx; ny = l.ny })) (gridless_from law bits most l.macros lawful)
-          ) (said_from law bits most l.macros lawful);
+      read = ap listing_of text ∙ ap listing_in ops.says;
     }
-  where
-    same_listing : (g : Exponents) (nx ny : ℕ) (ops ops' : List Macro) → g ≡ record { nx = nx; ny = ny } → ops ≡ ops'
-        → (let v : ListingView = record { nx = g.nx; ny = g.ny; macros = ops } in
-        v) ≡ record { nx = nx; ny = ny; macros = ops' }
-    same_listing g nx ny ops ops' p q = rw (p, q) refl

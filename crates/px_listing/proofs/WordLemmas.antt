@@ -3,7 +3,7 @@ use Prim.Native.Nat.{zero, suc}
 use Rattle.std.proofs.Common.{All, ◌-◌, true, false, sym, min, ◌==◌, if◌then◌else◌, ◌≡◌, ℕ, ℤ, pos, ◌+◌, ◌<◌}
 use Rattle.std.proofs.Common.{◌^◌, ◌∷◌, []}
 use Rattle.std.proofs.Common.{◌++◌, ◌&&◌, List, Bool, Option, Some, None, length, map, take, get_or, is_some}
-use Rattle.std.proofs.Common.{unwrap_or, refl, ap, subst, ◌∙◌, arith, codes, ◌≤◌, Bor}
+use Rattle.std.proofs.Common.{unwrap_or, ap, subst, ◌∙◌, arith, ◌≤◌, Bor}
 use Rattle.std.specs.Int.Digits.{number_from_digits}
 use Rattle.std.specs.List.{list_all}
 use Rattle.std.proofs.lemmas.List.Folds.{list_all_more}
@@ -12,17 +12,7 @@ use Rattle.std.proofs.lemmas.List.{get_or-map, length-map, take_all, take_more}
 use Rattle.px_num.specs.Forms.{IsWithin}
 use Rattle.px_text.specs.Text.{Words, is_some_byte, is_digit, negative, number_of, positive, size_of_digits}
 use Rattle.px_text.specs.LentWords.{now_of}
-use Rattle.px_listing.specs.Lines.{are_numbers, cause_of, listing_form_of, numbers_of}
-use Rattle.px_num.proofs.TruthLaws.{and_left, and_right}
-use Rattle.std.proofs.lemmas.Slice.Eq.{bytes_eq-Decides}
-use Rattle.std.specs.Option.{option_or}
-use Rattle.std.specs.Str.{bytes_eq}
-use Rattle.px_show.specs.declared.fault.Cause.{Cause}
-use Rattle.px_show.specs.declared.fault.Cause.TheVariants as c
-use Rattle.px_listing.specs.Keywords.{is_operation_due, is_header, is_one, listing_keyword_of}
-use Rattle.px_listing.specs.Untimely.{untimely}
-use Rattle.px_listing.specs.declared.keyword.Due.{Due}
-use Rattle.px_listing.specs.declared.keyword.Due.TheVariants as d
+use Rattle.px_listing.specs.Lines.{are_numbers, numbers_of}
 
 -- whether one more word is a number
 pub numeric_more : (words : List (Bor (List ℕ))) (i : ℕ) (w : Bor (List ℕ)) → i < length words

@@ -11,8 +11,6 @@ use Rattle.px_listing.specs.declared.kind.Kind.{Kind}
 use Rattle.px_listing.specs.declared.kind.Kind.TheVariants as k
 use Rattle.px_listing.specs.declared.kind.Shape.{Shape}
 use Rattle.px_listing.specs.declared.kind.Shape.TheVariants as s
-use Rattle.px_listing.specs.declared.keyword.Keyword.{Keyword}
-use Rattle.px_listing.specs.declared.keyword.Keyword.TheVariants as keyword
 
 -- the word that its line begins with
 abbrev pub word_of : Kind → List ℕ
@@ -123,8 +121,3 @@ operation_with k.Toggle (at ∷ []) = Some (m.Toggle (size_of at))
 operation_with k.Copy (at ∷ len ∷ to ∷ []) = Some (m.Copy (field_of at len) (field_of to len))
 operation_with k.KeepLess (at ∷ len ∷ to ∷ []) = Some (m.KeepLess (field_of at len) (field_of to len))
 operation_with kind zs = None
-
--- the operation of a line, by its first word and its numbers
-abbrev pub operation_of : Keyword → List ℤ → Option Macro
-operation_of (keyword.Operation kind) zs = operation_with kind zs
-operation_of word zs = None

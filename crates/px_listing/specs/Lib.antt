@@ -8,4 +8,3 @@ pub mod Listings
 pub mod Pieces
 pub mod Reading
 pub mod RoundTrip
-pub mod Untimely

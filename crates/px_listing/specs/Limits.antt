@@ -7,16 +7,14 @@ use Rattle.px_show.specs.Judged.{past, size_past}
 use Rattle.px_listing.specs.Kinds.{shape_of}
 use Rattle.px_listing.specs.declared.kind.Shape.{Shape}
 use Rattle.px_listing.specs.declared.kind.Shape.TheVariants as s
-use Rattle.px_listing.specs.declared.keyword.Keyword.{Keyword}
-use Rattle.px_listing.specs.declared.keyword.Keyword.TheVariants as k
+use Rattle.px_listing.specs.Lines.{ListForm, grid, operation}
 use Rattle.px_show.specs.declared.fault.LineFault.{LineFault}
 use Rattle.px_show.specs.declared.fault.LineFault.TheVariants as f
 use Rattle.px_listing.specs.declared.limit.ListKind.{ListKind}
 use Rattle.px_listing.specs.declared.limit.ListKind.TheVariants as kind
 
-abbrev pub grid_past : List ℤ → Option (LineFault ListKind)
-grid_past (nx ∷ ny ∷ []) = option_or (past kind.Grid (pos 1) (pos 9) nx) (past kind.Grid (pos 1) (pos 9) ny)
-grid_past zs = None
+abbrev pub grid_past : (nx ny : ℤ) → Option (LineFault ListKind)
+grid_past nx ny = option_or (past kind.Grid (pos 1) (pos 9) nx) (past kind.Grid (pos 1) (pos 9) ny)
 
 -- the first coefficient past its limit
 abbrev pub form_past : (a b c : ℤ) → Option (LineFault ListKind)
@@ -89,7 +87,7 @@ shape_past bits s.FieldsApart zs = copy_past bits zs
 shape_past bits s.Fields zs = less_past bits zs
 
 -- the first limit that a line of good form passes, in pixels of so many memory bits
-abbrev pub listing_limit_of : (bits : ℕ) → Keyword → List ℤ → Option (LineFault ListKind)
-listing_limit_of bits k.Grid zs = grid_past zs
-listing_limit_of bits (k.Operation kind) zs = shape_past bits (shape_of kind) zs
-listing_limit_of bits keyword zs = None
+abbrev pub listing_limit_of : (bits : ℕ) → ListForm → Option (LineFault ListKind)
+listing_limit_of bits (grid nx ny) = grid_past nx ny
+listing_limit_of bits (operation kind numbers) = shape_past bits (shape_of kind) numbers
+listing_limit_of bits form = None

@@ -1,11 +1,10 @@
 //! What the lines of a listing have said so far.
 ghost use Rattle.std.specs.Prelude.{◌≡◌, ◌∷◌, [], ◌+◌, ◌≤◌, ℕ, All, IsErrOf, None, OnOk, Some, length, IfSome, is_some};
-ghost use Rattle.px_listing.specs.Drafts.{IsDraft, head_of, or_else, listing_taken, listing_view_of, with_line, with_operation};
-ghost use Rattle.px_listing.specs.Limits.{grid_past, listing_limit_of};
-ghost use Rattle.px_listing.specs.Kinds.{operation_of};
-ghost use Rattle.px_listing.specs.Reading.{exponents_of, listing_fault_of, is_listing_over, least_grid};
-ghost use Rattle.px_listing.specs.declared.keyword.Due.TheVariants as Due;
-ghost use Rattle.px_listing.specs.declared.keyword.Keyword.TheVariants as Keyword;
+ghost use Rattle.px_listing.specs.Drafts.{IsDraft, head_of, listing_view_of, told_by};
+ghost use Rattle.px_listing.specs.Limits.{grid_past, listing_limit_of, shape_past};
+ghost use Rattle.px_listing.specs.Lines.{grid, operation};
+ghost use Rattle.px_listing.specs.Kinds.{shape_of};
+ghost use Rattle.px_listing.specs.Reading.{bad_in, extended, is_listing_over, listing_taken, unwritten};
 ghost use Rattle.px_tree.specs.Nodes.{IsGrid};
 ghost use Rattle.px_listing.specs.declared.limit.ListKind.{ListKind};
 ghost use Rattle.px_show.specs.declared.fault.LineFault.{LineFault};
@@ -13,11 +12,12 @@ ghost use Rattle.px_macro.specs.Macros.{IsLawful};
 ghost use Rattle.px_text.specs.declared.text.TheConstants.{MAX_TEXT_BYTES};
 ghost use Rattle.px_text.specs.LentWords.{now_of};
 
-use crate::judge::numbers_in;
-use crate::keyword::{Due, Keyword, due_after, keyword_of};
+use crate::judge::{Entry, entry_of};
+use crate::keyword::Due;
+use crate::kind::{Kind, operation_with};
 use crate::limit::{ListKind, limit_of};
 use crate::listing::Listing;
-use crate::numbers::operation_of;
+use crate::numbers::Numbers;
 use px_macro::Macro;
 use px_num::Memory;
 use px_show::{LineError, LineFault};
@@ -35,7 +35,7 @@ pub(crate) struct Draft {
 impl Draft {
     /// What stands before the first line.
     pub(crate) fn new(alloc: Global) -> Draft
-        ensures { listing_view_of result ≡ record { due = Due.Header; grid = least_grid; macros = [] } }
+        ensures { listing_view_of result ≡ unwritten }
     {
         Draft {
             due: Due::Header,
@@ -53,8 +53,8 @@ impl Draft {
     ) -> Result<(), LineError<ListKind>>
         requires bits { bits ≤ 256 }
         ensures bad { (f : LineFault ListKind) → IsErrOf result (LineError.Bad f) →
-            listing_fault_of bits self.old.due (now_of words.now) ≡ Some f }
-        ensures good { OnOk result (listing_fault_of bits self.old.due (now_of words.now) ≡ None) }
+            bad_in bits self.old.due (now_of words.now) ≡ Some f }
+        ensures good { OnOk result (bad_in bits self.old.due (now_of words.now) ≡ None) }
         ensures taken { OnOk result (listing_view_of self.new ≡ listing_taken (listing_view_of self.old) (now_of words.now)) }
         ensures keeps { (count : ℕ) → IsDraft bits count (listing_view_of self.old) →
             OnOk result (IsDraft bits (count + 1) (listing_view_of self.new)) }
@@ -74,61 +74,58 @@ impl Draft {
     ) -> Result<(), LineError<ListKind>>
         requires bits { bits ≤ 256 }
         ensures bad { (f : LineFault ListKind) → IsErrOf result (LineError.Bad f) →
-            listing_fault_of bits self.old.due (word.now ∷ now_of arguments.now) ≡ Some f }
+            bad_in bits self.old.due (word.now ∷ now_of arguments.now) ≡ Some f }
         ensures good { OnOk result
-            (listing_fault_of bits self.old.due (word.now ∷ now_of arguments.now) ≡ None) }
+            (bad_in bits self.old.due (word.now ∷ now_of arguments.now) ≡ None) }
         ensures taken { OnOk result (listing_view_of self.new
             ≡ listing_taken (listing_view_of self.old) (word.now ∷ now_of arguments.now)) }
         ensures keeps { (count : ℕ) → IsDraft bits count (listing_view_of self.old) →
             OnOk result (IsDraft bits (count + 1) (listing_view_of self.new)) }
     {
-        let keyword = keyword_of(word);
-        let numbers = match numbers_in(self.due, keyword, word, arguments) {
-            Ok(numbers) => numbers,
-            Err(cause) => return Err(LineError::Bad(LineFault::Malformed(cause))),
-        };
-        if let Some(fault) = limit_of(bits, keyword, numbers.as_slice()) {
+        let entry = entry_of(self.due, word, arguments)?;
+        if let Some(fault) = limit_of(bits, &entry) {
             return Err(LineError::Bad(fault));
         }
-        self.take(bits, keyword, numbers.as_slice())?;
+        self.take(bits, entry)?;
         Ok(())
     }
 
     /// Takes in what a good line says.
-    fn take(&mut self, bits: u32, keyword: Keyword, numbers: &[i64]) -> Result<(), Memory>
+    fn take(&mut self, bits: u32, entry: Entry) -> Result<(), Memory>
         requires bits { bits ≤ 256 }
-        requires limit { listing_limit_of bits keyword numbers.now ≡ None }
+        requires limit { listing_limit_of bits (told_by entry) ≡ None }
         ensures taken { OnOk result
-            (listing_view_of self.new ≡ with_line keyword numbers.now (listing_view_of self.old)) }
-        ensures lawful { IfSome (operation_of keyword numbers.now) (λ m. IsLawful m bits) }
+            (listing_view_of self.new ≡ extended (listing_view_of self.old) (told_by entry)) }
     {
-        self.take_operation(operation_of(bits, keyword, numbers))?;
-        self.take_grid(keyword, numbers);
-        self.due = due_after(keyword);
+        match entry {
+            Entry::Opening => self.due = Due::Grid,
+            Entry::Grid { nx, ny } => self.take_grid(nx, ny),
+            Entry::Operation(kind, numbers) => self.take_operation(bits, kind, numbers)?,
+            Entry::Closing => self.due = Due::Nothing,
+        }
         Ok(())
     }
 
-    fn take_operation(&mut self, operation: Option<Macro>) -> Result<(), Memory>
-        ensures { OnOk result (listing_view_of self.new ≡ record (listing_view_of self.old) {
-          macros = with_operation operation self.old.macros.items;
-        }) }
+    fn take_grid(&mut self, nx: i64, ny: i64)
+        requires limit { grid_past nx ny ≡ None }
+        ensures { listing_view_of self.new ≡ extended (listing_view_of self.old) (grid nx ny) }
     {
-        if let Some(operation) = operation {
+        self.nx = nx as u32;
+        self.ny = ny as u32;
+        self.due = Due::Operation;
+    }
+
+    fn take_operation(&mut self, bits: u32, kind: Kind, numbers: Numbers) -> Result<(), Memory>
+        requires bits { bits ≤ 256 }
+        requires limit { shape_past bits (shape_of kind) numbers.items ≡ None }
+        ensures { OnOk result
+            (listing_view_of self.new ≡ extended (listing_view_of self.old) (operation kind numbers.items)) }
+    {
+        if let Some(operation) = operation_with(bits, kind, numbers.as_slice()) {
             self.macros.push(operation)?;
         }
+        self.due = Due::Operation;
         Ok(())
-    }
-
-    fn take_grid(&mut self, keyword: Keyword, numbers: &[i64])
-        requires limit { keyword ≡ Keyword.Grid → grid_past numbers.now ≡ None }
-        ensures { listing_view_of self.new ≡ record (listing_view_of self.old) {
-          grid = or_else (exponents_of keyword numbers.now) (listing_view_of self.old).grid;
-        } }
-    {
-        if let (Keyword::Grid, [nx, ny]) = (keyword, numbers) {
-            self.nx = *nx as u32;
-            self.ny = *ny as u32;
-        }
     }
 
     /// The listing, where the last line is the end.

@@ -1,74 +1,91 @@
-//! Why the words of a line are bad, or else the numbers that they write.
-ghost use Rattle.std.specs.Prelude.{◌≡◌, ◌≤◌, ◌^◌, All, IfErr, IfNone, IfOk, IfSome, None, Some, false, length, true};
+//! What a line of a listing says, where it is due and its form is good (docs/LISTINGS.md, "Refusals").
+ghost use Rattle.std.specs.Prelude.{◌≡◌, ◌≤◌, ◌^◌, All, IfNone, IfOk, IfSome, false, length, true};
 ghost use Rattle.px_num.specs.Forms.{IsWithin};
 ghost use Rattle.px_text.specs.LentWords.{now_of};
+ghost use Rattle.px_listing.specs.Drafts.{AreSmall, IsOpened, told_by, told_of};
 ghost use Rattle.px_listing.specs.Keywords.{listing_keyword_of};
-ghost use Rattle.px_listing.specs.Untimely.{untimely};
-ghost use Rattle.px_listing.specs.Lines.{are_numbers, cause_of, listing_form_of, numbers_of};
+ghost use Rattle.px_listing.specs.Kinds.{number_count, shape_of};
+ghost use Rattle.px_listing.specs.Lines.{are_numbers, closing_form, counted, grid_form, numbers_of, opening_form};
+ghost use Rattle.px_listing.specs.Lines.{operation_form, timely_form};
 
-use crate::keyword::{Due, Keyword, count_of, is_due, is_header};
+use crate::keyword::{Due, Keyword, is_one, keyword_of};
+use crate::kind::Kind;
 use crate::numbers::Numbers;
 use arrayvec::ArrayVec;
 use px_show::Cause;
 use px_text::number_of;
 
-/// The numbers behind the first word of a line, or why the words of the line are bad
-/// (docs/LISTINGS.md, "Refusals").
-pub(crate) fn numbers_in(
-    due: Due,
-    keyword: Keyword,
-    word: &[u8],
-    arguments: &[&[u8]],
-) -> Result<Numbers, Cause>
-    requires keyword { keyword ≡ listing_keyword_of word.now }
-    ensures good { IfOk result (λ numbers. cause_of due word.now (now_of arguments.now) ≡ None) }
-    ensures value { IfOk result (λ numbers. numbers.items ≡ numbers_of (now_of arguments.now)) }
-    ensures small { IfOk result (λ numbers. All (IsWithin (10 ^ 18)) numbers.items) }
-    ensures bad { IfErr result (λ cause. cause_of due word.now (now_of arguments.now) ≡ Some cause) }
+/// What a line says that is due and of good form, with its numbers, which no limit holds yet.
+#[derive(Drop)]
+pub(crate) enum Entry {
+    Opening,
+    Grid { nx: i64, ny: i64 },
+    Operation(Kind, Numbers),
+    Closing,
+}
+
+/// What a first word and the words after it say, by what is due, or why they are bad.
+pub(crate) fn entry_of(due: Due, word: &[u8], arguments: &[&[u8]]) -> Result<Entry, Cause>
+    ensures says { told_of result ≡ timely_form due (listing_keyword_of word.now) (now_of arguments.now) }
+    ensures small { IfOk result (λ entry. AreSmall (told_by entry)) }
+    ensures opened { IfOk result (λ entry. IsOpened due (told_by entry)) }
 {
-    match untimely(due, keyword, word, arguments) {
-        Some(cause) => Err(cause),
-        None => numbers_behind(keyword, arguments),
+    match (due, keyword_of(word)) {
+        (Due::Header, Keyword::Pxlist) => opening(arguments),
+        (Due::Header, _) => Err(Cause::NotHeader),
+        (Due::Grid, Keyword::Grid) => grid(arguments),
+        (Due::Operation, Keyword::Operation(kind)) => operation(kind, arguments),
+        (Due::Operation, Keyword::End) => closing(arguments),
+        (Due::Nothing, _) => Err(Cause::AfterEnd),
+        _ => Err(Cause::Unexpected),
     }
 }
 
-/// Why a line is bad whatever stands behind its first word, a header's version apart.
-fn untimely(due: Due, keyword: Keyword, word: &[u8], arguments: &[&[u8]]) -> Option<Cause>
-    requires keyword { keyword ≡ listing_keyword_of word.now }
-    ensures { result ≡ untimely due word.now (now_of arguments.now) }
+fn opening(arguments: &[&[u8]]) -> Result<Entry, Cause>
+    ensures says { told_of result ≡ opening_form (now_of arguments.now) }
+    ensures small { IfOk result (λ entry. AreSmall (told_by entry)) }
 {
-    match due {
-        Due::Header => {
-            if is_header(word, arguments) {
-                None
-            } else {
-                Some(Cause::NotHeader)
-            }
-        }
-        Due::Nothing => Some(Cause::AfterEnd),
-        Due::Grid | Due::Operation => {
-            if is_due(due, keyword) {
-                None
-            } else {
-                Some(Cause::Unexpected)
-            }
-        }
+    if is_one(arguments) {
+        Ok(Entry::Opening)
+    } else {
+        Err(Cause::NotHeader)
     }
 }
 
-/// As many numbers as belong behind a first word, or why there are not.
-fn numbers_behind(keyword: Keyword, arguments: &[&[u8]]) -> Result<Numbers, Cause>
-    ensures good { IfOk result (λ numbers. listing_form_of keyword (now_of arguments.now) ≡ None) }
-    ensures value { IfOk result (λ numbers. numbers.items ≡ numbers_of (now_of arguments.now)) }
-    ensures small { IfOk result (λ numbers. All (IsWithin (10 ^ 18)) numbers.items) }
-    ensures bad { IfErr result (λ cause. listing_form_of keyword (now_of arguments.now) ≡ Some cause) }
+fn grid(arguments: &[&[u8]]) -> Result<Entry, Cause>
+    ensures says { told_of result ≡ grid_form (now_of arguments.now) }
+    ensures small { IfOk result (λ entry. AreSmall (told_by entry)) }
 {
-    if arguments.len() != count_of(keyword) {
+    match arguments {
+        [nx, ny] => match (number_of(nx), number_of(ny)) {
+            (Some(nx), Some(ny)) => Ok(Entry::Grid { nx, ny }),
+            _ => Err(Cause::NotNumber),
+        },
+        _ => Err(Cause::WordCount),
+    }
+}
+
+fn operation(kind: Kind, arguments: &[&[u8]]) -> Result<Entry, Cause>
+    ensures says { told_of result
+        ≡ operation_form kind (counted (number_count (shape_of kind)) (now_of arguments.now)) }
+    ensures small { IfOk result (λ entry. AreSmall (told_by entry)) }
+{
+    if arguments.len() != kind.shape().count() {
         return Err(Cause::WordCount);
     }
     match numbers_of(arguments) {
-        Some(numbers) => Ok(numbers),
+        Some(numbers) => Ok(Entry::Operation(kind, numbers)),
         None => Err(Cause::NotNumber),
+    }
+}
+
+fn closing(arguments: &[&[u8]]) -> Result<Entry, Cause>
+    ensures says { told_of result ≡ closing_form (now_of arguments.now) }
+    ensures small { IfOk result (λ entry. AreSmall (told_by entry)) }
+{
+    match arguments {
+        [] => Ok(Entry::Closing),
+        _ => Err(Cause::WordCount),
     }
 }
 

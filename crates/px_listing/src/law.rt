@@ -3,7 +3,6 @@ ghost use Rattle.px_listing.specs.AcceptedLaw.{AcceptedListingIsLawful, MemoryIs
 ghost use Rattle.px_listing.specs.RoundTrip.{TextsAreReadBack};
 
 use px_macro::laws_of_operations;
-use px_text::written_law;
 
 /// The laws of listings, for whoever writes and reads them.
 ///
@@ -14,6 +13,5 @@ pub fn laws_of_listings()
     ensures accepted { AcceptedListingIsLawful }
     ensures refusals { MemoryIsNoRefusal }
 {
-    written_law();
     laws_of_operations();
 }

@@ -4,6 +4,7 @@ ghost use lib.Signed.{le_z};
 ghost use Rattle.px_scene.specs.Lines.{size_of};
 ghost use Rattle.px_num.specs.Forms.{IsWithin};
 ghost use Rattle.px_show.specs.Judged.{past};
+ghost use Rattle.px_listing.specs.Drafts.{AreSmall, told_by};
 ghost use Rattle.px_listing.specs.declared.limit.ListKind.TheVariants as Kind;
 ghost use Rattle.px_listing.specs.Limits.{
   bit_past,
@@ -15,16 +16,16 @@ ghost use Rattle.px_listing.specs.Limits.{
   form_past,
   grid_past,
   less_past,
-  listing_limit_of,
   linear_past,
   overlap,
+  listing_limit_of,
   place_past,
   shape_past,
   sign_past,
   value_past,
 };
 
-use crate::keyword::Keyword;
+use crate::judge::Entry;
 use crate::kind::Shape;
 use px_num::power;
 use px_show::{LineFault, past};
@@ -42,15 +43,15 @@ pub enum ListKind {
 
 /// The first limit that a line of good form passes, where it passes one, in pixels of so many
 /// memory bits (docs/LISTINGS.md, "Limits").
-pub(crate) fn limit_of(bits: u32, keyword: Keyword, numbers: &[i64]) -> Option<LineFault<ListKind>>
+pub(crate) fn limit_of(bits: u32, entry: &Entry) -> Option<LineFault<ListKind>>
     requires bits { bits ≤ 256 }
-    requires small { All (IsWithin (10 ^ 18)) numbers.now }
-    ensures { result ≡ listing_limit_of bits keyword numbers.now }
+    requires small { AreSmall (told_by entry.now) }
+    ensures { result ≡ listing_limit_of bits (told_by entry.now) }
 {
-    match keyword {
-        Keyword::Grid => grid_past(numbers),
-        Keyword::Operation(kind) => shape_past(bits, kind.shape(), numbers),
-        Keyword::Pxlist | Keyword::End | Keyword::Other => None,
+    match entry {
+        Entry::Grid { nx, ny } => grid_past(*nx, *ny),
+        Entry::Operation(kind, numbers) => shape_past(bits, kind.shape(), numbers.as_slice()),
+        Entry::Opening | Entry::Closing => None,
     }
 }
 
@@ -71,13 +72,10 @@ fn shape_past(bits: u32, shape: Shape, numbers: &[i64]) -> Option<LineFault<List
     }
 }
 
-fn grid_past(numbers: &[i64]) -> Option<LineFault<ListKind>>
-    ensures { result ≡ grid_past numbers.now }
+fn grid_past(nx: i64, ny: i64) -> Option<LineFault<ListKind>>
+    ensures { result ≡ grid_past nx ny }
 {
-    match numbers {
-        [nx, ny] => past(ListKind::Grid, 1, 9, *nx).or(past(ListKind::Grid, 1, 9, *ny)),
-        _ => None,
-    }
+    past(ListKind::Grid, 1, 9, nx).or(past(ListKind::Grid, 1, 9, ny))
 }
 
 fn sign_past(numbers: &[i64]) -> Option<LineFault<ListKind>>

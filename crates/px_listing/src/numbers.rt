@@ -1,15 +1,13 @@
 //! The numbers of an operation, as they are written and as they are read.
-ghost use Rattle.std.specs.Prelude.{◌≡◌, ◌<◌, ◌≤◌, ◌^◌, pos, [], ◌∷◌, length, IfSome, None};
-ghost use Rattle.px_macro.specs.Macros.{IsField, IsLawful};
+ghost use Rattle.std.specs.Prelude.{◌≡◌, ◌<◌, ◌≤◌, ◌^◌, pos, [], ◌∷◌, length, None};
+ghost use Rattle.px_macro.specs.Macros.{IsField};
 ghost use Rattle.px_num.specs.Forms.{IsInTreeRange};
 ghost use Rattle.px_scene.specs.Lines.{plane_of, size_of};
-ghost use Rattle.px_listing.specs.Kinds.{bit_number, field_of, is_set, operation_of};
-ghost use Rattle.px_listing.specs.Limits.{end_past, field_past, form_past, listing_limit_of, value_past};
+ghost use Rattle.px_listing.specs.Kinds.{bit_number, field_of, is_set};
+ghost use Rattle.px_listing.specs.Limits.{end_past, field_past, form_past, value_past};
 
-use crate::keyword::Keyword;
-use crate::kind::operation_with;
 use arrayvec::ArrayVec;
-use px_macro::{Field, Macro};
+use px_macro::Field;
 use px_num::Linear;
 
 /// The numbers of an operation.
@@ -48,19 +46,6 @@ pub(crate) fn bit_number(v: bool) -> i64
     ensures { result ≡ bit_number v }
 {
     if v { 1 } else { 0 }
-}
-
-/// The operation of a line that passes no limit (docs/LISTINGS.md, "Operations").
-pub(crate) fn operation_of(bits: u32, keyword: Keyword, numbers: &[i64]) -> Option<Macro>
-    requires bits { bits ≤ 256 }
-    requires good { listing_limit_of bits keyword numbers.now ≡ None }
-    ensures value { result ≡ operation_of keyword numbers.now }
-    ensures lawful { IfSome result (λ m. IsLawful m bits) }
-{
-    match keyword {
-        Keyword::Operation(kind) => operation_with(bits, kind, numbers),
-        _ => None,
-    }
 }
 
 pub(crate) fn plane_of(a: &i64, b: &i64, c: &i64) -> Linear

@@ -43,7 +43,7 @@ struct Reading {
 impl Drafting for Reading {
     ghost use Rattle.std.specs.Prelude.{◌≤◌};
     ghost use Rattle.px_listing.specs.Drafts.{IsListingDraftOf, listing_view_of};
-    ghost use Rattle.px_listing.specs.Reading.{due_behind, listing_fault_behind, is_listing_over, listing_of};
+    ghost use Rattle.px_listing.specs.Reading.{listing_fault_behind, listing_draft_of, is_listing_over, listing_of};
 
     type Kind = ListKind;
 
@@ -54,7 +54,7 @@ impl Drafting for Reading {
     ghost says = { λ reading lines.
         (reading.bits ≤ 256) × IsListingDraftOf reading.bits (listing_view_of reading.draft) lines };
 
-    ghost is_whole = { λ lines. is_listing_over (due_behind lines) };
+    ghost is_whole = { λ lines. is_listing_over (listing_draft_of lines).due };
 
     ghost means = { listing_of };
 

@@ -3,7 +3,7 @@ use Rattle.px_listing.proofs.TextLemmas.{read_back}
 use Rattle.px_listing.proofs.law.laws_of_listings.Goals as goal
 
 pub returns-clause-read_back : goal.returns-clause-read_back
-returns-clause-read_back c = let law = c.written_law.ensures in read_back law.numbers law.words law.lines
+returns-clause-read_back c = read_back
 
 pub returns-clause-accepted : goal.returns-clause-accepted
 returns-clause-accepted c = accepted_is_lawful

@@ -9,15 +9,14 @@ add_words-requires c = record { bits = c.requires.1.0 }
 
 pub returns-clause-bad : goal.returns-clause-bad
 returns-clause-bad c before so f is =
-    rw (← c.as_slice.ensures.value)
-    (told c.args.self.now.bits (listing_view_of c.args.self.now.draft) before _ so.1.says
+    rw (← c.as_slice.ensures.value) (told c.args.self.now.bits (listing_view_of c.args.self.now.draft) before _ so.1
     ∙ c.add_words.ensures.bad f is)
 
 pub returns-clause-good : goal.returns-clause-good
 returns-clause-good c before so =
     rw (
       ← c.as_slice.ensures.value,
-      told c.args.self.now.bits (listing_view_of c.args.self.now.draft) before (now_of c.as_slice.result.now) so.1.says,
+      told c.args.self.now.bits (listing_view_of c.args.self.now.draft) before (now_of c.as_slice.result.now) so.1,
     ) c.add_words.ensures.good
 
 pub returns-clause-says : goal.returns-clause-says

@@ -1,8 +1,6 @@
 use Rattle.std.proofs.Common.{◌≡◌, ◌∙◌, IfSome, ap, arith, subst}
-use Rattle.px_listing.specs.Drafts.{ListingDraft, listing_view_of}
+use Rattle.px_listing.specs.Reading.{ListingDraft, is_listing_over, listing_in}
 use Rattle.px_listing.specs.Listings.{ListingView}
-use Rattle.px_listing.specs.Reading.{is_listing_over}
-use Rattle.px_listing.proofs.ReadLemmas.{listing_is}
 use Rattle.px_listing.proofs.read.ReadingDrafting.finish.Goals as goal
 
 pub into_listing-requires-clause-grid : goal.into_listing-requires-clause-grid
@@ -18,4 +16,4 @@ returns-clause-ended c lines so = c.into_listing.ensures.ended ∙ ap (λ (d : L
 pub returns-clause-whole : goal.returns-clause-whole
 returns-clause-whole c lines so =
     subst (λ (l : ListingView). IfSome c.into_listing.result (λ whole. whole ≡ l))
-    (listing_is c.args.self.bits (listing_view_of c.args.self.draft) lines so.1) c.into_listing.ensures.listing
+    (ap listing_in so.1.says) c.into_listing.ensures.listing
