@@ -1,5 +1,5 @@
 -- Where a word of a state stands, and its bits. Only proofs and private functions stand on it.
-use Rattle.std.specs.Prelude.{◌≡◌, ℕ, ◌+◌, ◌-◌, ◌*◌, ◌/◌, ◌%◌, ◌^◌, ◌<◌, ◌≤◌, ◌×◌, Bool}
+use Rattle.std.specs.Prelude.{◌≡◌, ℕ, ◌+◌, ◌-◌, ◌*◌, ◌/◌, ◌%◌, ◌^◌, ◌<◌, ◌≤◌, Bool}
 use Rattle.px_array.specs.Arrays.{State}
 use Rattle.px_state.specs.Words.{column_bit, node_bit, node_words, plane_words, row_words}
 use Rattle.px_state.specs.declared.words.Part.{Part}
