@@ -274,8 +274,8 @@ def wrong_statuses():
 
 
 def words_of(function):
-    """The words that a function of px_words gives."""
-    body = content("crates/px_words/src/words.rt").split("fn %s(" % function)[1].split("\n}")[0]
+    """The words that a function of px_outcome gives."""
+    body = content("crates/px_outcome/src/words.rt").split("fn %s(" % function)[1].split("\n}")[0]
     return re.findall(r'=> "([\w-]+)"', body)
 
 
